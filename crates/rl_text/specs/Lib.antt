@@ -1,0 +1,4 @@
+pub mod Notation
+pub mod Number
+pub mod Quoted
+pub mod Raw

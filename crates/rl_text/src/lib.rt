@@ -1,0 +1,4 @@
+//! The notation that units and listings are written in: trees of six forms, each with one spelling.
+#![tactic(auto)]
+
+pub mod raw;
