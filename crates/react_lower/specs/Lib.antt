@@ -1,0 +1,4 @@
+pub mod Words
+pub mod Syntax
+pub mod Grammar
+pub mod Units

@@ -1,0 +1,8 @@
+//! Lowers the marked function of a unit to its graph.
+#![tactic(auto)]
+
+pub mod hir;
+pub mod model;
+pub mod syntax;
+
+fn main(_rt: HostRuntime) {}
