@@ -1,6 +1,7 @@
 //! Lowers the marked function of a unit to its graph.
 #![tactic(auto)]
 
+pub mod builder;
 pub mod hir;
 pub mod model;
 pub mod syntax;
