@@ -11,3 +11,4 @@ pub mod Headline
 pub mod Builder
 pub mod Order
 pub mod Build
+pub mod Lowering

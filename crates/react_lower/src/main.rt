@@ -3,6 +3,7 @@
 
 pub mod builder;
 pub mod hir;
+pub mod lower;
 pub mod model;
 pub mod syntax;
 
