@@ -1,4 +1,5 @@
 pub mod Notation
 pub mod Number
+pub mod Places
 pub mod Quoted
 pub mod Raw
