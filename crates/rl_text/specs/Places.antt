@@ -2,7 +2,7 @@
 use Rattle.std.specs.Prelude.{◌≡◌, ℕ, ◌-◌, ◌≤◌, ◌<◌, Bool, true, false, ◌||◌, ◌&&◌, ◌==◌, nat_le, List, [], ◌∷◌, ◌++◌, length, take, drop, map}
 use Rattle.std.specs.List.{list_all}
 use Rattle.std.specs.Char.{is_ascii_digit}
-use Rattle.rl_text.specs.Notation.{Tree, Node, Listed, Said, Count, Flag, Absent, Parts, spelling, spelled_on, IsWritable, AreWritable, height, height_of}
+use Rattle.rl_text.specs.Notation.{Tree, Node, Listed, Said, Count, Flag, Absent, Parts, End, Then, spelling, spelled_on, IsWritable, AreWritable, height, height_of}
 use Rattle.rl_text.specs.declared.raw.Raw.{Raw}
 use Rattle.rl_text.specs.Raw.{tree, parts_of}
 
@@ -57,6 +57,12 @@ pub record GoesOn (close depth : ℕ) (parts : Parts) (bytes rest : List ℕ) : 
 
 abbrev pub NoneGoesOn : ℕ → ℕ → List ℕ → Type 0
 NoneGoesOn close depth bytes = (parts : Parts) (rest : List ℕ) → GoesOn close depth parts bytes rest → ⊥
+
+-- parts with a space between them, and one in front where `apart`, and then the bracket
+abbrev pub spelled_parts : Bool → ℕ → Parts → List ℕ
+spelled_parts true close parts = spelled_on close parts
+spelled_parts false close End = close ∷ []
+spelled_parts false close (Then part parts) = spelling part ++ spelled_on close parts
 
 -- the parts between two places were added
 pub record Adds (close depth : ℕ) (bytes : List ℕ) (at after : ℕ) (old new : List Raw) : Type 0 where

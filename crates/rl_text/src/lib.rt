@@ -4,3 +4,4 @@
 pub mod number;
 pub mod quoted;
 pub mod raw;
+pub mod write;
