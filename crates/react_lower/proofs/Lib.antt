@@ -1,1 +1,5 @@
+pub mod Grammar
+pub mod LiteralGraphs
+pub mod Literals
 pub mod OrderLaws
+pub mod Shapes
