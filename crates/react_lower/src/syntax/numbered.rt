@@ -34,9 +34,9 @@ pub enum Numbered {
 
 /// How far the numbering is: the number of the next node to open, and the byte at which the next part of the text begins.
 #[derive(Clone, Copy)]
-pub struct Place {
-    pub node: u32,
-    pub byte: u32,
+struct Place {
+    node: u32,
+    byte: u32,
 }
 
 /// The tree with the numbers and places of its nodes, the first of which opens at this place, and the place behind it.
