@@ -68,12 +68,20 @@ pub(crate) fn is_absent(tree: &Numbered) -> bool
     }
 }
 
+/// Whether there are no parts.
+#[tactic(auto, using(crate::proofs::Shapes::none_inside, crate::proofs::Shapes::nothing_inside))]
+pub(crate) fn no_parts(parts: &[Numbered]) -> bool
+    ensures { IsTrue result ↔ (pieces_of (map syntax parts.now) ≡ End) }
+{
+    parts.is_empty()
+}
+
 /// Whether it is the empty list.
 pub(crate) fn is_empty_list(tree: &Numbered) -> bool
     ensures { IsTrue result ↔ (syntax tree.now ≡ Listed End) }
 {
     match as_list(tree) {
-        Some(items) => items.is_empty(),
+        Some(items) => no_parts(items),
         None => false,
     }
 }
