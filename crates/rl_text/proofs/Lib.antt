@@ -1,0 +1,7 @@
+pub mod Numbers
+pub mod Numerals
+pub mod Quotes
+pub mod Reading
+pub mod Runs
+pub mod Spellings
+pub mod Trees
