@@ -1,3 +1,4 @@
+pub mod Forms
 pub mod Numbers
 pub mod Numerals
 pub mod Quotes
