@@ -6,7 +6,7 @@ use Rattle.react_lower.specs.Units.{node, params, arrow_body, function}
 use Rattle.react_lower.specs.declared.syntax.numbered.At.{At}
 use Rattle.react_lower.specs.declared.syntax.word.Word.TheVariants as word
 use Rattle.react_lower.specs.declared.syntax.tree.ArrowFunction.{ArrowFunction, out-ArrowFunction}
-use Rattle.react_lower.proofs.Shapes.{function_by_layer}
+use Rattle.react_lower.proofs.Spelled.{function_by_layer}
 
 second : (a b : Bool) → (a && b) ≡ true → b ≡ true
 second true b h = h

@@ -66,13 +66,13 @@ chained env value span s0 s1 s2 s3 s4 s5 place1 place2 next built e0 e1 en e2 p1
     let q2 : s2 ≡ with_value (reserved begun) value span = e2 ∙ ap (λ s. with_value s value span) q1 in
     let third : State = with_return (reserved begun) value span returns.Implicit block in
     let q3 : s3 ≡ third =
-        e3 ∙ ap (λ s. completed_by s (return_of returns.Implicit place1) next) q2
-        ∙ ap (λ p. completed_by (with_value (reserved begun) value span) (return_of returns.Implicit p) next) (p1 ∙ ap (λ s. temporary s span) q1)
-        ∙ ap (λ w. completed_by (with_value (reserved begun) value span) (return_of returns.Implicit (temporary (reserved begun) span)) w) (en ∙ ap (λ s. new_block s.env.next_block kinds.Block) e0) in
+    e3 ∙ ap (λ s. completed_by s (return_of returns.Implicit place1) next) q2
+    ∙ ap (λ p. completed_by (with_value (reserved begun) value span) (return_of returns.Implicit p) next) (p1 ∙ ap (λ s. temporary s span) q1)
+    ∙ ap (λ w. completed_by (with_value (reserved begun) value span) (return_of returns.Implicit (temporary (reserved begun) span)) w) (en ∙ ap (λ s. new_block s.env.next_block kinds.Block) e0) in
     let q4 : s4 ≡ with_value third undefined None = e4 ∙ ap (λ s. with_value s undefined None) q3 in
     let q5 : s5 ≡ lowered_state env value span =
-        e5 ∙ ap (λ s. completed_by s (return_of returns.Void place2) placeholder) q4
-        ∙ ap (λ p. completed_by (with_value third undefined None) (return_of returns.Void p) placeholder) (p2 ∙ ap (λ s. temporary s None) q3) in
+    e5 ∙ ap (λ s. completed_by s (return_of returns.Void place2) placeholder) q4
+    ∙ ap (λ p. completed_by (with_value third undefined None) (return_of returns.Void p) placeholder) (p2 ∙ ap (λ s. temporary s None) q3) in
     eb ∙ ap built_of q5
 
 same_number : (n : ℕ) → nat_eq n n ≡ true
@@ -152,10 +152,12 @@ function_runs at marked is_async params body p start arguments answers computes 
 -- a function with this graph runs as the source's
 pub same_runs : (env : Environment) (value : InstructionValue) (span : Option Span) (f : HirFunction) (pairs : List Pair) (function body : Syntax) (at : At) (marked is_async params : Syntax)
     → f.body ≡ (graph env value span).hir → f.instructions ≡ table env value span → f.params ≡ [] → function ≡ Node at word.Arrow (Then marked (Then is_async (Then params (Then body End)))) → Computes body value → SameRuns function f pairs
-same_runs env (values.Primitive p) span f pairs function body at marked is_async params eb ei ep ef computes start arguments answers =
-    (2, λ steps enough. let more = two_more steps enough in
+same_runs env (values.Primitive p) span f pairs function body at marked is_async params eb ei ep ef computes start arguments answers = (
+  2,
+  λ steps enough. let more = two_more steps enough in
       ap (λ n. function_trace f pairs n start arguments answers) more.1
       ∙ ap (λ (h : Hir). exec (λ id place. elim (block_of h.blocks id) [ Some block ↦ item_in f.instructions block place | None ↦ None ]) (suc (suc more.0)) h.entry.0 0 (take_arguments f.params arguments (set_by pairs start unset)) no_notes answers) eb
       ∙ ap (λ (t : List Instruction). exec (λ id place. elim (block_of (graph env (values.Primitive p) span).hir.blocks id) [ Some block ↦ item_in t block place | None ↦ None ]) (suc (suc more.0)) env.next_block 0 (take_arguments f.params arguments (set_by pairs start unset)) no_notes answers) ei
       ∙ graph_runs env p span (take_arguments f.params arguments (set_by pairs start unset)) answers more.0
-      ∙ sym (ap (λ (t : Syntax). runs t start arguments answers) ef ∙ function_runs at marked is_async params body p start arguments answers computes))
+      ∙ sym (ap (λ (t : Syntax). runs t start arguments answers) ef ∙ function_runs at marked is_async params body p start arguments answers computes),
+)

@@ -41,7 +41,7 @@ fn lower_expression(expression: &Expression) -> InstructionValue
 }
 
 /// The expression that a body is.
-#[tactic(auto, using(crate::proofs::Shapes::arrow_body_expression))]
+#[tactic(auto, using(crate::proofs::Spelled::body_expression))]
 fn expression_body(body: &ArrowBody) -> &Expression
     ensures { spec.arrow_body body.now ≡ spec.expression result.now }
 {

@@ -6,7 +6,7 @@ use Rattle.react_lower.specs.Syntax.{Syntax}
 use Rattle.react_lower.specs.declared.hir.function.HirFunction.{HirFunction}
 use Rattle.react_lower.specs.declared.builder.Built.{Built}
 use Rattle.react_lower.proofs.LiteralGraphs.{chained, built, graph, graph_closed, same_runs}
-use Rattle.react_lower.proofs.Shapes.{function_by_layer}
+use Rattle.react_lower.proofs.Spelled.{function_by_layer}
 use Rattle.react_lower.proofs.Grammar.{literal_body}
 use Rattle.react_lower.proofs.lower.lower.Goals as goal
 

@@ -5,7 +5,7 @@ use Rattle.rl_text.specs.Numeral.{number_of}
 use Rattle.react_lower.specs.declared.model.Value.TheVariants as value
 use Rattle.react_lower.specs.Grammar.{is_literal}
 use Rattle.react_lower.specs.Source.{gives}
-use Rattle.react_lower.proofs.Shapes.{expression_null, expression_boolean, expression_number, expression_arrow, function_by_layer}
+use Rattle.react_lower.proofs.Spelled.{expression_null, expression_boolean, expression_number, expression_arrow, function_by_layer}
 use Rattle.react_lower.proofs.Literals.{parsed}
 use Rattle.react_lower.proofs.lower.lower_expression.Goals as goal
 
