@@ -1,5 +1,5 @@
 -- The text of a tree decides its nodes' numbers and places.
-use Rattle.std.proofs.Common.{◌≡◌, ℕ, ◌+◌, Bool, List, [], ◌∷◌, length, sym, ap, ◌∙◌, refl, subst, cond}
+use Rattle.std.proofs.Common.{◌≡◌, ℕ, ◌+◌, List, [], ◌∷◌, length, sym, ap, ◌∙◌, refl, subst, cond}
 use Rattle.std.specs.Str.{bytes_eq}
 use Rattle.rl_text.specs.Notation as notation
 use Rattle.react_lower.specs.Words.{word_text}
@@ -34,8 +34,8 @@ placed_at node start end = record { id = record { 0 = node }; span = record { st
 pub at-one : (a b : At) (node byte bytes : ℕ) → StandsAt a node byte bytes → StandsAt b node byte bytes → a ≡ b
 at-one a b node byte bytes s t =
     ap (λ n. placed_at n a.span.start a.span.end) (s.number ∙ sym t.number)
-      ∙ ap (λ n. placed_at b.id.0 n a.span.end) (s.start ∙ sym t.start)
-      ∙ ap (λ n. placed_at b.id.0 b.span.start n) (s.end ∙ sym t.end)
+    ∙ ap (λ n. placed_at b.id.0 n a.span.end) (s.start ∙ sym t.start)
+    ∙ ap (λ n. placed_at b.id.0 b.span.start n) (s.end ∙ sym t.end)
 
 mutual
   pub nodes-one : (s t : Syntax) → plain s ≡ plain t → nodes s ≡ nodes t

@@ -1,6 +1,6 @@
 -- The plain tree of each expression and function.
-use Rattle.std.proofs.Common.{◌≡◌, ℕ, Bool, List, [], ◌∷◌, sym, ap, ◌∙◌}
-use Rattle.react_lower.specs.Syntax.{Syntax, Node, Said, Flag, Pieces, End, Then}
+use Rattle.std.proofs.Common.{◌≡◌, ℕ, Bool, List, sym, ap, ◌∙◌}
+use Rattle.react_lower.specs.Syntax.{Syntax, Node, Said, Flag, End, Then}
 use Rattle.react_lower.specs.Units.{params, of_body, of_expression, of_function, expression, function}
 use Rattle.react_lower.specs.declared.syntax.word.Word.TheVariants as word
 use Rattle.react_lower.specs.declared.syntax.numbered.At.{At}
@@ -12,7 +12,7 @@ use Rattle.react_lower.specs.declared.syntax.tree.ArrowFunction.{ArrowFunction}
 use Rattle.react_lower.specs.declared.syntax.tree.Params.{Params}
 use Rattle.react_lower.specs.declared.syntax.tree.ArrowBody.TheOpen as layers
 use Rattle.react_lower.specs.declared.syntax.tree.ArrowBody.TheViews.{roll-ArrowFunction}
-use Rattle.react_lower.specs.declared.syntax.tree.ArrowBody.TheFolds.{fold-ArrowBody, fold-Expression, fold-ArrowFunction, fold-roll-ArrowBody, fold-roll-Expression, fold-roll-ArrowFunction}
+use Rattle.react_lower.specs.declared.syntax.tree.ArrowBody.TheFolds.{fold-ArrowBody, fold-Expression, fold-roll-ArrowBody, fold-roll-Expression, fold-roll-ArrowFunction}
 
 unfoldable pub body : ArrowBody → Syntax
 body = fold-ArrowBody Syntax Syntax Syntax of_body of_expression of_function

@@ -3,6 +3,5 @@
 pub mod numbered;
 mod parts;
 pub mod read;
-mod stand_in;
 pub mod tree;
 pub mod word;

@@ -3,13 +3,14 @@ ghost use Rattle.rl_text.specs.Notation.{spelling, spelled_on};
 ghost use Rattle.rl_text.specs.Raw.{tree, parts_of};
 ghost use Rattle.react_lower.specs.Syntax.{Syntax, Pieces, pieces_of, syntax, plain, plain_parts, nodes, nodes_of, IsPlaced, ArePlaced};
 
-use crate::syntax::stand_in::{number_len, quoted_len};
 use crate::syntax::word::Word;
 use rl_base::failure::OutOfMemory;
 use rl_base::ids::NodeId;
 use rl_base::list::List;
 use rl_base::span::Span;
 use rl_base::text::Text;
+use rl_text::number::number_len;
+use rl_text::quoted::quoted_len;
 use rl_text::raw::Raw;
 use std::alloc::Global;
 
