@@ -1,5 +1,5 @@
 -- The state of a function under construction, and the moves on it.
-use Rattle.std.specs.Prelude.{ℕ, ◌+◌, Option, None, List, [], ◌∷◌, ◌++◌, length}
+use Rattle.std.specs.Prelude.{ℕ, ◌+◌, ◌-◌, ◌^◌, Option, None, List, [], ◌∷◌, ◌++◌, length}
 use Rattle.rl_base.specs.declared.span.Span.{Span}
 use Rattle.rl_base.specs.declared.ids.BlockId.{BlockId}
 use Rattle.react_lower.specs.declared.builder.WipBlock.{WipBlock}
@@ -7,6 +7,7 @@ use Rattle.react_lower.specs.declared.builder.Work.{Work}
 use Rattle.react_lower.specs.declared.hir.environment.Environment.{Environment}
 use Rattle.react_lower.specs.declared.hir.function.NumberedBlock.{NumberedBlock}
 use Rattle.react_lower.specs.declared.hir.function.BlockKind.{BlockKind}
+use Rattle.react_lower.specs.declared.hir.function.BlockKind.TheVariants as kinds
 use Rattle.react_lower.specs.declared.hir.instruction.Instruction.{Instruction}
 use Rattle.react_lower.specs.declared.hir.terminal.Terminal.{Terminal}
 
@@ -23,6 +24,10 @@ state_of env work = record { env = env; completed = work.completed.items; curren
 -- an empty block
 abbrev pub new_block : ℕ → BlockKind → WipBlock
 new_block id kind = record { id = record { 0 = id }; instructions = []; kind = kind }
+
+-- a block that is in no graph
+abbrev pub placeholder : WipBlock
+placeholder = new_block (2 ^ 32 - 1) kinds.Block
 
 abbrev pub one_block_more : Environment → Environment
 one_block_more env = record env { next_block = env.next_block + 1 }

@@ -12,3 +12,4 @@ pub mod Builder
 pub mod Order
 pub mod Build
 pub mod Lowering
+pub mod Temporaries

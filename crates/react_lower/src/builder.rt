@@ -1,7 +1,7 @@
 //! A function's graph under construction.
 
 ghost use Rattle.std.specs.Prelude.{◌≡◌, ◌+◌, ◌<◌, ◌^◌, All, OnOk, IfOk, length};
-ghost use Rattle.react_lower.specs.Builder.{state_of, started, new_block, reserved, with_temporary, pushed, completed_by};
+ghost use Rattle.react_lower.specs.Builder.{state_of, started, new_block, reserved, with_temporary, pushed, completed_by, placeholder};
 ghost use Rattle.react_lower.specs.Order.{reached_blocks, orders_of};
 ghost use Rattle.react_lower.specs.Build.{built_of};
 
@@ -143,6 +143,15 @@ impl<'e> Over<'e, Work> {
             },
         })?;
         Ok(())
+    }
+
+    /// Ends the current block as the last one. A block that is in no graph stands in its place.
+    pub fn terminate(&mut self, terminal: Terminal) -> Result<(), OutOfMemory>
+        ensures same_reference { self.new.env.ghost_name ≡ self.old.env.ghost_name }
+        ensures state { OnOk result (state_of self.new.env.now self.new.work ≡ completed_by (state_of self.old.env.now self.old.work) terminal placeholder) }
+    {
+        let placeholder = new_block(self.work.alloc, BlockId(u32::MAX), BlockKind::Block);
+        self.terminate_with_continuation(terminal, placeholder)
     }
 
     /// The graph of the blocks that the entry reaches, with instructions and terminals numbered.

@@ -1,5 +1,5 @@
 -- Numerals by their value: the test and the relation say the same.
-use Rattle.std.proofs.Common.{◌≡◌, ℕ, ◌+◌, ◌-◌, ◌*◌, ◌≤◌, Bool, true, false, ◌&&◌, nat_le, if◌then◌else◌, cond, Option, Some, None, List, [], ◌∷◌, IfSome, IfNone, ap, sym, ◌∙◌, refl, arith, true≢false}
+use Rattle.std.proofs.Common.{◌≡◌, ℕ, ◌+◌, ◌-◌, ◌*◌, ◌≤◌, Bool, true, false, ◌&&◌, nat_le, if◌then◌else◌, cond, Option, Some, None, List, [], ◌∷◌, IfSome, IfNone, ap, sym, ◌∙◌, refl, subst, arith, true≢false}
 use Rattle.std.specs.Str.{bytes_eq}
 use Rattle.std.specs.Fmt.{decimal}
 use Rattle.std.proofs.lemmas.Slice.Eq.{bytes_eq-Decides}
@@ -38,3 +38,18 @@ pub parse-exact : (text : List ℕ) (r : Option ℕ) → IfSome r (λ n. IsNumer
 parse-exact text None some none = cases (is_numeral text) (number_of text) None (λ h. absurd (none (number_of text) (numeral-from_test text h))) (λ _. refl)
 parse-exact text (Some n) some none = cases (is_numeral text) (number_of text) (Some n) (λ _. ap (λ m. Some m) (sym (numeral-number text n some)))
     (λ h. absurd (true≢false (sym (numeral-passes text n some) ∙ h)))
+
+-- what such an answer says
+found : (b : Bool) (x n : ℕ) → Some n ≡ (if b then Some x else None) → (b ≡ true) × (x ≡ n)
+found true x n e = (refl, cc)
+found false x n e = absurd (cc)
+
+pub numeral-found : (text : List ℕ) (n : ℕ) → Some n ≡ (if is_numeral text then Some (number_of text) else None) → IsNumeral text n
+numeral-found text n e =
+    let r = found (is_numeral text) (number_of text) n e in
+    subst (λ m. IsNumeral text m) r.1 (numeral-from_test text r.0)
+
+pub numeral-none : (text : List ℕ) (n : ℕ) → None ≡ (if is_numeral text then Some (number_of text) else None) → IsNumeral text n → ⊥
+numeral-none text n e h =
+    let wrong : ◌≡◌ {A = Option ℕ} None (Some (number_of text)) = e ∙ ap (λ (b : Bool). if b then Some (number_of text) else None) (numeral-passes text n h) in
+    cc

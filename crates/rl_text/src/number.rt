@@ -14,7 +14,7 @@ pub fn parse_number(text: &[u8]) -> Option<u64>
     read_digits(text)
 }
 
-pub(crate) fn read_digits(text: &[u8]) -> Option<u64>
+fn read_digits(text: &[u8]) -> Option<u64>
     ensures some { IfSome result (λ n. IsNumeral text.now n) }
     ensures none { IfNone result ((n : ℕ) → IsNumeral text.now n → ⊥) }
 {

@@ -5,7 +5,7 @@ ghost use Rattle.rl_text.specs.Notation.{Tree, Spells, height};
 ghost use Rattle.rl_text.specs.Raw.{tree};
 ghost use Rattle.rl_text.specs.Places.{Begins, NoneBegins, NoneGoesOn, IsBracket, Adds};
 
-use crate::number::read_digits;
+use crate::number::parse_number;
 use crate::quoted::read_quoted;
 use crate::raw::Raw;
 use crate::scan::{digits_end, has_byte, word_end};
@@ -213,7 +213,7 @@ fn read_number(bytes: &[u8], at: usize) -> Found
     ensures none { IfNone result ((depth : ℕ) → NoneBegins depth (drop at bytes.now)) }
 {
     let end = digits_end(bytes, at);
-    let number = read_digits(&bytes[at..end])?;
+    let number = parse_number(&bytes[at..end])?;
     Some((Raw::Number(number), end))
 }
 
