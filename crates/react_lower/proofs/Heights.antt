@@ -1,5 +1,5 @@
 -- A unit is not deep.
-use Rattle.std.proofs.Common.{◌≡◌, ℕ, ◌+◌, ◌≤◌, max, Bool, true, false, ◌&&◌, arith}
+use Rattle.std.proofs.Common.{◌≡◌, ◌≤◌, true, arith}
 use Rattle.std.proofs.lemmas.Bool.{and_parts}
 use Rattle.rl_text.specs.Notation.{height}
 use Rattle.react_lower.specs.Syntax.{Syntax, Node, Listed, Said, Flag, Absent, End, Then, plain}

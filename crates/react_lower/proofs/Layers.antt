@@ -7,7 +7,7 @@ use Rattle.rl_text.specs.declared.raw.Raw.{Raw}
 use Rattle.rl_text.specs.declared.raw.Raw.TheVariants as raw
 use Rattle.rl_text.specs.declared.raw.Raw.TheOpen as raw_layers
 use Rattle.rl_text.specs.declared.raw.Raw.TheFolds.{fold-Raw, fold-roll-Raw}
-use Rattle.react_lower.specs.Syntax.{Syntax, Node, Listed, Said, Count, Flag, Absent, Pieces, pieces_of, layer, syntax}
+use Rattle.react_lower.specs.Syntax.{Syntax, Node, Listed, Said, Count, Flag, Absent, pieces_of, layer, syntax}
 use Rattle.react_lower.specs.declared.syntax.word.Word.{Word}
 use Rattle.react_lower.specs.declared.syntax.numbered.At.{At}
 use Rattle.react_lower.specs.declared.syntax.numbered.Numbered.{Numbered}

@@ -1,5 +1,5 @@
 -- How many bytes a tree takes, and trees in a row as one more is put behind them.
-use Rattle.std.proofs.Common.{◌≡◌, ℕ, ◌+◌, ◌<◌, ◌≤◌, Bool, true, false, List, [], ◌∷◌, ◌++◌, length, map, sym, ap, ◌∙◌, refl, subst, arith, length-append, drop, append_assoc, zero, suc}
+use Rattle.std.proofs.Common.{◌≡◌, ℕ, ◌+◌, ◌≤◌, Bool, List, [], ◌∷◌, ◌++◌, length, map, ap, ◌∙◌, refl, subst, arith, length-append, drop, append_assoc, zero, suc}
 use Rattle.std.proofs.lemmas.List.{map-append}
 use Rattle.std.specs.Fmt.{decimal}
 use Rattle.rl_text.specs.Notation as notation
@@ -9,11 +9,9 @@ use Rattle.rl_text.specs.Raw.{tree, parts_of}
 use Rattle.rl_text.specs.declared.raw.Raw.{Raw}
 use Rattle.rl_text.specs.declared.raw.Raw.TheVariants as raw
 use Rattle.react_lower.specs.Words.{word_text}
-use Rattle.react_lower.specs.Syntax.{Syntax, Node, Listed, Said, Count, Flag, Absent, Pieces, End, Then, pieces_of, syntax, plain, plain_parts, width, nodes, nodes_of, StandsAt, IsPlaced, ArePlaced}
+use Rattle.react_lower.specs.Syntax.{Syntax, Node, Listed, Pieces, End, Then, pieces_of, syntax, plain, plain_parts, width, nodes, nodes_of, IsPlaced, ArePlaced}
 use Rattle.react_lower.specs.declared.syntax.word.Word.{Word}
-use Rattle.react_lower.specs.declared.syntax.numbered.At.{At}
 use Rattle.react_lower.specs.declared.syntax.numbered.Numbered.{Numbered}
-use Rattle.react_lower.specs.declared.syntax.numbered.Numbered.TheVariants as numbered
 use Rattle.react_lower.proofs.Layers.{syntax_node, syntax_list, syntax_text, syntax_number, syntax_flag, syntax_absent, tree_node, tree_list, tree_text, tree_number, tree_flag, tree_absent}
 
 -- which bracket closes does not matter

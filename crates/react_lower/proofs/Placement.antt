@@ -1,5 +1,5 @@
 -- The text of a tree decides its nodes' numbers and places.
-use Rattle.std.proofs.Common.{◌≡◌, ℕ, ◌+◌, Bool, List, [], ◌∷◌, length, sym, ap, ◌∙◌, refl, subst, cond}
+use Rattle.std.proofs.Common.{◌≡◌, ℕ, ◌+◌, List, [], ◌∷◌, length, sym, ap, ◌∙◌, refl, subst, cond}
 use Rattle.std.specs.Str.{bytes_eq}
 use Rattle.rl_text.specs.Notation as notation
 use Rattle.react_lower.specs.Words.{word_text}

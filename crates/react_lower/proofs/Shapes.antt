@@ -1,5 +1,5 @@
 -- What a numbered tree is, by its plain tree, and how many pieces parts are.
-use Rattle.std.proofs.Common.{◌≡◌, ℕ, ◌<◌, ◌≤◌, Bool, List, [], ◌∷◌, length, get_or, map, sym, ap, ◌∙◌, refl, arith}
+use Rattle.std.proofs.Common.{◌≡◌, ℕ, Bool, List, [], ◌∷◌, length, get_or, map, sym, ap, ◌∙◌, refl, arith}
 use Rattle.react_lower.specs.Syntax.{Syntax, Node, Listed, Said, Count, Flag, Absent, Pieces, End, Then, pieces_of, syntax}
 use Rattle.react_lower.specs.declared.syntax.word.Word.{Word}
 use Rattle.react_lower.specs.declared.syntax.numbered.At.{At}

@@ -1,12 +1,12 @@
 //! Reads a unit from its numbered tree.
 
-ghost use Rattle.std.specs.Prelude.{◌≡◌, true, false, map, IfOk, IfSome, IfNone};
+ghost use Rattle.std.specs.Prelude.{◌≡◌, ◌<◌, ◌≤◌, ◌↔◌, true, false, length, map, IfOk, IfSome, IfNone, IsErrOf};
 ghost use Rattle.rl_text.specs.Numeral.{is_numeral};
 ghost use Rattle.react_lower.specs.Syntax.{Node, pieces_of, syntax};
 ghost use Rattle.react_lower.specs.Grammar.{is_literal, is_params, is_function, is_statement, is_program, is_unit};
-ghost use Rattle.react_lower.specs.Units.{params, expression, function, statement, program, unit};
+ghost use Rattle.react_lower.specs.Units.{params, expression, function, statement, program, unit, Spells};
 
-use crate::syntax::numbered::{At, Numbered};
+use crate::syntax::numbered::{At, Numbered, number_tree};
 use crate::syntax::parts::{
     as_flag, as_list, as_node, as_text, four, is_absent, is_empty_list, no_parts, one, two,
 };
@@ -16,7 +16,40 @@ use rl_base::boxed::Boxed;
 use rl_base::failure::OutOfMemory;
 use rl_base::list::List;
 use rl_text::number::parse_number;
+use rl_text::read::{TextError, read_raw_within};
 use std::alloc::Global;
+use thiserror::Error;
+
+/// The most bytes that are read as a tree.
+pub const LARGEST_INPUT: usize = 16_777_216;
+
+/// How many nodes and lists a unit of the grammar has open at once, at most.
+const DEEPEST: usize = 8;
+
+/// Why bytes were not read as a unit.
+#[derive(Debug, Drop, Clone, Copy, PartialEq, Eq, Error)]
+pub enum TreeError {
+    /// There are more bytes than `LARGEST_INPUT`.
+    #[error("TooLarge")]
+    TooLarge,
+    /// The bytes spell no unit of the grammar.
+    #[error("Malformed")]
+    Malformed,
+    /// Memory was wanted and not given.
+    #[error("OutOfMemory")]
+    OutOfMemory,
+}
+
+impl From<OutOfMemory> for TreeError {
+    ghost use Rattle.react_lower.specs.declared.syntax.read.TreeError.TheVariants.{OutOfMemory};
+    ghost use Rattle.std.specs.Prelude.{◌≡◌};
+
+    ghost from_gives = { λ _ e. e ≡ OutOfMemory };
+
+    fn from(_e: OutOfMemory) -> TreeError {
+        TreeError::OutOfMemory
+    }
+}
 
 /// Whether the text is a whole number of the notation.
 fn is_number(text: &[u8]) -> bool
@@ -199,4 +232,29 @@ pub fn read_unit(alloc: Global, tree: &Numbered) -> Result<Option<Unit>, OutOfMe
         return Ok(None);
     };
     Ok(Some(Unit { at, program }))
+}
+
+/// The unit that the bytes spell, all of them, with the numbers and places of its nodes. `TooLarge` where there are more
+/// than `LARGEST_INPUT`, and `Malformed` where they spell no unit of the grammar.
+#[tactic(auto, using(crate::proofs::Reading::spells_unit, crate::proofs::Reading::spelled_short))]
+pub fn read_tree(alloc: Global, bytes: &[u8]) -> Result<Unit, TreeError>
+    ensures found { IfOk result (λ u. Spells bytes.now u) }
+    ensures too_large { IsErrOf result TreeError.TooLarge ↔ (LARGEST_INPUT < length bytes.now) }
+    ensures malformed { IsErrOf result TreeError.Malformed → (length bytes.now ≤ LARGEST_INPUT) × ((u : Unit) → Spells bytes.now u → ⊥) }
+{
+    if bytes.len() > LARGEST_INPUT {
+        return Err(TreeError::TooLarge);
+    }
+    let raw = match read_raw_within(alloc, DEEPEST, bytes) {
+        Ok(raw) => raw,
+        Err(TextError::Malformed) => return Err(TreeError::Malformed),
+        Err(TextError::OutOfMemory) => return Err(TreeError::OutOfMemory),
+    };
+    let Some(numbered) = number_tree(alloc, &raw)? else {
+        return Err(TreeError::Malformed);
+    };
+    let Some(unit) = read_unit(alloc, &numbered)? else {
+        return Err(TreeError::Malformed);
+    };
+    Ok(unit)
 }

@@ -1,12 +1,10 @@
-use Rattle.std.proofs.Common.{rules, ◌≡◌, ◌+◌, ◌*◌, ◌<◌, ◌≤◌, length, map, ℕ, List, [], ◌∷◌, ◌++◌, drop, append-nil, arith, sym, ap, ◌∙◌}
+use Rattle.std.proofs.Common.{◌≡◌, ◌+◌, ◌*◌, ◌<◌, ◌≤◌, length, map, [], ◌∷◌, ◌++◌, drop, append-nil, arith, sym, ap, ◌∙◌}
 use Rattle.std.proofs.lemmas.List.{drop_more, map-append}
 use Rattle.std.proofs.Math.ListN.{drop_of_length-le}
 use Rattle.rl_text.specs.Notation as notation
 use Rattle.rl_text.specs.Notation.{spelling, spelled_on}
 use Rattle.rl_text.specs.Raw.{tree, parts_of}
-use Rattle.rl_text.specs.declared.raw.Raw.{Raw}
-use Rattle.react_lower.specs.Syntax.{Syntax, Pieces, pieces_of, syntax, plain, plain_parts, width, nodes, nodes_of, IsPlaced, ArePlaced}
-use Rattle.react_lower.specs.declared.syntax.numbered.Numbered.{Numbered}
+use Rattle.react_lower.specs.Syntax.{pieces_of, syntax, plain, width, nodes, IsPlaced}
 use Rattle.react_lower.proofs.Layers.{tree_node, tree_list}
 use Rattle.react_lower.proofs.Numbering.{closed, length_node, length_list, length_on, nodes_behind, length_behind, placed_behind, unknown_word, unknown_node_parts, unknown_listed_parts, unknown_part, parts_plain, found_behind, spelled_behind}
 use Rattle.react_lower.proofs.syntax.numbered.+numbering.Goals as goal

@@ -1,4 +1,4 @@
-use Rattle.std.proofs.Common.{◌≡◌, ℕ, ◌+◌, ◌*◌, ◌≤◌, ◌++◌, map, drop, length}
+use Rattle.std.proofs.Common.{◌≡◌, ◌+◌, ◌*◌, ◌≤◌, ◌++◌, map, drop, length}
 use Rattle.rl_text.specs.Notation.{spelling, spelled_on}
 use Rattle.rl_text.specs.Raw.{tree, parts_of}
 use Rattle.react_lower.specs.Syntax.{pieces_of, syntax, plain, nodes_of, ArePlaced}

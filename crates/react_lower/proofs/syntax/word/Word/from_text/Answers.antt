@@ -1,5 +1,4 @@
 use Rattle.std.proofs.Common.{◌≡◌, ℕ, ◌<◌, Some, slice_get, refl, lit<, length, arith}
-use Rattle.react_lower.specs.Words.{word_text}
 use Rattle.react_lower.specs.declared.syntax.word.Word.{Word}
 use Rattle.react_lower.specs.declared.syntax.word.Word.TheVariants as word
 use Rattle.react_lower.specs.declared.syntax.word.TheConstants.{WORDS}
