@@ -7,7 +7,7 @@ use Rattle.rl_text.specs.Notation.{spelling}
 use Rattle.react_lower.specs.Listing.{lowered}
 use Rattle.react_lower.specs.Units.{Spells}
 use Rattle.react_lower.specs.Headline.{IsLowered}
-use Rattle.react_lower.specs.declared.TheConstants.{LARGEST_INPUT}
+use Rattle.react_lower.specs.declared.syntax.read.TheConstants.{LARGEST_INPUT}
 use Rattle.react_lower.specs.declared.run.Status.{Status}
 use Rattle.react_lower.specs.declared.run.Status.TheVariants.{Done, Reported, Malformed, TooLarge, ReadFault, WriteFault, OutOfMemory, Usage}
 use Rattle.react_lower.specs.declared.syntax.tree.Unit.{Unit as TreeOfUnit}

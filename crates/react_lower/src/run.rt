@@ -5,7 +5,7 @@ ghost use Rattle.std.specs.Io.KnownBytes.{Keeps};
 ghost use Rattle.rl_base.specs.Faults.{Rose};
 ghost use Rattle.react_lower.specs.Units.{Spells};
 ghost use Rattle.react_lower.specs.Answers.{Explains, HasRead, exit_code, IsAnswer, IsMalformed, Lowers, ReadsWhole};
-ghost use Rattle.react_lower.specs.declared.TheConstants.{LARGEST_INPUT};
+ghost use Rattle.react_lower.specs.declared.syntax.read.TheConstants.{LARGEST_INPUT};
 ghost use Rattle.react_lower.specs.declared.syntax.tree.Unit.{Unit as TreeOfUnit};
 
 use crate::hir::listing::listing;

@@ -1,12 +1,12 @@
 //! Units from their bytes to their results.
 
 ghost use Rattle.std.specs.Prelude.{◌≡◌, ◌<◌, ◌↔◌, true, length, IfOk, IsErrOf};
-ghost use Rattle.react_lower.specs.Grammar.{is_function, is_unit};
-ghost use Rattle.react_lower.specs.Source.{marked};
+ghost use Rattle.react_lower.specs.Grammar.{is_function, is_statement, is_unit};
+ghost use Rattle.react_lower.specs.Source.{function_in, marked};
 ghost use Rattle.react_lower.specs.Units as spec;
 ghost use Rattle.react_lower.specs.Headline.{LowersTo};
 ghost use Rattle.react_lower.specs.Answers.{IsMalformed};
-ghost use Rattle.react_lower.specs.declared.TheConstants.{LARGEST_INPUT};
+ghost use Rattle.react_lower.specs.declared.syntax.read.TheConstants.{LARGEST_INPUT};
 
 use crate::hir::environment::Environment;
 use crate::hir::function::{Lowered, ReactFunctionType};
@@ -42,20 +42,40 @@ impl From<OutOfMemory> for LowerError {
     }
 }
 
+/// The function that an expression is.
+#[tactic(auto, using(crate::proofs::Spelled::spelled))]
+fn arrow_of(expression: &Expression) -> &ArrowFunction
+    requires { is_function (spec.expression expression.now) ≡ true }
+    ensures { spec.function result.now ≡ spec.expression expression.now }
+{
+    match expression {
+        Expression::Null { at: _ } => unreachable!(),
+        Expression::Boolean { at: _, value: _ } => unreachable!(),
+        Expression::Number { at: _, text: _ } => unreachable!(),
+        Expression::ArrowFunction(function) => function.get(),
+    }
+}
+
+/// The function of an expression statement.
+fn function_of(statement: &Statement) -> &ArrowFunction
+    requires { is_statement (spec.statement statement.now) ≡ true }
+    ensures function { spec.function result.now ≡ function_in (spec.statement statement.now) }
+    ensures grammar { is_function (spec.function result.now) ≡ true }
+{
+    match statement {
+        Statement::Expression { at: _, expression } => arrow_of(expression),
+    }
+}
+
 /// The marked function of a unit.
 fn marked_function(unit: &Unit) -> &ArrowFunction
     requires { is_unit (spec.unit unit.now) ≡ true }
-    ensures marked { spec.function result.now ≡ marked (spec.unit unit.now) }
+    ensures function { spec.function result.now ≡ marked (spec.unit unit.now) }
     ensures grammar { is_function (spec.function result.now) ≡ true }
 {
-    match unit.program.body.as_slice() {
-        [
-            Statement::Expression {
-                at: _,
-                expression: Expression::ArrowFunction(function),
-            },
-        ] => function.get(),
-        _ => unreachable!(),
+    match unit.program.body.get(0) {
+        Some(statement) => function_of(statement),
+        None => unreachable!(),
     }
 }
 
