@@ -51,7 +51,8 @@ impl From<AllocError> for TextError {
 /// A tree, and the place after its text.
 type Found = Option<(Raw, usize)>;
 
-/// The tree that the bytes spell, all of them. `Malformed` where they spell none.
+/// The tree that the bytes spell, all of them. `Malformed` where they spell none. It takes as much stack as the bytes
+/// open nodes and lists at once: where they come from outside, `read_raw_within` bounds that.
 pub fn read_raw(alloc: Global, bytes: &[u8]) -> Result<Raw, TextError>
     ensures found { IfOk result (λ r. Spells bytes.now (tree r)) }
     ensures malformed { IsErrOf result TextError.Malformed → (t : Tree) → Spells bytes.now t → ⊥ }
