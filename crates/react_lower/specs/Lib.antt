@@ -1,5 +1,1 @@
-pub mod Words
-pub mod Syntax
-pub mod Grammar
-pub mod Units
 pub mod Listing

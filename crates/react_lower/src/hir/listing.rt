@@ -1,0 +1,327 @@
+//! A result as a tree of the notation.
+
+ghost use Rattle.std.specs.Prelude.{◌≡◌, IfOk, map};
+ghost use Rattle.rl_text.specs.Notation.{Tree, Said, Count, Flag};
+ghost use Rattle.rl_text.specs.Raw.{tree};
+ghost use Rattle.react_lower.specs.Listing as spec;
+
+use crate::hir::function::{
+    BlockKind, HirFunction, Identifier, IdentifierName, InnerFunction, Lowered, NumberedBlock, Pair, Param,
+    ReactFunctionType,
+};
+use crate::hir::instruction::{Instruction, InstructionValue, Place, PrimitiveValue};
+use crate::hir::terminal::{ReturnVariant, Terminal};
+use rl_base::failure::OutOfMemory;
+use rl_base::ids::{BlockId, InstructionId};
+use rl_base::list::List;
+use rl_base::span::Span;
+use rl_base::text::Text;
+use rl_text::raw::Raw;
+use std::alloc::Global;
+
+/// Has a tree of the notation.
+trait ToRaw {
+    ghost shown: { Self → Tree };
+
+    fn to_raw(&self, alloc: Global) -> Result<Raw, OutOfMemory>
+        ensures { IfOk result (λ raw. tree raw ≡ shown self.now) };
+}
+
+/// A node with a word and parts.
+#[tactic(auto, using(rl_text::proofs::Trees::trees))]
+fn node(alloc: Global, word: &str, parts: Vec<Raw>) -> Result<Raw, OutOfMemory>
+    ensures { IfOk result (λ raw. tree raw ≡ spec.node word.now (map tree parts.items)) }
+{
+    Ok(Raw::Node(Text::from_str(alloc, word)?, List::from_vec(parts)))
+}
+
+/// A text of the program's own.
+#[tactic(auto, using(rl_text::proofs::Trees::trees))]
+fn said(alloc: Global, text: &str) -> Result<Raw, OutOfMemory>
+    ensures { IfOk result (λ raw. tree raw ≡ Said text.now) }
+{
+    Ok(Raw::Text(Text::from_str(alloc, text)?))
+}
+
+/// A number.
+#[tactic(auto, using(rl_text::proofs::Trees::trees))]
+fn count(number: u32) -> Raw
+    ensures { tree result ≡ Count number }
+{
+    Raw::Number(u64::from(number))
+}
+
+impl ToRaw for Text {
+    ghost shown = { spec.said };
+
+    fn to_raw(&self, alloc: Global) -> Result<Raw, OutOfMemory> {
+        said(alloc, self.as_str())
+    }
+}
+
+impl<T: ToRaw> ToRaw for Option<T> {
+    ghost shown = { spec.optional T.shown };
+
+    #[tactic(auto, using(rl_text::proofs::Trees::trees))]
+    fn to_raw(&self, alloc: Global) -> Result<Raw, OutOfMemory> {
+        match self {
+            Some(item) => item.to_raw(alloc),
+            None => Ok(Raw::Absent),
+        }
+    }
+}
+
+impl<T: ToRaw> ToRaw for List<T> {
+    ghost shown = { spec.list T.shown };
+
+    #[tactic(auto, using(rl_text::proofs::Trees::trees))]
+    fn to_raw(&self, alloc: Global) -> Result<Raw, OutOfMemory> {
+        Ok(Raw::List(each(alloc, self)?))
+    }
+}
+
+/// The trees of items, in order.
+fn each<T: ToRaw>(alloc: Global, items: &List<T>) -> Result<List<Raw>, OutOfMemory>
+    ensures { IfOk result (λ raws. map tree raws ≡ map T.shown items.now) }
+{
+    let mut raws = List::new(alloc);
+    'items: for item in items.as_slice() {
+        raws.push(item.to_raw(alloc)?)?;
+    }
+    Ok(raws)
+}
+
+impl ToRaw for Span {
+    ghost shown = { spec.span };
+
+    fn to_raw(&self, alloc: Global) -> Result<Raw, OutOfMemory> {
+        node(alloc, "at", vec![in alloc; count(self.start), count(self.end)]?)
+    }
+}
+
+impl ToRaw for Place {
+    ghost shown = { spec.place };
+
+    fn to_raw(&self, alloc: Global) -> Result<Raw, OutOfMemory> {
+        let parts = vec![in alloc; count(self.identifier.0), self.span.to_raw(alloc)?]?;
+        node(alloc, "p", parts)
+    }
+}
+
+impl ToRaw for PrimitiveValue {
+    ghost shown = { spec.primitive };
+
+    #[tactic(auto, using(rl_text::proofs::Trees::trees))]
+    fn to_raw(&self, alloc: Global) -> Result<Raw, OutOfMemory> {
+        match self {
+            PrimitiveValue::Undefined => node(alloc, "undefined", Vec::new(alloc)),
+            PrimitiveValue::Null => node(alloc, "null", Vec::new(alloc)),
+            PrimitiveValue::Boolean(value) => node(alloc, "bool", vec![in alloc; Raw::Flag(*value)]?),
+            PrimitiveValue::Number(number) => node(alloc, "number", vec![in alloc; Raw::Number(*number)]?),
+        }
+    }
+}
+
+impl ToRaw for InstructionValue {
+    ghost shown = { spec.value };
+
+    fn to_raw(&self, alloc: Global) -> Result<Raw, OutOfMemory> {
+        match self {
+            InstructionValue::Primitive(value) => node(alloc, "primitive", vec![in alloc; value.to_raw(alloc)?]?),
+        }
+    }
+}
+
+impl ToRaw for Instruction {
+    ghost shown = { spec.instruction };
+
+    fn to_raw(&self, alloc: Global) -> Result<Raw, OutOfMemory> {
+        let parts = vec![
+            in alloc;
+            count(self.order.0),
+            self.lvalue.to_raw(alloc)?,
+            self.span.to_raw(alloc)?,
+            self.value.to_raw(alloc)?
+        ]?;
+        node(alloc, "i", parts)
+    }
+}
+
+fn return_word(variant: ReturnVariant) -> &'static str
+    ensures { result.now ≡ spec.return_variant variant }
+{
+    match variant {
+        ReturnVariant::Implicit => "implicit",
+        ReturnVariant::Explicit => "explicit",
+        ReturnVariant::Void => "void",
+    }
+}
+
+impl ToRaw for Terminal {
+    ghost shown = { spec.terminal };
+
+    fn to_raw(&self, alloc: Global) -> Result<Raw, OutOfMemory> {
+        match self {
+            Terminal::Return { order, span, variant, value } => {
+                let parts = vec![
+                    in alloc;
+                    count(order.0),
+                    span.to_raw(alloc)?,
+                    said(alloc, return_word(*variant))?,
+                    value.to_raw(alloc)?
+                ]?;
+                node(alloc, "return", parts)
+            }
+            Terminal::Unreachable { order, span } => {
+                node(alloc, "unreachable", vec![in alloc; count(order.0), span.to_raw(alloc)?]?)
+            }
+        }
+    }
+}
+
+fn block_word(kind: BlockKind) -> &'static str
+    ensures { result.now ≡ spec.block_kind kind }
+{
+    match kind {
+        BlockKind::Block => "block",
+        BlockKind::Value => "value",
+        BlockKind::Loop => "loop",
+        BlockKind::Sequence => "sequence",
+        BlockKind::Catch => "catch",
+    }
+}
+
+impl ToRaw for InstructionId {
+    ghost shown = { spec.listed_instruction };
+
+    fn to_raw(&self, _alloc: Global) -> Result<Raw, OutOfMemory> {
+        Ok(count(self.0))
+    }
+}
+
+impl ToRaw for BlockId {
+    ghost shown = { spec.pred };
+
+    fn to_raw(&self, _alloc: Global) -> Result<Raw, OutOfMemory> {
+        Ok(count(self.0))
+    }
+}
+
+impl ToRaw for NumberedBlock {
+    ghost shown = { spec.block };
+
+    fn to_raw(&self, alloc: Global) -> Result<Raw, OutOfMemory> {
+        let block = &self.block;
+        let parts = vec![
+            in alloc;
+            count(self.id.0),
+            said(alloc, block_word(block.kind))?,
+            block.instructions.to_raw(alloc)?,
+            block.terminal.to_raw(alloc)?,
+            block.preds.to_raw(alloc)?
+        ]?;
+        node(alloc, "block", parts)
+    }
+}
+
+fn type_word(fn_type: ReactFunctionType) -> &'static str
+    ensures { result.now ≡ spec.function_type fn_type }
+{
+    match fn_type {
+        ReactFunctionType::Component => "component",
+        ReactFunctionType::Hook => "hook",
+        ReactFunctionType::Other => "other",
+    }
+}
+
+impl ToRaw for Param {
+    ghost shown = { spec.param };
+
+    fn to_raw(&self, alloc: Global) -> Result<Raw, OutOfMemory> {
+        match self {
+            Param::Place(place) => place.to_raw(alloc),
+            Param::Spread(place) => node(alloc, "spread", vec![in alloc; place.to_raw(alloc)?]?),
+        }
+    }
+}
+
+impl ToRaw for HirFunction {
+    ghost shown = { spec.function };
+
+    #[tactic(auto, using(rl_text::proofs::Trees::trees))]
+    fn to_raw(&self, alloc: Global) -> Result<Raw, OutOfMemory> {
+        let parts = vec![
+            in alloc;
+            self.span.to_raw(alloc)?,
+            self.name.to_raw(alloc)?,
+            said(alloc, type_word(self.fn_type))?,
+            Raw::Flag(self.generator),
+            Raw::Flag(self.is_async),
+            self.directives.to_raw(alloc)?,
+            self.params.to_raw(alloc)?,
+            self.context.to_raw(alloc)?,
+            self.returns.to_raw(alloc)?,
+            count(self.body.entry.0),
+            self.body.blocks.to_raw(alloc)?,
+            self.instructions.to_raw(alloc)?
+        ]?;
+        node(alloc, "fn", parts)
+    }
+}
+
+impl ToRaw for InnerFunction {
+    ghost shown = { spec.inner };
+
+    fn to_raw(&self, alloc: Global) -> Result<Raw, OutOfMemory> {
+        let parts = vec![in alloc; count(self.node.0), self.function.to_raw(alloc)?]?;
+        node(alloc, "inner", parts)
+    }
+}
+
+impl ToRaw for IdentifierName {
+    ghost shown = { spec.name };
+
+    fn to_raw(&self, alloc: Global) -> Result<Raw, OutOfMemory> {
+        match self {
+            IdentifierName::Named(text) => node(alloc, "named", vec![in alloc; text.to_raw(alloc)?]?),
+            IdentifierName::Promoted(text) => node(alloc, "promoted", vec![in alloc; text.to_raw(alloc)?]?),
+        }
+    }
+}
+
+impl ToRaw for Identifier {
+    ghost shown = { spec.identifier };
+
+    fn to_raw(&self, alloc: Global) -> Result<Raw, OutOfMemory> {
+        let parts = vec![
+            in alloc;
+            self.name.to_raw(alloc)?,
+            self.span.to_raw(alloc)?,
+            count(self.type_id.0)
+        ]?;
+        node(alloc, "ident", parts)
+    }
+}
+
+impl ToRaw for Pair {
+    ghost shown = { spec.pair };
+
+    fn to_raw(&self, alloc: Global) -> Result<Raw, OutOfMemory> {
+        let parts = vec![in alloc; count(self.symbol.0), count(self.identifier.0)]?;
+        node(alloc, "pair", parts)
+    }
+}
+
+/// The tree of a result.
+pub fn listing(alloc: Global, lowered: &Lowered) -> Result<Raw, OutOfMemory>
+    ensures { IfOk result (λ raw. tree raw ≡ spec.lowered lowered.now) }
+{
+    let parts = vec![
+        in alloc;
+        lowered.function.to_raw(alloc)?,
+        lowered.inner.to_raw(alloc)?,
+        lowered.identifiers.to_raw(alloc)?,
+        lowered.pairs.to_raw(alloc)?
+    ]?;
+    node(alloc, "lowered", parts)
+}

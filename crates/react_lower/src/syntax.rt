@@ -1,5 +1,0 @@
-//! Units as trees of types: the words, the numbered tree and its types, and how they are read.
-
-pub mod numbered;
-pub mod tree;
-pub mod word;
