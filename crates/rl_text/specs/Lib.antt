@@ -1,5 +1,6 @@
 pub mod Notation
 pub mod Number
 pub mod Numeral
+pub mod Places
 pub mod Quoted
 pub mod Raw

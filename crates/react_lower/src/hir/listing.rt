@@ -6,8 +6,8 @@ ghost use Rattle.rl_text.specs.Raw.{tree};
 ghost use Rattle.react_lower.specs.Listing as spec;
 
 use crate::hir::function::{
-    BlockKind, HirFunction, Identifier, IdentifierName, InnerFunction, Lowered, NumberedBlock, Pair, Param,
-    ReactFunctionType,
+    BlockKind, HirFunction, Identifier, IdentifierName, InnerFunction, Lowered, NumberedBlock,
+    Pair, Param, ReactFunctionType,
 };
 use crate::hir::instruction::{Instruction, InstructionValue, Place, PrimitiveValue};
 use crate::hir::terminal::{ReturnVariant, Terminal};
@@ -28,7 +28,7 @@ trait ToRaw {
 }
 
 /// A node with a word and parts.
-#[tactic(auto, using(rl_text::proofs::Trees::trees))]
+#[tactic(auto, using(rl_text::proofs::Trees::tree_forms))]
 fn node(alloc: Global, word: &str, parts: Vec<Raw>) -> Result<Raw, OutOfMemory>
     ensures { IfOk result (λ raw. tree raw ≡ spec.node word.now (map tree parts.items)) }
 {
@@ -36,7 +36,7 @@ fn node(alloc: Global, word: &str, parts: Vec<Raw>) -> Result<Raw, OutOfMemory>
 }
 
 /// A text of the program's own.
-#[tactic(auto, using(rl_text::proofs::Trees::trees))]
+#[tactic(auto, using(rl_text::proofs::Trees::tree_forms))]
 fn said(alloc: Global, text: &str) -> Result<Raw, OutOfMemory>
     ensures { IfOk result (λ raw. tree raw ≡ Said text.now) }
 {
@@ -44,7 +44,7 @@ fn said(alloc: Global, text: &str) -> Result<Raw, OutOfMemory>
 }
 
 /// A number.
-#[tactic(auto, using(rl_text::proofs::Trees::trees))]
+#[tactic(auto, using(rl_text::proofs::Trees::tree_forms))]
 fn count(number: u32) -> Raw
     ensures { tree result ≡ Count number }
 {
@@ -62,7 +62,7 @@ impl ToRaw for Text {
 impl<T: ToRaw> ToRaw for Option<T> {
     ghost shown = { spec.optional T.shown };
 
-    #[tactic(auto, using(rl_text::proofs::Trees::trees))]
+    #[tactic(auto, using(rl_text::proofs::Trees::tree_forms))]
     fn to_raw(&self, alloc: Global) -> Result<Raw, OutOfMemory> {
         match self {
             Some(item) => item.to_raw(alloc),
@@ -74,7 +74,7 @@ impl<T: ToRaw> ToRaw for Option<T> {
 impl<T: ToRaw> ToRaw for List<T> {
     ghost shown = { spec.list T.shown };
 
-    #[tactic(auto, using(rl_text::proofs::Trees::trees))]
+    #[tactic(auto, using(rl_text::proofs::Trees::tree_forms))]
     fn to_raw(&self, alloc: Global) -> Result<Raw, OutOfMemory> {
         Ok(Raw::List(each(alloc, self)?))
     }
@@ -95,7 +95,11 @@ impl ToRaw for Span {
     ghost shown = { spec.span };
 
     fn to_raw(&self, alloc: Global) -> Result<Raw, OutOfMemory> {
-        node(alloc, "at", vec![in alloc; count(self.start), count(self.end)]?)
+        node(
+            alloc,
+            "at",
+            vec![in alloc; count(self.start), count(self.end)]?,
+        )
     }
 }
 
@@ -111,13 +115,21 @@ impl ToRaw for Place {
 impl ToRaw for PrimitiveValue {
     ghost shown = { spec.primitive };
 
-    #[tactic(auto, using(rl_text::proofs::Trees::trees))]
+    #[tactic(auto, using(rl_text::proofs::Trees::tree_forms))]
     fn to_raw(&self, alloc: Global) -> Result<Raw, OutOfMemory> {
         match self {
             PrimitiveValue::Undefined => node(alloc, "undefined", Vec::new(alloc)),
             PrimitiveValue::Null => node(alloc, "null", Vec::new(alloc)),
-            PrimitiveValue::Boolean(value) => node(alloc, "bool", vec![in alloc; Raw::Flag(*value)]?),
-            PrimitiveValue::Number(number) => node(alloc, "number", vec![in alloc; Raw::Number(*number)]?),
+            PrimitiveValue::Boolean(value) => node(
+                alloc,
+                "bool",
+                vec![in alloc; Raw::Flag(*value)]?,
+            ),
+            PrimitiveValue::Number(number) => node(
+                alloc,
+                "number",
+                vec![in alloc; Raw::Number(*number)]?,
+            ),
         }
     }
 }
@@ -127,7 +139,11 @@ impl ToRaw for InstructionValue {
 
     fn to_raw(&self, alloc: Global) -> Result<Raw, OutOfMemory> {
         match self {
-            InstructionValue::Primitive(value) => node(alloc, "primitive", vec![in alloc; value.to_raw(alloc)?]?),
+            InstructionValue::Primitive(value) => node(
+                alloc,
+                "primitive",
+                vec![in alloc; value.to_raw(alloc)?]?,
+            ),
         }
     }
 }
@@ -136,12 +152,11 @@ impl ToRaw for Instruction {
     ghost shown = { spec.instruction };
 
     fn to_raw(&self, alloc: Global) -> Result<Raw, OutOfMemory> {
-        let parts = vec![
-            in alloc;
+        let parts = vec![in alloc;
             count(self.order.0),
             self.lvalue.to_raw(alloc)?,
             self.span.to_raw(alloc)?,
-            self.value.to_raw(alloc)?
+            self.value.to_raw(alloc)?,
         ]?;
         node(alloc, "i", parts)
     }
@@ -162,18 +177,26 @@ impl ToRaw for Terminal {
 
     fn to_raw(&self, alloc: Global) -> Result<Raw, OutOfMemory> {
         match self {
-            Terminal::Return { order, span, variant, value } => {
-                let parts = vec![
-                    in alloc;
+            Terminal::Return {
+                order,
+                span,
+                variant,
+                value,
+            } => {
+                let parts = vec![in alloc;
                     count(order.0),
                     span.to_raw(alloc)?,
                     said(alloc, return_word(*variant))?,
-                    value.to_raw(alloc)?
+                    value.to_raw(alloc)?,
                 ]?;
                 node(alloc, "return", parts)
             }
             Terminal::Unreachable { order, span } => {
-                node(alloc, "unreachable", vec![in alloc; count(order.0), span.to_raw(alloc)?]?)
+                node(
+                    alloc,
+                    "unreachable",
+                    vec![in alloc; count(order.0), span.to_raw(alloc)?]?,
+                )
             }
         }
     }
@@ -212,13 +235,12 @@ impl ToRaw for NumberedBlock {
 
     fn to_raw(&self, alloc: Global) -> Result<Raw, OutOfMemory> {
         let block = &self.block;
-        let parts = vec![
-            in alloc;
+        let parts = vec![in alloc;
             count(self.id.0),
             said(alloc, block_word(block.kind))?,
             block.instructions.to_raw(alloc)?,
             block.terminal.to_raw(alloc)?,
-            block.preds.to_raw(alloc)?
+            block.preds.to_raw(alloc)?,
         ]?;
         node(alloc, "block", parts)
     }
@@ -248,10 +270,9 @@ impl ToRaw for Param {
 impl ToRaw for HirFunction {
     ghost shown = { spec.function };
 
-    #[tactic(auto, using(rl_text::proofs::Trees::trees))]
+    #[tactic(auto, using(rl_text::proofs::Trees::tree_forms))]
     fn to_raw(&self, alloc: Global) -> Result<Raw, OutOfMemory> {
-        let parts = vec![
-            in alloc;
+        let parts = vec![in alloc;
             self.span.to_raw(alloc)?,
             self.name.to_raw(alloc)?,
             said(alloc, type_word(self.fn_type))?,
@@ -263,7 +284,7 @@ impl ToRaw for HirFunction {
             self.returns.to_raw(alloc)?,
             count(self.body.entry.0),
             self.body.blocks.to_raw(alloc)?,
-            self.instructions.to_raw(alloc)?
+            self.instructions.to_raw(alloc)?,
         ]?;
         node(alloc, "fn", parts)
     }
@@ -283,8 +304,16 @@ impl ToRaw for IdentifierName {
 
     fn to_raw(&self, alloc: Global) -> Result<Raw, OutOfMemory> {
         match self {
-            IdentifierName::Named(text) => node(alloc, "named", vec![in alloc; text.to_raw(alloc)?]?),
-            IdentifierName::Promoted(text) => node(alloc, "promoted", vec![in alloc; text.to_raw(alloc)?]?),
+            IdentifierName::Named(text) => node(
+                alloc,
+                "named",
+                vec![in alloc; text.to_raw(alloc)?]?,
+            ),
+            IdentifierName::Promoted(text) => node(
+                alloc,
+                "promoted",
+                vec![in alloc; text.to_raw(alloc)?]?,
+            ),
         }
     }
 }
@@ -293,11 +322,10 @@ impl ToRaw for Identifier {
     ghost shown = { spec.identifier };
 
     fn to_raw(&self, alloc: Global) -> Result<Raw, OutOfMemory> {
-        let parts = vec![
-            in alloc;
+        let parts = vec![in alloc;
             self.name.to_raw(alloc)?,
             self.span.to_raw(alloc)?,
-            count(self.type_id.0)
+            count(self.type_id.0),
         ]?;
         node(alloc, "ident", parts)
     }
@@ -313,15 +341,16 @@ impl ToRaw for Pair {
 }
 
 /// The tree of a result.
+#[tactic(auto, using(crate::proofs::ReadBack::only_result), unfolding(crate::specs::Listing::lowered))]
 pub fn listing(alloc: Global, lowered: &Lowered) -> Result<Raw, OutOfMemory>
-    ensures { IfOk result (λ raw. tree raw ≡ spec.lowered lowered.now) }
+    ensures only { spec.IsOnlyResult lowered.now }
+    ensures listed { IfOk result (λ raw. tree raw ≡ spec.lowered lowered.now) }
 {
-    let parts = vec![
-        in alloc;
+    let parts = vec![in alloc;
         lowered.function.to_raw(alloc)?,
         lowered.inner.to_raw(alloc)?,
         lowered.identifiers.to_raw(alloc)?,
-        lowered.pairs.to_raw(alloc)?
+        lowered.pairs.to_raw(alloc)?,
     ]?;
     node(alloc, "lowered", parts)
 }

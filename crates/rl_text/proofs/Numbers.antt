@@ -1,0 +1,79 @@
+-- Laws of decimal numbers.
+use Rattle.std.proofs.Common.{◌≡◌, ℕ, ◌+◌, ◌-◌, ◌*◌, ◌/◌, ◌%◌, ◌^◌, ◌<◌, ◌≤◌, true, List, [], ◌∷◌, ◌++◌, length, get_or, ap, sym, ◌∙◌, refl, suc, zero, rules, arith, length-append}
+use Rattle.std.specs.List.{list_all}
+use Rattle.std.specs.Char.{is_ascii_digit}
+use Rattle.std.specs.Fmt.{decimal}
+use Rattle.std.proofs.lemmas.Str.Parse.{IsNumeralModel, numerals_by_fold}
+use Rattle.std.proofs.lemmas.Fmt.{decimal-digits_value, digits_decimal, digits_value-decimal, decimal_nonempty, first_decimal, decimal_digit, decimal_step, decimal_injective, length-decimal-le}
+use Rattle.rl_text.specs.Number.{largest, IsNumeral}
+use Rattle.rl_text.specs.Places.{NoDigit}
+use Rattle.rl_text.proofs.Runs.{both, runs-apart}
+
+-- the number that digits write behind those of another number
+abbrev pub read_on : ℕ → List ℕ → ℕ
+read_on n [] = n
+read_on n (c ∷ cs) = read_on (10 * n + (c - 48)) cs
+
+pub own : IsNumeralModel (λ ds. list_all is_ascii_digit ds ≡ true) (read_on 0)
+own = numerals_by_fold _ (search rules) read_on (search rules)
+
+-- more digits write no smaller number
+pub read_on-grows : (n : ℕ) (s : List ℕ) → n ≤ read_on n s
+read_on-grows n [] = omega arith
+read_on-grows n (c ∷ cs) = omega (arith, read_on-grows (10 * n + (c - 48)) cs)
+
+pub largest-small : (n : ℕ) → n ≤ largest → n < 2 ^ 64
+largest-small n h = omega arith
+
+pub decimal-digits : (n : ℕ) → n ≤ largest → list_all is_ascii_digit (decimal n) ≡ true
+decimal-digits n h = digits_decimal own n (largest-small n h)
+
+pub decimal-value : (n : ℕ) → n ≤ largest → read_on 0 (decimal n) ≡ n
+decimal-value n h = digits_value-decimal own n (largest-small n h)
+
+-- a zero leads no other digit
+pub decimal-no_zero : (n : ℕ) → n ≤ largest → get_or (decimal n) 0 0 ≡ 48 → length (decimal n) ≡ 1
+decimal-no_zero zero h z = ap length (decimal_digit 0 (omega arith))
+decimal-no_zero (suc m) h z = absurd (omega (arith, first_decimal (suc m) (omega arith) (largest-small (suc m) h), z))
+
+-- digits without a leading zero write their value
+pub numeral-from_value : (s : List ℕ) (n : ℕ) → list_all is_ascii_digit s ≡ true → 0 < length s → (get_or s 0 0 ≡ 48 → length s ≡ 1) → read_on 0 s ≡ n → n ≤ largest → IsNumeral s n
+numeral-from_value s n digits some lead value small =
+    let fits : read_on 0 s < 2 ^ 64 = omega (arith, value, largest-small n small) in
+    record { bounded = small; written = sym (decimal-digits_value own s digits some lead fits) ∙ ap decimal value }
+
+-- what a numeral is
+pub numeral-digits : (s : List ℕ) (n : ℕ) → IsNumeral s n → list_all is_ascii_digit s ≡ true
+numeral-digits s n h = ap (list_all is_ascii_digit) h.written ∙ decimal-digits n h.bounded
+
+pub numeral-value : (s : List ℕ) (n : ℕ) → IsNumeral s n → read_on 0 s ≡ n
+numeral-value s n h = ap (read_on 0) h.written ∙ decimal-value n h.bounded
+
+pub numeral-some : (s : List ℕ) (n : ℕ) → IsNumeral s n → 0 < length s
+numeral-some s n h = omega (arith, ap length h.written, decimal_nonempty n (largest-small n h.bounded))
+
+pub numeral-no_zero : (s : List ℕ) (n : ℕ) → IsNumeral s n → get_or s 0 0 ≡ 48 → length s ≡ 1
+numeral-no_zero s n h z = ap length h.written ∙ decimal-no_zero n h.bounded (sym (ap (λ (l : List ℕ). get_or l 0 0) h.written) ∙ z)
+
+-- no numeral begins another where no digit follows
+pub numbers-apart : (m n : ℕ) (u v : List ℕ) → m ≤ largest → n ≤ largest → NoDigit u → NoDigit v → decimal m ++ u ≡ decimal n ++ v → (m ≡ n) × (u ≡ v)
+numbers-apart m n u v p q a b h =
+    let same = runs-apart is_ascii_digit (decimal m) (decimal n) u v (decimal-digits m p) (decimal-digits n q) a b h in
+    (decimal_injective m n (largest-small m p) (largest-small n q) same.0, same.1)
+
+first_of_digits : (s : List ℕ) → 0 < length s → list_all is_ascii_digit s ≡ true → (d : ℕ) × (ds : List ℕ) × (s ≡ d ∷ ds) × (is_ascii_digit d ≡ true)
+first_of_digits [] some h = absurd (omega arith)
+first_of_digits (d ∷ ds) some h = (d, ds, refl, (both (is_ascii_digit d) _ h).0)
+
+-- a numeral begins with a digit
+pub decimal-first : (n : ℕ) → n ≤ largest → (d : ℕ) × (ds : List ℕ) × (decimal n ≡ d ∷ ds) × (is_ascii_digit d ≡ true)
+decimal-first n h = first_of_digits (decimal n) (decimal_nonempty n (largest-small n h)) (decimal-digits n h)
+
+pub length-decimal-digit : (n : ℕ) → n < 10 → length (decimal n) ≡ 1
+length-decimal-digit n h = ap length (decimal_digit n h)
+
+pub length-decimal-step : (n : ℕ) → 10 ≤ n → n < 2 ^ 64 → length (decimal n) ≡ length (decimal (n / 10)) + 1
+length-decimal-step n h small = ap length (decimal_step n h small) ∙ length-append (decimal (n / 10)) ((48 + n % 10) ∷ [])
+
+pub length-decimal-most : (n : ℕ) → n < 2 ^ 64 → length (decimal n) ≤ 20
+length-decimal-most n small = length-decimal-le 20 n (omega arith) (omega arith) small

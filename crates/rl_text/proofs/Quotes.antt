@@ -1,0 +1,114 @@
+-- Laws of quoted texts.
+use Rattle.std.proofs.Common.{◌≡◌, ℕ, ◌+◌, ◌*◌, ◌/◌, ◌%◌, ◌<◌, ◌≤◌, Bool, true, false, cond, List, [], ◌∷◌, ◌++◌, length, drop, get_or, ap, sym, ◌∙◌, refl, arith, true≢false, append_assoc, length-append, ◌⊎◌, inl, inr}
+use Rattle.std.proofs.lemmas.List.{drop_more}
+use Rattle.std.proofs.lemmas.Bool.Decides.{nat_tests}
+use Rattle.rl_text.specs.Quoted.{hexadecimal, is_escaped, escape, quoted_rest}
+use Rattle.rl_text.proofs.Runs.{heads}
+
+pub hexadecimal-injective : (a b : ℕ) → hexadecimal a ≡ hexadecimal b → a < 16 → b < 16 → a ≡ b
+hexadecimal-injective a b h p q = grind (arith, nat_tests)
+
+escaped-small : (byte : ℕ) → is_escaped byte ≡ true → byte < 93
+escaped-small byte h = grind (arith, nat_tests)
+
+backslash-escaped : (byte : ℕ) → byte ≡ 92 → is_escaped byte ≡ true
+backslash-escaped byte h = grind (arith, nat_tests)
+
+quote-escaped : (byte : ℕ) → byte ≡ 34 → is_escaped byte ≡ true
+quote-escaped byte h = grind (arith, nat_tests)
+
+pub escape-escaped : (byte : ℕ) → is_escaped byte ≡ true → escape byte ≡ 92 ∷ hexadecimal (byte / 16) ∷ hexadecimal (byte % 16) ∷ []
+escape-escaped byte h = ap (λ b. cond b (92 ∷ hexadecimal (byte / 16) ∷ hexadecimal (byte % 16) ∷ []) (byte ∷ [])) h
+
+pub escape-plain : (byte : ℕ) → is_escaped byte ≡ false → escape byte ≡ byte ∷ []
+escape-plain byte h = ap (λ b. cond b (92 ∷ hexadecimal (byte / 16) ∷ hexadecimal (byte % 16) ∷ []) (byte ∷ [])) h
+
+tested : (b : Bool) → (b ≡ true) ⊎ (b ≡ false)
+tested true = inl refl
+tested false = inr refl
+
+-- behind a backslash stand the digits of a byte that is escaped
+pub after_backslash : (byte : ℕ) (bytes rest : List ℕ) → 92 ∷ bytes ≡ escape byte ++ rest → (is_escaped byte ≡ true) × (bytes ≡ hexadecimal (byte / 16) ∷ hexadecimal (byte % 16) ∷ rest)
+after_backslash byte bytes rest h = elim (tested (is_escaped byte)) [
+  | inl said ↦ (said, (heads 92 92 _ _ (h ∙ ap (λ t. t ++ rest) (escape-escaped byte said))).1)
+  | inr plain ↦ absurd (true≢false (sym (backslash-escaped byte (sym (heads 92 byte _ _ (h ∙ ap (λ t. t ++ rest) (escape-plain byte plain))).0)) ∙ plain))
+]
+
+-- any other first byte stands for itself
+pub after_other : (first byte : ℕ) (bytes rest : List ℕ) → (first ≡ 92 → ⊥) → first ∷ bytes ≡ escape byte ++ rest → (is_escaped byte ≡ false) × (first ≡ byte) × (bytes ≡ rest)
+after_other first byte bytes rest other h = elim (tested (is_escaped byte)) [
+  | inl said ↦ absurd (other (heads first 92 _ _ (h ∙ ap (λ t. t ++ rest) (escape-escaped byte said))).0)
+  | inr plain ↦ (let e = heads first byte _ _ (h ∙ ap (λ t. t ++ rest) (escape-plain byte plain)) in (plain, e.0, e.1))
+]
+
+divided : (byte : ℕ) → 16 * (byte / 16) + byte % 16 ≡ byte
+divided byte = omega arith
+
+pub escapes-apart : (a b : ℕ) (u v : List ℕ) → escape a ++ u ≡ escape b ++ v → (a ≡ b) × (u ≡ v)
+escapes-apart a b u v h = elim (tested (is_escaped a)) [
+  | inl said ↦ (let r = after_backslash b (hexadecimal (a / 16) ∷ hexadecimal (a % 16) ∷ u) v (sym (ap (λ t. t ++ u) (escape-escaped a said)) ∙ h) in
+      let one = heads _ _ _ _ r.1 in
+      let two = heads _ _ _ _ one.1 in
+      let a_small = escaped-small a said in
+      let b_small = escaped-small b r.0 in
+      let high : a / 16 ≡ b / 16 = hexadecimal-injective (a / 16) (b / 16) one.0 (omega arith) (omega arith) in
+      let low : a % 16 ≡ b % 16 = hexadecimal-injective (a % 16) (b % 16) two.0 (omega arith) (omega arith) in
+      (omega (arith, divided a, divided b), two.1))
+  | inr plain ↦ (let other : a ≡ 92 → ⊥ = λ e. true≢false (sym (backslash-escaped a e) ∙ plain) in
+      let r = after_other a b u v other (sym (ap (λ t. t ++ u) (escape-plain a plain)) ∙ h) in (r.1, r.2))
+]
+
+-- a quote begins no escape
+pub escape-no_quote : (byte : ℕ) (u v : List ℕ) → 34 ∷ u ≡ escape byte ++ v → ⊥
+escape-no_quote byte u v h =
+    let other : ◌≡◌ {A = ℕ} 34 92 → ⊥ = λ e. let f : ◌≡◌ {A = ℕ} 34 92 = e in omega arith in
+    let r = after_other 34 byte u v other h in true≢false (sym (quote-escaped byte (sym r.1)) ∙ r.0)
+
+pub quotes-apart : (s t u v : List ℕ) → quoted_rest s ++ u ≡ quoted_rest t ++ v → (s ≡ t) × (u ≡ v)
+quotes-apart [] [] u v h = (refl, (heads 34 34 u v h).1)
+quotes-apart [] (b ∷ t) u v h = absurd (escape-no_quote b u (quoted_rest t ++ v) (h ∙ append_assoc (escape b) (quoted_rest t) v))
+quotes-apart (a ∷ s) [] u v h = absurd (escape-no_quote a v (quoted_rest s ++ u) (sym h ∙ append_assoc (escape a) (quoted_rest s) u))
+quotes-apart (a ∷ s) (b ∷ t) u v h =
+    let e = escapes-apart a b (quoted_rest s ++ u) (quoted_rest t ++ v) (sym (append_assoc (escape a) (quoted_rest s) u) ∙ h ∙ append_assoc (escape b) (quoted_rest t) v) in
+    let r = quotes-apart s t u v e.1 in
+    ((λ i. e.0 i ∷ r.0 i), r.1)
+
+pub three_first : (bytes : List ℕ) → 3 ≤ length bytes → bytes ≡ get_or bytes 0 0 ∷ get_or bytes 1 0 ∷ get_or bytes 2 0 ∷ drop 3 bytes
+three_first [] l = absurd (omega arith)
+three_first (a ∷ []) l = absurd (omega arith)
+three_first (a ∷ b ∷ []) l = absurd (omega arith)
+three_first (a ∷ b ∷ c ∷ bytes) l = refl
+
+-- a text was read from one place to another
+pub record ReadsText (bytes : List ℕ) (at place : ℕ) (text : List ℕ) : Type 0 where
+  pub whole : (more rest : List ℕ) → drop place bytes ≡ quoted_rest more ++ rest → drop at bytes ≡ quoted_rest (text ++ more) ++ rest
+  pub on : (any rest : List ℕ) → drop at bytes ≡ quoted_rest any ++ rest → (more : List ℕ) × (drop place bytes ≡ quoted_rest more ++ rest)
+
+pub text-begun : (bytes : List ℕ) (at : ℕ) → ReadsText bytes at at []
+text-begun bytes at = record { whole = λ more rest e. e; on = λ any rest e. (any, e) }
+
+module _ (bytes : List ℕ) (at place after : ℕ) (text : List ℕ) (byte : ℕ) (reads : ReadsText bytes at place text) (stands : drop place bytes ≡ escape byte ++ drop after bytes) where
+  pub text-more : ReadsText bytes at after (text ++ byte ∷ [])
+  text-more = record {
+    whole = λ more rest e. reads.whole (byte ∷ more) rest (stands ∙ ap (λ l. escape byte ++ l) e ∙ sym (append_assoc (escape byte) (quoted_rest more) rest)) ∙ ap (λ l. quoted_rest l ++ rest) (sym (append_assoc text (byte ∷ []) more));
+    on = λ any rest e. let r = reads.on any rest e in go r.0 rest r.1;
+  }
+    where
+      go : (r rest : List ℕ) → drop place bytes ≡ quoted_rest r ++ rest → (more : List ℕ) × (drop after bytes ≡ quoted_rest more ++ rest)
+      go [] rest d = absurd (escape-no_quote byte rest (drop after bytes) (sym d ∙ stands))
+      go (x ∷ r) rest d = (r, (escapes-apart byte x (drop after bytes) (quoted_rest r ++ rest) (sym stands ∙ d ∙ append_assoc (escape x) (quoted_rest r) rest)).1)
+
+pub text-stopped : (bytes : List ℕ) (at place : ℕ) (text : List ℕ) → ReadsText bytes at place text → ((u : List ℕ) → drop place bytes ≡ 34 ∷ u → ⊥) → ((c : ℕ) (u : List ℕ) → drop place bytes ≡ escape c ++ u → ⊥) → (any rest : List ℕ) → drop at bytes ≡ quoted_rest any ++ rest → ⊥
+text-stopped bytes at place text reads no_quote no_byte any rest e = let r = reads.on any rest e in go r.0 r.1
+  where
+    go : (r : List ℕ) → drop place bytes ≡ quoted_rest r ++ rest → ⊥
+    go [] d = no_quote rest d
+    go (x ∷ r) d = no_byte x (quoted_rest r ++ rest) (d ∙ append_assoc (escape x) (quoted_rest r) rest)
+
+pub length-quoted_rest-some : (text : List ℕ) → 0 < length (quoted_rest text)
+length-quoted_rest-some [] = omega arith
+length-quoted_rest-some (byte ∷ text) = omega (arith, length-append (escape byte) (quoted_rest text), length-quoted_rest-some text)
+
+-- how many bytes spell the text from its byte at a place on
+pub length-quoted_rest-more : (text : List ℕ) (i : ℕ) → i < length text → length (quoted_rest (drop i text)) ≡ length (escape (get_or text i 0)) + length (quoted_rest (drop (i + 1) text))
+length-quoted_rest-more text i lt = ap (λ t. length (quoted_rest t)) (drop_more text i 0 lt) ∙ length-append (escape (get_or text i 0)) (quoted_rest (drop (i + 1) text))

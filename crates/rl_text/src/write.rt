@@ -1,0 +1,74 @@
+ghost use Rattle.std.specs.Prelude.{◌≡◌, [], ◌∷◌, ◌++◌, map, IfOk, OnOk};
+ghost use Rattle.std.specs.Fmt.{decimal};
+ghost use Rattle.rl_text.specs.Notation.{spelling};
+ghost use Rattle.rl_text.specs.Raw.{tree, parts_of};
+ghost use Rattle.rl_text.specs.Places.{spelled_parts};
+
+use crate::quoted::write_quoted;
+use crate::raw::Raw;
+use rl_base::failure::OutOfMemory;
+use std::alloc::Global;
+
+/// The text of a tree. A tree that the notation does not have gets a text too, which `read_raw` refuses or reads as
+/// another tree.
+pub fn write_raw(alloc: Global, raw: &Raw) -> Result<Vec<u8>, OutOfMemory>
+    ensures { IfOk result (λ bytes. bytes.items ≡ spelling (tree raw.now)) }
+{
+    let mut out = Vec::new(alloc);
+    write_part(raw, &mut out)?;
+    Ok(out)
+}
+
+/// Writes the text of a tree at the end.
+#[cycle(writing)]
+#[tactic(auto, using(crate::proofs::Trees::tree_forms))]
+pub(crate) fn write_part(raw: &Raw, out: &mut Vec<u8>) -> Result<(), OutOfMemory>
+    ensures { OnOk result (out.new.items ≡ out.old.items ++ spelling (tree raw.now)) }
+{
+    match raw {
+        Raw::Node(word, parts) => {
+            out.push(b'(')?;
+            out.extend_from_slice(word.as_bytes())?;
+            write_parts(parts.as_slice(), true, b')', out)
+        }
+        Raw::List(parts) => {
+            out.push(b'[')?;
+            write_parts(parts.as_slice(), false, b']', out)
+        }
+        Raw::Text(text) => write_quoted(text.as_bytes(), out),
+        Raw::Number(number) => write_number(*number, out),
+        Raw::Flag(flag) => write_byte(if *flag { b'y' } else { b'n' }, out),
+        Raw::Absent => write_byte(b'-', out),
+    }
+}
+
+/// Writes parts with a space between them, and one in front where `apart`, and then the bracket.
+#[cycle(writing)]
+fn write_parts(parts: &[Raw], apart: bool, close: u8, out: &mut Vec<u8>) -> Result<(), OutOfMemory>
+    ensures { OnOk result (out.new.items ≡ out.old.items ++ spelled_parts apart close (parts_of (map tree parts.now))) }
+{
+    let mut spaced = apart;
+    'parts: for part in parts {
+        if spaced {
+            out.push(b' ')?;
+        }
+        spaced = true;
+        write_part(part, out)?;
+    }
+    write_byte(close, out)
+}
+
+fn write_number(number: u64, out: &mut Vec<u8>) -> Result<(), OutOfMemory>
+    ensures { OnOk result (out.new.items ≡ out.old.items ++ decimal number) }
+{
+    let digits = number.to_string(*out.allocator())?;
+    out.extend_from_slice(digits.as_bytes())?;
+    Ok(())
+}
+
+fn write_byte(byte: u8, out: &mut Vec<u8>) -> Result<(), OutOfMemory>
+    ensures { OnOk result (out.new.items ≡ out.old.items ++ byte ∷ []) }
+{
+    out.push(byte)?;
+    Ok(())
+}
