@@ -29,9 +29,10 @@ trait ToRaw {
 
 /// A node with a word and parts.
 #[tactic(auto, using(rl_text::proofs::Trees::tree_forms))]
-fn node(alloc: Global, word: &str, parts: Vec<Raw>) -> Result<Raw, OutOfMemory>
-    ensures { IfOk result (λ raw. tree raw ≡ spec.node word.now (map tree parts.items)) }
+fn node<const N: usize>(alloc: Global, word: &str, parts: [Raw; N]) -> Result<Raw, OutOfMemory>
+    ensures { IfOk result (λ raw. tree raw ≡ spec.node word.now (map tree parts.entry)) }
 {
+    let parts = Vec::from_array(alloc, parts)?;
     Ok(Raw::Node(Text::from_str(alloc, word)?, List::from_vec(parts)))
 }
 
@@ -45,10 +46,25 @@ fn said(alloc: Global, text: &str) -> Result<Raw, OutOfMemory>
 
 /// A number.
 #[tactic(auto, using(rl_text::proofs::Trees::tree_forms))]
-fn count(number: u32) -> Raw
-    ensures { tree result ≡ Count number }
+fn number(value: u64) -> Raw
+    ensures { tree result ≡ Count value }
 {
-    Raw::Number(u64::from(number))
+    Raw::Number(value)
+}
+
+/// The number of a thing.
+fn count(value: u32) -> Raw
+    ensures { tree result ≡ Count value }
+{
+    number(u64::from(value))
+}
+
+/// A flag.
+#[tactic(auto, using(rl_text::proofs::Trees::tree_forms))]
+fn flag(value: bool) -> Raw
+    ensures { tree result ≡ Flag value }
+{
+    Raw::Flag(value)
 }
 
 impl ToRaw for Text {
@@ -95,11 +111,7 @@ impl ToRaw for Span {
     ghost shown = { spec.span };
 
     fn to_raw(&self, alloc: Global) -> Result<Raw, OutOfMemory> {
-        node(
-            alloc,
-            "at",
-            vec![in alloc; count(self.start), count(self.end)]?,
-        )
+        node(alloc, "at", [count(self.start), count(self.end)])
     }
 }
 
@@ -107,7 +119,7 @@ impl ToRaw for Place {
     ghost shown = { spec.place };
 
     fn to_raw(&self, alloc: Global) -> Result<Raw, OutOfMemory> {
-        let parts = vec![in alloc; count(self.identifier.0), self.span.to_raw(alloc)?]?;
+        let parts = [count(self.identifier.0), self.span.to_raw(alloc)?];
         node(alloc, "p", parts)
     }
 }
@@ -115,21 +127,12 @@ impl ToRaw for Place {
 impl ToRaw for PrimitiveValue {
     ghost shown = { spec.primitive };
 
-    #[tactic(auto, using(rl_text::proofs::Trees::tree_forms))]
     fn to_raw(&self, alloc: Global) -> Result<Raw, OutOfMemory> {
         match self {
-            PrimitiveValue::Undefined => node(alloc, "undefined", Vec::new(alloc)),
-            PrimitiveValue::Null => node(alloc, "null", Vec::new(alloc)),
-            PrimitiveValue::Boolean(value) => node(
-                alloc,
-                "bool",
-                vec![in alloc; Raw::Flag(*value)]?,
-            ),
-            PrimitiveValue::Number(number) => node(
-                alloc,
-                "number",
-                vec![in alloc; Raw::Number(*number)]?,
-            ),
+            PrimitiveValue::Undefined => node(alloc, "undefined", []),
+            PrimitiveValue::Null => node(alloc, "null", []),
+            PrimitiveValue::Boolean(value) => node(alloc, "bool", [flag(*value)]),
+            PrimitiveValue::Number(value) => node(alloc, "number", [number(*value)]),
         }
     }
 }
@@ -139,11 +142,7 @@ impl ToRaw for InstructionValue {
 
     fn to_raw(&self, alloc: Global) -> Result<Raw, OutOfMemory> {
         match self {
-            InstructionValue::Primitive(value) => node(
-                alloc,
-                "primitive",
-                vec![in alloc; value.to_raw(alloc)?]?,
-            ),
+            InstructionValue::Primitive(value) => node(alloc, "primitive", [value.to_raw(alloc)?]),
         }
     }
 }
@@ -152,12 +151,12 @@ impl ToRaw for Instruction {
     ghost shown = { spec.instruction };
 
     fn to_raw(&self, alloc: Global) -> Result<Raw, OutOfMemory> {
-        let parts = vec![in alloc;
+        let parts = [
             count(self.order.0),
             self.lvalue.to_raw(alloc)?,
             self.span.to_raw(alloc)?,
             self.value.to_raw(alloc)?,
-        ]?;
+        ];
         node(alloc, "i", parts)
     }
 }
@@ -183,20 +182,16 @@ impl ToRaw for Terminal {
                 variant,
                 value,
             } => {
-                let parts = vec![in alloc;
+                let parts = [
                     count(order.0),
                     span.to_raw(alloc)?,
                     said(alloc, return_word(*variant))?,
                     value.to_raw(alloc)?,
-                ]?;
+                ];
                 node(alloc, "return", parts)
             }
             Terminal::Unreachable { order, span } => {
-                node(
-                    alloc,
-                    "unreachable",
-                    vec![in alloc; count(order.0), span.to_raw(alloc)?]?,
-                )
+                node(alloc, "unreachable", [count(order.0), span.to_raw(alloc)?])
             }
         }
     }
@@ -235,13 +230,13 @@ impl ToRaw for NumberedBlock {
 
     fn to_raw(&self, alloc: Global) -> Result<Raw, OutOfMemory> {
         let block = &self.block;
-        let parts = vec![in alloc;
+        let parts = [
             count(self.id.0),
             said(alloc, block_word(block.kind))?,
             block.instructions.to_raw(alloc)?,
             block.terminal.to_raw(alloc)?,
             block.preds.to_raw(alloc)?,
-        ]?;
+        ];
         node(alloc, "block", parts)
     }
 }
@@ -262,7 +257,7 @@ impl ToRaw for Param {
     fn to_raw(&self, alloc: Global) -> Result<Raw, OutOfMemory> {
         match self {
             Param::Place(place) => place.to_raw(alloc),
-            Param::Spread(place) => node(alloc, "spread", vec![in alloc; place.to_raw(alloc)?]?),
+            Param::Spread(place) => node(alloc, "spread", [place.to_raw(alloc)?]),
         }
     }
 }
@@ -270,14 +265,13 @@ impl ToRaw for Param {
 impl ToRaw for HirFunction {
     ghost shown = { spec.function };
 
-    #[tactic(auto, using(rl_text::proofs::Trees::tree_forms))]
     fn to_raw(&self, alloc: Global) -> Result<Raw, OutOfMemory> {
-        let parts = vec![in alloc;
+        let parts = [
             self.span.to_raw(alloc)?,
             self.name.to_raw(alloc)?,
             said(alloc, type_word(self.fn_type))?,
-            Raw::Flag(self.generator),
-            Raw::Flag(self.is_async),
+            flag(self.generator),
+            flag(self.is_async),
             self.directives.to_raw(alloc)?,
             self.params.to_raw(alloc)?,
             self.context.to_raw(alloc)?,
@@ -285,7 +279,7 @@ impl ToRaw for HirFunction {
             count(self.body.entry.0),
             self.body.blocks.to_raw(alloc)?,
             self.instructions.to_raw(alloc)?,
-        ]?;
+        ];
         node(alloc, "fn", parts)
     }
 }
@@ -294,7 +288,7 @@ impl ToRaw for InnerFunction {
     ghost shown = { spec.inner };
 
     fn to_raw(&self, alloc: Global) -> Result<Raw, OutOfMemory> {
-        let parts = vec![in alloc; count(self.node.0), self.function.to_raw(alloc)?]?;
+        let parts = [count(self.node.0), self.function.to_raw(alloc)?];
         node(alloc, "inner", parts)
     }
 }
@@ -304,16 +298,8 @@ impl ToRaw for IdentifierName {
 
     fn to_raw(&self, alloc: Global) -> Result<Raw, OutOfMemory> {
         match self {
-            IdentifierName::Named(text) => node(
-                alloc,
-                "named",
-                vec![in alloc; text.to_raw(alloc)?]?,
-            ),
-            IdentifierName::Promoted(text) => node(
-                alloc,
-                "promoted",
-                vec![in alloc; text.to_raw(alloc)?]?,
-            ),
+            IdentifierName::Named(text) => node(alloc, "named", [text.to_raw(alloc)?]),
+            IdentifierName::Promoted(text) => node(alloc, "promoted", [text.to_raw(alloc)?]),
         }
     }
 }
@@ -322,11 +308,11 @@ impl ToRaw for Identifier {
     ghost shown = { spec.identifier };
 
     fn to_raw(&self, alloc: Global) -> Result<Raw, OutOfMemory> {
-        let parts = vec![in alloc;
+        let parts = [
             self.name.to_raw(alloc)?,
             self.span.to_raw(alloc)?,
             count(self.type_id.0),
-        ]?;
+        ];
         node(alloc, "ident", parts)
     }
 }
@@ -335,7 +321,7 @@ impl ToRaw for Pair {
     ghost shown = { spec.pair };
 
     fn to_raw(&self, alloc: Global) -> Result<Raw, OutOfMemory> {
-        let parts = vec![in alloc; count(self.symbol.0), count(self.identifier.0)]?;
+        let parts = [count(self.symbol.0), count(self.identifier.0)];
         node(alloc, "pair", parts)
     }
 }
@@ -346,11 +332,11 @@ pub fn listing(alloc: Global, lowered: &Lowered) -> Result<Raw, OutOfMemory>
     ensures only { spec.IsOnlyResult lowered.now }
     ensures listed { IfOk result (λ raw. tree raw ≡ spec.lowered lowered.now) }
 {
-    let parts = vec![in alloc;
+    let parts = [
         lowered.function.to_raw(alloc)?,
         lowered.inner.to_raw(alloc)?,
         lowered.identifiers.to_raw(alloc)?,
         lowered.pairs.to_raw(alloc)?,
-    ]?;
+    ];
     node(alloc, "lowered", parts)
 }
