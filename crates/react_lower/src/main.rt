@@ -2,7 +2,7 @@
 #![tactic(auto)]
 
 pub mod hir;
-//pub mod model;
-//pub mod syntax;
+pub mod model;
+pub mod syntax;
 
 fn main(_rt: HostRuntime) {}

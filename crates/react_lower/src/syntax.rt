@@ -1,0 +1,5 @@
+//! Units as trees of types: the words, the numbered tree and its types, and how they are read.
+
+pub mod numbered;
+pub mod tree;
+pub mod word;
