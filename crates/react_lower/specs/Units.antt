@@ -6,9 +6,10 @@ use Rattle.react_lower.specs.Grammar.{is_unit}
 use Rattle.react_lower.specs.declared.syntax.numbered.At.{At}
 use Rattle.react_lower.specs.declared.syntax.word.Word.{Word}
 use Rattle.react_lower.specs.declared.syntax.word.Word.TheVariants as word
+use Rattle.react_lower.specs.declared.syntax.tree.ArrowBody.{ArrowBody}
 use Rattle.react_lower.specs.declared.syntax.tree.ArrowBody.TheOpen as layers
 use Rattle.react_lower.specs.declared.syntax.tree.Expression.{Expression}
-use Rattle.react_lower.specs.declared.syntax.tree.ArrowBody.TheFolds.{fold-Expression, fold-ArrowFunction}
+use Rattle.react_lower.specs.declared.syntax.tree.ArrowBody.TheFolds.{fold-ArrowBody, fold-Expression, fold-ArrowFunction}
 use Rattle.react_lower.specs.declared.syntax.tree.ArrowFunction.{ArrowFunction}
 use Rattle.react_lower.specs.declared.syntax.tree.Params.{Params}
 use Rattle.react_lower.specs.declared.syntax.tree.Program.{Program}
@@ -34,6 +35,9 @@ of_expression (layers.ArrowFunction function) = function
 
 abbrev pub of_function : layers.ArrowFunction-F Syntax Syntax Syntax → Syntax
 of_function f = node f.at word.Arrow (Flag f.marked ∷ Flag f.is_async ∷ params f.params ∷ f.body ∷ [])
+
+unfoldable pub arrow_body : ArrowBody → Syntax
+arrow_body = fold-ArrowBody Syntax Syntax Syntax of_body of_expression of_function
 
 unfoldable pub expression : Expression → Syntax
 expression = fold-Expression Syntax Syntax Syntax of_body of_expression of_function

@@ -1,5 +1,7 @@
 //! Units as trees of types: the words, the numbered tree and its types, and how they are read.
 
 pub mod numbered;
+mod parts;
+pub mod read;
 pub mod tree;
 pub mod word;

@@ -1,4 +1,6 @@
+pub mod Forms
 pub mod Numbers
+pub mod Numerals
 pub mod Quotes
 pub mod Reading
 pub mod Runs

@@ -1,8 +1,10 @@
 -- Parts are read one by one.
-use Rattle.std.proofs.Common.{◌≡◌, ℕ, ◌+◌, ◌≤◌, List, [], ◌∷◌, ◌++◌, drop, ap, sym, ◌∙◌, refl, arith, subst, append_assoc}
+use Rattle.std.proofs.Common.{◌≡◌, ℕ, ◌+◌, ◌≤◌, ◌<◌, List, [], ◌∷◌, ◌++◌, length, map, drop, ap, sym, ◌∙◌, refl, arith, subst, append_assoc}
 use Rattle.rl_text.specs.Notation.{Tree, Parts, End, Then, spelling, spelled_on, AreWritable, height_of}
-use Rattle.rl_text.specs.Raw.{parts_of}
-use Rattle.rl_text.specs.Places.{Begins, NoneBegins, GoesOn, NoneGoesOn, IsBracket}
+use Rattle.rl_text.specs.Raw.{tree, parts_of}
+use Rattle.rl_text.specs.Places.{Begins, NoneBegins, GoesOn, NoneGoesOn, IsBracket, Adds}
+use Rattle.rl_text.specs.declared.raw.Raw.{Raw}
+use Rattle.std.proofs.lemmas.List.{append-nil, map-append}
 use Rattle.rl_text.proofs.Runs.{heads}
 use Rattle.rl_text.proofs.Spellings.{spellings-apart, bracket-no_space, no_digit-on, ends-from_no_digit}
 
@@ -81,3 +83,39 @@ module _ (close depth : ℕ) (bytes : List ℕ) where
         let m = reads.on parts rest e in
         let s = on-space place m.0 rest bracket space m.1 in
         none s.0 (spelled_on close s.1 ++ rest) s.3
+
+-- the parts between two places were added so far
+pub record HasRead (close depth : ℕ) (bytes : List ℕ) (at place : ℕ) (old new : List Raw) : Type 0 where
+  pub more : List Raw
+  pub added : new ≡ old ++ more
+  pub forward : at ≤ place
+  pub within : place ≤ length bytes
+  pub reads : ReadsParts close depth bytes at place (map tree more)
+
+pub has-begun : (close depth : ℕ) (bytes : List ℕ) (at : ℕ) (old : List Raw) → at ≤ length bytes → HasRead close depth bytes at at old old
+has-begun close depth bytes at old within = record {
+  more = [];
+  added = sym (append-nil old);
+  forward = omega arith;
+  within = within;
+  reads = parts-begun close depth bytes at;
+}
+
+pub has-more : (close depth : ℕ) (bytes : List ℕ) (at place after : ℕ) (old now new : List Raw) (raw : Raw) → IsBracket close → HasRead close depth bytes at place old now → drop place bytes ≡ 32 ∷ drop (place + 1) bytes → place < after → after ≤ length bytes → Begins depth (tree raw) (drop (place + 1) bytes) (drop after bytes) → new ≡ now ++ raw ∷ [] → HasRead close depth bytes at after old new
+has-more close depth bytes at place after old now new raw bracket h space forward within stands pushed = record {
+  more = h.more ++ raw ∷ [];
+  added = pushed ∙ ap (λ l. l ++ raw ∷ []) h.added ∙ append_assoc old h.more (raw ∷ []);
+  forward = omega (arith, h.forward);
+  within = within;
+  reads = subst (λ ts. ReadsParts close depth bytes at after ts) (sym (map-append tree h.more (raw ∷ [])))
+      (parts-more close depth bytes at place (map tree h.more) bracket h.reads (tree raw) after space stands);
+}
+
+pub has-closed : (close depth : ℕ) (bytes : List ℕ) (at place : ℕ) (old new : List Raw) → IsBracket close → HasRead close depth bytes at place old new → place < length bytes → drop place bytes ≡ close ∷ drop (place + 1) bytes → Adds close depth bytes at (place + 1) old new
+has-closed close depth bytes at place old new bracket h lt here = record {
+  more = h.more;
+  added = h.added;
+  forward = omega (arith, h.forward);
+  within = omega arith;
+  there = parts-closed close depth bytes at place (map tree h.more) bracket h.reads here;
+}

@@ -32,8 +32,8 @@ module _ (test : ℕ → Bool) where
       rw (step, take_more (drop at bytes) (after - at) 0 inside, get_or-drop at bytes (after - at) 0, there)
       (list_all-append test (take (after - at) (drop at bytes)) (get_or bytes after 0 ∷ []) ∙ rw (passed, one) refl)
 
-  -- the bytes at the run's beginning
-  pub run-there : (bytes : List ℕ) (at after : ℕ) → at ≤ after → drop at bytes ≡ take (after - at) (drop at bytes) ++ drop after bytes
-  run-there bytes at after low =
-      let there : (after - at) + at ≡ after = omega arith in
-      sym (take-append-drop (after - at) (drop at bytes)) ∙ ap (λ t. take (after - at) (drop at bytes) ++ t) (drop-drop (after - at) at bytes ∙ ap (λ n. drop n bytes) (omega arith))
+-- the bytes at the run's beginning
+pub run-there : (bytes : List ℕ) (at after : ℕ) → at ≤ after → drop at bytes ≡ take (after - at) (drop at bytes) ++ drop after bytes
+run-there bytes at after low =
+    let there : (after - at) + at ≡ after = omega arith in
+    sym (take-append-drop (after - at) (drop at bytes)) ∙ ap (λ t. take (after - at) (drop at bytes) ++ t) (drop-drop (after - at) at bytes ∙ ap (λ n. drop n bytes) (omega arith))

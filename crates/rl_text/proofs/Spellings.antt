@@ -127,3 +127,7 @@ spelling-apart s t u v p q m n h = spellings-apart s t u v p q (ends-from_no_dig
 pub Spells-one : (bytes : List ℕ) (s t : Tree) → Spells bytes s → Spells bytes t → s ≡ t
 Spells-one bytes s t p q =
     (spelling-apart s t [] [] p.writable q.writable tt tt (append-nil (spelling s) ∙ sym p.spelled ∙ q.spelled ∙ sym (append-nil (spelling t)))).0
+
+-- a byte of no form
+pub form-other : (byte : ℕ) → (byte ≡ 40 → ⊥) → (byte ≡ 91 → ⊥) → (byte ≡ 34 → ⊥) → (byte ≡ 121 → ⊥) → (byte ≡ 110 → ⊥) → (byte ≡ 45 → ⊥) → is_ascii_digit byte ≡ false → form_of_byte byte ≡ 6
+form-other byte a b c d e f g = grind (arith, nat_tests)

@@ -4,4 +4,8 @@
 pub mod number;
 pub mod quoted;
 pub mod raw;
+pub mod read;
+mod scan;
+#[cfg(test)]
+mod tests;
 pub mod write;

@@ -1,6 +1,7 @@
-ghost use Rattle.std.specs.Prelude.{◌≡◌, ℕ, IfSome, IfNone, length};
+ghost use Rattle.std.specs.Prelude.{◌≡◌, ℕ, IfSome, IfNone, Some, None, if◌then◌else◌, length};
 ghost use Rattle.std.specs.Fmt.{decimal};
 ghost use Rattle.rl_text.specs.Number.{IsNumeral};
+ghost use Rattle.rl_text.specs.Numeral.{is_numeral, number_of};
 
 /// The largest number of the notation, 2^53.
 pub const LARGEST: u64 = 9007199254740992;
@@ -8,6 +9,12 @@ pub const LARGEST: u64 = 9007199254740992;
 /// The number that a text of decimal digits writes. `None` where there is no digit, a byte is no digit, a zero leads
 /// other digits, or the number is above `LARGEST`.
 pub fn parse_number(text: &[u8]) -> Option<u64>
+    ensures { result ≡ (if is_numeral text.now then Some (number_of text.now) else None) }
+{
+    read_digits(text)
+}
+
+fn read_digits(text: &[u8]) -> Option<u64>
     ensures some { IfSome result (λ n. IsNumeral text.now n) }
     ensures none { IfNone result ((n : ℕ) → IsNumeral text.now n → ⊥) }
 {

@@ -1,6 +1,7 @@
-ghost use Rattle.std.specs.Prelude.{◌≡◌, ℕ, ◌+◌, ◌^◌, ◌<◌, ◌≤◌, List, ◌∷◌, ◌++◌, drop, length, IsTrue, IfSome, IfNone, IfOk, OnOk};
+ghost use Rattle.std.specs.Prelude.{◌≡◌, ℕ, ◌+◌, ◌^◌, ◌<◌, ◌≤◌, List, ◌∷◌, ◌++◌, drop, length, IfSome, IfNone, IfOk, OnOk};
 ghost use Rattle.rl_text.specs.Quoted.{hexadecimal, is_escaped, escape, quoted_rest, quoted};
 
+use crate::scan::has_byte;
 use rl_base::failure::OutOfMemory;
 use std::alloc::Global;
 
@@ -87,14 +88,6 @@ fn first_escape(bytes: &[u8]) -> Option<(u8, usize)>
     }
 }
 
-fn is_quote(bytes: &[u8], at: usize) -> bool
-    requires { at ≤ length bytes.now }
-    ensures yes { IsTrue result → (at < length bytes.now) × (drop at bytes.now ≡ 34 ∷ drop (at + 1) bytes.now) }
-    ensures no { (rest : List ℕ) → drop at bytes.now ≡ 34 ∷ rest → IsTrue result }
-{
-    at < bytes.len() && bytes[at] == b'"'
-}
-
 /// Reads what follows an opening quote, with the closing one. Answers the bytes of the text, and the place after it.
 pub(crate) fn read_quoted(
     alloc: Global,
@@ -107,7 +100,7 @@ pub(crate) fn read_quoted(
 {
     let mut text = Vec::new(alloc);
     let mut place = at;
-    'reading: while !is_quote(bytes, place) {
+    'reading: while !has_byte(bytes, place, b'"') {
         let Some((byte, count)) = first_byte(&bytes[place..]) else {
             return Ok(None);
         };

@@ -1,3 +1,6 @@
+ghost use Rattle.std.specs.Prelude.{◌≡◌};
+ghost use Rattle.react_lower.specs.Order.{with_order};
+
 use crate::hir::instruction::Place;
 use rl_base::ids::EvaluationOrder;
 use rl_base::span::Span;
@@ -28,4 +31,16 @@ pub enum ReturnVariant {
     Explicit,
     /// The end of the body.
     Void,
+}
+
+impl Terminal {
+    /// Sets the place in the order of the blocks.
+    pub fn set_order(&mut self, new_order: EvaluationOrder)
+        ensures { self.new ≡ with_order new_order.0 self.old }
+    {
+        match self {
+            Terminal::Return { order, .. } => *order = new_order,
+            Terminal::Unreachable { order, .. } => *order = new_order,
+        }
+    }
 }

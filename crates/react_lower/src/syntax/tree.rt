@@ -3,6 +3,7 @@
 use crate::syntax::numbered::At;
 use rl_base::boxed::Boxed;
 use rl_base::list::List;
+use rl_base::span::Span;
 use rl_base::text::Text;
 
 /// A program with one marked function: `(unit [] PROGRAM)`.
@@ -64,4 +65,16 @@ pub enum ArrowBody {
 #[derive(Drop)]
 pub struct Params {
     pub at: At,
+}
+
+impl Expression {
+    /// Where it stands.
+    pub fn span(&self) -> Span {
+        match self {
+            Expression::Null { at } => at.span,
+            Expression::Boolean { at, value: _ } => at.span,
+            Expression::Number { at, text: _ } => at.span,
+            Expression::ArrowFunction(function) => function.get().at.span,
+        }
+    }
 }

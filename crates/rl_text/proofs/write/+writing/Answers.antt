@@ -1,4 +1,4 @@
-use Rattle.std.proofs.Common.{◌≡◌, ◌++◌, List, ℕ, OnOk, Result, Ok, Err, map, ap, ◌∙◌, true, false}
+use Rattle.std.proofs.Common.{◌++◌, List, ℕ, OnOk, Result, Ok, Err, map, ap, ◌∙◌, true, false}
 use Rattle.rl_text.specs.declared.raw.Raw.{Raw}
 use Rattle.rl_text.specs.Raw.{tree, parts_of}
 use Rattle.rl_text.specs.Places.{spelled_parts}

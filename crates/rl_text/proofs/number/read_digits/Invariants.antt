@@ -2,7 +2,7 @@ use Rattle.std.proofs.Common.{◌≡◌, ◌≤◌, ◌^◌, drop}
 use Rattle.std.specs.List.{list_all}
 use Rattle.std.specs.Char.{is_ascii_digit}
 use Rattle.rl_text.proofs.Numbers.{read_on}
-use Rattle.rl_text.proofs.number.parse_number.Given as goal
+use Rattle.rl_text.proofs.number.read_digits.Given as goal
 
 abbrev pub invariant-read : goal.invariant-read
 invariant-read l = record {
