@@ -329,8 +329,8 @@ impl ToRaw for Pair {
 /// The tree of a result.
 #[tactic(auto, using(crate::proofs::ReadBack::only_result), unfolding(crate::specs::Listing::lowered))]
 pub fn listing(alloc: Global, lowered: &Lowered) -> Result<Raw, OutOfMemory>
-    ensures only { spec.IsOnlyResult lowered.now }
     ensures listed { IfOk result (λ raw. tree raw ≡ spec.lowered lowered.now) }
+    ensures only { spec.IsOnlyResult lowered.now }
 {
     let parts = [
         lowered.function.to_raw(alloc)?,
