@@ -329,8 +329,8 @@ impl ToRaw for Pair {
 /// The tree of a result.
 #[tactic(auto, using(crate::proofs::ReadBack::only_result), unfolding(crate::specs::Listing::lowered))]
 pub fn listing(alloc: Global, lowered: &Lowered) -> Result<Raw, OutOfMemory>
-    ensures only { spec.IsOnlyResult lowered.now }
     ensures listed { IfOk result (λ raw. tree raw ≡ spec.lowered lowered.now) }
+    ensures only { spec.IsOnlyResult lowered.now }
 {
     let parts = [
         lowered.function.to_raw(alloc)?,
@@ -339,4 +339,105 @@ pub fn listing(alloc: Global, lowered: &Lowered) -> Result<Raw, OutOfMemory>
         lowered.pairs.to_raw(alloc)?,
     ];
     node(alloc, "lowered", parts)
+}
+
+#[cfg(test)]
+mod tests {
+    use super::*;
+    use crate::hir::function::{BasicBlock, Hir};
+    use rl_base::ids::{EvaluationOrder, IdentifierId, TypeId};
+    use rl_text::write::write_raw;
+    use std::test::Fail;
+
+    const LISTED: &str =
+        "(lowered (fn (at 25 60) - \"other\" n n [] [] [] (p 2 -) 0 [(block 0 \"block\" [0] (return 2 - \"implicit\" (p 0 (at 50 59))) [])] [(i 1 (p 0 (at 50 59)) (at 50 59) (primitive (number 1))) (i 0 (p 1 -) - (primitive (undefined)))]) [] [(ident - (at 50 59) 0) (ident - - 1) (ident - (at 25 60) 2)] [])";
+
+    fn place(identifier: u32, span: Option<Span>) -> Place {
+        Place {
+            identifier: IdentifierId(identifier),
+            span,
+        }
+    }
+
+    fn instruction(order: u32, lvalue: Place, value: PrimitiveValue) -> Instruction {
+        Instruction {
+            order: EvaluationOrder(order),
+            lvalue,
+            value: InstructionValue::Primitive(value),
+            span: lvalue.span,
+        }
+    }
+
+    fn identifier(type_id: u32, span: Option<Span>) -> Identifier {
+        Identifier {
+            name: None,
+            span,
+            type_id: TypeId(type_id),
+        }
+    }
+
+    fn block(alloc: Global, returned: Place) -> Result<NumberedBlock, OutOfMemory> {
+        Ok(NumberedBlock {
+            id: BlockId(0),
+            block: BasicBlock {
+                kind: BlockKind::Block,
+                instructions: List::from_vec(vec![in alloc; InstructionId(0)]?),
+                terminal: Terminal::Return {
+                    order: EvaluationOrder(2),
+                    span: None,
+                    variant: ReturnVariant::Implicit,
+                    value: returned,
+                },
+                preds: List::new(alloc),
+            },
+        })
+    }
+
+    /// A function that returns 1.
+    fn one(alloc: Global, whole: Span, literal: Span) -> Result<HirFunction, OutOfMemory> {
+        let returned = place(0, Some(literal));
+        let entry = block(alloc, returned)?;
+        Ok(HirFunction {
+            span: Some(whole),
+            name: None,
+            fn_type: ReactFunctionType::Other,
+            generator: false,
+            is_async: false,
+            directives: List::new(alloc),
+            params: List::new(alloc),
+            context: List::new(alloc),
+            returns: place(2, None),
+            body: Hir {
+                entry: BlockId(0),
+                blocks: List::from_vec(vec![in alloc; entry]?),
+            },
+            instructions: List::from_vec(vec![in alloc;
+                instruction(1, returned, PrimitiveValue::Number(1)),
+                instruction(0, place(1, None), PrimitiveValue::Undefined),
+            ]?),
+        })
+    }
+
+    fn text(alloc: Global) -> Result<Vec<u8>, OutOfMemory> {
+        let whole = Span { start: 25, end: 60 };
+        let literal = Span { start: 50, end: 59 };
+        let lowered = Lowered {
+            function: one(alloc, whole, literal)?,
+            inner: List::new(alloc),
+            identifiers: List::from_vec(vec![in alloc;
+                identifier(0, Some(literal)),
+                identifier(1, None),
+                identifier(2, Some(whole)),
+            ]?),
+            pairs: List::new(alloc),
+        };
+        write_raw(alloc, &listing(alloc, &lowered)?)
+    }
+
+    #[test]
+    fn lists_a_result(rt: HostRuntime) -> Result<(), Fail> {
+        let bytes = text(rt.alloc())?;
+        assert_eq!(rt; bytes.as_slice(), LISTED.as_bytes());
+        Ok(())
+    }
 }
