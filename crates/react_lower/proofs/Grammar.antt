@@ -1,11 +1,14 @@
 -- What the grammar says of a function's parts.
-use Rattle.std.proofs.Common.{◌≡◌, Bool, true, false, ◌&&◌, [], ◌∷◌, ap, sym, ◌∙◌, refl, true≢false}
-use Rattle.react_lower.specs.Syntax.{Syntax, Flag}
-use Rattle.react_lower.specs.Grammar.{is_function, is_literal, is_params}
-use Rattle.react_lower.specs.Units.{node, params, arrow_body, function}
+use Rattle.std.proofs.Common.{◌≡◌, Bool, true, false, ◌&&◌, List, [], ◌∷◌, map, ap, sym, ◌∙◌, refl, true≢false}
+use Rattle.react_lower.specs.Source.{function_in, marked}
+use Rattle.react_lower.specs.Syntax.{Syntax, Flag, Listed, pieces_of}
+use Rattle.react_lower.specs.Grammar.{is_function, is_literal, is_params, is_statement, is_unit}
+use Rattle.react_lower.specs.Units.{node, params, arrow_body, function, statement, unit}
 use Rattle.react_lower.specs.declared.syntax.numbered.At.{At}
 use Rattle.react_lower.specs.declared.syntax.word.Word.TheVariants as word
 use Rattle.react_lower.specs.declared.syntax.tree.ArrowFunction.{ArrowFunction, out-ArrowFunction}
+use Rattle.react_lower.specs.declared.syntax.tree.Statement.{Statement}
+use Rattle.react_lower.specs.declared.syntax.tree.Unit.{Unit}
 use Rattle.react_lower.proofs.Spelled.{function_by_layer}
 
 second : (a b : Bool) → (a && b) ≡ true → b ≡ true
@@ -20,3 +23,16 @@ by_mark at false is_async ps body h = absurd (true≢false (sym h))
 pub literal_body : (f : ArrowFunction) → is_function (function f) ≡ true → is_literal (arrow_body (out-ArrowFunction f).body) ≡ true
 literal_body f h =
     by_mark (out-ArrowFunction f).at (out-ArrowFunction f).marked (out-ArrowFunction f).is_async (params (out-ArrowFunction f).params) (arrow_body (out-ArrowFunction f).body) (ap is_function (sym (function_by_layer f)) ∙ h)
+
+-- the program of a unit of the grammar has one statement, of the grammar
+pub one_statement : (u : Unit) → is_unit (unit u) ≡ true → (s : Statement) × (u.program.body ≡ s ∷ []) × (is_statement (statement s) ≡ true)
+one_statement u h = go u.program.body refl
+  where
+    go : (body : List Statement) → u.program.body ≡ body → (s : Statement) × (u.program.body ≡ s ∷ []) × (is_statement (statement s) ≡ true)
+    go [] e = absurd (true≢false (sym h ∙ ap (λ (b : List Statement). is_unit (node u.at word.Unit (Listed (pieces_of []) ∷ node u.program.at word.Program (Listed (pieces_of (map statement b)) ∷ []) ∷ []))) e))
+    go (s ∷ []) e = (s, e, ap (λ (b : List Statement). is_unit (node u.at word.Unit (Listed (pieces_of []) ∷ node u.program.at word.Program (Listed (pieces_of (map statement b)) ∷ []) ∷ []))) (sym e) ∙ h)
+    go (s ∷ t ∷ more) e = absurd (true≢false (sym h ∙ ap (λ (b : List Statement). is_unit (node u.at word.Unit (Listed (pieces_of []) ∷ node u.program.at word.Program (Listed (pieces_of (map statement b)) ∷ []) ∷ []))) e))
+
+-- the function of that statement is the marked one
+pub marked_statement : (u : Unit) (s : Statement) → u.program.body ≡ s ∷ [] → marked (unit u) ≡ function_in (statement s)
+marked_statement u s e = ap (λ (b : List Statement). marked (node u.at word.Unit (Listed (pieces_of []) ∷ node u.program.at word.Program (Listed (pieces_of (map statement b)) ∷ []) ∷ []))) e

@@ -13,3 +13,4 @@ pub mod Order
 pub mod Build
 pub mod Lowering
 pub mod Temporaries
+pub mod Answers

@@ -24,7 +24,12 @@ runs (Node at word.Arrow (Then marked (Then is_async (Then params (Then body End
     gives body (set_all start unset) answers (λ v store rest. returned returns.Implicit v) (λ v store rest. threw v)
 runs _ start arguments answers = waiting
 
+-- the function of an expression statement
+abbrev pub function_in : Syntax → Syntax
+function_in (Node at word.Expr (Then function End)) = function
+function_in _ = Absent
+
 -- the marked function of a unit
 abbrev pub marked : Syntax → Syntax
-marked (Node at word.Unit (Then entities (Then (Node at2 word.Program (Then (Listed (Then (Node at3 word.Expr (Then function End)) End)) End)) End))) = function
+marked (Node at word.Unit (Then entities (Then (Node at2 word.Program (Then (Listed (Then statement End)) End)) End))) = function_in statement
 marked _ = Absent

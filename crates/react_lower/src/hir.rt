@@ -3,4 +3,5 @@
 pub mod environment;
 pub mod function;
 pub mod instruction;
+pub mod listing;
 pub mod terminal;

@@ -1,0 +1,136 @@
+//! The program, over any source and sink.
+
+ghost use Rattle.std.specs.Prelude.{◌≡◌, ◌≢◌, ◌≤◌, ◌<◌, ◌↔◌, ◌⊎◌, [], ◌∷◌, Some, map, length, IfSome, IfOk, IsTrue, IsErrOf, string_bytes, codes};
+ghost use Rattle.std.specs.Io.KnownBytes.{Keeps};
+ghost use Rattle.rl_base.specs.Faults.{Rose};
+ghost use Rattle.react_lower.specs.Units.{Spells};
+ghost use Rattle.react_lower.specs.Answers.{Explains, HasRead, exit_code, IsAnswer, IsMalformed, Lowers, ReadsWhole};
+ghost use Rattle.react_lower.specs.declared.syntax.read.TheConstants.{LARGEST_INPUT};
+ghost use Rattle.react_lower.specs.declared.syntax.tree.Unit.{Unit as TreeOfUnit};
+
+use crate::hir::listing::listing;
+use crate::syntax::read::LARGEST_INPUT;
+use crate::unit::{LowerError, lower_unit};
+use rl_base::edge::{Sink, Source};
+use rl_base::steady::{SteadySink, SteadySource};
+use rl_base::transfer::{ReadError, read_up_to, write_all};
+use rl_text::write::write_raw;
+use std::alloc::Global;
+
+/// How a run of the program ended.
+#[derive(Clone, Copy, Debug, PartialEq, Eq)]
+pub enum Status {
+    /// The output was written.
+    Done,
+    /// The unit was refused, and the causes were written.
+    Reported,
+    /// The bytes spell no unit.
+    Malformed,
+    /// The bytes pass a limit.
+    TooLarge,
+    /// The source failed.
+    ReadFault,
+    /// The sink failed. A beginning of the output was written.
+    WriteFault,
+    /// Memory was wanted and not given.
+    OutOfMemory,
+    /// The words are no command.
+    Usage,
+}
+
+impl Status {
+    /// The exit status of the process.
+    pub fn code(self) -> u8
+        ensures { result ≡ exit_code self }
+    {
+        match self {
+            Status::Done => 0,
+            Status::Reported => 1,
+            Status::Malformed => 2,
+            Status::TooLarge => 3,
+            Status::ReadFault => 4,
+            Status::WriteFault => 5,
+            Status::OutOfMemory => 6,
+            Status::Usage => 7,
+        }
+    }
+}
+
+/// Whether the words are a command.
+fn is_command(words: &[String]) -> bool
+    ensures { IsTrue result ↔ (map string_bytes words.now ≡ codes "lower" ∷ []) }
+{
+    match words {
+        [word] => word.as_str() == "lower",
+        _ => false,
+    }
+}
+
+/// The output for a unit: the text of its result, and a line feed.
+fn output(alloc: Global, bytes: &[u8]) -> Result<Vec<u8>, LowerError>
+    ensures lowers { IfOk result (λ text. Lowers (Some bytes.now) text.items) }
+    ensures too_large { IsErrOf result LowerError.TooLarge ↔ (LARGEST_INPUT < length bytes.now) }
+    ensures malformed { IsErrOf result LowerError.Malformed → IsMalformed bytes.now }
+{
+    let lowered = lower_unit(alloc, bytes)?;
+    let raw = listing(alloc, &lowered)?;
+    let mut text = write_raw(alloc, &raw)?;
+    match text.push(b'\n') {
+        Ok(()) => Ok(text),
+        Err(_) => Err(LowerError::OutOfMemory),
+    }
+}
+
+/// Runs the program: the word `lower` lowers the unit that the source has left, and writes its listing to the sink.
+/// All memory is taken before the first byte is written.
+pub fn run<S: Source, K: Sink>(
+    alloc: Global,
+    words: &[String],
+    source: &mut S,
+    sink: &mut K,
+) -> Status
+    // What each status says of the words, of the bytes that were left, and of what was written.
+    ensures usage { (result ≢ Status.Usage) ↔ (map string_bytes words.now ≡ codes "lower" ∷ []) }
+    ensures explained { Explains result (S.left source.old) (K.held sink.old) (K.held sink.new) }
+
+    // A unit within the limit is answered.
+    ensures complete { map string_bytes words.now ≡ codes "lower" ∷ [] → IfSome (S.left source.old) (λ left.
+        (u : TreeOfUnit) → Spells left u → length left ≤ LARGEST_INPUT → IsAnswer result) }
+
+    // What was read.
+    ensures read { HasRead result → ReadsWhole (S.left source.old) (S.left source.new) }
+    ensures unread { result ≡ Status.Usage → Keeps (S.left source.old) (S.left source.new) }
+
+    // A fault is answered only where one was counted.
+    ensures read_cause { result ≡ Status.ReadFault → Rose (S.faults source.old) (S.faults source.new) }
+    ensures write_cause { result ≡ Status.WriteFault → Rose (K.faults sink.old) (K.faults sink.new) }
+{
+    if !is_command(words) {
+        return Status::Usage;
+    }
+    let bytes = match read_up_to(alloc, source, LARGEST_INPUT + 1) {
+        Ok(bytes) => bytes,
+        Err(ReadError::Fault) => return Status::ReadFault,
+        Err(ReadError::OutOfMemory) => return Status::OutOfMemory,
+    };
+    let text = match output(alloc, bytes.as_slice()) {
+        Ok(text) => text,
+        Err(LowerError::TooLarge) => return Status::TooLarge,
+        Err(LowerError::Malformed) => return Status::Malformed,
+        Err(LowerError::OutOfMemory) => return Status::OutOfMemory,
+    };
+    match write_all(sink, text.as_slice()) {
+        Ok(()) => Status::Done,
+        Err(_) => Status::WriteFault,
+    }
+}
+
+/// Runs the program over bytes in memory, and lets the output go. Where nothing fails but memory, a unit is answered.
+pub fn run_steady(alloc: Global, words: &[String], bytes: Vec<u8>) -> Status
+    ensures answered { map string_bytes words.now ≡ codes "lower" ∷ [] → (u : TreeOfUnit) → Spells bytes.items u → length bytes.items ≤ LARGEST_INPUT
+        → (result ≡ Status.Done) ⊎ (result ≡ Status.OutOfMemory) }
+{
+    let mut source = SteadySource::new(bytes);
+    let mut sink = SteadySink;
+    run(alloc, words, &mut source, &mut sink)
+}
