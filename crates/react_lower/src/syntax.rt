@@ -3,5 +3,7 @@
 pub mod numbered;
 mod parts;
 pub mod read;
+#[cfg(test)]
+mod tests;
 pub mod tree;
 pub mod word;

@@ -40,6 +40,32 @@ struct Place {
     byte: u32,
 }
 
+impl Place {
+    /// So many bytes further, with no node between.
+    fn behind(self, bytes: u32) -> Place
+        requires { self.byte + bytes < 2 ^ 32 }
+        ensures node { result.node ≡ self.node }
+        ensures byte { result.byte ≡ self.byte + bytes }
+    {
+        Place {
+            node: self.node,
+            byte: self.byte + bytes,
+        }
+    }
+
+    /// The node that opens here and closes before the end.
+    fn up_to(self, end: Place) -> At
+        ensures { result ≡ record { id = record { 0 = self.node }; span = record { start = self.byte; end = end.byte } } }
+    {
+        let id = NodeId(self.node);
+        let span = Span {
+            start: self.byte,
+            end: end.byte,
+        };
+        At { id, span }
+    }
+}
+
 /// The tree with the numbers and places of its nodes, the first of which opens at this place, and the place behind it.
 /// `None` where the word of a node is not known.
 #[cycle(numbering)]
@@ -70,79 +96,28 @@ fn number_at(
             let Some((parts, last)) = number_parts(alloc, parts.as_slice(), inside)? else {
                 return Ok(None);
             };
-            let end = last.byte + 1;
-            let id = NodeId(place.node);
-            let span = Span {
-                start: place.byte,
-                end,
-            };
-            let numbered = Numbered::Node(At { id, span }, known, parts);
-            Ok(Some((
-                numbered,
-                Place {
-                    node: last.node,
-                    byte: end,
-                },
-            )))
+            let end = last.behind(1);
+            Ok(Some((Numbered::Node(place.up_to(end), known, parts), end)))
         }
         Raw::List(parts) => {
             if parts.is_empty() {
-                let byte = place.byte + 2;
-                return Ok(Some((
-                    Numbered::List(List::new(alloc)),
-                    Place {
-                        node: place.node,
-                        byte,
-                    },
-                )));
+                return Ok(Some((Numbered::List(List::new(alloc)), place.behind(2))));
             }
             let Some((items, last)) = number_parts(alloc, parts.as_slice(), place)? else {
                 return Ok(None);
             };
-            let byte = last.byte + 1;
-            Ok(Some((
-                Numbered::List(items),
-                Place {
-                    node: last.node,
-                    byte,
-                },
-            )))
+            Ok(Some((Numbered::List(items), last.behind(1))))
         }
         Raw::Text(text) => {
-            let copy = text.copy(alloc)?;
-            let byte = place.byte + quoted_len(text.as_bytes()) as u32;
-            Ok(Some((
-                Numbered::Text(copy),
-                Place {
-                    node: place.node,
-                    byte,
-                },
-            )))
+            let behind = place.behind(quoted_len(text.as_bytes()) as u32);
+            Ok(Some((Numbered::Text(text.copy(alloc)?), behind)))
         }
         Raw::Number(number) => {
-            let byte = place.byte + number_len(*number) as u32;
-            Ok(Some((
-                Numbered::Number(*number),
-                Place {
-                    node: place.node,
-                    byte,
-                },
-            )))
+            let behind = place.behind(number_len(*number) as u32);
+            Ok(Some((Numbered::Number(*number), behind)))
         }
-        Raw::Flag(flag) => Ok(Some((
-            Numbered::Flag(*flag),
-            Place {
-                node: place.node,
-                byte: place.byte + 1,
-            },
-        ))),
-        Raw::Absent => Ok(Some((
-            Numbered::Absent,
-            Place {
-                node: place.node,
-                byte: place.byte + 1,
-            },
-        ))),
+        Raw::Flag(flag) => Ok(Some((Numbered::Flag(*flag), place.behind(1)))),
+        Raw::Absent => Ok(Some((Numbered::Absent, place.behind(1)))),
     }
 }
 
