@@ -4,14 +4,14 @@ use Rattle.std.specs.declared.option.Option.{Option}
 use Rattle.std.specs.Io.KnownBytes.{Consumes, Keeps, Appends}
 use Rattle.rl_base.specs.Pieces.{AppendsPrefix}
 use Rattle.rl_text.specs.Notation.{spelling}
-use Rattle.react_lower.specs.Listing.{lowered}
-use Rattle.react_lower.specs.Units.{Spells}
-use Rattle.react_lower.specs.Headline.{IsLowered}
-use Rattle.react_lower.specs.declared.syntax.read.TheConstants.{LARGEST_INPUT}
+use Rattle.rl_hir.specs.Listing.{lowered}
+use Rattle.rl_ast.specs.Units.{Spells}
+use Rattle.rl_model.specs.Headline.{IsLowered}
+use Rattle.rl_ast.specs.declared.read.TheConstants.{LARGEST_INPUT}
 use Rattle.react_lower.specs.declared.run.Status.{Status}
 use Rattle.react_lower.specs.declared.run.Status.TheVariants.{Done, Reported, Malformed, TooLarge, ReadFault, WriteFault, OutOfMemory, Usage}
-use Rattle.react_lower.specs.declared.syntax.tree.Unit.{Unit as TreeOfUnit}
-use Rattle.react_lower.specs.declared.hir.function.Lowered.{Lowered}
+use Rattle.rl_ast.specs.declared.tree.Unit.{Unit as TreeOfUnit}
+use Rattle.rl_hir.specs.declared.function.Lowered.{Lowered}
 
 -- the bytes are within the limit, and no unit's text
 abbrev pub IsMalformed : List ℕ → Type 0

@@ -1,16 +1,1 @@
-pub mod Words
-pub mod Syntax
-pub mod Grammar
-pub mod Units
-pub mod Listing
-pub mod Traces
-pub mod Source
-pub mod Machine
-pub mod Closed
-pub mod Headline
-pub mod Builder
-pub mod Order
-pub mod Build
-pub mod Lowering
-pub mod Temporaries
 pub mod Answers

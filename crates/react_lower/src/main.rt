@@ -1,12 +1,7 @@
 //! Lowers the marked function of a unit to its graph.
 #![tactic(auto)]
 
-pub mod builder;
-pub mod hir;
-pub mod lower;
-pub mod model;
 pub mod run;
-pub mod syntax;
 pub mod unit;
 
 use rl_base::streams::{StdIn, StdOut};

@@ -3,17 +3,17 @@
 ghost use Rattle.std.specs.Prelude.{◌≡◌, ◌≢◌, ◌≤◌, ◌<◌, ◌↔◌, ◌⊎◌, [], ◌∷◌, Some, map, length, IfSome, IfOk, IsTrue, IsErrOf, string_bytes, codes};
 ghost use Rattle.std.specs.Io.KnownBytes.{Keeps};
 ghost use Rattle.rl_base.specs.Faults.{Rose};
-ghost use Rattle.react_lower.specs.Units.{Spells};
+ghost use Rattle.rl_ast.specs.Units.{Spells};
 ghost use Rattle.react_lower.specs.Answers.{Explains, HasRead, exit_code, IsAnswer, IsMalformed, Lowers, ReadsWhole};
-ghost use Rattle.react_lower.specs.declared.syntax.read.TheConstants.{LARGEST_INPUT};
-ghost use Rattle.react_lower.specs.declared.syntax.tree.Unit.{Unit as TreeOfUnit};
+ghost use Rattle.rl_ast.specs.declared.read.TheConstants.{LARGEST_INPUT};
+ghost use Rattle.rl_ast.specs.declared.tree.Unit.{Unit as TreeOfUnit};
 
-use crate::hir::listing::listing;
-use crate::syntax::read::LARGEST_INPUT;
 use crate::unit::{LowerError, lower_unit};
+use rl_ast::read::LARGEST_INPUT;
 use rl_base::edge::{Sink, Source};
 use rl_base::steady::{SteadySink, SteadySource};
 use rl_base::transfer::{ReadError, read_up_to, write_all};
+use rl_hir::listing::listing;
 use rl_text::write::write_raw;
 use std::alloc::Global;
 

@@ -1,19 +1,19 @@
 //! Units from their bytes to their results.
 
 ghost use Rattle.std.specs.Prelude.{◌≡◌, ◌<◌, ◌↔◌, true, length, IfOk, IsErrOf};
-ghost use Rattle.react_lower.specs.Grammar.{is_function, is_statement, is_unit};
-ghost use Rattle.react_lower.specs.Source.{function_in, marked};
-ghost use Rattle.react_lower.specs.Units as spec;
-ghost use Rattle.react_lower.specs.Headline.{LowersTo};
+ghost use Rattle.rl_ast.specs.Grammar.{is_function, is_statement, is_unit};
+ghost use Rattle.rl_model.specs.Source.{function_in, marked};
+ghost use Rattle.rl_ast.specs.Units as spec;
+ghost use Rattle.rl_model.specs.Headline.{LowersTo};
 ghost use Rattle.react_lower.specs.Answers.{IsMalformed};
-ghost use Rattle.react_lower.specs.declared.syntax.read.TheConstants.{LARGEST_INPUT};
+ghost use Rattle.rl_ast.specs.declared.read.TheConstants.{LARGEST_INPUT};
 
-use crate::hir::environment::Environment;
-use crate::hir::function::{Lowered, ReactFunctionType};
-use crate::lower::lower;
-use crate::syntax::read::{TreeError, read_tree};
-use crate::syntax::tree::{ArrowFunction, Expression, Statement, Unit};
+use rl_ast::read::{TreeError, read_tree};
+use rl_ast::tree::{ArrowFunction, Expression, Statement, Unit};
 use rl_base::failure::OutOfMemory;
+use rl_hir::environment::Environment;
+use rl_hir::function::{Lowered, ReactFunctionType};
+use rl_lower::function::lower;
 use std::alloc::Global;
 use thiserror::Error;
 
@@ -43,7 +43,7 @@ impl From<OutOfMemory> for LowerError {
 }
 
 /// The function that an expression is.
-#[tactic(auto, using(crate::proofs::Spelled::spelled))]
+#[tactic(auto, using(rl_ast::proofs::Spelled::spelled))]
 fn arrow_of(expression: &Expression) -> &ArrowFunction
     requires { is_function (spec.expression expression.now) ≡ true }
     ensures { spec.function result.now ≡ spec.expression expression.now }

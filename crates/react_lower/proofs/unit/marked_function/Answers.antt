@@ -1,9 +1,10 @@
 use Rattle.std.proofs.Common.{◌≡◌, ℕ, Some, None, Option, List, ap, sym, subst, ◌∙◌, slice_get, true}
-use Rattle.react_lower.specs.Grammar.{is_statement}
-use Rattle.react_lower.specs.Source.{function_in}
-use Rattle.react_lower.specs.Units.{statement}
-use Rattle.react_lower.specs.declared.syntax.tree.Statement.{Statement}
-use Rattle.react_lower.proofs.Grammar.{one_statement, marked_statement}
+use Rattle.rl_ast.specs.Grammar.{is_statement}
+use Rattle.rl_model.specs.Source.{function_in}
+use Rattle.rl_ast.specs.Units.{statement}
+use Rattle.rl_ast.specs.declared.tree.Statement.{Statement}
+use Rattle.rl_ast.proofs.Grammar.{one_statement}
+use Rattle.react_lower.proofs.Marked.{marked_statement}
 use Rattle.react_lower.proofs.unit.marked_function.Goals as goal
 
 -- the first statement is the only one

@@ -1,5 +1,0 @@
-use Rattle.react_lower.proofs.Shapes.{text_inside}
-use Rattle.react_lower.proofs.syntax.parts.as_text.Goals as goal
-
-pub returns-in_default : goal.returns-in_default
-returns-in_default c text e = c.in_default.not-Text text (text_inside c.args.tree.now text e)

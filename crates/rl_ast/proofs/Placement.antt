@@ -1,0 +1,77 @@
+-- The text of a tree decides its nodes' numbers and places.
+use Rattle.std.proofs.Common.{◌≡◌, ℕ, ◌+◌, List, [], ◌∷◌, length, sym, ap, ◌∙◌, refl, subst, cond}
+use Rattle.std.specs.Str.{bytes_eq}
+use Rattle.rl_text.specs.Notation as notation
+use Rattle.rl_ast.specs.Words.{word_text}
+use Rattle.rl_ast.specs.Syntax.{Syntax, Node, Listed, Said, Count, Flag, Absent, Pieces, End, Then, plain, plain_parts, width, nodes, nodes_of, StandsAt, IsPlaced, ArePlaced}
+use Rattle.rl_ast.specs.declared.word.Word.{Word}
+use Rattle.rl_ast.specs.declared.word.Word.TheVariants as word
+use Rattle.rl_ast.specs.declared.word.TheConstants.{WORDS}
+use Rattle.rl_ast.specs.declared.numbered.At.{At}
+
+-- the first of these words that the text spells
+word_of : List Word → List ℕ → Word
+word_of [] text = word.Unit
+word_of (w ∷ words) text = cond (bytes_eq text (word_text w)) w (word_of words text)
+
+word-back : (w : Word) → word_of WORDS (word_text w) ≡ w
+unfolding word_of
+word-back word.Unit = refl
+word-back word.Program = refl
+word-back word.Expr = refl
+word-back word.Arrow = refl
+word-back word.Params = refl
+word-back word.Null = refl
+word-back word.Bool = refl
+word-back word.Num = refl
+
+pub word-one : (v w : Word) → word_text v ≡ word_text w → v ≡ w
+word-one v w e = sym (word-back v) ∙ ap (λ text. word_of WORDS text) e ∙ word-back w
+
+abbrev placed_at : ℕ → ℕ → ℕ → At
+placed_at node start end = record { id = record { 0 = node }; span = record { start = start; end = end } }
+
+pub at-one : (a b : At) (node byte bytes : ℕ) → StandsAt a node byte bytes → StandsAt b node byte bytes → a ≡ b
+at-one a b node byte bytes s t =
+    ap (λ n. placed_at n a.span.start a.span.end) (s.number ∙ sym t.number)
+    ∙ ap (λ n. placed_at b.id.0 n a.span.end) (s.start ∙ sym t.start)
+    ∙ ap (λ n. placed_at b.id.0 b.span.start n) (s.end ∙ sym t.end)
+
+mutual
+  pub nodes-one : (s t : Syntax) → plain s ≡ plain t → nodes s ≡ nodes t
+  nodes-one (Node at word parts) (Node at' word' parts') e = ap (λ n. n + 1) (nodes_of-one parts parts' (cc))
+  nodes-one (Listed parts) (Listed parts') e = nodes_of-one parts parts' (cc)
+  nodes-one (Said text) (Said text') e = refl
+  nodes-one (Count number) (Count number') e = refl
+  nodes-one (Flag flag) (Flag flag') e = refl
+  nodes-one Absent Absent e = refl
+  nodes-one _ _ e = absurd (cc)
+
+  pub nodes_of-one : (p q : Pieces) → plain_parts p ≡ plain_parts q → nodes_of p ≡ nodes_of q
+  nodes_of-one End End e = refl
+  nodes_of-one (Then s p) (Then t q) e = let first : nodes s ≡ nodes t = nodes-one s t (cc) in let rest : nodes_of p ≡ nodes_of q = nodes_of-one p q (cc) in cc
+  nodes_of-one _ _ e = absurd (cc)
+
+mutual
+  pub placed-one : (s t : Syntax) (node byte : ℕ) → plain s ≡ plain t → IsPlaced node byte s → IsPlaced node byte t → s ≡ t
+  placed-one (Node at word parts) (Node at' word' parts') node byte e here there =
+      let words : word ≡ word' = word-one word word' (cc) in
+      let same : plain_parts parts ≡ plain_parts parts' = cc in
+      let wide : width (Node at word parts) ≡ width (Node at' word' parts') = ap (λ t. length (notation.spelling t)) e in
+      let places : at ≡ at' = at-one at at' node byte (width (Node at word parts)) here.0 (subst (λ n. StandsAt at' node byte n) (sym wide) there.0) in
+      let pieces : parts ≡ parts' = placed_parts-one parts parts' (node + 1) (byte + 1 + length (word_text word)) same here.1 (subst (λ w. ArePlaced (node + 1) (byte + 1 + length (word_text w)) parts') (sym words) there.1) in
+      cc
+  placed-one (Listed parts) (Listed parts') node byte e here there = ap Listed (placed_parts-one parts parts' node byte (cc) here there)
+  placed-one (Said text) (Said text') node byte e here there = cc
+  placed-one (Count number) (Count number') node byte e here there = cc
+  placed-one (Flag flag) (Flag flag') node byte e here there = cc
+  placed-one Absent Absent node byte e here there = refl
+  placed-one _ _ node byte e here there = absurd (cc)
+
+  pub placed_parts-one : (p q : Pieces) (node byte : ℕ) → plain_parts p ≡ plain_parts q → ArePlaced node byte p → ArePlaced node byte q → p ≡ q
+  placed_parts-one End End node byte e here there = refl
+  placed_parts-one (Then s p) (Then t q) node byte e here there =
+      let first : s ≡ t = placed-one s t node (byte + 1) (cc) here.0 there.0 in
+      let rest : p ≡ q = placed_parts-one p q (node + nodes s) (byte + 1 + width s) (cc) here.1 (subst (λ x. ArePlaced (node + nodes x) (byte + 1 + width x) q) (sym first) there.1) in
+      cc
+  placed_parts-one _ _ node byte e here there = absurd (cc)

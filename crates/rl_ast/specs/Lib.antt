@@ -1,0 +1,4 @@
+pub mod Grammar
+pub mod Syntax
+pub mod Units
+pub mod Words

@@ -1,0 +1,14 @@
+-- How the words of nodes are spelled.
+use Rattle.std.specs.Prelude.{ℕ, List, codes}
+use Rattle.rl_ast.specs.declared.word.Word.{Word}
+use Rattle.rl_ast.specs.declared.word.Word.TheVariants as word
+
+abbrev pub word_text : Word → List ℕ
+word_text word.Unit = codes "unit"
+word_text word.Program = codes "program"
+word_text word.Expr = codes "expr"
+word_text word.Arrow = codes "arrow"
+word_text word.Params = codes "params"
+word_text word.Null = codes "null"
+word_text word.Bool = codes "bool"
+word_text word.Num = codes "num"

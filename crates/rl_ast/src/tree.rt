@@ -1,0 +1,80 @@
+//! The syntax tree of a unit, one variant or struct for each kind of node. Names are those of `oxc_ast`.
+
+use crate::numbered::At;
+use rl_base::boxed::Boxed;
+use rl_base::list::List;
+use rl_base::span::Span;
+use rl_base::text::Text;
+
+/// A program with one marked function: `(unit [] PROGRAM)`.
+#[derive(Drop)]
+pub struct Unit {
+    pub at: At,
+    pub program: Program,
+}
+
+/// `(program [STATEMENT ..])`.
+#[derive(Drop)]
+pub struct Program {
+    pub at: At,
+    pub body: List<Statement>,
+}
+
+/// A statement.
+#[derive(Drop)]
+pub enum Statement {
+    /// `(expr EXPRESSION)`.
+    Expression { at: At, expression: Expression },
+}
+
+/// An expression.
+#[cycle(ast)]
+#[derive(Drop)]
+pub enum Expression {
+    /// `(null)`.
+    Null { at: At },
+    /// `(bool FLAG)`.
+    Boolean { at: At, value: bool },
+    /// `(num TEXT)`: a numeric literal by its text.
+    Number { at: At, text: Text },
+    /// `(arrow MARK ASYNC PARAMS BODY)`.
+    ArrowFunction(Boxed<ArrowFunction>),
+}
+
+/// An arrow function.
+#[cycle(ast)]
+#[derive(Drop)]
+pub struct ArrowFunction {
+    pub at: At,
+    /// Whether this is the function to lower.
+    pub marked: bool,
+    pub is_async: bool,
+    pub params: Params,
+    pub body: ArrowBody,
+}
+
+/// What an arrow function does.
+#[cycle(ast)]
+#[derive(Drop)]
+pub enum ArrowBody {
+    /// An expression whose value is returned.
+    Expression(Expression),
+}
+
+/// The parameters of a function: `(params [] -)`.
+#[derive(Drop)]
+pub struct Params {
+    pub at: At,
+}
+
+impl Expression {
+    /// Where it stands.
+    pub fn span(&self) -> Span {
+        match self {
+            Expression::Null { at } => at.span,
+            Expression::Boolean { at, value: _ } => at.span,
+            Expression::Number { at, text: _ } => at.span,
+            Expression::ArrowFunction(function) => function.get().at.span,
+        }
+    }
+}

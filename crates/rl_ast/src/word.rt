@@ -1,0 +1,57 @@
+ghost use Rattle.std.specs.Prelude.{◌≡◌, MatchOption};
+ghost use Rattle.rl_ast.specs.Words.{word_text};
+
+/// The word of a node.
+#[derive(Clone, Copy, Debug, PartialEq, Eq)]
+pub enum Word {
+    Unit,
+    Program,
+    Expr,
+    Arrow,
+    Params,
+    Null,
+    Bool,
+    Num,
+}
+
+/// Each word, in the order in which they are declared.
+const WORDS: [Word; 8] = [
+    Word::Unit,
+    Word::Program,
+    Word::Expr,
+    Word::Arrow,
+    Word::Params,
+    Word::Null,
+    Word::Bool,
+    Word::Num,
+];
+
+impl Word {
+    /// The word that the bytes spell. `None` where they spell no word.
+    pub fn from_text(text: &[u8]) -> Option<Word>
+        ensures { MatchOption result ((w : Word) → word_text w ≡ text.now → ⊥) (λ w. word_text w ≡ text.now) }
+    {
+        for word in WORDS {
+            if word.text().as_bytes() == text {
+                return Some(word);
+            }
+        }
+        None
+    }
+
+    /// How the word is spelled.
+    pub fn text(self) -> &'static str
+        ensures { result.now ≡ word_text self }
+    {
+        match self {
+            Word::Unit => "unit",
+            Word::Program => "program",
+            Word::Expr => "expr",
+            Word::Arrow => "arrow",
+            Word::Params => "params",
+            Word::Null => "null",
+            Word::Bool => "bool",
+            Word::Num => "num",
+        }
+    }
+}

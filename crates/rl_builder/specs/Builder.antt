@@ -1,0 +1,64 @@
+-- The state of a function under construction, and the moves on it.
+use Rattle.std.specs.Prelude.{ℕ, ◌+◌, ◌-◌, ◌^◌, Option, None, List, [], ◌∷◌, ◌++◌, length}
+use Rattle.rl_base.specs.declared.span.Span.{Span}
+use Rattle.rl_base.specs.declared.ids.BlockId.{BlockId}
+use Rattle.rl_builder.specs.declared.builder.WipBlock.{WipBlock}
+use Rattle.rl_builder.specs.declared.builder.Work.{Work}
+use Rattle.rl_hir.specs.declared.environment.Environment.{Environment}
+use Rattle.rl_hir.specs.declared.function.NumberedBlock.{NumberedBlock}
+use Rattle.rl_hir.specs.declared.function.BlockKind.{BlockKind}
+use Rattle.rl_hir.specs.declared.function.BlockKind.TheVariants as kinds
+use Rattle.rl_hir.specs.declared.instruction.Instruction.{Instruction}
+use Rattle.rl_hir.specs.declared.terminal.Terminal.{Terminal}
+
+pub record State : Type 0 where
+  pub env : Environment
+  pub completed : List NumberedBlock
+  pub current : WipBlock
+  pub entry : BlockId
+  pub table : List Instruction
+
+abbrev pub state_of : Environment → Work → State
+state_of env work = record { env = env; completed = work.completed.items; current = work.current; entry = work.entry; table = work.instructions.items }
+
+-- an empty block
+abbrev pub new_block : ℕ → BlockKind → WipBlock
+new_block id kind = record { id = record { 0 = id }; instructions = []; kind = kind }
+
+-- a block that is in no graph
+abbrev pub placeholder : WipBlock
+placeholder = new_block (2 ^ 32 - 1) kinds.Block
+
+abbrev pub one_block_more : Environment → Environment
+one_block_more env = record env { next_block = env.next_block + 1 }
+
+-- before anything is lowered: the entry block
+abbrev pub started : Environment → BlockKind → State
+started env kind = record { env = one_block_more env; completed = []; current = new_block env.next_block kind; entry = record { 0 = env.next_block }; table = [] }
+
+abbrev pub reserved : State → State
+reserved s = record s { env = one_block_more s.env }
+
+abbrev pub one_identifier_more : Environment → Option Span → Environment
+one_identifier_more env span = record env {
+  next_type = env.next_type + 1;
+  identifiers = env.identifiers ++ record { name = None; span = span; type_id = record { 0 = env.next_type } } ∷ [];
+}
+
+abbrev pub with_temporary : State → Option Span → State
+with_temporary s span = record s { env = one_identifier_more s.env span }
+
+-- the instruction goes into the table, and the current block lists it
+abbrev pub pushed : State → Instruction → State
+pushed s i = record s {
+  current = record s.current { instructions = s.current.instructions ++ record { 0 = length s.table } ∷ [] };
+  table = s.table ++ i ∷ [];
+}
+
+-- the block with its terminal
+abbrev pub ended_by : WipBlock → Terminal → NumberedBlock
+ended_by wip terminal = record { id = wip.id; block = record { kind = wip.kind; instructions = wip.instructions; terminal = terminal; preds = [] } }
+
+-- the current block is complete, and another is the current one
+abbrev pub completed_by : State → Terminal → WipBlock → State
+completed_by s terminal next = record s { completed = s.completed ++ ended_by s.current terminal ∷ []; current = next }

@@ -1,0 +1,4 @@
+pub mod Build
+pub mod Builder
+pub mod Order
+pub mod Temporaries

@@ -1,0 +1,44 @@
+-- Which blocks are kept, and how instructions and terminals are numbered.
+use Rattle.std.specs.Prelude.{ℕ, ◌+◌, nat_eq, Some, None, List, [], ◌∷◌, length, filter, slice_get, slice_set}
+use Rattle.rl_base.specs.declared.ids.BlockId.{BlockId}
+use Rattle.rl_base.specs.declared.ids.InstructionId.{InstructionId}
+use Rattle.rl_hir.specs.declared.function.NumberedBlock.{NumberedBlock}
+use Rattle.rl_hir.specs.declared.instruction.Instruction.{Instruction}
+use Rattle.rl_hir.specs.Terminals.{with_order}
+
+-- the blocks that successors reach: no terminal leads on, so it is the entry alone
+abbrev pub reached_blocks : BlockId → List NumberedBlock → List NumberedBlock
+reached_blocks entry blocks = filter (λ b. nat_eq b.id.0 entry.0) blocks
+
+-- the instruction at a place of the table gets this order
+abbrev pub ordered_at : ℕ → ℕ → List Instruction → List Instruction
+ordered_at order place table = elim (slice_get table place) [
+  | Some i ↦ slice_set table place (record i { order = record { 0 = order } })
+  | None ↦ table
+]
+
+-- the listed instructions get orders from this one on
+abbrev pub ordered_list : ℕ → List InstructionId → List Instruction → List Instruction
+ordered_list order [] table = table
+ordered_list order (id ∷ ids) table = ordered_list (order + 1) ids (ordered_at order id.0 table)
+
+-- the order of the block after this one, where its own begin with this order
+abbrev pub order_after : ℕ → NumberedBlock → ℕ
+order_after order b = order + length b.block.instructions + 1
+
+abbrev pub ordered_block : ℕ → NumberedBlock → NumberedBlock
+ordered_block order b = record b { block = record b.block { terminal = with_order (order + length b.block.instructions) b.block.terminal } }
+
+-- in block order, each block's instructions and then its terminal, from this order on
+abbrev pub ordered_blocks : ℕ → List NumberedBlock → List NumberedBlock
+ordered_blocks order [] = []
+ordered_blocks order (b ∷ blocks) = ordered_block order b ∷ ordered_blocks (order_after order b) blocks
+
+abbrev pub ordered_table : ℕ → List NumberedBlock → List Instruction → List Instruction
+ordered_table order [] table = table
+ordered_table order (b ∷ blocks) table = ordered_table (order_after order b) blocks (ordered_list order b.block.instructions table)
+
+-- how many orders the blocks take
+abbrev pub orders_of : List NumberedBlock → ℕ
+orders_of [] = 0
+orders_of (b ∷ blocks) = length b.block.instructions + 1 + orders_of blocks

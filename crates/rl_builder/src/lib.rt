@@ -1,0 +1,5 @@
+//! Graphs under construction.
+#![tactic(auto)]
+
+pub mod builder;
+pub mod order;

@@ -1,0 +1,97 @@
+ghost use Rattle.std.specs.Prelude.{◌≡◌, ◌+◌, ◌<◌, ◌^◌, ◌∷◌, ◌++◌, [], OnOk, OnErr, IfOk, length, None};
+
+use crate::function::{HirFunction, Identifier, InnerFunction, Lowered, Pair, ReactFunctionType};
+use rl_base::failure::OutOfMemory;
+use rl_base::ids::{BlockId, IdentifierId, TypeId};
+use rl_base::list::List;
+use rl_base::span::Span;
+use std::alloc::Global;
+
+/// What the functions of a unit share while they are lowered: the counters, and all that was made so far.
+#[derive(Drop)]
+pub struct Environment {
+    /// The type of the marked function.
+    pub fn_type: ReactFunctionType,
+    /// The number of the next block.
+    pub next_block: u32,
+    /// The number of the next type variable.
+    pub next_type: u32,
+    /// All identifiers, by number.
+    pub identifiers: List<Identifier>,
+    /// The inner functions, by number.
+    pub functions: List<InnerFunction>,
+    /// Symbols in the order in which they got their identifiers.
+    pub pairs: List<Pair>,
+}
+
+impl Environment {
+    /// Nothing was made yet. It takes no memory.
+    pub fn new(alloc: Global, fn_type: ReactFunctionType) -> Environment
+        ensures { result ≡ record { fn_type = fn_type; next_block = 0; next_type = 0; identifiers = []; functions = []; pairs = [] } }
+    {
+        Environment {
+            fn_type,
+            next_block: 0,
+            next_type: 0,
+            identifiers: List::new(alloc),
+            functions: List::new(alloc),
+            pairs: List::new(alloc),
+        }
+    }
+
+    /// A fresh number for a block.
+    pub fn next_block_id(&mut self) -> BlockId
+        requires { self.old.next_block + 1 < 2 ^ 32 }
+        ensures id { result.0 ≡ self.old.next_block }
+        ensures rest { self.new ≡ record self.old { next_block = self.old.next_block + 1 } }
+    {
+        let id = BlockId(self.next_block);
+        self.next_block += 1;
+        id
+    }
+
+    /// A fresh type variable.
+    pub fn make_type(&mut self) -> TypeId
+        requires { self.old.next_type + 1 < 2 ^ 32 }
+        ensures id { result.0 ≡ self.old.next_type }
+        ensures rest { self.new ≡ record self.old { next_type = self.old.next_type + 1 } }
+    {
+        let id = TypeId(self.next_type);
+        self.next_type += 1;
+        id
+    }
+
+    /// A fresh identifier without a name, of a type of its own. Where memory is wanted and not given, no identifier was
+    /// made.
+    pub fn next_identifier_id(&mut self, span: Option<Span>) -> Result<IdentifierId, OutOfMemory>
+        requires identifiers { length self.old.identifiers < 2 ^ 32 }
+        requires types { self.old.next_type + 1 < 2 ^ 32 }
+        ensures id { IfOk result (λ id. id.0 ≡ length self.old.identifiers) }
+        ensures ok { OnOk result (self.new ≡ record self.old {
+          next_type = self.old.next_type + 1;
+          identifiers = self.old.identifiers ++ record { name = None; span = span; type_id = record { 0 = self.old.next_type } } ∷ [];
+        }) }
+        ensures err { OnErr result (self.new.identifiers ≡ self.old.identifiers) }
+    {
+        let id = IdentifierId(self.identifiers.len() as u32);
+        let type_id = self.make_type();
+        self.identifiers.push(Identifier {
+            name: None,
+            span,
+            type_id,
+        })?;
+        Ok(id)
+    }
+
+    /// The marked function with all that was made beside it.
+    pub fn into_lowered(self, function: HirFunction) -> Lowered
+        ensures { result ≡ record { function = function; inner = self.functions; identifiers = self.identifiers; pairs = self.pairs } }
+    {
+        Lowered {
+            function,
+            inner: self.functions,
+            identifiers: self.identifiers,
+            pairs: self.pairs,
+        }
+    }
+}

@@ -1,0 +1,2 @@
+pub mod LiteralGraphs
+pub mod Literals

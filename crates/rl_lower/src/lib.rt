@@ -1,0 +1,4 @@
+//! Syntax to graphs.
+#![tactic(auto)]
+
+pub mod function;

@@ -1,0 +1,35 @@
+-- Graphs whose reached blocks are all there.
+use Rattle.std.specs.Prelude.{◌≡◌, ℕ, Option, Some, None, List, [], ◌∷◌, Contains}
+use Rattle.rl_model.specs.Machine.{block_of}
+use Rattle.rl_hir.specs.declared.terminal.Terminal.{Terminal}
+use Rattle.rl_hir.specs.declared.terminal.Terminal.TheVariants as terminals
+use Rattle.rl_hir.specs.declared.function.BasicBlock.{BasicBlock}
+use Rattle.rl_hir.specs.declared.function.Hir.{Hir}
+
+-- the blocks that a terminal leads to
+abbrev pub successors : Terminal → List ℕ
+successors (terminals.Return order at variant p) = []
+successors (terminals.Unreachable order at) = []
+
+-- the blocks that a terminal names in any field
+abbrev pub named : Terminal → List ℕ
+named (terminals.Return order at variant p) = []
+named (terminals.Unreachable order at) = []
+
+abbrev pub IsUnreachable : Terminal → Type 0
+IsUnreachable (terminals.Return order at variant p) = ⊥
+IsUnreachable (terminals.Unreachable order at) = Unit {0}
+
+abbrev pub IsBlock : Hir → ℕ → Type 0
+IsBlock hir id = (block : BasicBlock) × (block_of hir.blocks id ≡ Some block)
+
+-- the blocks that successors reach from the entry
+pub data Reaches (hir : Hir) : ℕ → Type 0 where
+  entry : Reaches hir hir.entry.0
+  next : (id successor : ℕ) (block : BasicBlock) → Reaches hir id → block_of hir.blocks id ≡ Some block → Contains (successors block.terminal) successor → Reaches hir successor
+
+-- the entry is a block, and each block that a reached block names is one; no reached block ends as unreachable
+pub record IsClosed (hir : Hir) : Type 0 where
+  pub entry_block : IsBlock hir hir.entry.0
+  pub names : (id other : ℕ) (block : BasicBlock) → Reaches hir id → block_of hir.blocks id ≡ Some block → Contains (named block.terminal) other → IsBlock hir other
+  pub ends : (id : ℕ) (block : BasicBlock) → Reaches hir id → block_of hir.blocks id ≡ Some block → IsUnreachable block.terminal → ⊥
