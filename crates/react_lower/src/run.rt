@@ -1,12 +1,12 @@
 //! The program, over any source and sink.
 
-ghost use Rattle.std.specs.Prelude.{◌≡◌, ◌≢◌, ◌≤◌, ◌<◌, ◌↔◌, ◌⊎◌, [], ◌∷◌, Some, map, length, IfSome, IfOk, IsTrue, IsErrOf, string_bytes, codes};
+ghost use Rattle.std.specs.Prelude.{◌≡◌, ◌≢◌, ◌≤◌, ◌<◌, ◌↔◌, ◌⊎◌, [], ◌∷◌, map, length, IfOk, IfErr, MatchResult, IsTrue, IsErrOf, string_bytes, codes};
 ghost use Rattle.std.specs.Io.KnownBytes.{Keeps};
 ghost use Rattle.rl_base.specs.Faults.{Rose};
 ghost use Rattle.rl_ast.specs.Units.{Spells};
-ghost use Rattle.react_lower.specs.Answers.{Explains, HasRead, exit_code, IsAnswer, IsMalformed, Lowers, ReadsWhole};
 ghost use Rattle.rl_ast.specs.declared.read.TheConstants.{LARGEST_INPUT};
 ghost use Rattle.rl_ast.specs.declared.tree.Unit.{Unit as TreeOfUnit};
+ghost use Rattle.react_lower.specs.Answers.{Explains, HasRead, IsComplete, IsMalformed, Lowers, LowersKnown, ReadsWhole, RefusesKnown, exit_code};
 
 use crate::unit::{LowerError, lower_unit};
 use rl_ast::read::LARGEST_INPUT;
@@ -68,8 +68,9 @@ fn is_command(words: &[String]) -> bool
 
 /// The output for a unit: the text of its result, and a line feed.
 fn output(alloc: Global, bytes: &[u8]) -> Result<Vec<u8>, LowerError>
-    ensures lowers { IfOk result (λ text. Lowers (Some bytes.now) text.items) }
-    ensures too_large { IsErrOf result LowerError.TooLarge ↔ (LARGEST_INPUT < length bytes.now) }
+    ensures lowers { IfOk result (λ text. Lowers bytes.now text.items) }
+    ensures too_large { IsErrOf result LowerError.TooLarge → LARGEST_INPUT < length bytes.now }
+    ensures within { IfOk result (λ _. length bytes.now ≤ LARGEST_INPUT) }
     ensures malformed { IsErrOf result LowerError.Malformed → IsMalformed bytes.now }
 {
     let lowered = lower_unit(alloc, bytes)?;
@@ -78,6 +79,26 @@ fn output(alloc: Global, bytes: &[u8]) -> Result<Vec<u8>, LowerError>
     match text.push(b'\n') {
         Ok(()) => Ok(text),
         Err(_) => Err(LowerError::OutOfMemory),
+    }
+}
+
+/// Reads the unit that the source has left, and answers the output for it, or the status where there is none.
+fn answer<S: Source>(alloc: Global, source: &mut S) -> Result<Vec<u8>, Status>
+    ensures text { IfOk result (λ text. LowersKnown (S.left source.old) text.items) }
+    ensures status { IfErr result (RefusesKnown (S.left source.old)) }
+    ensures read { MatchResult result (λ _. ReadsWhole (S.left source.old) (S.left source.new)) (λ status. HasRead status → ReadsWhole (S.left source.old) (S.left source.new)) }
+    ensures cause { IsErrOf result Status.ReadFault → Rose (S.faults source.old) (S.faults source.new) }
+{
+    let bytes = match read_up_to(alloc, source, LARGEST_INPUT + 1) {
+        Ok(bytes) => bytes,
+        Err(ReadError::Fault) => return Err(Status::ReadFault),
+        Err(ReadError::OutOfMemory) => return Err(Status::OutOfMemory),
+    };
+    match output(alloc, bytes.as_slice()) {
+        Ok(text) => Ok(text),
+        Err(LowerError::TooLarge) => Err(Status::TooLarge),
+        Err(LowerError::Malformed) => Err(Status::Malformed),
+        Err(LowerError::OutOfMemory) => Err(Status::OutOfMemory),
     }
 }
 
@@ -94,8 +115,7 @@ pub fn run<S: Source, K: Sink>(
     ensures explained { Explains result (S.left source.old) (K.held sink.old) (K.held sink.new) }
 
     // A unit within the limit is answered.
-    ensures complete { map string_bytes words.now ≡ codes "lower" ∷ [] → IfSome (S.left source.old) (λ left.
-        (u : TreeOfUnit) → Spells left u → length left ≤ LARGEST_INPUT → IsAnswer result) }
+    ensures complete { map string_bytes words.now ≡ codes "lower" ∷ [] → IsComplete (S.left source.old) result }
 
     // What was read.
     ensures read { HasRead result → ReadsWhole (S.left source.old) (S.left source.new) }
@@ -108,16 +128,9 @@ pub fn run<S: Source, K: Sink>(
     if !is_command(words) {
         return Status::Usage;
     }
-    let bytes = match read_up_to(alloc, source, LARGEST_INPUT + 1) {
-        Ok(bytes) => bytes,
-        Err(ReadError::Fault) => return Status::ReadFault,
-        Err(ReadError::OutOfMemory) => return Status::OutOfMemory,
-    };
-    let text = match output(alloc, bytes.as_slice()) {
+    let text = match answer(alloc, source) {
         Ok(text) => text,
-        Err(LowerError::TooLarge) => return Status::TooLarge,
-        Err(LowerError::Malformed) => return Status::Malformed,
-        Err(LowerError::OutOfMemory) => return Status::OutOfMemory,
+        Err(status) => return status,
     };
     match write_all(sink, text.as_slice()) {
         Ok(()) => Status::Done,
@@ -127,8 +140,9 @@ pub fn run<S: Source, K: Sink>(
 
 /// Runs the program over bytes in memory, and lets the output go. Where nothing fails but memory, a unit is answered.
 pub fn run_steady(alloc: Global, words: &[String], bytes: Vec<u8>) -> Status
-    ensures answered { map string_bytes words.now ≡ codes "lower" ∷ [] → (u : TreeOfUnit) → Spells bytes.items u → length bytes.items ≤ LARGEST_INPUT
-        → (result ≡ Status.Done) ⊎ (result ≡ Status.OutOfMemory) }
+    requires command { map string_bytes words.now ≡ codes "lower" ∷ [] }
+    requires within { length bytes.items ≤ LARGEST_INPUT }
+    ensures { (u : TreeOfUnit) → Spells bytes.items u → (result ≡ Status.Done) ⊎ (result ≡ Status.OutOfMemory) }
 {
     let mut source = SteadySource::new(bytes);
     let mut sink = SteadySink;

@@ -1,4 +1,4 @@
-use Rattle.std.proofs.Common.{◌≡◌, List, [], ap, sym, subst, ◌∙◌, All, arith}
+use Rattle.std.proofs.Common.{◌≡◌, List, [], Err, ap, sym, subst, ◌∙◌, All, arith}
 use Rattle.rl_model.specs.Closed.{IsClosed}
 use Rattle.rl_model.specs.Headline.{IsLowered, SameRuns}
 use Rattle.rl_ast.specs.Syntax.{Syntax}
@@ -21,3 +21,8 @@ returns-clause-lowered c =
         same_runs = subst (λ (s : Syntax). SameRuns s c.in_ok-function.function c.lower.new.env.pairs) c.marked_function.ensures.function c.in_ok-function.ensures.same_runs;
       }),
     )
+
+pub returns-in-Err-Malformed-clause-malformed : goal.returns-in-Err-Malformed-clause-malformed
+returns-in-Err-Malformed-clause-malformed c h =
+    let malformed = c.in-Err-Malformed.ensures.malformed (ap Err c.in-Err-Malformed.field-0-is) in
+    record { within = malformed.0; no_unit = malformed.1 }
