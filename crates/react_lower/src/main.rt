@@ -2,6 +2,8 @@
 #![tactic(auto)]
 
 pub mod run;
+#[cfg(test)]
+mod tests;
 pub mod unit;
 
 use rl_base::streams::{StdIn, StdOut};

@@ -1,6 +1,6 @@
 -- The plain tree of each expression and function.
-use Rattle.std.proofs.Common.{◌≡◌, ℕ, Bool, List, [], ◌∷◌, sym, ap, ◌∙◌}
-use Rattle.rl_ast.specs.Syntax.{Syntax, Node, Said, Flag, Pieces, End, Then}
+use Rattle.std.proofs.Common.{◌≡◌, ℕ, Bool, List, sym, ap, ◌∙◌}
+use Rattle.rl_ast.specs.Syntax.{Syntax, Node, Said, Flag, End, Then}
 use Rattle.rl_ast.specs.Units.{params, of_body, of_expression, of_function, arrow_body, expression, function}
 use Rattle.rl_ast.specs.declared.word.Word.TheVariants as word
 use Rattle.rl_ast.specs.declared.numbered.At.{At}
@@ -12,7 +12,7 @@ use Rattle.rl_ast.specs.declared.tree.ArrowFunction.{ArrowFunction, out-ArrowFun
 use Rattle.rl_ast.specs.declared.tree.Params.{Params}
 use Rattle.rl_ast.specs.declared.tree.ArrowBody.TheOpen as layers
 use Rattle.rl_ast.specs.declared.tree.ArrowBody.TheViews.{roll-ArrowFunction}
-use Rattle.rl_ast.specs.declared.tree.ArrowBody.TheFolds.{fold-ArrowBody, fold-Expression, fold-ArrowFunction, fold-roll-ArrowBody, fold-roll-Expression, fold-roll-ArrowFunction, fold_out-ArrowFunction}
+use Rattle.rl_ast.specs.declared.tree.ArrowBody.TheFolds.{fold-ArrowBody, fold-Expression, fold-roll-ArrowBody, fold-roll-Expression, fold-roll-ArrowFunction, fold_out-ArrowFunction}
 
 pub body_expression : (e : Expression) → arrow_body (bodies.Expression e) ≡ expression e
 unfolding arrow_body expression

@@ -1,5 +1,5 @@
 -- The grammar of units, as far as it goes.
-use Rattle.std.specs.Prelude.{ℕ, Bool, true, false, ◌&&◌}
+use Rattle.std.specs.Prelude.{Bool, true, false, ◌&&◌}
 use Rattle.rl_text.specs.Numeral.{is_numeral}
 use Rattle.rl_ast.specs.declared.word.Word.TheVariants as word
 use Rattle.rl_ast.specs.Syntax.{Syntax, Node, Listed, Said, Flag, Absent, End, Then}

@@ -1,5 +1,5 @@
 -- Laws of the numbering of blocks.
-use Rattle.std.proofs.Common.{◌≡◌, ℕ, ◌+◌, ◌<◌, List, length, get_or, get_or-drop, drop, slice_set, add-zero, ap, ◌∙◌, sym, refl}
+use Rattle.std.proofs.Common.{◌≡◌, ℕ, ◌<◌, List, length, get_or, get_or-drop, drop, slice_set, add-zero, ap, ◌∙◌, sym, refl}
 use Rattle.std.proofs.lemmas.Option.{slice_get-get_or}
 use Rattle.rl_builder.specs.Order.{ordered_at}
 use Rattle.rl_hir.specs.declared.instruction.Instruction.{Instruction}

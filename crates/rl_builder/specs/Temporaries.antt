@@ -1,5 +1,5 @@
 -- A value that goes into a fresh identifier.
-use Rattle.std.specs.Prelude.{ℕ, Option, length}
+use Rattle.std.specs.Prelude.{Option, length}
 use Rattle.rl_base.specs.declared.span.Span.{Span}
 use Rattle.rl_builder.specs.Builder.{State, with_temporary, pushed}
 use Rattle.rl_hir.specs.declared.instruction.Place.{Place}

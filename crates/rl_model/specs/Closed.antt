@@ -1,5 +1,5 @@
 -- Graphs whose reached blocks are all there.
-use Rattle.std.specs.Prelude.{◌≡◌, ℕ, Option, Some, None, List, [], ◌∷◌, Contains}
+use Rattle.std.specs.Prelude.{◌≡◌, ℕ, Some, List, [], Contains}
 use Rattle.rl_model.specs.Machine.{block_of}
 use Rattle.rl_hir.specs.declared.terminal.Terminal.{Terminal}
 use Rattle.rl_hir.specs.declared.terminal.Terminal.TheVariants as terminals

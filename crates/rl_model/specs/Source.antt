@@ -1,8 +1,8 @@
 -- What a function of the source does, by recursion over syntax.
-use Rattle.std.specs.Prelude.{ℕ, List, []}
+use Rattle.std.specs.Prelude.{List}
 use Rattle.rl_text.specs.Numeral.{number_of}
 use Rattle.rl_ast.specs.Syntax.{Syntax, Node, Listed, Said, Flag, Absent, End, Then}
-use Rattle.rl_model.specs.Traces.{Store, Gives, unset, set_all, returned, threw, waiting}
+use Rattle.rl_model.specs.Traces.{Gives, unset, set_all, returned, threw, waiting}
 use Rattle.rl_ast.specs.declared.word.Word.TheVariants as word
 use Rattle.rl_hir.specs.declared.terminal.ReturnVariant.TheVariants as returns
 use Rattle.rl_model.specs.declared.trace.Value.{Value}

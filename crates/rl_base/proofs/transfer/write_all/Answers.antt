@@ -1,4 +1,4 @@
-use Rattle.std.proofs.Common.{arith, length, length-drop}
+use Rattle.std.proofs.Common.{arith, length-drop}
 use Rattle.std.proofs.lemmas.List.{take_rest}
 use Rattle.rl_base.proofs.KnownBytes.{Appends-twice_taken}
 use Rattle.rl_base.proofs.transfer.write_all.Goals as goal

@@ -1,4 +1,4 @@
-use Rattle.std.proofs.Common.{◌≡◌, ◌+◌, ◌≤◌, ◌<◌, ◌++◌, All, length, take, drop}
+use Rattle.std.proofs.Common.{◌≡◌, ◌+◌, ◌≤◌, ◌++◌, take, drop}
 use Rattle.rl_builder.specs.Order.{ordered_blocks, ordered_table, orders_of}
 use Rattle.rl_builder.proofs.order.mark_instruction_ids.Given as goal
 

@@ -1,4 +1,4 @@
-use Rattle.std.proofs.Common.{◌≡◌, ◌+◌, length, drop}
+use Rattle.std.proofs.Common.{◌≡◌, ◌+◌, drop}
 use Rattle.rl_builder.specs.Order.{ordered_list}
 use Rattle.rl_builder.proofs.order.mark_listed.Given as goal
 
