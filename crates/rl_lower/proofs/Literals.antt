@@ -1,5 +1,5 @@
 -- What the text of a numeric literal parses to.
-use Rattle.std.proofs.Common.{◌≡◌, ℕ, List, Bool, true, Option, Some, None, if◌then◌else◌, ap, sym, ◌∙◌}
+use Rattle.std.proofs.Common.{◌≡◌, ℕ, List, Bool, true, Option, Some, None, if◌then◌else◌, ap, ◌∙◌}
 use Rattle.rl_text.specs.Numeral.{is_numeral, number_of}
 
 -- a reader of numerals answers the number of a numeral

@@ -1,6 +1,6 @@
-use Rattle.std.proofs.Common.{◌≡◌, Some, None, false, sym, subst, ap, ◌∙◌, true, ◌&&◌, Bool, refl}
+use Rattle.std.proofs.Common.{◌≡◌, Some, None, false, sym, subst, ap, ◌∙◌}
 use Rattle.rl_model.specs.Closed.{IsClosed}
-use Rattle.rl_ast.specs.Grammar.{is_function, is_literal, is_params}
+use Rattle.rl_ast.specs.Grammar.{is_literal}
 use Rattle.rl_lower.specs.Lowering.{Computes}
 use Rattle.rl_ast.specs.Syntax.{Syntax}
 use Rattle.rl_hir.specs.declared.function.HirFunction.{HirFunction}

@@ -1,5 +1,5 @@
-use Rattle.std.proofs.Common.{◌≡◌, true, Some, None, Option, ℕ, ap, sym, ◌∙◌, true≢false}
-use Rattle.rl_ast.specs.Syntax.{Syntax, Said}
+use Rattle.std.proofs.Common.{◌≡◌, Some, None, Option, ℕ, ap, sym, ◌∙◌, true≢false}
+use Rattle.rl_ast.specs.Syntax.{Syntax}
 use Rattle.rl_ast.specs.Units.{expression}
 use Rattle.rl_text.specs.Numeral.{number_of}
 use Rattle.rl_model.specs.declared.trace.Value.TheVariants as value
