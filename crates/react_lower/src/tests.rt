@@ -6,7 +6,8 @@ use std::test::Fail;
 /// `() => 1`.
 const UNIT: &[u8; 64] = b"(unit [] (program [(expr (arrow y n (params [] -) (num \"1\")))]))";
 
-const LISTING: &str = "(lowered (fn (at 25 60) - \"other\" n n [] [] [] (p 2 -) 0 [(block 0 \"block\" [0] (return 2 - \"implicit\" (p 0 (at 50 59))) [])] [(i 1 (p 0 (at 50 59)) (at 50 59) (primitive (number 1))) (i 0 (p 1 -) - (primitive (undefined)))]) [] [(ident - (at 50 59) 0) (ident - - 1) (ident - (at 25 60) 2)] [])\n";
+const LISTING: &str =
+    "(lowered (fn (at 25 60) - \"other\" n n [] [] [] (p 2 -) 0 [(block 0 \"block\" [0] (return 2 - \"implicit\" (p 0 (at 50 59))) [])] [(i 1 (p 0 (at 50 59)) (at 50 59) (primitive (number 1))) (i 0 (p 1 -) - (primitive (undefined)))]) [] [(ident - (at 50 59) 0) (ident - - 1) (ident - (at 25 60) 2)] [])\n";
 
 /// The words of a command line.
 fn words(alloc: Global, words: &[&str]) -> Result<Vec<String>, Fail> {
@@ -41,14 +42,23 @@ fn lowers_other_literals(rt: HostRuntime) -> Result<(), Fail> {
         ("(null)", "(primitive (null))"),
         ("(bool y)", "(primitive (bool y))"),
         ("(bool n)", "(primitive (bool n))"),
-        ("(num \"9007199254740992\")", "(primitive (number 9007199254740992))"),
+        (
+            "(num \"9007199254740992\")",
+            "(primitive (number 9007199254740992))",
+        ),
     ] {
-        let unit = format!(in alloc; "(unit [] (program [(expr (arrow y y (params [] -) {body}))]))")?;
+        let unit = format!(in alloc;
+            "(unit [] (program [(expr (arrow y y (params [] -) {body}))]))"
+        )?;
         let (status, text) = answer(alloc, unit.as_bytes())?;
         assert_eq!(rt; status, Status::Done, "{body}");
         let end = 50 + body.len();
         let at = format!(in alloc; "(at 50 {end})")?;
-        let wanted = format!(in alloc; "(lowered (fn (at 25 {}) - \"other\" n y [] [] [] (p 2 -) 0 [(block 0 \"block\" [0] (return 2 - \"implicit\" (p 0 {at})) [])] [(i 1 (p 0 {at}) {at} {value}) (i 0 (p 1 -) - (primitive (undefined)))]) [] [(ident - {at} 0) (ident - - 1) (ident - (at 25 {}) 2)] [])\n", end + 1, end + 1)?;
+        let wanted = format!(in alloc;
+            "(lowered (fn (at 25 {}) - \"other\" n y [] [] [] (p 2 -) 0 [(block 0 \"block\" [0] (return 2 - \"implicit\" (p 0 {at})) [])] [(i 1 (p 0 {at}) {at} {value}) (i 0 (p 1 -) - (primitive (undefined)))]) [] [(ident - {at} 0) (ident - - 1) (ident - (at 25 {}) 2)] [])\n",
+            end + 1,
+            end + 1
+        )?;
         assert_eq!(rt; text.as_slice(), wanted.as_bytes(), "{body}");
     }
     Ok(())
@@ -62,14 +72,17 @@ fn refuses_what_is_no_unit(rt: HostRuntime) -> Result<(), Fail> {
         assert_eq!(rt; status, Status::Malformed, "cut to {length}");
         assert!(rt; text.is_empty(), "cut to {length}");
     }
-    let twice = b"(unit [] (program [(expr (arrow y n (params [] -) (num \"1\")))]))(unit [] (program [(expr (arrow y n (params [] -) (num \"1\")))]))";
+    let twice =
+        b"(unit [] (program [(expr (arrow y n (params [] -) (num \"1\")))]))(unit [] (program [(expr (arrow y n (params [] -) (num \"1\")))]))";
     let line_feed = b"(unit [] (program [(expr (arrow y n (params [] -) (num \"1\")))]))\n";
     let two_spaces = b"(unit  [] (program [(expr (arrow y n (params [] -) (num \"1\")))]))";
     let upper_case = b"(unit [] (program [(expr (arrow y n (params [] -) (num \"\\0A\")))]))";
     let no_text = b"(unit [] (program [(expr (arrow y n (params [] -) (num \"\xff\")))]))";
-    let too_large = b"(unit [] (program [(expr (arrow y n (params [] -) (num \"9007199254740993\")))]))";
+    let too_large =
+        b"(unit [] (program [(expr (arrow y n (params [] -) (num \"9007199254740993\")))]))";
     let not_marked = b"(unit [] (program [(expr (arrow n n (params [] -) (num \"1\")))]))";
-    let nested = b"(unit [] (program [(expr (arrow y n (params [] -) (arrow n n (params [] -) (null))))]))";
+    let nested =
+        b"(unit [] (program [(expr (arrow y n (params [] -) (arrow n n (params [] -) (null))))]))";
     for (name, unit) in [
         ("twice", twice.as_slice()),
         ("line feed", line_feed.as_slice()),
@@ -91,7 +104,10 @@ fn refuses_what_is_no_unit(rt: HostRuntime) -> Result<(), Fail> {
 fn refuses_too_many_bytes(rt: HostRuntime) -> Result<(), Fail> {
     let alloc = rt.alloc();
     let words = words(alloc, &["lower"])?;
-    for (length, wanted) in [(1 << 24, Status::Malformed), ((1 << 24) + 1, Status::TooLarge)] {
+    for (length, wanted) in [
+        (1 << 24, Status::Malformed),
+        ((1 << 24) + 1, Status::TooLarge),
+    ] {
         let mut source = MemSource::new(vec![in alloc; b'('; length]?, 1 << 20, Vec::new(alloc));
         let mut sink = MemSink::new(alloc, 1000, Vec::new(alloc));
         let status = run(alloc, words.as_slice(), &mut source, &mut sink);
@@ -130,7 +146,13 @@ fn stops_where_the_source_fails(rt: HostRuntime) -> Result<(), Fail> {
 #[test]
 fn reads_nothing_where_the_words_are_no_command(rt: HostRuntime) -> Result<(), Fail> {
     let alloc = rt.alloc();
-    for line in [&[] as &[&str], &["lower", "lower"], &["Lower"], &["--help"], &[""]] {
+    for line in [
+        &[] as &[&str],
+        &["lower", "lower"],
+        &["Lower"],
+        &["--help"],
+        &[""],
+    ] {
         let words = words(alloc, line)?;
         // A source that fails at its first call shows that it was not asked.
         let mut source = MemSource::new(Vec::from_slice(alloc, UNIT)?, 7, vec![in alloc; 0]?);

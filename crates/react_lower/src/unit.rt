@@ -83,6 +83,7 @@ fn marked_function(unit: &Unit) -> &ArrowFunction
 pub fn lower_unit(alloc: Global, bytes: &[u8]) -> Result<Lowered, LowerError>
     ensures lowered { IfOk result (λ l. LowersTo bytes.now l) }
     ensures too_large { IsErrOf result LowerError.TooLarge ↔ (LARGEST_INPUT < length bytes.now) }
+    ensures fn_type { IfOk result (λ l. l.function.fn_type ≡ ReactFunctionType.Other) }
     ensures malformed { IsErrOf result LowerError.Malformed → IsMalformed bytes.now }
 {
     let unit = match read_tree(alloc, bytes) {

@@ -1,6 +1,6 @@
 //! Functions: their parameters, bodies and returns.
 
-ghost use Rattle.std.specs.Prelude.{◌≡◌, ◌+◌, ◌<◌, ◌^◌, true, length, OnOk, IfOk};
+ghost use Rattle.std.specs.Prelude.{◌≡◌, ◌+◌, ◌<◌, ◌^◌, true, false, [], length, OnOk, IfOk};
 ghost use Rattle.rl_ast.specs.Grammar.{is_function, is_literal};
 ghost use Rattle.rl_ast.specs.Units as spec;
 ghost use Rattle.rl_lower.specs.Lowering.{Computes};
@@ -86,6 +86,16 @@ pub fn lower(
     ensures closed { IfOk result (λ f. IsClosed f.body) }
     ensures same_runs { IfOk result (λ f. SameRuns (spec.function function.now) f env.new.pairs) }
     ensures functions { OnOk result (env.new.functions ≡ env.old.functions) }
+
+    // The fields that runs do not show.
+    ensures span { IfOk result (λ f. f.span ≡ Some function.now.at.span) }
+    ensures name { IfOk result (λ f. f.name ≡ None) }
+    ensures fn_type { IfOk result (λ f. f.fn_type ≡ env.old.fn_type) }
+    ensures is_async { IfOk result (λ f. f.is_async ≡ function.now.is_async) }
+    ensures generator { IfOk result (λ f. f.generator ≡ false) }
+    ensures directives { IfOk result (λ f. f.directives ≡ []) }
+    ensures params { IfOk result (λ f. f.params ≡ []) }
+    ensures context { IfOk result (λ f. f.context ≡ []) }
 {
     let span = Some(function.at.span);
     let mut builder = HirBuilder::new(alloc, &mut *env, BlockKind::Block);
