@@ -9,6 +9,7 @@ pub mod failure;
 pub mod ids;
 pub mod list;
 pub mod memory;
+pub mod row;
 pub mod span;
 pub mod steady;
 pub mod streams;
