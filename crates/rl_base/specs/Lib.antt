@@ -1,3 +1,4 @@
+pub mod Diagnostics
 pub mod Faults
 pub mod Pieces
 pub mod Rows

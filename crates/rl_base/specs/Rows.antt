@@ -1,5 +1,5 @@
 -- The causes for which a unit is refused or stopped.
-use Rattle.std.specs.Prelude.{ℕ, List, Option, Some, None, codes}
+use Rattle.std.specs.Prelude.{ℕ, List, Option, None, codes}
 use Rattle.rl_base.specs.declared.row.Category.{Category}
 use Rattle.rl_base.specs.declared.row.Category.TheVariants as categories
 use Rattle.rl_base.specs.declared.row.Row.{Row}

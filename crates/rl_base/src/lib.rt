@@ -4,6 +4,7 @@
 
 pub mod boxed;
 mod copy;
+pub mod diagnostic;
 pub mod edge;
 pub mod failure;
 pub mod ids;
