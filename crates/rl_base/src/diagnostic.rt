@@ -37,7 +37,7 @@ impl Diagnostic {
         }
     }
 
-    /// Appends the line that the program prints.
+    /// Appends the line that the program prints. Where memory is not given, a part of it may stand there.
     pub fn write_line(&self, alloc: Global, out: &mut Vec<u8>) -> Result<(), OutOfMemory>
         ensures { OnOk result (out.new.items ≡ out.old.items ++ line_of self.now) }
     {
