@@ -1,3 +1,5 @@
+pub mod Diagnostics
 pub mod Faults
 pub mod Pieces
+pub mod Rows
 pub mod formers

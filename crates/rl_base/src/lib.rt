@@ -4,11 +4,13 @@
 
 pub mod boxed;
 mod copy;
+pub mod diagnostic;
 pub mod edge;
 pub mod failure;
 pub mod ids;
 pub mod list;
 pub mod memory;
+pub mod row;
 pub mod span;
 pub mod steady;
 pub mod streams;
