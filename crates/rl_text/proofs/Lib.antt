@@ -1,4 +1,5 @@
 pub mod Forms
+pub mod Measuring
 pub mod Numbers
 pub mod Numerals
 pub mod Quotes

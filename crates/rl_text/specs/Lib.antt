@@ -1,3 +1,4 @@
+pub mod Measure
 pub mod Notation
 pub mod Number
 pub mod Numeral
