@@ -1,4 +1,5 @@
 pub mod Forms
+pub mod Measures
 pub mod Measuring
 pub mod Numbers
 pub mod Numerals
