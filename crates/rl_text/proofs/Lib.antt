@@ -1,4 +1,6 @@
 pub mod Forms
+pub mod Measures
+pub mod Measuring
 pub mod Numbers
 pub mod Numerals
 pub mod Quotes

@@ -23,7 +23,7 @@ escape-escaped byte h = ap (λ b. cond b (92 ∷ hexadecimal (byte / 16) ∷ hex
 pub escape-plain : (byte : ℕ) → is_escaped byte ≡ false → escape byte ≡ byte ∷ []
 escape-plain byte h = ap (λ b. cond b (92 ∷ hexadecimal (byte / 16) ∷ hexadecimal (byte % 16) ∷ []) (byte ∷ [])) h
 
-tested : (b : Bool) → (b ≡ true) ⊎ (b ≡ false)
+pub tested : (b : Bool) → (b ≡ true) ⊎ (b ≡ false)
 tested true = inl refl
 tested false = inr refl
 

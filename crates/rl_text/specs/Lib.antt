@@ -1,3 +1,5 @@
+pub mod Measure
+pub mod Nodes
 pub mod Notation
 pub mod Number
 pub mod Numeral

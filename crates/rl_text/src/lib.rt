@@ -1,6 +1,7 @@
 //! The notation that units and listings are written in: trees of six forms, each with one spelling.
 #![tactic(auto)]
 
+pub mod measure;
 pub mod number;
 pub mod quoted;
 pub mod raw;

@@ -1,3 +1,4 @@
+use crate::measure::measure;
 use crate::number::{number_len, parse_number};
 use crate::quoted::quoted_len;
 use crate::read::{TextError, read_raw, read_raw_within};
@@ -84,4 +85,29 @@ fn measures(rt: HostRuntime) {
     }
     assert_eq!(rt; quoted_len(b""), 2);
     assert_eq!(rt; quoted_len(b"a\n\\"), 9);
+}
+
+#[test]
+fn sizes(rt: HostRuntime) {
+    let stray = [b')'; 100];
+    let opened = [b'('; 300];
+    let mut wild = [b'('; 400];
+    wild[..100].copy_from_slice(&stray);
+    let rows: [(&[u8], usize, usize); 9] = [
+        (b"", 0, 0),
+        (b"(a \"(\" [1 y])", 1, 1),
+        (&stray, 0, 0),
+        (&opened, 300, 300),
+        (&wild, 300, 300),
+        (b"(\"", 1, 1),
+        (b"(\"((", 1, 1),
+        (b"(a (b) (c (d)))", 4, 3),
+        (b"\"\\22)\"((\"))\")", 2, 2),
+    ];
+    for (bytes, nodes, deepest) in rows {
+        let size = measure(bytes);
+        assert_eq!(rt; size.bytes, bytes.len());
+        assert_eq!(rt; size.nodes, nodes);
+        assert_eq!(rt; size.deepest, deepest);
+    }
 }

@@ -1,0 +1,23 @@
+-- How many nodes bytes have, and how many parentheses are open at once.
+use Rattle.std.specs.Prelude.{ℕ, ◌+◌, ◌-◌, max, Bool, false, not, ◌==◌, if◌then◌else◌, List, [], ◌∷◌, count_by}
+
+-- the bytes outside texts, from inside a text on or not: each quote opens or closes one, and is left out
+abbrev pub outside : (within : Bool) → List ℕ → List ℕ
+outside within [] = []
+outside within (byte ∷ bytes) = if byte == 34 then outside (not within) bytes else if within then outside within bytes else byte ∷ outside within bytes
+
+-- how many `(` stand outside texts
+abbrev pub nodes_in : List ℕ → ℕ
+nodes_in bytes = count_by (λ byte. byte == 40) (outside false bytes)
+
+-- how many are open after a byte: `(` opens one, and `)` closes one, if any is open
+abbrev pub open_after : (count byte : ℕ) → ℕ
+open_after count byte = if byte == 40 then count + 1 else if byte == 41 then count - 1 else count
+
+-- the most that are open at once, from a count on
+abbrev pub deepest_from : (count : ℕ) → List ℕ → ℕ
+deepest_from count [] = count
+deepest_from count (byte ∷ bytes) = max count (deepest_from (open_after count byte) bytes)
+
+abbrev pub deepest_in : List ℕ → ℕ
+deepest_in bytes = deepest_from 0 (outside false bytes)
