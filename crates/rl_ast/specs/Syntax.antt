@@ -1,6 +1,7 @@
 -- Syntax as plain trees: nodes with numbers, places and known words.
 use Rattle.std.specs.Prelude.{◌≡◌, ℕ, ◌+◌, Bool, List, [], ◌∷◌, length}
 use Rattle.rl_text.specs.Notation as notation
+use Rattle.rl_base.specs.declared.span.Span.{Span}
 use Rattle.rl_ast.specs.Words.{word_text}
 use Rattle.rl_ast.specs.declared.word.Word.{Word}
 use Rattle.rl_ast.specs.declared.numbered.At.{At}
@@ -68,6 +69,11 @@ abbrev mutual
   pub nodes_of : Pieces → ℕ
   nodes_of End = 0
   nodes_of (Then piece pieces) = nodes piece + nodes_of pieces
+
+-- where a node stands; anything else stands nowhere
+abbrev pub span_of : Syntax → Span
+span_of (Node at word parts) = at.span
+span_of _ = record { start = 0; end = 0 }
 
 -- the node opens as the given one, at this byte
 pub record StandsAt (at : At) (node byte bytes : ℕ) : Type 0 where

@@ -1,5 +1,9 @@
 //! The syntax tree of a unit, one variant or struct for each kind of node. Names are those of `oxc_ast`.
 
+ghost use Rattle.std.specs.Prelude.{◌≡◌};
+ghost use Rattle.rl_ast.specs.Syntax.{span_of};
+ghost use Rattle.rl_ast.specs.Units.{expression};
+
 use crate::numbered::At;
 use rl_base::boxed::Boxed;
 use rl_base::list::List;
@@ -69,7 +73,10 @@ pub struct Params {
 
 impl Expression {
     /// Where it stands.
-    pub fn span(&self) -> Span {
+    #[tactic(auto, using(crate::proofs::Spelled::spelled, crate::proofs::Spelled::function_by_layer))]
+    pub fn span(&self) -> Span
+        ensures { result ≡ span_of (expression self.now) }
+    {
         match self {
             Expression::Null { at } => at.span,
             Expression::Boolean { at, value: _ } => at.span,
