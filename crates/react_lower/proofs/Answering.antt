@@ -1,11 +1,13 @@
 -- What was read and answered, where the bytes that were left may not be known.
 use Rattle.std.proofs.Common.{◌≡◌, ◌≢◌, ◌⊎◌, inl, inr, ℕ, ◌+◌, ◌++◌, ◌≤◌, ◌<◌, min, List, Option, Some, None, IfSome, length, length-take, take, refl, sym, ap, subst, ◌∙◌, arith}
+use Rattle.std.proofs.lemmas.Bool.{cases_lt}
 use Rattle.std.proofs.lemmas.List.{take_all}
 use Rattle.std.specs.Io.KnownBytes.{Consumes, Keeps}
+use Rattle.rl_ast.specs.Limits.{IsTooLarge}
 use Rattle.rl_ast.specs.Units.{Spells}
 use Rattle.rl_ast.specs.declared.read.TheConstants.{LARGEST_INPUT}
 use Rattle.rl_ast.specs.declared.tree.Unit.{Unit as TreeOfUnit}
-use Rattle.react_lower.specs.Answers.{Explains, HasNoOutput, IsAnswer, IsComplete, IsMalformed, Lowers, LowersKnown, ReadsWhole, Refuses, RefusesKnown}
+use Rattle.react_lower.specs.Answers.{Explains, HasNoOutput, IsAnswer, IsComplete, IsMalformed, Writes, WritesKnown, ReadsWhole, Refuses, RefusesKnown}
 use Rattle.react_lower.specs.declared.run.Status.{Status}
 use Rattle.react_lower.specs.declared.run.Status.TheVariants.{Done, Reported, Malformed, TooLarge, ReadFault, WriteFault, OutOfMemory, Usage}
 
@@ -16,16 +18,24 @@ all_read (Some known) bytes first within =
     let count : length bytes ≡ min (LARGEST_INPUT + 1) (length known) = ap length first ∙ length-take (LARGEST_INPUT + 1) known in
     first ∙ take_all (LARGEST_INPUT + 1) known (omega arith)
 
--- what was read past the limit is not all
+-- a part that is past the limit of bytes is past the limits
 pub more_left : (left : Option (List ℕ)) (bytes : List ℕ) → IfSome left (λ known. bytes ≡ take (LARGEST_INPUT + 1) known) → LARGEST_INPUT < length bytes → RefusesKnown left TooLarge
 more_left None bytes first past = record { no_output = tt; refuses = tt }
 more_left (Some known) bytes first past =
     let count : length bytes ≡ min (LARGEST_INPUT + 1) (length known) = ap length first ∙ length-take (LARGEST_INPUT + 1) known in
-    record { no_output = tt; refuses = omega arith }
+    record { no_output = tt; refuses = inl (omega arith) }
 
-pub lowers_known : (left : Option (List ℕ)) (bytes text : List ℕ) → IfSome left (λ known. bytes ≡ known) → Lowers bytes text → LowersKnown left text
-lowers_known None bytes text same l = record { source = l.source; result = l.result; spelled = tt; is_lowered = l.is_lowered; written = l.written }
-lowers_known (Some known) bytes text same l = record { source = l.source; result = l.result; spelled = subst (λ b. Spells b l.source) same l.spelled; is_lowered = l.is_lowered; written = l.written }
+-- what was read is past the limits where all that was left is
+pub too_large_known : (left : Option (List ℕ)) (bytes : List ℕ) → IfSome left (λ known. bytes ≡ take (LARGEST_INPUT + 1) known) → IsTooLarge bytes → RefusesKnown left TooLarge
+too_large_known None bytes first large = record { no_output = tt; refuses = tt }
+too_large_known (Some known) bytes first large = elim (cases_lt LARGEST_INPUT (length bytes)) [
+  | inl past ↦ more_left (Some known) bytes first past
+  | inr within ↦ record { no_output = tt; refuses = subst IsTooLarge (all_read (Some known) bytes first (omega (arith, within))) large }
+]
+
+pub writes_known : (left : Option (List ℕ)) (bytes : List ℕ) (status : Status) (text : List ℕ) → IfSome left (λ known. bytes ≡ known) → Writes bytes status text → WritesKnown left status text
+writes_known None bytes status text same w = record { source = w.source; spelled = tt; is_output = w.is_output }
+writes_known (Some known) bytes status text same w = record { source = w.source; spelled = subst (λ b. Spells b w.source) same w.spelled; is_output = w.is_output }
 
 pub malformed_known : (left : Option (List ℕ)) (bytes : List ℕ) → IfSome left (λ known. bytes ≡ known) → IsMalformed bytes → RefusesKnown left Malformed
 malformed_known None bytes same m = record { no_output = tt; refuses = tt }

@@ -1,11 +1,16 @@
 -- What the program answers, and when.
-use Rattle.std.specs.Prelude.{◌≡◌, ℕ, ◌+◌, ◌≤◌, ◌<◌, List, [], ◌∷◌, ◌++◌, length, take, None, Some, IfSome, ⊤}
+use Rattle.std.specs.Prelude.{◌≡◌, ◌≢◌, ℕ, ◌+◌, ◌≤◌, ◌<◌, List, [], ◌∷◌, ◌++◌, length, take, None, Some, IfSome, ⊤}
 use Rattle.std.specs.declared.option.Option.{Option}
 use Rattle.std.specs.Io.KnownBytes.{Consumes, Keeps, Appends}
 use Rattle.rl_base.specs.Pieces.{AppendsPrefix}
 use Rattle.rl_text.specs.Notation.{spelling}
 use Rattle.rl_hir.specs.Listing.{lowered}
-use Rattle.rl_ast.specs.Units.{Spells}
+use Rattle.rl_ast.specs.Limits.{IsTooLarge}
+use Rattle.rl_ast.specs.Units.{unit, Spells}
+use Rattle.rl_base.specs.Diagnostics.{line_of}
+use Rattle.rl_base.specs.declared.diagnostic.Diagnostic.{Diagnostic}
+use Rattle.rl_model.specs.Rows.{refusals}
+use Rattle.rl_model.specs.Source.{marked}
 use Rattle.rl_model.specs.Headline.{IsLowered}
 use Rattle.rl_ast.specs.declared.read.TheConstants.{LARGEST_INPUT}
 use Rattle.react_lower.specs.declared.run.Status.{Status}
@@ -13,35 +18,60 @@ use Rattle.react_lower.specs.declared.run.Status.TheVariants.{Done, Reported, Ma
 use Rattle.rl_ast.specs.declared.tree.Unit.{Unit as TreeOfUnit}
 use Rattle.rl_hir.specs.declared.function.Lowered.{Lowered}
 
--- the bytes are within the limit, and no unit's text
+-- the bytes are within the limits, and no unit's text
 pub record IsMalformed (bytes : List ℕ) : Type 0 where
-  pub within : length bytes ≤ LARGEST_INPUT
+  pub within : IsTooLarge bytes → ⊥
   pub no_unit : (u : TreeOfUnit) → Spells bytes u → ⊥
 
 -- what is written of a result: its text, and a line feed
 abbrev pub output : Lowered → List ℕ
 output l = spelling (lowered l) ++ 10 ∷ []
 
--- the text is the output for a result of the unit that the bytes spell
-pub record Lowers (bytes text : List ℕ) : Type 0 where
+-- the bytes spell a unit to which rows apply, and this is said of it
+pub record IsRefused (bytes : List ℕ) (said : List Diagnostic) : Type 0 where
   pub source : TreeOfUnit
-  pub result : Lowered
   pub spelled : Spells bytes source
-  pub is_lowered : IsLowered source result
+  pub names : said ≡ refusals (marked (unit source))
+  pub some : said ≢ []
+
+-- what is said, a line each
+abbrev pub lines : List Diagnostic → List ℕ
+lines [] = []
+lines (d ∷ ds) = line_of d ++ lines ds
+
+-- the text is the output for a result of this unit
+pub record IsResultOf (u : TreeOfUnit) (text : List ℕ) : Type 0 where
+  pub result : Lowered
+  pub is_lowered : IsLowered u result
   pub written : text ≡ output result
 
--- the same where the bytes may not be known: it is the output for a result of some unit
-pub record LowersKnown (bytes : Option (List ℕ)) (text : List ℕ) : Type 0 where
+-- the text says what this unit is refused for
+pub record IsReportOf (u : TreeOfUnit) (text : List ℕ) : Type 0 where
+  pub some : refusals (marked (unit u)) ≢ []
+  pub written : text ≡ lines (refusals (marked (unit u)))
+
+-- the text is what a status writes of a unit
+abbrev pub IsOutput : Status → TreeOfUnit → List ℕ → Type 0
+IsOutput Done u text = IsResultOf u text
+IsOutput Reported u text = IsReportOf u text
+IsOutput _ u text = ⊥
+
+-- the text is what the status writes of the unit that the bytes spell
+pub record Writes (bytes : List ℕ) (status : Status) (text : List ℕ) : Type 0 where
   pub source : TreeOfUnit
-  pub result : Lowered
+  pub spelled : Spells bytes source
+  pub is_output : IsOutput status source text
+
+-- the same where the bytes may not be known: of some unit
+pub record WritesKnown (bytes : Option (List ℕ)) (status : Status) (text : List ℕ) : Type 0 where
+  pub source : TreeOfUnit
   pub spelled : IfSome bytes (λ known. Spells known source)
-  pub is_lowered : IsLowered source result
-  pub written : text ≡ output result
+  pub is_output : IsOutput status source text
 
 -- what a status without output says of the bytes that the source had left
 abbrev pub Refuses : Status → List ℕ → Type 0
 Refuses Malformed left = IsMalformed left
-Refuses TooLarge left = LARGEST_INPUT < length left
+Refuses TooLarge left = IsTooLarge left
 Refuses ReadFault left = Unit {0}
 Refuses OutOfMemory left = Unit {0}
 Refuses Usage left = ⊥
@@ -66,14 +96,14 @@ pub record RefusesKnown (left : Option (List ℕ)) (status : Status) : Type 0 wh
 
 -- what a status says: of the bytes that the source had left, and of what the sink held before and holds now
 abbrev pub Explains : Status → Option (List ℕ) → Option (List ℕ) → Option (List ℕ) → Type 0
-Explains Done left old new = (text : List ℕ) × LowersKnown left text × Appends old new text
-Explains WriteFault left old new = (text : List ℕ) × LowersKnown left text × AppendsPrefix old new text
+Explains Done left old new = (text : List ℕ) × WritesKnown left Done text × Appends old new text
+Explains Reported left old new = (text : List ℕ) × WritesKnown left Reported text × Appends old new text
+Explains WriteFault left old new = (status : Status) × (text : List ℕ) × WritesKnown left status text × AppendsPrefix old new text
 Explains Malformed left old new = RefusesKnown left Malformed × Keeps old new
 Explains TooLarge left old new = RefusesKnown left TooLarge × Keeps old new
 Explains ReadFault left old new = Keeps old new
 Explains OutOfMemory left old new = Keeps old new
 Explains Usage left old new = Keeps old new
-Explains Reported left old new = ⊥
 
 -- the exit status of the process
 abbrev pub exit_code : Status → ℕ
@@ -102,17 +132,17 @@ abbrev pub ReadsWhole : Option (List ℕ) → Option (List ℕ) → Type 0
 ReadsWhole None new = ⊤
 ReadsWhole (Some left) new = Consumes (Some left) new (take (LARGEST_INPUT + 1) left)
 
--- the statuses where a unit was given: its result, or that memory, source or sink failed
-abbrev pub IsAnswer : Status → Type 0
-IsAnswer Done = Unit {0}
-IsAnswer ReadFault = Unit {0}
-IsAnswer WriteFault = Unit {0}
-IsAnswer OutOfMemory = Unit {0}
-IsAnswer Reported = ⊥
-IsAnswer Malformed = ⊥
-IsAnswer TooLarge = ⊥
-IsAnswer Usage = ⊥
+-- the statuses of a unit: its result where no row applies, else the report; or that memory, source or sink failed
+abbrev pub IsAnswer : List Diagnostic → Status → Type 0
+IsAnswer refusals Done = refusals ≡ []
+IsAnswer refusals Reported = refusals ≢ []
+IsAnswer refusals ReadFault = Unit {0}
+IsAnswer refusals WriteFault = Unit {0}
+IsAnswer refusals OutOfMemory = Unit {0}
+IsAnswer refusals Malformed = ⊥
+IsAnswer refusals TooLarge = ⊥
+IsAnswer refusals Usage = ⊥
 
--- where the bytes that were left are known, are within the limit and spell a unit, it is answered
+-- where the bytes that were left are known, are within the limits and spell a unit, it is answered
 pub record IsComplete (left : Option (List ℕ)) (status : Status) : Type 0 where
-  pub answers : (bytes : List ℕ) (u : TreeOfUnit) → left ≡ Some bytes → length bytes ≤ LARGEST_INPUT → Spells bytes u → IsAnswer status
+  pub answers : (bytes : List ℕ) (u : TreeOfUnit) → left ≡ Some bytes → (IsTooLarge bytes → ⊥) → Spells bytes u → IsAnswer (refusals (marked (unit u))) status

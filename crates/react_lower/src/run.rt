@@ -3,16 +3,21 @@
 ghost use Rattle.std.specs.Prelude.{◌≡◌, ◌≢◌, ◌≤◌, ◌<◌, ◌↔◌, ◌⊎◌, [], ◌∷◌, map, length, IfOk, IfErr, MatchResult, IsTrue, IsErrOf, string_bytes, codes};
 ghost use Rattle.std.specs.Io.KnownBytes.{Keeps};
 ghost use Rattle.rl_base.specs.Faults.{Rose};
-ghost use Rattle.rl_ast.specs.Units.{Spells};
-ghost use Rattle.rl_ast.specs.declared.read.TheConstants.{LARGEST_INPUT};
+ghost use Rattle.rl_ast.specs.Units.{Spells, unit};
+ghost use Rattle.rl_ast.specs.Limits.{IsTooLarge};
+ghost use Rattle.rl_model.specs.Rows.{refusals};
+ghost use Rattle.rl_model.specs.Source.{marked};
 ghost use Rattle.rl_ast.specs.declared.tree.Unit.{Unit as TreeOfUnit};
-ghost use Rattle.react_lower.specs.Answers.{Explains, HasRead, IsComplete, IsMalformed, Lowers, LowersKnown, ReadsWhole, RefusesKnown, exit_code};
+ghost use Rattle.react_lower.specs.Answers.{Explains, HasRead, IsComplete, ReadsWhole, RefusesKnown, Writes, WritesKnown, exit_code, lines, output};
 
 use crate::unit::{LowerError, lower_unit};
 use rl_ast::read::LARGEST_INPUT;
+use rl_base::diagnostic::Diagnostic;
 use rl_base::edge::{Sink, Source};
+use rl_base::failure::OutOfMemory;
 use rl_base::steady::{SteadySink, SteadySource};
 use rl_base::transfer::{ReadError, read_up_to, write_all};
+use rl_hir::function::Lowered;
 use rl_hir::listing::listing;
 use rl_text::write::write_raw;
 use std::alloc::Global;
@@ -66,25 +71,59 @@ fn is_command(words: &[String]) -> bool
     }
 }
 
-/// The output for a unit: the text of its result, and a line feed.
-fn output(alloc: Global, bytes: &[u8]) -> Result<Vec<u8>, LowerError>
-    ensures lowers { IfOk result (λ text. Lowers bytes.now text.items) }
-    ensures too_large { IsErrOf result LowerError.TooLarge → LARGEST_INPUT < length bytes.now }
-    ensures within { IfOk result (λ _. length bytes.now ≤ LARGEST_INPUT) }
-    ensures malformed { IsErrOf result LowerError.Malformed → IsMalformed bytes.now }
+/// What the program writes of a unit.
+#[derive(Drop)]
+struct Output {
+    /// Done or Reported.
+    status: Status,
+    text: Vec<u8>,
+}
+
+/// The lines of what is said of a unit.
+fn report(alloc: Global, said: &[Diagnostic]) -> Result<Vec<u8>, OutOfMemory>
+    ensures { IfOk result (λ text. text.items ≡ lines said.now) }
 {
-    let lowered = lower_unit(alloc, bytes)?;
-    let raw = listing(alloc, &lowered)?;
+    let mut text = Vec::new(alloc);
+    'said: for diagnostic in said {
+        diagnostic.write_line(alloc, &mut text)?;
+    }
+    Ok(text)
+}
+
+/// The text of a result, and a line feed.
+fn listed(alloc: Global, lowered: &Lowered) -> Result<Vec<u8>, OutOfMemory>
+    ensures { IfOk result (λ text. text.items ≡ output lowered.now) }
+{
+    let raw = listing(alloc, lowered)?;
     let mut text = write_raw(alloc, &raw)?;
-    match text.push(b'\n') {
-        Ok(()) => Ok(text),
-        Err(_) => Err(LowerError::OutOfMemory),
+    text.push(b'\n')?;
+    Ok(text)
+}
+
+/// The output for the unit that the bytes spell.
+fn output_of(alloc: Global, bytes: &[u8]) -> Result<Output, Status>
+    ensures writes { IfOk result (λ output. Writes bytes.now output.status output.text.items) }
+    ensures within { IfOk result (λ _. IsTooLarge bytes.now → ⊥) }
+    ensures status { IfErr result (λ status. RefusesKnown (Some bytes.now) status) }
+{
+    match lower_unit(alloc, bytes) {
+        Ok(lowered) => Ok(Output {
+            status: Status::Done,
+            text: listed(alloc, &lowered).map_err(|_| Status::OutOfMemory)?,
+        }),
+        Err(LowerError::Refused(said)) => Ok(Output {
+            status: Status::Reported,
+            text: report(alloc, said.as_slice()).map_err(|_| Status::OutOfMemory)?,
+        }),
+        Err(LowerError::TooLarge) => Err(Status::TooLarge),
+        Err(LowerError::Malformed) => Err(Status::Malformed),
+        Err(LowerError::OutOfMemory) => Err(Status::OutOfMemory),
     }
 }
 
 /// Reads the unit that the source has left, and answers the output for it, or the status where there is none.
-fn answer<S: Source>(alloc: Global, source: &mut S) -> Result<Vec<u8>, Status>
-    ensures text { IfOk result (λ text. LowersKnown (S.left source.old) text.items) }
+fn answer<S: Source>(alloc: Global, source: &mut S) -> Result<Output, Status>
+    ensures writes { IfOk result (λ output. WritesKnown (S.left source.old) output.status output.text.items) }
     ensures status { IfErr result (RefusesKnown (S.left source.old)) }
     ensures read { MatchResult result (λ _. ReadsWhole (S.left source.old) (S.left source.new)) (λ status. HasRead status → ReadsWhole (S.left source.old) (S.left source.new)) }
     ensures cause { IsErrOf result Status.ReadFault → Rose (S.faults source.old) (S.faults source.new) }
@@ -94,12 +133,7 @@ fn answer<S: Source>(alloc: Global, source: &mut S) -> Result<Vec<u8>, Status>
         Err(ReadError::Fault) => return Err(Status::ReadFault),
         Err(ReadError::OutOfMemory) => return Err(Status::OutOfMemory),
     };
-    match output(alloc, bytes.as_slice()) {
-        Ok(text) => Ok(text),
-        Err(LowerError::TooLarge) => Err(Status::TooLarge),
-        Err(LowerError::Malformed) => Err(Status::Malformed),
-        Err(LowerError::OutOfMemory) => Err(Status::OutOfMemory),
-    }
+    output_of(alloc, bytes.as_slice())
 }
 
 /// Runs the program: the word `lower` lowers the unit that the source has left, and writes its listing to the sink.
@@ -128,12 +162,12 @@ pub fn run<S: Source, K: Sink>(
     if !is_command(words) {
         return Status::Usage;
     }
-    let text = match answer(alloc, source) {
-        Ok(text) => text,
+    let output = match answer(alloc, source) {
+        Ok(output) => output,
         Err(status) => return status,
     };
-    match write_all(sink, text.as_slice()) {
-        Ok(()) => Status::Done,
+    match write_all(sink, output.text.as_slice()) {
+        Ok(()) => output.status,
         Err(_) => Status::WriteFault,
     }
 }
@@ -141,8 +175,8 @@ pub fn run<S: Source, K: Sink>(
 /// Runs the program over bytes in memory, and lets the output go. Where nothing fails but memory, a unit is answered.
 pub fn run_steady(alloc: Global, words: &[String], bytes: Vec<u8>) -> Status
     requires command { map string_bytes words.now ≡ codes "lower" ∷ [] }
-    requires within { length bytes.items ≤ LARGEST_INPUT }
-    ensures { (u : TreeOfUnit) → Spells bytes.items u → (result ≡ Status.Done) ⊎ (result ≡ Status.OutOfMemory) }
+    requires within { IsTooLarge bytes.items → ⊥ }
+    ensures { (u : TreeOfUnit) → Spells bytes.items u → refusals (marked (unit u)) ≡ [] → (result ≡ Status.Done) ⊎ (result ≡ Status.OutOfMemory) }
 {
     let mut source = SteadySource::new(bytes);
     let mut sink = SteadySink;

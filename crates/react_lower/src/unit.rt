@@ -1,16 +1,19 @@
 //! Units from their bytes to their results.
 
-ghost use Rattle.std.specs.Prelude.{◌≡◌, ◌<◌, ◌↔◌, true, length, IfOk, IsErrOf};
-ghost use Rattle.rl_ast.specs.Grammar.{is_function, is_statement, is_unit};
+ghost use Rattle.std.specs.Prelude.{◌≡◌, ◌↔◌, true, List, IfErr, IfOk, IsErrOf};
+ghost use Rattle.rl_ast.specs.Grammar.{is_function, is_marked, is_unit};
 ghost use Rattle.rl_model.specs.Source.{function_in, marked};
 ghost use Rattle.rl_ast.specs.Units as spec;
 ghost use Rattle.rl_model.specs.Headline.{LowersTo};
-ghost use Rattle.react_lower.specs.Answers.{IsMalformed};
-ghost use Rattle.rl_ast.specs.declared.read.TheConstants.{LARGEST_INPUT};
+ghost use Rattle.react_lower.specs.Answers.{IsMalformed, IsRefused};
+ghost use Rattle.rl_ast.specs.Limits.{IsTooLarge};
+ghost use Rattle.rl_base.specs.declared.diagnostic.Diagnostic.{Diagnostic};
 
 use rl_ast::read::{TreeError, read_tree};
 use rl_ast::tree::{ArrowFunction, Expression, Statement, Unit};
+use rl_base::diagnostic::Diagnostic;
 use rl_base::failure::OutOfMemory;
+use rl_base::list::List;
 use rl_hir::environment::Environment;
 use rl_hir::function::{Lowered, ReactFunctionType};
 use rl_lower::function::lower;
@@ -18,14 +21,17 @@ use std::alloc::Global;
 use thiserror::Error;
 
 /// Why a unit has no result.
-#[derive(Debug, Drop, Clone, Copy, PartialEq, Eq, Error)]
+#[derive(Debug, Drop, Error)]
 pub enum LowerError {
-    /// There are more bytes than `LARGEST_INPUT`. This is looked at first.
+    /// The bytes pass a limit: too many of them, too many nodes, or too many open at once. This is looked at first.
     #[error("TooLarge")]
     TooLarge,
     /// The bytes spell no unit.
     #[error("Malformed")]
     Malformed,
+    /// Rows apply to the unit: what is said of each node to which one does, in the order in which they were met.
+    #[error("Refused")]
+    Refused(List<Diagnostic>),
     /// Memory was wanted and not given.
     #[error("OutOfMemory")]
     OutOfMemory,
@@ -52,18 +58,25 @@ fn arrow_of(expression: &Expression) -> &ArrowFunction
         Expression::Null { at: _ } => unreachable!(),
         Expression::Boolean { at: _, value: _ } => unreachable!(),
         Expression::Number { at: _, text: _ } => unreachable!(),
+        Expression::String { at: _, text: _ } => unreachable!(),
+        Expression::Parenthesized {
+            at: _,
+            expression: _,
+        } => unreachable!(),
         Expression::ArrowFunction(function) => function.get(),
     }
 }
 
 /// The function of an expression statement.
+#[tactic(auto, using(rl_ast::proofs::Spelled::spelled))]
 fn function_of(statement: &Statement) -> &ArrowFunction
-    requires { is_statement (spec.statement statement.now) ≡ true }
+    requires { is_marked (spec.statement statement.now) ≡ true }
     ensures function { spec.function result.now ≡ function_in (spec.statement statement.now) }
     ensures grammar { is_function (spec.function result.now) ≡ true }
 {
     match statement {
         Statement::Expression { at: _, expression } => arrow_of(expression),
+        Statement::Return { at: _, argument: _ } => unreachable!(),
     }
 }
 
@@ -82,7 +95,8 @@ fn marked_function(unit: &Unit) -> &ArrowFunction
 /// Lowers the unit that the bytes spell, all of them.
 pub fn lower_unit(alloc: Global, bytes: &[u8]) -> Result<Lowered, LowerError>
     ensures lowered { IfOk result (λ l. LowersTo bytes.now l) }
-    ensures too_large { IsErrOf result LowerError.TooLarge ↔ (LARGEST_INPUT < length bytes.now) }
+    ensures refused { IfErr result (λ e. (said : List Diagnostic) → e ≡ LowerError.Refused said → IsRefused bytes.now said) }
+    ensures too_large { IsErrOf result LowerError.TooLarge ↔ IsTooLarge bytes.now }
     ensures fn_type { IfOk result (λ l. l.function.fn_type ≡ ReactFunctionType.Other) }
     ensures malformed { IsErrOf result LowerError.Malformed → IsMalformed bytes.now }
 {
@@ -94,5 +108,8 @@ pub fn lower_unit(alloc: Global, bytes: &[u8]) -> Result<Lowered, LowerError>
     };
     let mut env = Environment::new(alloc, ReactFunctionType::Other);
     let function = lower(alloc, marked_function(&unit), &mut env)?;
+    if !env.diagnostics.is_empty() {
+        return Err(LowerError::Refused(env.diagnostics));
+    }
     Ok(env.into_lowered(function))
 }

@@ -1,37 +1,72 @@
--- A unit is not deep.
-use Rattle.std.proofs.Common.{◌≡◌, ◌≤◌, true, arith}
+-- A unit has at most one list open in each node that is open.
+use Rattle.std.proofs.Common.{◌≡◌, ◌*◌, ◌≤◌, true, arith}
 use Rattle.std.proofs.lemmas.Bool.{and_parts}
-use Rattle.rl_text.specs.Notation.{height}
-use Rattle.rl_ast.specs.Syntax.{Syntax, Node, Listed, Said, Flag, Absent, End, Then, plain}
-use Rattle.rl_ast.specs.Grammar.{is_literal, is_params, is_function, is_statement, is_program, is_unit}
+use Rattle.rl_text.specs.Notation.{height, height_of}
+use Rattle.rl_text.specs.Nodes.{depth, depth_of}
+use Rattle.rl_ast.specs.Syntax.{Syntax, Node, Listed, Said, Flag, Absent, Pieces, End, Then, plain, plain_parts}
+use Rattle.rl_ast.specs.Grammar.{is_expression, is_statement, are_statements, are_texts, is_body, is_params, is_function, is_marked, is_program, is_unit}
 use Rattle.rl_ast.specs.declared.word.Word.TheVariants as word
 
-literal-low : (s : Syntax) → is_literal s ≡ true → height (plain s) ≤ 1
-literal-low (Node at word.Null End) e = omega arith
-literal-low (Node at word.Bool (Then (Flag value) End)) e = omega arith
-literal-low (Node at word.Num (Then (Said text) End)) e = omega arith
-literal-low _ e = absurd (cc)
+expression-low : (s : Syntax) → is_expression s ≡ true → height (plain s) ≤ 2 * depth (plain s)
+expression-low (Node at word.Null End) e = omega arith
+expression-low (Node at word.Bool (Then (Flag value) End)) e = omega arith
+expression-low (Node at word.Num (Then (Said text) End)) e = omega arith
+expression-low (Node at word.Str (Then (Said text) End)) e = omega arith
+expression-low (Node at word.Paren (Then inner End)) e = let low : height (plain inner) ≤ 2 * depth (plain inner) = expression-low inner e in omega arith
+expression-low _ e = absurd (cc)
 
-params-low : (s : Syntax) → is_params s ≡ true → height (plain s) ≤ 2
+statement-low : (s : Syntax) → is_statement s ≡ true → height (plain s) ≤ 2 * depth (plain s)
+statement-low (Node at word.Expr (Then inner End)) e = let low : height (plain inner) ≤ 2 * depth (plain inner) = expression-low inner e in omega arith
+statement-low (Node at word.Return (Then Absent End)) e = omega arith
+statement-low (Node at word.Return (Then argument End)) e = let low : height (plain argument) ≤ 2 * depth (plain argument) = expression-low argument e in omega arith
+statement-low _ e = absurd (cc)
+
+statements-low : (ss : Pieces) → are_statements ss ≡ true → height_of (plain_parts ss) ≤ 2 * depth_of (plain_parts ss)
+statements-low End e = omega arith
+statements-low (Then s ss) e =
+    let both = and_parts (is_statement s) (are_statements ss) e in
+    let first : height (plain s) ≤ 2 * depth (plain s) = statement-low s both.0 in
+    let rest : height_of (plain_parts ss) ≤ 2 * depth_of (plain_parts ss) = statements-low ss both.1 in
+    omega arith
+
+texts-low : (ts : Pieces) → are_texts ts ≡ true → height_of (plain_parts ts) ≡ 0
+texts-low End e = omega arith
+texts-low (Then (Said text) ts) e = let rest : height_of (plain_parts ts) ≡ 0 = texts-low ts e in omega arith
+texts-low _ e = absurd (cc)
+
+body-low : (s : Syntax) → is_body s ≡ true → height (plain s) ≤ 2 * depth (plain s)
+body-low (Node at word.Body (Then (Listed directives) (Then (Listed statements) End))) e =
+    let both = and_parts (are_texts directives) (are_statements statements) e in
+    let texts : height_of (plain_parts directives) ≡ 0 = texts-low directives both.0 in
+    let low : height_of (plain_parts statements) ≤ 2 * depth_of (plain_parts statements) = statements-low statements both.1 in
+    omega arith
+body-low (Node at word.Null parts) e = expression-low (Node at word.Null parts) e
+body-low (Node at word.Bool parts) e = expression-low (Node at word.Bool parts) e
+body-low (Node at word.Num parts) e = expression-low (Node at word.Num parts) e
+body-low (Node at word.Str parts) e = expression-low (Node at word.Str parts) e
+body-low (Node at word.Paren parts) e = expression-low (Node at word.Paren parts) e
+body-low _ e = absurd (cc)
+
+params-low : (s : Syntax) → is_params s ≡ true → height (plain s) ≤ 2 * depth (plain s)
 params-low (Node at word.Params (Then (Listed End) (Then Absent End))) e = omega arith
 params-low _ e = absurd (cc)
 
-function-low : (s : Syntax) → is_function s ≡ true → height (plain s) ≤ 3
+function-low : (s : Syntax) → is_function s ≡ true → height (plain s) ≤ 2 * depth (plain s)
 function-low (Node at word.Arrow (Then (Flag true) (Then (Flag is_async) (Then params (Then body End))))) e =
-    let both = and_parts (is_params params) (is_literal body) e in
-    let first : height (plain params) ≤ 2 = params-low params both.0 in
-    let second : height (plain body) ≤ 1 = literal-low body both.1 in
+    let both = and_parts (is_params params) (is_body body) e in
+    let first : height (plain params) ≤ 2 * depth (plain params) = params-low params both.0 in
+    let second : height (plain body) ≤ 2 * depth (plain body) = body-low body both.1 in
     omega arith
 function-low _ e = absurd (cc)
 
-statement-low : (s : Syntax) → is_statement s ≡ true → height (plain s) ≤ 4
-statement-low (Node at word.Expr (Then function End)) e = let inner : height (plain function) ≤ 3 = function-low function e in omega arith
-statement-low _ e = absurd (cc)
+marked-low : (s : Syntax) → is_marked s ≡ true → height (plain s) ≤ 2 * depth (plain s)
+marked-low (Node at word.Expr (Then function End)) e = let inner : height (plain function) ≤ 2 * depth (plain function) = function-low function e in omega arith
+marked-low _ e = absurd (cc)
 
-program-low : (s : Syntax) → is_program s ≡ true → height (plain s) ≤ 6
-program-low (Node at word.Program (Then (Listed (Then statement End)) End)) e = let inner : height (plain statement) ≤ 4 = statement-low statement e in omega arith
+program-low : (s : Syntax) → is_program s ≡ true → height (plain s) ≤ 2 * depth (plain s)
+program-low (Node at word.Program (Then (Listed (Then marked End)) End)) e = let inner : height (plain marked) ≤ 2 * depth (plain marked) = marked-low marked e in omega arith
 program-low _ e = absurd (cc)
 
-pub unit-low : (s : Syntax) → is_unit s ≡ true → height (plain s) ≤ 8
-unit-low (Node at word.Unit (Then (Listed End) (Then program End))) e = let inner : height (plain program) ≤ 6 = program-low program e in omega arith
+pub unit-low : (s : Syntax) → is_unit s ≡ true → height (plain s) ≤ 2 * depth (plain s)
+unit-low (Node at word.Unit (Then (Listed End) (Then program End))) e = let inner : height (plain program) ≤ 2 * depth (plain program) = program-low program e in omega arith
 unit-low _ e = absurd (cc)

@@ -1,3 +1,4 @@
+pub mod ByKind
 pub mod Grammar
 pub mod Heights
 pub mod Layers

@@ -24,6 +24,10 @@ word-back word.Params = refl
 word-back word.Null = refl
 word-back word.Bool = refl
 word-back word.Num = refl
+word-back word.Str = refl
+word-back word.Paren = refl
+word-back word.Body = refl
+word-back word.Return = refl
 
 pub word-one : (v w : Word) → word_text v ≡ word_text w → v ≡ w
 word-one v w e = sym (word-back v) ∙ ap (λ text. word_of WORDS text) e ∙ word-back w

@@ -1,7 +1,9 @@
 -- What the reader of bytes, the numbering and the grammar say together.
-use Rattle.std.proofs.Common.{◌≡◌, ℕ, ◌^◌, ◌<◌, ◌≤◌, true, false, List, length, sym, ap, ◌∙◌, subst, arith}
+use Rattle.std.proofs.Common.{◌≡◌, ℕ, ◌*◌, ◌^◌, ◌<◌, ◌≤◌, true, false, List, length, sym, ap, ◌∙◌, subst, inl, inr, arith}
 use Rattle.rl_text.specs.Notation as notation
 use Rattle.rl_text.specs.Notation.{spelling, height}
+use Rattle.rl_text.specs.Nodes.{depth}
+use Rattle.rl_text.specs.Measure.{deepest_in}
 use Rattle.rl_text.specs.Raw.{tree}
 use Rattle.rl_text.specs.declared.raw.Raw.{Raw}
 use Rattle.rl_ast.specs.Syntax.{Syntax, syntax, plain, IsPlaced}
@@ -9,11 +11,16 @@ use Rattle.rl_ast.specs.Grammar.{is_unit}
 use Rattle.rl_ast.specs.Units.{unit, Spells}
 use Rattle.rl_ast.specs.declared.numbered.Numbered.{Numbered}
 use Rattle.rl_ast.specs.declared.tree.Unit.{Unit as TreeOfUnit}
+use Rattle.rl_text.proofs.Measures.{deepest_in-spelling}
+use Rattle.rl_ast.specs.Limits.{IsTooLarge}
 use Rattle.rl_ast.proofs.Placement.{placed-one}
 use Rattle.rl_ast.proofs.Heights.{unit-low}
 
-pub spelled_short : (r : Raw) (bytes : List ℕ) → notation.Spells bytes (tree r) → length bytes ≤ 16777216 → length (spelling (tree r)) < 2 ^ 32
-spelled_short r bytes spells short = let same : length bytes ≡ length (spelling (tree r)) = ap length spells.spelled in omega arith
+pub spelled_short : (r : Raw) (bytes : List ℕ) → notation.Spells bytes (tree r) → (IsTooLarge bytes → ⊥) → length (spelling (tree r)) < 2 ^ 32
+spelled_short r bytes spells small =
+    let same : length bytes ≡ length (spelling (tree r)) = ap length spells.spelled in
+    let short : 16777216 < length bytes → ⊥ = λ more. small (inl more) in
+    omega arith
 
 pub spells_unit : (bytes : List ℕ) (u : TreeOfUnit) (n : Numbered) (r : Raw) → notation.Spells bytes (tree r) → plain (syntax n) ≡ tree r → IsPlaced 0 0 (syntax n) → unit u ≡ syntax n → is_unit (syntax n) ≡ true → Spells bytes u
 spells_unit bytes u n r spells same placed read grammar = record {
@@ -23,8 +30,12 @@ spells_unit bytes u n r spells same placed read grammar = record {
 }
 
 -- a unit is spelled by no bytes that no low tree is spelled by
-pub none_low : (bytes : List ℕ) (u : TreeOfUnit) → ((t : notation.Tree) → notation.Spells bytes t → height t ≤ 8 → ⊥) → Spells bytes u → ⊥
-none_low bytes u none spells = none (plain (unit u)) spells.spelled (unit-low (unit u) spells.grammar)
+pub none_low : (bytes : List ℕ) (u : TreeOfUnit) → (IsTooLarge bytes → ⊥) → ((t : notation.Tree) → notation.Spells bytes t → height t ≤ 512 → ⊥) → Spells bytes u → ⊥
+none_low bytes u small none spells =
+    let deep : deepest_in bytes ≡ depth (plain (unit u)) = ap deepest_in spells.spelled.spelled ∙ deepest_in-spelling (plain (unit u)) spells.spelled.writable in
+    let shallow : 256 < deepest_in bytes → ⊥ = λ more. small (inr (inr more)) in
+    let low : height (plain (unit u)) ≤ 2 * depth (plain (unit u)) = unit-low (unit u) spells.grammar in
+    none (plain (unit u)) spells.spelled (omega arith)
 
 -- nor by those of a tree with unknown words
 pub none_known : (bytes : List ℕ) (u : TreeOfUnit) (r : Raw) → ((t : notation.Tree) → notation.Spells bytes t → t ≡ tree r) → ((s : Syntax) → plain s ≡ tree r → ⊥) → Spells bytes u → ⊥

@@ -1,34 +1,56 @@
 -- The grammar of units, as far as it goes.
 use Rattle.std.specs.Prelude.{Bool, true, false, ◌&&◌}
-use Rattle.rl_text.specs.Numeral.{is_numeral}
 use Rattle.rl_ast.specs.declared.word.Word.TheVariants as word
-use Rattle.rl_ast.specs.Syntax.{Syntax, Node, Listed, Said, Flag, Absent, End, Then}
+use Rattle.rl_ast.specs.Syntax.{Syntax, Node, Listed, Said, Flag, Absent, Pieces, End, Then}
 
--- `(null)`, `(bool FLAG)`, `(num TEXT)` with a whole number up to 2^53
-abbrev pub is_literal : Syntax → Bool
-is_literal (Node at word.Null End) = true
-is_literal (Node at word.Bool (Then (Flag value) End)) = true
-is_literal (Node at word.Num (Then (Said text) End)) = is_numeral text
-is_literal _ = false
+-- `(null)`, `(bool FLAG)`, `(num TEXT)`, `(str TEXT)`, `(paren EXPRESSION)`
+abbrev pub is_expression : Syntax → Bool
+is_expression (Node at word.Null End) = true
+is_expression (Node at word.Bool (Then (Flag value) End)) = true
+is_expression (Node at word.Num (Then (Said text) End)) = true
+is_expression (Node at word.Str (Then (Said text) End)) = true
+is_expression (Node at word.Paren (Then expression End)) = is_expression expression
+is_expression _ = false
+
+-- `(expr EXPRESSION)`, `(return EXPRESSION)`, `(return -)`
+abbrev pub is_statement : Syntax → Bool
+is_statement (Node at word.Expr (Then expression End)) = is_expression expression
+is_statement (Node at word.Return (Then Absent End)) = true
+is_statement (Node at word.Return (Then expression End)) = is_expression expression
+is_statement _ = false
+
+abbrev pub are_statements : Pieces → Bool
+are_statements End = true
+are_statements (Then statement statements) = is_statement statement && are_statements statements
+
+abbrev pub are_texts : Pieces → Bool
+are_texts End = true
+are_texts (Then (Said text) texts) = are_texts texts
+are_texts _ = false
+
+-- `(body [TEXT ..] [STATEMENT ..])`, or an expression
+abbrev pub is_body : Syntax → Bool
+is_body (Node at word.Body (Then (Listed directives) (Then (Listed statements) End))) = are_texts directives && are_statements statements
+is_body body = is_expression body
 
 -- `(params [] -)`
 abbrev pub is_params : Syntax → Bool
 is_params (Node at word.Params (Then (Listed End) (Then Absent End))) = true
 is_params _ = false
 
--- the marked function: `(arrow y ASYNC PARAMS LITERAL)`
+-- the marked function: `(arrow y ASYNC PARAMS BODY)`
 abbrev pub is_function : Syntax → Bool
-is_function (Node at word.Arrow (Then (Flag true) (Then (Flag is_async) (Then params (Then body End))))) = is_params params && is_literal body
+is_function (Node at word.Arrow (Then (Flag true) (Then (Flag is_async) (Then params (Then body End))))) = is_params params && is_body body
 is_function _ = false
 
 -- `(expr FUNCTION)`
-abbrev pub is_statement : Syntax → Bool
-is_statement (Node at word.Expr (Then function End)) = is_function function
-is_statement _ = false
+abbrev pub is_marked : Syntax → Bool
+is_marked (Node at word.Expr (Then function End)) = is_function function
+is_marked _ = false
 
--- `(program [STATEMENT])`
+-- `(program [(expr FUNCTION)])`
 abbrev pub is_program : Syntax → Bool
-is_program (Node at word.Program (Then (Listed (Then statement End)) End)) = is_statement statement
+is_program (Node at word.Program (Then (Listed (Then marked End)) End)) = is_marked marked
 is_program _ = false
 
 -- `(unit [] PROGRAM)`

@@ -1,4 +1,5 @@
 pub mod Grammar
+pub mod Limits
 pub mod Syntax
 pub mod Units
 pub mod Words

@@ -1,5 +1,5 @@
 -- A unit as a plain tree, and the bytes that spell it.
-use Rattle.std.specs.Prelude.{◌≡◌, ℕ, true, List, [], ◌∷◌, map}
+use Rattle.std.specs.Prelude.{◌≡◌, ℕ, true, Option, Some, None, List, [], ◌∷◌, map}
 use Rattle.rl_text.specs.Notation as notation
 use Rattle.rl_ast.specs.Syntax.{Syntax, Node, Listed, Said, Flag, Absent, pieces_of, plain, IsPlaced}
 use Rattle.rl_ast.specs.Grammar.{is_unit}
@@ -9,12 +9,11 @@ use Rattle.rl_ast.specs.declared.word.Word.TheVariants as word
 use Rattle.rl_ast.specs.declared.tree.ArrowBody.{ArrowBody}
 use Rattle.rl_ast.specs.declared.tree.ArrowBody.TheOpen as layers
 use Rattle.rl_ast.specs.declared.tree.Expression.{Expression}
-use Rattle.rl_ast.specs.declared.tree.ArrowBody.TheFolds.{fold-ArrowBody, fold-Expression, fold-ArrowFunction}
+use Rattle.rl_ast.specs.declared.tree.ArrowBody.TheFolds.{fold-ArrowBody, fold-Expression, fold-Statement, fold-ArrowFunction}
 use Rattle.rl_ast.specs.declared.tree.ArrowFunction.{ArrowFunction}
 use Rattle.rl_ast.specs.declared.tree.Params.{Params}
 use Rattle.rl_ast.specs.declared.tree.Program.{Program}
 use Rattle.rl_ast.specs.declared.tree.Statement.{Statement}
-use Rattle.rl_ast.specs.declared.tree.Statement.TheVariants as statements
 use Rattle.rl_ast.specs.declared.tree.Unit.{Unit as TreeOfUnit}
 
 abbrev pub node : At → Word → List Syntax → Syntax
@@ -23,30 +22,44 @@ node at word parts = Node at word (pieces_of parts)
 abbrev pub params : Params → Syntax
 params all = node all.at word.Params (Listed (pieces_of []) ∷ Absent ∷ [])
 
--- one layer each
-abbrev pub of_body : layers.ArrowBody-F Syntax Syntax Syntax → Syntax
-of_body (layers.Expression expression) = expression
+abbrev pub said : List ℕ → Syntax
+said text = Said text
 
-abbrev pub of_expression : layers.Expression-F Syntax Syntax Syntax → Syntax
+abbrev pub optional : Option Syntax → Syntax
+optional None = Absent
+optional (Some tree) = tree
+
+-- one layer each
+abbrev pub of_body : layers.ArrowBody-F Syntax Syntax Syntax Syntax → Syntax
+of_body (layers.ArrowBody-F.«ArrowBody::Expression» expression) = expression
+of_body (layers.Statements at directives statements) = node at word.Body (Listed (pieces_of (map said directives)) ∷ Listed (pieces_of statements) ∷ [])
+
+abbrev pub of_expression : layers.Expression-F Syntax Syntax Syntax Syntax → Syntax
 of_expression (layers.Null at) = node at word.Null []
 of_expression (layers.Boolean at value) = node at word.Bool (Flag value ∷ [])
 of_expression (layers.Number at text) = node at word.Num (Said text ∷ [])
+of_expression (layers.String at text) = node at word.Str (Said text ∷ [])
+of_expression (layers.Parenthesized at expression) = node at word.Paren (expression ∷ [])
 of_expression (layers.ArrowFunction function) = function
 
-abbrev pub of_function : layers.ArrowFunction-F Syntax Syntax Syntax → Syntax
+abbrev pub of_statement : layers.Statement-F Syntax Syntax Syntax Syntax → Syntax
+of_statement (layers.Statement-F.«Statement::Expression» at expression) = node at word.Expr (expression ∷ [])
+of_statement (layers.Return at argument) = node at word.Return (optional argument ∷ [])
+
+abbrev pub of_function : layers.ArrowFunction-F Syntax Syntax Syntax Syntax → Syntax
 of_function f = node f.at word.Arrow (Flag f.marked ∷ Flag f.is_async ∷ params f.params ∷ f.body ∷ [])
 
 unfoldable pub arrow_body : ArrowBody → Syntax
-arrow_body = fold-ArrowBody Syntax Syntax Syntax of_body of_expression of_function
+arrow_body = fold-ArrowBody Syntax Syntax Syntax Syntax of_body of_expression of_statement of_function
 
 unfoldable pub expression : Expression → Syntax
-expression = fold-Expression Syntax Syntax Syntax of_body of_expression of_function
+expression = fold-Expression Syntax Syntax Syntax Syntax of_body of_expression of_statement of_function
+
+unfoldable pub statement : Statement → Syntax
+statement = fold-Statement Syntax Syntax Syntax Syntax of_body of_expression of_statement of_function
 
 unfoldable pub function : ArrowFunction → Syntax
-function = fold-ArrowFunction Syntax Syntax Syntax of_body of_expression of_function
-
-abbrev pub statement : Statement → Syntax
-statement (statements.Expression at e) = node at word.Expr (expression e ∷ [])
+function = fold-ArrowFunction Syntax Syntax Syntax Syntax of_body of_expression of_statement of_function
 
 abbrev pub program : Program → Syntax
 program p = node p.at word.Program (Listed (pieces_of (map statement p.body)) ∷ [])

@@ -1,10 +1,10 @@
 //! Reads a unit from its numbered tree.
 
-ghost use Rattle.std.specs.Prelude.{◌≡◌, ◌<◌, ◌≤◌, ◌↔◌, true, false, length, map, IfOk, IfSome, IfNone, IsErrOf};
-ghost use Rattle.rl_text.specs.Numeral.{is_numeral};
+ghost use Rattle.std.specs.Prelude.{◌≡◌, ◌↔◌, true, false, map, IfOk, IfSome, IfNone, IsErrOf, IsTrue};
 ghost use Rattle.rl_ast.specs.Syntax.{Node, pieces_of, syntax};
-ghost use Rattle.rl_ast.specs.Grammar.{is_literal, is_params, is_function, is_statement, is_program, is_unit};
-ghost use Rattle.rl_ast.specs.Units.{params, expression, function, statement, program, unit, Spells};
+ghost use Rattle.rl_ast.specs.Grammar.{is_expression, is_statement, are_statements, are_texts, is_body, is_params, is_function, is_marked, is_program, is_unit};
+ghost use Rattle.rl_ast.specs.Limits.{IsTooLarge};
+ghost use Rattle.rl_ast.specs.Units.{said, params, arrow_body, expression, statement, function, program, unit, Spells};
 
 use crate::numbered::{At, Numbered, number_tree};
 use crate::parts::{
@@ -15,7 +15,8 @@ use crate::word::Word;
 use rl_base::boxed::Boxed;
 use rl_base::failure::OutOfMemory;
 use rl_base::list::List;
-use rl_text::number::parse_number;
+use rl_base::text::Text;
+use rl_text::measure::measure;
 use rl_text::read::{TextError, read_raw_within};
 use std::alloc::Global;
 use thiserror::Error;
@@ -23,13 +24,17 @@ use thiserror::Error;
 /// The most bytes that are read as a tree.
 pub const LARGEST_INPUT: usize = 16_777_216;
 
-/// How many nodes and lists a unit of the grammar has open at once, at most.
-const DEEPEST: usize = 8;
+/// The most nodes that a tree that is read has.
+pub const MOST_NODES: usize = 65_536;
+
+/// The most nodes that are open at once in a tree that is read.
+pub const MOST_OPEN: usize = 256;
 
 /// Why bytes were not read as a unit.
 #[derive(Debug, Drop, Clone, Copy, PartialEq, Eq, Error)]
 pub enum TreeError {
-    /// There are more bytes than `LARGEST_INPUT`.
+    /// There are more bytes than `LARGEST_INPUT`, more nodes than `MOST_NODES`, or more of them open at once than
+    /// `MOST_OPEN`.
     #[error("TooLarge")]
     TooLarge,
     /// The bytes spell no unit of the grammar.
@@ -51,18 +56,11 @@ impl From<OutOfMemory> for TreeError {
     }
 }
 
-/// Whether the text is a whole number of the notation.
-fn is_number(text: &[u8]) -> bool
-    ensures { result ≡ is_numeral text.now }
-{
-    parse_number(text).is_some()
-}
-
 /// `(null)`. `None` where there are parts.
 #[tactic(auto, using(crate::proofs::Spelled::spelled))]
 fn read_null(at: At, parts: &[Numbered]) -> Option<Expression>
-    ensures found { IfSome result (λ e. (expression e ≡ Node at Word.Null (pieces_of (map syntax parts.now))) × (is_literal (Node at Word.Null (pieces_of (map syntax parts.now))) ≡ true)) }
-    ensures none { IfNone result (is_literal (Node at Word.Null (pieces_of (map syntax parts.now))) ≡ false) }
+    ensures found { IfSome result (λ e. (expression e ≡ Node at Word.Null (pieces_of (map syntax parts.now))) × (is_expression (Node at Word.Null (pieces_of (map syntax parts.now))) ≡ true)) }
+    ensures none { IfNone result (is_expression (Node at Word.Null (pieces_of (map syntax parts.now))) ≡ false) }
 {
     if no_parts(parts) {
         Some(Expression::Null { at })
@@ -74,18 +72,18 @@ fn read_null(at: At, parts: &[Numbered]) -> Option<Expression>
 /// `(bool FLAG)`. `None` where the parts are not one flag.
 #[tactic(auto, using(crate::proofs::Spelled::spelled))]
 fn read_boolean(at: At, parts: &[Numbered]) -> Option<Expression>
-    ensures found { IfSome result (λ e. (expression e ≡ Node at Word.Bool (pieces_of (map syntax parts.now))) × (is_literal (Node at Word.Bool (pieces_of (map syntax parts.now))) ≡ true)) }
-    ensures none { IfNone result (is_literal (Node at Word.Bool (pieces_of (map syntax parts.now))) ≡ false) }
+    ensures found { IfSome result (λ e. (expression e ≡ Node at Word.Bool (pieces_of (map syntax parts.now))) × (is_expression (Node at Word.Bool (pieces_of (map syntax parts.now))) ≡ true)) }
+    ensures none { IfNone result (is_expression (Node at Word.Bool (pieces_of (map syntax parts.now))) ≡ false) }
 {
     let value = as_flag(one(parts)?)?;
     Some(Expression::Boolean { at, value })
 }
 
-/// `(num TEXT)`. `None` where the parts are not one text that is a whole number up to 2^53.
+/// `(num TEXT)`. `None` where the parts are not one text.
 #[tactic(auto, using(crate::proofs::Spelled::spelled))]
 fn read_number(alloc: Global, at: At, parts: &[Numbered]) -> Result<Option<Expression>, OutOfMemory>
-    ensures found { IfOk result (λ r. IfSome r (λ e. (expression e ≡ Node at Word.Num (pieces_of (map syntax parts.now))) × (is_literal (Node at Word.Num (pieces_of (map syntax parts.now))) ≡ true))) }
-    ensures none { IfOk result (λ r. IfNone r (is_literal (Node at Word.Num (pieces_of (map syntax parts.now))) ≡ false)) }
+    ensures found { IfOk result (λ r. IfSome r (λ e. (expression e ≡ Node at Word.Num (pieces_of (map syntax parts.now))) × (is_expression (Node at Word.Num (pieces_of (map syntax parts.now))) ≡ true))) }
+    ensures none { IfOk result (λ r. IfNone r (is_expression (Node at Word.Num (pieces_of (map syntax parts.now))) ≡ false)) }
 {
     let Some(part) = one(parts) else {
         return Ok(None);
@@ -93,17 +91,52 @@ fn read_number(alloc: Global, at: At, parts: &[Numbered]) -> Result<Option<Expre
     let Some(text) = as_text(part) else {
         return Ok(None);
     };
-    if !is_number(text.as_bytes()) {
-        return Ok(None);
-    }
     let text = text.copy(alloc)?;
     Ok(Some(Expression::Number { at, text }))
 }
 
-/// A literal. `None` where the tree is no literal of the grammar.
-pub fn read_literal(alloc: Global, tree: &Numbered) -> Result<Option<Expression>, OutOfMemory>
-    ensures found { IfOk result (λ r. IfSome r (λ e. (expression e ≡ syntax tree.now) × (is_literal (syntax tree.now) ≡ true))) }
-    ensures none { IfOk result (λ r. IfNone r (is_literal (syntax tree.now) ≡ false)) }
+/// `(str TEXT)`. `None` where the parts are not one text.
+#[tactic(auto, using(crate::proofs::Spelled::spelled))]
+fn read_string(alloc: Global, at: At, parts: &[Numbered]) -> Result<Option<Expression>, OutOfMemory>
+    ensures found { IfOk result (λ r. IfSome r (λ e. (expression e ≡ Node at Word.Str (pieces_of (map syntax parts.now))) × (is_expression (Node at Word.Str (pieces_of (map syntax parts.now))) ≡ true))) }
+    ensures none { IfOk result (λ r. IfNone r (is_expression (Node at Word.Str (pieces_of (map syntax parts.now))) ≡ false)) }
+{
+    let Some(part) = one(parts) else {
+        return Ok(None);
+    };
+    let Some(text) = as_text(part) else {
+        return Ok(None);
+    };
+    let text = text.copy(alloc)?;
+    Ok(Some(Expression::String { at, text }))
+}
+
+/// `(paren EXPRESSION)`. `None` where the parts are not one expression of the grammar.
+#[cycle(expressions)]
+#[tactic(auto, using(crate::proofs::Spelled::spelled))]
+fn read_parenthesized(
+    alloc: Global,
+    at: At,
+    parts: &[Numbered],
+) -> Result<Option<Expression>, OutOfMemory>
+    ensures found { IfOk result (λ r. IfSome r (λ e. (expression e ≡ Node at Word.Paren (pieces_of (map syntax parts.now))) × (is_expression (Node at Word.Paren (pieces_of (map syntax parts.now))) ≡ true))) }
+    ensures none { IfOk result (λ r. IfNone r (is_expression (Node at Word.Paren (pieces_of (map syntax parts.now))) ≡ false)) }
+{
+    let Some(part) = one(parts) else {
+        return Ok(None);
+    };
+    let Some(inner) = read_expression(alloc, part)? else {
+        return Ok(None);
+    };
+    let expression = Boxed::new(alloc, inner)?;
+    Ok(Some(Expression::Parenthesized { at, expression }))
+}
+
+/// An expression. `None` where the tree is no expression of the grammar.
+#[cycle(expressions)]
+pub fn read_expression(alloc: Global, tree: &Numbered) -> Result<Option<Expression>, OutOfMemory>
+    ensures found { IfOk result (λ r. IfSome r (λ e. (expression e ≡ syntax tree.now) × (is_expression (syntax tree.now) ≡ true))) }
+    ensures none { IfOk result (λ r. IfNone r (is_expression (syntax tree.now) ≡ false)) }
 {
     if let Some((at, parts)) = as_node(tree, Word::Null) {
         return Ok(read_null(at, parts));
@@ -117,7 +150,163 @@ pub fn read_literal(alloc: Global, tree: &Numbered) -> Result<Option<Expression>
             Err(e) => Err(e),
         };
     }
+    if let Some((at, parts)) = as_node(tree, Word::Str) {
+        return match read_string(alloc, at, parts) {
+            Ok(read) => Ok(read),
+            Err(e) => Err(e),
+        };
+    }
+    if let Some((at, parts)) = as_node(tree, Word::Paren) {
+        return match read_parenthesized(alloc, at, parts) {
+            Ok(read) => Ok(read),
+            Err(e) => Err(e),
+        };
+    }
     Ok(None)
+}
+
+/// `(expr EXPRESSION)`. `None` where the parts are not one expression of the grammar.
+#[tactic(auto, using(crate::proofs::Spelled::spelled))]
+fn read_expression_statement(
+    alloc: Global,
+    at: At,
+    parts: &[Numbered],
+) -> Result<Option<Statement>, OutOfMemory>
+    ensures found { IfOk result (λ r. IfSome r (λ s. (statement s ≡ Node at Word.Expr (pieces_of (map syntax parts.now))) × (is_statement (Node at Word.Expr (pieces_of (map syntax parts.now))) ≡ true))) }
+    ensures none { IfOk result (λ r. IfNone r (is_statement (Node at Word.Expr (pieces_of (map syntax parts.now))) ≡ false)) }
+{
+    let Some(part) = one(parts) else {
+        return Ok(None);
+    };
+    let Some(expression) = read_expression(alloc, part)? else {
+        return Ok(None);
+    };
+    Ok(Some(Statement::Expression { at, expression }))
+}
+
+/// `(return EXPRESSION)`, or `(return -)`. `None` where the parts are not one expression of the grammar or the sign of
+/// what is absent.
+#[tactic(auto, using(crate::proofs::Spelled::spelled, crate::proofs::ByKind::return_with))]
+fn read_return(alloc: Global, at: At, parts: &[Numbered]) -> Result<Option<Statement>, OutOfMemory>
+    ensures found { IfOk result (λ r. IfSome r (λ s. (statement s ≡ Node at Word.Return (pieces_of (map syntax parts.now))) × (is_statement (Node at Word.Return (pieces_of (map syntax parts.now))) ≡ true))) }
+    ensures none { IfOk result (λ r. IfNone r (is_statement (Node at Word.Return (pieces_of (map syntax parts.now))) ≡ false)) }
+{
+    let Some(part) = one(parts) else {
+        return Ok(None);
+    };
+    if is_absent(part) {
+        return Ok(Some(Statement::Return { at, argument: None }));
+    }
+    let Some(argument) = read_expression(alloc, part)? else {
+        return Ok(None);
+    };
+    let argument = Some(Boxed::new(alloc, argument)?);
+    Ok(Some(Statement::Return { at, argument }))
+}
+
+/// A statement. `None` where the tree is no statement of the grammar.
+pub fn read_statement(alloc: Global, tree: &Numbered) -> Result<Option<Statement>, OutOfMemory>
+    ensures found { IfOk result (λ r. IfSome r (λ s. (statement s ≡ syntax tree.now) × (is_statement (syntax tree.now) ≡ true))) }
+    ensures none { IfOk result (λ r. IfNone r (is_statement (syntax tree.now) ≡ false)) }
+{
+    if let Some((at, parts)) = as_node(tree, Word::Expr) {
+        return match read_expression_statement(alloc, at, parts) {
+            Ok(read) => Ok(read),
+            Err(e) => Err(e),
+        };
+    }
+    if let Some((at, parts)) = as_node(tree, Word::Return) {
+        return match read_return(alloc, at, parts) {
+            Ok(read) => Ok(read),
+            Err(e) => Err(e),
+        };
+    }
+    Ok(None)
+}
+
+/// The statements of a body. `None` where a part is no statement of the grammar.
+fn read_statements(
+    alloc: Global,
+    parts: &[Numbered],
+) -> Result<Option<List<Statement>>, OutOfMemory>
+    ensures found { IfOk result (λ r. IfSome r (λ ss. (map statement ss ≡ map syntax parts.now) × (are_statements (pieces_of (map syntax parts.now)) ≡ true))) }
+    ensures none { IfOk result (λ r. IfNone r (are_statements (pieces_of (map syntax parts.now)) ≡ false)) }
+{
+    let mut statements = List::new(alloc);
+    for part in parts {
+        let Some(statement) = read_statement(alloc, part)? else {
+            return Ok(None);
+        };
+        statements.push(statement)?;
+    }
+    Ok(Some(statements))
+}
+
+/// The directives of a body. `None` where a part is no text.
+fn read_directives(alloc: Global, parts: &[Numbered]) -> Result<Option<List<Text>>, OutOfMemory>
+    ensures found { IfOk result (λ r. IfSome r (λ ds. (map said ds ≡ map syntax parts.now) × (are_texts (pieces_of (map syntax parts.now)) ≡ true))) }
+    ensures none { IfOk result (λ r. IfNone r (are_texts (pieces_of (map syntax parts.now)) ≡ false)) }
+{
+    let mut directives = List::new(alloc);
+    for part in parts {
+        let Some(text) = as_text(part) else {
+            return Ok(None);
+        };
+        let text = text.copy(alloc)?;
+        directives.push(text)?;
+    }
+    Ok(Some(directives))
+}
+
+/// `(body [TEXT ..] [STATEMENT ..])`. `None` where the parts are not a list of texts and a list of statements of the
+/// grammar.
+#[tactic(auto, using(crate::proofs::Spelled::spelled, crate::proofs::ByKind::no_body))]
+fn read_statement_body(
+    alloc: Global,
+    at: At,
+    parts: &[Numbered],
+) -> Result<Option<ArrowBody>, OutOfMemory>
+    ensures found { IfOk result (λ r. IfSome r (λ b. (arrow_body b ≡ Node at Word.Body (pieces_of (map syntax parts.now))) × (is_body (Node at Word.Body (pieces_of (map syntax parts.now))) ≡ true))) }
+    ensures none { IfOk result (λ r. IfNone r (is_body (Node at Word.Body (pieces_of (map syntax parts.now))) ≡ false)) }
+{
+    let Some((texts, items)) = two(parts) else {
+        return Ok(None);
+    };
+    let Some(texts) = as_list(texts) else {
+        return Ok(None);
+    };
+    let Some(items) = as_list(items) else {
+        return Ok(None);
+    };
+    let Some(directives) = read_directives(alloc, texts)? else {
+        return Ok(None);
+    };
+    let Some(statements) = read_statements(alloc, items)? else {
+        return Ok(None);
+    };
+    Ok(Some(ArrowBody::Statements {
+        at,
+        directives,
+        statements,
+    }))
+}
+
+/// What an arrow function does. `None` where the tree is no body of the grammar.
+#[tactic(auto, using(crate::proofs::Spelled::spelled, crate::proofs::ByKind::other_body))]
+pub fn read_body(alloc: Global, tree: &Numbered) -> Result<Option<ArrowBody>, OutOfMemory>
+    ensures found { IfOk result (λ r. IfSome r (λ b. (arrow_body b ≡ syntax tree.now) × (is_body (syntax tree.now) ≡ true))) }
+    ensures none { IfOk result (λ r. IfNone r (is_body (syntax tree.now) ≡ false)) }
+{
+    if let Some((at, parts)) = as_node(tree, Word::Body) {
+        return match read_statement_body(alloc, at, parts) {
+            Ok(read) => Ok(read),
+            Err(e) => Err(e),
+        };
+    }
+    let Some(expression) = read_expression(alloc, tree)? else {
+        return Ok(None);
+    };
+    Ok(Some(ArrowBody::Expression(expression)))
 }
 
 /// The parameters of a function, of which there are none: `(params [] -)`. `None` at any other tree.
@@ -134,7 +323,7 @@ pub fn read_params(tree: &Numbered) -> Option<Params>
     }
 }
 
-/// The marked function, which answers a literal. `None` where the tree is no function of the grammar.
+/// The marked function. `None` where the tree is no function of the grammar.
 #[tactic(auto, using(crate::proofs::Spelled::spelled))]
 pub fn read_function(alloc: Global, tree: &Numbered) -> Result<Option<ArrowFunction>, OutOfMemory>
     ensures found { IfOk result (λ r. IfSome r (λ f. (function f ≡ syntax tree.now) × (is_function (syntax tree.now) ≡ true))) }
@@ -155,7 +344,7 @@ pub fn read_function(alloc: Global, tree: &Numbered) -> Result<Option<ArrowFunct
     let Some(params) = read_params(params) else {
         return Ok(None);
     };
-    let Some(body) = read_literal(alloc, body)? else {
+    let Some(body) = read_body(alloc, body)? else {
         return Ok(None);
     };
     Ok(Some(ArrowFunction {
@@ -163,15 +352,15 @@ pub fn read_function(alloc: Global, tree: &Numbered) -> Result<Option<ArrowFunct
         marked: true,
         is_async,
         params,
-        body: ArrowBody::Expression(body),
+        body,
     }))
 }
 
-/// A statement. `None` where the tree is no statement of the grammar.
+/// The statement of a program, whose expression is the marked function. `None` where the tree is none of the grammar.
 #[tactic(auto, using(crate::proofs::Spelled::spelled))]
-pub fn read_statement(alloc: Global, tree: &Numbered) -> Result<Option<Statement>, OutOfMemory>
-    ensures found { IfOk result (λ r. IfSome r (λ s. (statement s ≡ syntax tree.now) × (is_statement (syntax tree.now) ≡ true))) }
-    ensures none { IfOk result (λ r. IfNone r (is_statement (syntax tree.now) ≡ false)) }
+pub fn read_marked(alloc: Global, tree: &Numbered) -> Result<Option<Statement>, OutOfMemory>
+    ensures found { IfOk result (λ r. IfSome r (λ s. (statement s ≡ syntax tree.now) × (is_marked (syntax tree.now) ≡ true))) }
+    ensures none { IfOk result (λ r. IfNone r (is_marked (syntax tree.now) ≡ false)) }
 {
     let Some((at, parts)) = as_node(tree, Word::Expr) else {
         return Ok(None);
@@ -206,7 +395,7 @@ pub fn read_program(alloc: Global, tree: &Numbered) -> Result<Option<Program>, O
     let Some(item) = one(items) else {
         return Ok(None);
     };
-    let Some(statement) = read_statement(alloc, item)? else {
+    let Some(statement) = read_marked(alloc, item)? else {
         return Ok(None);
     };
     let mut body = List::new(alloc);
@@ -234,18 +423,27 @@ pub fn read_unit(alloc: Global, tree: &Numbered) -> Result<Option<Unit>, OutOfMe
     Ok(Some(Unit { at, program }))
 }
 
+/// Whether there are too many bytes, too many nodes, or too many of them open at once.
+fn is_too_large(bytes: &[u8]) -> bool
+    ensures { IsTrue result ↔ IsTooLarge bytes.now }
+{
+    let size = measure(bytes);
+    size.bytes > LARGEST_INPUT || size.nodes > MOST_NODES || size.deepest > MOST_OPEN
+}
+
 /// The unit that the bytes spell, all of them, with the numbers and places of its nodes. `TooLarge` where there are more
-/// than `LARGEST_INPUT`, and `Malformed` where they spell no unit of the grammar.
+/// bytes than `LARGEST_INPUT`, more nodes than `MOST_NODES` or more of them open at once than `MOST_OPEN`, and
+/// `Malformed` where the bytes are none of that and spell no unit of the grammar.
 #[tactic(auto, using(crate::proofs::Reading::spells_unit, crate::proofs::Reading::spelled_short))]
 pub fn read_tree(alloc: Global, bytes: &[u8]) -> Result<Unit, TreeError>
     ensures found { IfOk result (λ u. Spells bytes.now u) }
-    ensures too_large { IsErrOf result TreeError.TooLarge ↔ (LARGEST_INPUT < length bytes.now) }
-    ensures malformed { IsErrOf result TreeError.Malformed → (length bytes.now ≤ LARGEST_INPUT) × ((u : Unit) → Spells bytes.now u → ⊥) }
+    ensures too_large { IsErrOf result TreeError.TooLarge ↔ IsTooLarge bytes.now }
+    ensures malformed { IsErrOf result TreeError.Malformed → (IsTooLarge bytes.now → ⊥) × ((u : Unit) → Spells bytes.now u → ⊥) }
 {
-    if bytes.len() > LARGEST_INPUT {
+    if is_too_large(bytes) {
         return Err(TreeError::TooLarge);
     }
-    let raw = match read_raw_within(alloc, DEEPEST, bytes) {
+    let raw = match read_raw_within(alloc, 2 * MOST_OPEN, bytes) {
         Ok(raw) => raw,
         Err(TextError::Malformed) => return Err(TreeError::Malformed),
         Err(TextError::OutOfMemory) => return Err(TreeError::OutOfMemory),

@@ -25,10 +25,19 @@ pub struct Program {
 }
 
 /// A statement.
+#[cycle(ast)]
 #[derive(Drop)]
 pub enum Statement {
     /// `(expr EXPRESSION)`.
-    Expression { at: At, expression: Expression },
+    Expression {
+        at: At,
+        expression: Expression,
+    },
+    /// `(return EXPRESSION)`, or `(return -)`.
+    Return {
+        at: At,
+        argument: Option<Boxed<Expression>>,
+    },
 }
 
 /// An expression.
@@ -36,11 +45,29 @@ pub enum Statement {
 #[derive(Drop)]
 pub enum Expression {
     /// `(null)`.
-    Null { at: At },
+    Null {
+        at: At,
+    },
     /// `(bool FLAG)`.
-    Boolean { at: At, value: bool },
+    Boolean {
+        at: At,
+        value: bool,
+    },
     /// `(num TEXT)`: a numeric literal by its text.
-    Number { at: At, text: Text },
+    Number {
+        at: At,
+        text: Text,
+    },
+    /// `(str TEXT)`: a string literal by its value.
+    String {
+        at: At,
+        text: Text,
+    },
+    /// `(paren EXPRESSION)`.
+    Parenthesized {
+        at: At,
+        expression: Boxed<Expression>,
+    },
     /// `(arrow MARK ASYNC PARAMS BODY)`.
     ArrowFunction(Boxed<ArrowFunction>),
 }
@@ -63,6 +90,12 @@ pub struct ArrowFunction {
 pub enum ArrowBody {
     /// An expression whose value is returned.
     Expression(Expression),
+    /// `(body [DIRECTIVE ..] [STATEMENT ..])`.
+    Statements {
+        at: At,
+        directives: List<Text>,
+        statements: List<Statement>,
+    },
 }
 
 /// The parameters of a function: `(params [] -)`.
@@ -81,6 +114,8 @@ impl Expression {
             Expression::Null { at } => at.span,
             Expression::Boolean { at, value: _ } => at.span,
             Expression::Number { at, text: _ } => at.span,
+            Expression::String { at, text: _ } => at.span,
+            Expression::Parenthesized { at, expression: _ } => at.span,
             Expression::ArrowFunction(function) => function.get().at.span,
         }
     }

@@ -12,10 +12,14 @@ pub enum Word {
     Null,
     Bool,
     Num,
+    Str,
+    Paren,
+    Body,
+    Return,
 }
 
 /// Each word, in the order in which they are declared.
-const WORDS: [Word; 8] = [
+const WORDS: [Word; 12] = [
     Word::Unit,
     Word::Program,
     Word::Expr,
@@ -24,6 +28,10 @@ const WORDS: [Word; 8] = [
     Word::Null,
     Word::Bool,
     Word::Num,
+    Word::Str,
+    Word::Paren,
+    Word::Body,
+    Word::Return,
 ];
 
 impl Word {
@@ -52,6 +60,10 @@ impl Word {
             Word::Null => "null",
             Word::Bool => "bool",
             Word::Num => "num",
+            Word::Str => "str",
+            Word::Paren => "paren",
+            Word::Body => "body",
+            Word::Return => "return",
         }
     }
 }

@@ -1,6 +1,7 @@
 -- The state of a function under construction, and the moves on it.
 use Rattle.std.specs.Prelude.{ℕ, ◌+◌, ◌-◌, ◌^◌, Option, None, List, [], ◌∷◌, ◌++◌, length}
 use Rattle.rl_base.specs.declared.span.Span.{Span}
+use Rattle.rl_base.specs.declared.diagnostic.Diagnostic.{Diagnostic}
 use Rattle.rl_base.specs.declared.ids.BlockId.{BlockId}
 use Rattle.rl_builder.specs.declared.builder.WipBlock.{WipBlock}
 use Rattle.rl_builder.specs.declared.builder.Work.{Work}
@@ -62,3 +63,7 @@ ended_by wip terminal = record { id = wip.id; block = record { kind = wip.kind; 
 -- the current block is complete, and another is the current one
 abbrev pub completed_by : State → Terminal → WipBlock → State
 completed_by s terminal next = record s { completed = s.completed ++ ended_by s.current terminal ∷ []; current = next }
+
+-- the unit is refused for this too
+abbrev pub recorded : State → Diagnostic → State
+recorded s d = record s { env = record s.env { diagnostics = s.env.diagnostics ++ d ∷ [] } }

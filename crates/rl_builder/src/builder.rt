@@ -1,11 +1,12 @@
 //! A function's graph under construction.
 
 ghost use Rattle.std.specs.Prelude.{◌≡◌, ◌+◌, ◌<◌, ◌^◌, All, OnOk, IfOk, length};
-ghost use Rattle.rl_builder.specs.Builder.{state_of, started, new_block, reserved, with_temporary, pushed, completed_by, placeholder};
+ghost use Rattle.rl_builder.specs.Builder.{state_of, started, new_block, reserved, with_temporary, pushed, completed_by, placeholder, recorded};
 ghost use Rattle.rl_builder.specs.Order.{reached_blocks, orders_of};
 ghost use Rattle.rl_builder.specs.Build.{built_of};
 
 use crate::order::{mark_instruction_ids, reached_blocks};
+use rl_base::diagnostic::Diagnostic;
 use rl_base::failure::OutOfMemory;
 use rl_base::ids::{BlockId, InstructionId};
 use rl_base::list::List;
@@ -108,6 +109,14 @@ impl<'e> Over<'e, Work> {
     {
         let identifier = self.env.next_identifier_id(span)?;
         Ok(Place { identifier, span })
+    }
+
+    /// Notes what the unit is refused for.
+    pub fn record_error(&mut self, diagnostic: Diagnostic) -> Result<(), OutOfMemory>
+        ensures same_reference { self.new.env.ghost_name ≡ self.old.env.ghost_name }
+        ensures state { OnOk result (state_of self.new.env.now self.new.work ≡ recorded (state_of self.old.env.now self.old.work) diagnostic) }
+    {
+        self.env.record_error(diagnostic)
     }
 
     /// Adds an instruction to the table and to the current block.

@@ -131,17 +131,21 @@ primitive_of tree =
                 elim (bytes_eq (word_of tree) (codes "bool")) [
                   | true ↦ primitives.Boolean (flag_of (part 0 tree))
                   | false ↦
-                      primitives.Number (number_of (part 0 tree))
+                      elim (bytes_eq (word_of tree) (codes "text")) [
+                        | true ↦ primitives.String (text_of (part 0 tree))
+                        | false ↦ primitives.Number (number_of (part 0 tree))
+                      ]
                 ]
           ]
     ]
 
 primitive-back : (v : PrimitiveValue) → primitive_of (spec.primitive v) ≡ v
-unfolding primitive_of
+unfolding primitive_of text_of
 primitive-back primitives.Undefined = refl
 primitive-back primitives.Null = refl
 primitive-back (primitives.Boolean value) = refl
 primitive-back (primitives.Number number) = refl
+primitive-back (primitives.String text) = refl
 
 value_of : Tree → InstructionValue
 value_of tree = values.Primitive (primitive_of (part 0 tree))

@@ -48,12 +48,13 @@ span s = node (codes "at") (Count s.start ∷ Count s.end ∷ [])
 abbrev pub place : Place → Tree
 place p = node (codes "p") (Count p.identifier.0 ∷ optional span p.span ∷ [])
 
--- `(undefined)`, `(null)`, `(bool FLAG)`, `(number NUMBER)`
+-- `(undefined)`, `(null)`, `(bool FLAG)`, `(number NUMBER)`, `(text TEXT)`
 abbrev pub primitive : PrimitiveValue → Tree
 primitive primitives.Undefined = node (codes "undefined") []
 primitive primitives.Null = node (codes "null") []
 primitive (primitives.Boolean value) = node (codes "bool") (Flag value ∷ [])
 primitive (primitives.Number number) = node (codes "number") (Count number ∷ [])
+primitive (primitives.String text) = node (codes "text") (Said text ∷ [])
 
 abbrev pub value : InstructionValue → Tree
 value (values.Primitive v) = node (codes "primitive") (primitive v ∷ [])

@@ -1,6 +1,7 @@
 ghost use Rattle.std.specs.Prelude.{◌≡◌, ◌+◌, ◌<◌, ◌^◌, ◌∷◌, ◌++◌, [], OnOk, OnErr, IfOk, length, None};
 
 use crate::function::{HirFunction, Identifier, InnerFunction, Lowered, Pair, ReactFunctionType};
+use rl_base::diagnostic::Diagnostic;
 use rl_base::failure::OutOfMemory;
 use rl_base::ids::{BlockId, IdentifierId, TypeId};
 use rl_base::list::List;
@@ -22,12 +23,14 @@ pub struct Environment {
     pub functions: List<InnerFunction>,
     /// Symbols in the order in which they got their identifiers.
     pub pairs: List<Pair>,
+    /// What the unit is refused for, in the order in which it was met.
+    pub diagnostics: List<Diagnostic>,
 }
 
 impl Environment {
     /// Nothing was made yet. It takes no memory.
     pub fn new(alloc: Global, fn_type: ReactFunctionType) -> Environment
-        ensures { result ≡ record { fn_type = fn_type; next_block = 0; next_type = 0; identifiers = []; functions = []; pairs = [] } }
+        ensures { result ≡ record { fn_type = fn_type; next_block = 0; next_type = 0; identifiers = []; functions = []; pairs = []; diagnostics = [] } }
     {
         Environment {
             fn_type,
@@ -36,6 +39,7 @@ impl Environment {
             identifiers: List::new(alloc),
             functions: List::new(alloc),
             pairs: List::new(alloc),
+            diagnostics: List::new(alloc),
         }
     }
 
@@ -81,6 +85,13 @@ impl Environment {
             type_id,
         })?;
         Ok(id)
+    }
+
+    /// Notes what the unit is refused for.
+    pub fn record_error(&mut self, diagnostic: Diagnostic) -> Result<(), OutOfMemory>
+        ensures { OnOk result (self.new ≡ record self.old { diagnostics = self.old.diagnostics ++ diagnostic ∷ [] }) }
+    {
+        self.diagnostics.push(diagnostic)
     }
 
     /// The marked function with all that was made beside it.

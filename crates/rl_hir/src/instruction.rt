@@ -1,5 +1,6 @@
 use rl_base::ids::{EvaluationOrder, IdentifierId};
 use rl_base::span::Span;
+use rl_base::text::Text;
 
 /// An identifier as it is used at a place of the source.
 #[derive(Clone, Copy, Debug, PartialEq, Eq)]
@@ -35,4 +36,5 @@ pub enum PrimitiveValue {
     Boolean(bool),
     /// A whole number, at most 2^53.
     Number(u64),
+    String(Text),
 }

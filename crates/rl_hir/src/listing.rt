@@ -133,6 +133,7 @@ impl ToRaw for PrimitiveValue {
             PrimitiveValue::Null => node(alloc, "null", []),
             PrimitiveValue::Boolean(value) => node(alloc, "bool", [flag(*value)]),
             PrimitiveValue::Number(value) => node(alloc, "number", [number(*value)]),
+            PrimitiveValue::String(text) => node(alloc, "text", [text.to_raw(alloc)?]),
         }
     }
 }

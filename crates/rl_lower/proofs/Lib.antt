@@ -1,2 +1,15 @@
-pub mod LiteralGraphs
-pub mod Literals
+pub mod Answering
+pub mod Bodies
+pub mod Building
+pub mod Clean
+pub mod Closings
+pub mod Functions
+pub mod Graphs
+pub mod Keeping
+pub mod Lowered
+pub mod Moves
+pub mod Nodes
+pub mod Parts
+pub mod Promises
+pub mod Steps
+pub mod Whole

@@ -1,4 +1,7 @@
 //! Syntax to graphs.
 #![tactic(auto)]
 
+mod expression;
+mod statement;
+
 pub mod function;

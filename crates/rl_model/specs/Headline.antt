@@ -1,6 +1,7 @@
 -- What is promised of a result: it is closed, and it runs as the source does.
-use Rattle.std.specs.Prelude.{◌≡◌, ℕ, ◌≤◌, List, All}
+use Rattle.std.specs.Prelude.{◌≡◌, ℕ, ◌≤◌, List, [], All}
 use Rattle.rl_ast.specs.Syntax.{Syntax}
+use Rattle.rl_model.specs.Rows.{refusals}
 use Rattle.rl_model.specs.Source.{runs, marked}
 use Rattle.rl_model.specs.Machine.{function_trace}
 use Rattle.rl_model.specs.Closed.{IsClosed}
@@ -25,6 +26,7 @@ SameRuns function f pairs = (start : List Setting) (arguments : List Value) (ans
 
 -- the result of lowering a unit
 pub record IsLowered (u : Unit) (l : Lowered) : Type 0 where
+  pub supported : refusals (marked (unit u)) ≡ []
   pub closed : IsClosed l.function.body
   pub inner_closed : All (λ i. IsClosed i.function.body) l.inner
   pub same_runs : SameRuns (marked (unit u)) l.function l.pairs

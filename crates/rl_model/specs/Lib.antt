@@ -1,5 +1,6 @@
 pub mod Closed
 pub mod Headline
 pub mod Machine
+pub mod Rows
 pub mod Source
 pub mod Traces

@@ -43,8 +43,11 @@ item_in table block place = elim (slice_get block.instructions place) [
 abbrev pub Code : Type 0
 Code = ℕ → ℕ → Option Item
 
+abbrev pub code_in : List NumberedBlock → List Instruction → Code
+code_in blocks table id place = elim (block_of blocks id) [ Some block ↦ item_in table block place | None ↦ None ]
+
 abbrev pub code_of : HirFunction → Code
-code_of f id place = elim (block_of f.body.blocks id) [ Some block ↦ item_in f.instructions block place | None ↦ None ]
+code_of f = code_in f.body.blocks f.instructions
 
 -- the terminal that was run last, of those that name a block
 abbrev pub Notes : Type 0
@@ -62,6 +65,7 @@ value_of primitives.Undefined = value.Undefined
 value_of primitives.Null = value.Null
 value_of (primitives.Boolean flag) = value.Bool flag
 value_of (primitives.Number number) = value.Number number
+value_of (primitives.String text) = value.Text text
 
 -- an instruction: the value goes to the identifier, and the place after it is next
 abbrev pub executed : InstructionValue → ℕ → Next → Next

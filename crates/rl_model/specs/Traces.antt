@@ -39,6 +39,15 @@ Go = Store → List Answer → Trace
 abbrev pub Gives : Type 0
 Gives = Store → List Answer → With → With → Trace
 
+-- where a statement's exits go; a return ends the run
+pub record Exits : Type 0 where
+  pub falls : Go
+  pub throws : With
+
+-- what a statement does
+abbrev pub Means : Type 0
+Means = Store → List Answer → Exits → Trace
+
 -- a function returns; no variable is seen by another function, since there is no other
 abbrev pub returned : ReturnVariant → Value → Trace
 returned variant value = ended (ending.Returned variant value [])

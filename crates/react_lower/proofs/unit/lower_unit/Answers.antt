@@ -1,7 +1,11 @@
-use Rattle.std.proofs.Common.{◌≡◌, List, [], Err, ap, sym, subst, ◌∙◌, All, arith}
+use Rattle.std.proofs.Common.{◌≡◌, ℕ, ◌≤◌, ◌*◌, ◌++◌, List, [], Err, ap, sym, subst, refl, ◌∙◌, All, arith}
 use Rattle.rl_model.specs.Closed.{IsClosed}
 use Rattle.rl_model.specs.Headline.{IsLowered, SameRuns}
-use Rattle.rl_ast.specs.Syntax.{Syntax}
+use Rattle.rl_ast.specs.Syntax.{Syntax, nodes}
+use Rattle.rl_ast.specs.Units.{unit, function}
+use Rattle.rl_model.specs.Source.{marked}
+use Rattle.rl_model.specs.Rows.{refusals}
+use Rattle.react_lower.proofs.Room.{few_nodes, fresh_room}
 use Rattle.rl_hir.specs.declared.environment.Environment.{Environment}
 use Rattle.rl_hir.specs.declared.function.InnerFunction.{InnerFunction}
 use Rattle.rl_hir.specs.declared.function.Lowered.{Lowered}
@@ -10,15 +14,24 @@ use Rattle.react_lower.proofs.unit.lower_unit.Goals as goal
 none_closed : (inner : List InnerFunction) → inner ≡ [] → All (λ i. IsClosed i.function.body) inner
 none_closed inner none = subst (λ (l : List InnerFunction). All (λ i. IsClosed i.function.body) l) (sym none) (λ k d h. absurd (omega arith))
 
+pub lower-requires-clause-room : goal.lower-requires-clause-room
+lower-requires-clause-room c =
+    let same : nodes (function c.marked_function.result.now) ≡ nodes (marked (unit c.in-Ok.unit)) = ap nodes c.marked_function.ensures.function in
+    let within : nodes (marked (unit c.in-Ok.unit)) ≤ 65536 = few_nodes c.args.bytes.now c.in-Ok.unit c.in-Ok.ensures.found (λ large. let never = c.in-Ok.ensures.too_large.1 large in cc) in
+    fresh_room c.new-env.result (nodes (function c.marked_function.result.now)) (ap (λ (e : Environment). e.next_block) c.new-env.ensures) (ap (λ (e : Environment). e.next_type) c.new-env.ensures) (ap (λ (e : Environment). e.identifiers) c.new-env.ensures) (omega (arith, same, within))
+
 pub returns-clause-lowered : goal.returns-clause-lowered
 returns-clause-lowered c =
+    let diagnostics : c.lower.new.env.diagnostics ≡ refusals (function c.marked_function.result.now) = c.in_ok-function.ensures.refused ∙ ap (λ (e : Environment). e.diagnostics ++ refusals (function c.marked_function.result.now)) c.new-env.ensures in
+    let none : refusals (function c.marked_function.result.now) ≡ [] = sym diagnostics ∙ c.if-not-is_empty.ensures.0 refl in
     let functions : c.lower.new.env.functions ≡ [] = c.in_ok-function.ensures.functions ∙ ap (λ (e : Environment). e.functions) c.new-env.ensures in (
       c.in-Ok.unit,
       c.in-Ok.ensures.found,
       subst (λ (l : Lowered). IsLowered c.in-Ok.unit l) (sym c.into_lowered.ensures) (record {
-        closed = c.in_ok-function.ensures.closed;
+        supported = ap refusals (sym c.marked_function.ensures.function) ∙ none;
+        closed = c.in_ok-function.ensures.closed none;
         inner_closed = none_closed _ functions;
-        same_runs = subst (λ (s : Syntax). SameRuns s c.in_ok-function.function c.lower.new.env.pairs) c.marked_function.ensures.function c.in_ok-function.ensures.same_runs;
+        same_runs = subst (λ (s : Syntax). SameRuns s c.in_ok-function.function c.lower.new.env.pairs) c.marked_function.ensures.function (c.in_ok-function.ensures.same_runs none);
       }),
     )
 

@@ -1,5 +1,5 @@
 use Rattle.std.proofs.Common.{◌≡◌, ℕ, Some, None, Option, List, ap, sym, subst, ◌∙◌, slice_get, true}
-use Rattle.rl_ast.specs.Grammar.{is_statement}
+use Rattle.rl_ast.specs.Grammar.{is_marked}
 use Rattle.rl_model.specs.Source.{function_in}
 use Rattle.rl_ast.specs.Units.{statement}
 use Rattle.rl_ast.specs.declared.tree.Statement.{Statement}
@@ -15,7 +15,7 @@ first_statement c =
     cc
 
 pub function_of-requires : goal.function_of-requires
-function_of-requires c = subst (λ (s : Statement). is_statement (statement s) ≡ true) (first_statement c) (one_statement c.args.unit.now c.requires).2
+function_of-requires c = subst (λ (s : Statement). is_marked (statement s) ≡ true) (first_statement c) (one_statement c.args.unit.now c.requires).2
 
 pub returns-clause-function : goal.returns-clause-function
 returns-clause-function c =

@@ -14,6 +14,10 @@ held word.Params = (4, lit< tt, refl)
 held word.Null = (5, lit< tt, refl)
 held word.Bool = (6, lit< tt, refl)
 held word.Num = (7, lit< tt, refl)
+held word.Str = (8, lit< tt, refl)
+held word.Paren = (9, lit< tt, refl)
+held word.Body = (10, lit< tt, refl)
+held word.Return = (11, lit< tt, refl)
 
 pub returns : goal.returns
 returns c w e = let k : ℕ = (held w).0 in let below : k < length WORDS = (held w).1 in c.loop-word.invariant k w (omega arith) (held w).2 e

@@ -1,0 +1,200 @@
+-- The builder's blocks as a graph, and the graph that `build` makes of them.
+use Rattle.std.proofs.Common.{◌≡◌, ℕ, zero, suc, ◌+◌, ◌<◌, inl, inr, ◌==◌, List, [], ◌∷◌, length, map, slice_get, slice_set, nat_eq, Bool, true, false, cond, if◌then◌else◌, filter, Contains, Option, Some, None, refl, sym, ap, ◌∙◌, subst, arith, eq-eqb}
+use Rattle.std.specs.Option.{option_map}
+use Rattle.std.proofs.lemmas.Bool.Decides.{eqb_tells}
+use Rattle.std.proofs.lemmas.Option.{slice_get_past}
+use Rattle.rl_base.specs.declared.ids.BlockId.{BlockId}
+use Rattle.rl_base.specs.declared.ids.InstructionId.{InstructionId}
+use Rattle.rl_hir.specs.declared.instruction.Instruction.{Instruction}
+use Rattle.rl_hir.specs.declared.instruction.InstructionValue.{InstructionValue}
+use Rattle.rl_hir.specs.declared.instruction.InstructionValue.TheVariants as values
+use Rattle.rl_hir.specs.declared.terminal.Terminal.{Terminal}
+use Rattle.rl_hir.specs.declared.terminal.Terminal.TheVariants as terminals
+use Rattle.rl_hir.specs.declared.function.BasicBlock.{BasicBlock}
+use Rattle.rl_hir.specs.declared.function.Hir.{Hir}
+use Rattle.rl_hir.specs.declared.function.NumberedBlock.{NumberedBlock}
+use Rattle.rl_hir.specs.Terminals.{with_order}
+use Rattle.rl_builder.specs.Order.{reached_blocks, ordered_at, ordered_list, order_after, ordered_block, ordered_blocks, ordered_table}
+use Rattle.rl_model.specs.declared.trace.Answer.{Answer}
+use Rattle.rl_model.specs.Traces.{Store, set}
+use Rattle.rl_model.specs.Closed.{successors, named, IsUnreachable, IsClosed, Reaches}
+use Rattle.rl_model.specs.Closed as closed
+use Rattle.rl_model.specs.Machine.{Item, Runs, Ends, Code, Notes, Next, block_of, item_in, code_in, exec, executed, step, value_of}
+use Rattle.rl_lower.specs.Simulation.{InBlock}
+
+-- a block is found by its number
+abbrev pub Apart : List NumberedBlock → Type 0
+Apart blocks = (i j : ℕ) (a b : NumberedBlock) → slice_get blocks i ≡ Some a → slice_get blocks j ≡ Some b → a.id.0 ≡ b.id.0 → a ≡ b
+
+pub found_by : (blocks : List NumberedBlock) (place : ℕ) (b : NumberedBlock) → Apart blocks → slice_get blocks place ≡ Some b → block_of blocks b.id.0 ≡ Some b.block
+found_by [] place b apart e = absurd (cc)
+found_by (x ∷ blocks) zero b apart e =
+    let same : x ≡ b = cc in
+    ap (λ (t : Bool). cond t (Some x.block) (block_of blocks b.id.0)) (eq-eqb x.id.0 b.id.0 (ap (λ (z : NumberedBlock). z.id.0) same)) ∙ ap (λ (z : NumberedBlock). Some z.block) same
+found_by (x ∷ blocks) (suc place) b apart e = elim (eqb_tells x.id.0 b.id.0) [
+  | inl t ↦ ap (λ (c : Bool). cond c (Some x.block) (block_of blocks b.id.0)) t.0 ∙ ap (λ (z : NumberedBlock). Some z.block) (apart 0 (suc place) x b refl e t.1)
+  | inr t ↦ ap (λ (c : Bool). cond c (Some x.block) (block_of blocks b.id.0)) t.0 ∙ found_by blocks place b (λ i j p q ep eq same. apart (suc i) (suc j) p q ep eq same) e
+]
+
+-- what stands at a place of a block
+pub item_met : (table : List Instruction) (b : NumberedBlock) (place : ℕ) (item : Item) → InBlock table b place item → item_in table b.block place ≡ Some item
+item_met table b place (Runs i) h =
+    ap (λ (o : Option InstructionId). elim o [ Some number ↦ option_map (λ i. Runs i) (slice_get table number.0) | None ↦ if place == length b.block.instructions then Some (Ends b.block.terminal) else None ]) h.at
+    ∙ ap (λ (o : Option Instruction). option_map (λ i. Runs i) o) h.kept
+item_met table b place (Ends t) h =
+    ap (λ (o : Option InstructionId). elim o [ Some number ↦ option_map (λ i. Runs i) (slice_get table number.0) | None ↦ if place == length b.block.instructions then Some (Ends b.block.terminal) else None ]) (slice_get_past b.block.instructions place (omega (arith, h.0)))
+    ∙ ap (λ (c : Bool). if c then Some (Ends b.block.terminal) else None) (eq-eqb place (length b.block.instructions) (sym h.0))
+    ∙ ap (λ t. Some (Ends t)) h.1
+
+-- items without their orders
+
+abbrev pub without_order : Instruction → Instruction
+without_order i = record i { order = record { 0 = 0 } }
+
+abbrev pub plain_item : Item → Item
+plain_item (Runs i) = Runs (without_order i)
+plain_item (Ends t) = Ends (with_order 0 t)
+
+abbrev pub plain : Option Item → Option Item
+plain o = option_map plain_item o
+
+-- a step does not look at orders
+step_plain : (o : Option Item) (next : Next) (block place : ℕ) (store : Store) (notes : Notes) (answers : List Answer) → step (plain o) next block place store notes answers ≡ step o next block place store notes answers
+step_plain None next block place store notes answers = refl
+step_plain (Some (Runs i)) next block place store notes answers = refl
+step_plain (Some (Ends (terminals.Return order at variant p))) next block place store notes answers = refl
+step_plain (Some (Ends (terminals.Unreachable order at))) next block place store notes answers = refl
+
+-- a run that stays in one block is the same in two graphs whose items there are the same without their orders
+
+stays : (item : Item) (c d : Code) (steps block place : ℕ) (store : Store) (notes : Notes) (answers : List Answer)
+    → ((place1 : ℕ) (store1 : Store) → exec c steps block place1 store1 notes answers ≡ exec d steps block place1 store1 notes answers)
+    → step (Some item) (exec c steps) block place store notes answers ≡ step (Some item) (exec d steps) block place store notes answers
+stays (Runs i) c d steps block place store notes answers same = stays_value i.value i.lvalue.identifier.0
+  where
+    stays_value : (v : InstructionValue) (identifier : ℕ) → executed v identifier (exec c steps) block place store notes answers ≡ executed v identifier (exec d steps) block place store notes answers
+    stays_value (values.Primitive p) identifier = same (place + 1) (set store identifier (value_of p))
+stays (Ends (terminals.Return order at variant p)) c d steps block place store notes answers same = refl
+stays (Ends (terminals.Unreachable order at)) c d steps block place store notes answers same = refl
+
+stays_at : (o : Option Item) (c d : Code) (steps block place : ℕ) (store : Store) (notes : Notes) (answers : List Answer)
+    → ((place1 : ℕ) (store1 : Store) → exec c steps block place1 store1 notes answers ≡ exec d steps block place1 store1 notes answers)
+    → step o (exec c steps) block place store notes answers ≡ step o (exec d steps) block place store notes answers
+stays_at None c d steps block place store notes answers same = refl
+stays_at (Some item) c d steps block place store notes answers same = stays item c d steps block place store notes answers same
+
+pub same_in_block : (c d : Code) (block : ℕ) → ((place : ℕ) → plain (c block place) ≡ plain (d block place)) → (steps place : ℕ) (store : Store) (notes : Notes) (answers : List Answer) → exec c steps block place store notes answers ≡ exec d steps block place store notes answers
+same_in_block c d block same zero place store notes answers = refl
+same_in_block c d block same (suc steps) place store notes answers =
+    stays_at (c block place) c d steps block place store notes answers (λ place1 store1. same_in_block c d block same steps place1 store1 notes answers)
+    ∙ sym (step_plain (c block place) (exec d steps) block place store notes answers)
+    ∙ ap (λ o. step o (exec d steps) block place store notes answers) (same place)
+    ∙ step_plain (d block place) (exec d steps) block place store notes answers
+
+-- numbering changes orders alone
+
+set_plain : (xs : List Instruction) (k : ℕ) (x y : Instruction) → slice_get xs k ≡ Some x → without_order y ≡ without_order x → map without_order (slice_set xs k y) ≡ map without_order xs
+set_plain [] k x y is e = absurd (cc)
+set_plain (z ∷ xs) zero x y is e = let same : z ≡ x = cc in ap (λ t. t ∷ map without_order xs) (e ∙ ap without_order (sym same))
+set_plain (z ∷ xs) (suc k) x y is e = ap (λ l. without_order z ∷ l) (set_plain xs k x y is e)
+
+ordered_at_plain : (order place : ℕ) (table : List Instruction) → map without_order (ordered_at order place table) ≡ map without_order table
+ordered_at_plain order place table = by_item (slice_get table place) refl
+  where
+    by_item : (o : Option Instruction) → slice_get table place ≡ o → map without_order (elim o [ Some i ↦ slice_set table place (record i { order = record { 0 = order } }) | None ↦ table ]) ≡ map without_order table
+    by_item None is = refl
+    by_item (Some i) is = set_plain table place i (record i { order = record { 0 = order } }) is refl
+
+ordered_list_plain : (order : ℕ) (listed : List InstructionId) (table : List Instruction) → map without_order (ordered_list order listed table) ≡ map without_order table
+ordered_list_plain order [] table = refl
+ordered_list_plain order (id ∷ ids) table = ordered_list_plain (order + 1) ids (ordered_at order id.0 table) ∙ ordered_at_plain order id.0 table
+
+pub ordered_table_plain : (order : ℕ) (blocks : List NumberedBlock) (table : List Instruction) → map without_order (ordered_table order blocks table) ≡ map without_order table
+ordered_table_plain order [] table = refl
+ordered_table_plain order (b ∷ blocks) table = ordered_table_plain (order_after order b) blocks (ordered_list order b.block.instructions table) ∙ ordered_list_plain order b.block.instructions table
+
+get_map : {X Y : Type 0} (f : X → Y) (xs : List X) (k : ℕ) → slice_get (map f xs) k ≡ option_map f (slice_get xs k)
+get_map f [] k = refl
+get_map f (x ∷ xs) zero = refl
+get_map f (x ∷ xs) (suc k) = get_map f xs k
+
+plain_runs : (o : Option Instruction) → plain (option_map (λ i. Runs i) o) ≡ option_map (λ i. Runs i) (option_map without_order o)
+plain_runs None = refl
+plain_runs (Some i) = refl
+
+listed_plain : (table table1 : List Instruction) (number : ℕ) → map without_order table1 ≡ map without_order table → plain (option_map (λ i. Runs i) (slice_get table1 number)) ≡ plain (option_map (λ i. Runs i) (slice_get table number))
+listed_plain table table1 number same =
+    plain_runs (slice_get table1 number)
+    ∙ ap (λ (o : Option Instruction). option_map (λ i. Runs i) o) (sym (get_map without_order table1 number) ∙ ap (λ (l : List Instruction). slice_get l number) same ∙ get_map without_order table number)
+    ∙ sym (plain_runs (slice_get table number))
+
+order_again : (order : ℕ) (t : Terminal) → with_order 0 (with_order order t) ≡ with_order 0 t
+order_again order (terminals.Return old at variant p) = refl
+order_again order (terminals.Unreachable old at) = refl
+
+last_plain : (b : Bool) (order : ℕ) (t : Terminal) → plain (if b then Some (Ends (with_order order t)) else None) ≡ plain (if b then Some (Ends t) else None)
+last_plain true order t = ap (λ u. Some (Ends u)) (order_again order t)
+last_plain false order t = refl
+
+item_plain : (table table1 : List Instruction) (block : BasicBlock) (order place : ℕ) → map without_order table1 ≡ map without_order table → plain (item_in table1 (record block { terminal = with_order order block.terminal }) place) ≡ plain (item_in table block place)
+item_plain table table1 block order place same = by_number (slice_get block.instructions place)
+  where
+    by_number : (o : Option InstructionId) → plain (elim o [ Some number ↦ option_map (λ i. Runs i) (slice_get table1 number.0) | None ↦ if place == length block.instructions then Some (Ends (with_order order block.terminal)) else None ]) ≡ plain (elim o [ Some number ↦ option_map (λ i. Runs i) (slice_get table number.0) | None ↦ if place == length block.instructions then Some (Ends block.terminal) else None ])
+    by_number (Some number) = listed_plain table table1 number.0 same
+    by_number None = last_plain (place == length block.instructions) order block.terminal
+
+-- the block that is kept
+
+kept : (order entry : ℕ) (blocks : List NumberedBlock) (block : BasicBlock) → block_of blocks entry ≡ Some block → (n : ℕ) × (block_of (ordered_blocks order (filter (λ b. nat_eq b.id.0 entry) blocks)) entry ≡ Some (record block { terminal = with_order n block.terminal }))
+kept order entry [] block is = absurd (cc)
+kept order entry (b ∷ blocks) block is = elim (eqb_tells b.id.0 entry) [
+  | inl t ↦ (let same : ◌≡◌ {A = Option BasicBlock} (Some b.block) (Some block) = sym (ap (λ (c : Bool). if c then Some b.block else block_of blocks entry) t.0) ∙ is in
+      let one : b.block ≡ block = cc in
+      (order + length b.block.instructions,
+        ap (λ (c : Bool). block_of (ordered_blocks order (if c then b ∷ filter (λ x. nat_eq x.id.0 entry) blocks else filter (λ x. nat_eq x.id.0 entry) blocks)) entry) t.0
+        ∙ ap (λ (c : Bool). if c then Some (ordered_block order b).block else block_of (ordered_blocks (order_after order b) (filter (λ x. nat_eq x.id.0 entry) blocks)) entry) t.0
+        ∙ ap (λ (x : BasicBlock). Some (record x { terminal = with_order (order + length b.block.instructions) x.terminal })) one))
+  | inr t ↦ (let rest = kept order entry blocks block (sym (ap (λ (c : Bool). if c then Some b.block else block_of blocks entry) t.0) ∙ is) in
+      (rest.0, ap (λ (c : Bool). block_of (ordered_blocks order (if c then b ∷ filter (λ x. nat_eq x.id.0 entry) blocks else filter (λ x. nat_eq x.id.0 entry) blocks)) entry) t.0 ∙ rest.1))
+]
+
+-- what stands in the entry of the graph that is built is what the builder had there, but for orders
+pub entry_plain : (entry : BlockId) (completed : List NumberedBlock) (table : List Instruction) (block : BasicBlock) → block_of completed entry.0 ≡ Some block → (place : ℕ)
+    → plain (code_in completed table entry.0 place) ≡ plain (code_in (ordered_blocks 1 (reached_blocks entry completed)) (ordered_table 1 (reached_blocks entry completed) table) entry.0 place)
+entry_plain entry completed table block is place =
+    let found = kept 1 entry.0 completed block is in
+    let table1 : List Instruction = ordered_table 1 (reached_blocks entry completed) table in
+    ap (λ (o : Option BasicBlock). plain (elim o [ Some b ↦ item_in table b place | None ↦ None ])) is
+    ∙ sym (item_plain table table1 block found.0 place (ordered_table_plain 1 (reached_blocks entry completed) table))
+    ∙ sym (ap (λ (o : Option BasicBlock). plain (elim o [ Some b ↦ item_in table1 b place | None ↦ None ])) found.1)
+
+-- no terminal names a block or leads to one
+names_nothing : (t : Terminal) (other : ℕ) → Contains (named t) other → ⊥
+names_nothing (terminals.Return order at variant p) other there = let within : there.0 < 0 = there.1 in omega arith
+names_nothing (terminals.Unreachable order at) other there = let within : there.0 < 0 = there.1 in omega arith
+
+leads_nowhere : (t : Terminal) (other : ℕ) → Contains (successors t) other → ⊥
+leads_nowhere (terminals.Return order at variant p) other there = let within : there.0 < 0 = there.1 in omega arith
+leads_nowhere (terminals.Unreachable order at) other there = let within : there.0 < 0 = there.1 in omega arith
+
+only_entry : (hir : Hir) (id : ℕ) → Reaches hir id → id ≡ hir.entry.0
+only_entry hir id closed.entry = refl
+only_entry hir id (closed.next from successor block before is there) = absurd (leads_nowhere block.terminal successor there)
+
+still_ended : (order : ℕ) (t : Terminal) → (IsUnreachable t → ⊥) → IsUnreachable (with_order order t) → ⊥
+still_ended order (terminals.Return old at variant p) end u = u
+still_ended order (terminals.Unreachable old at) end u = end u
+
+pub built_closed : (entry : BlockId) (completed : List NumberedBlock) (block : BasicBlock) → block_of completed entry.0 ≡ Some block → (IsUnreachable block.terminal → ⊥) → IsClosed (record { entry = entry; blocks = ordered_blocks 1 (reached_blocks entry completed) })
+built_closed entry completed block is end =
+    let found = kept 1 entry.0 completed block is in
+    let hir : Hir = record { entry = entry; blocks = ordered_blocks 1 (reached_blocks entry completed) } in
+    record {
+      entry_block = (record block { terminal = with_order found.0 block.terminal }, found.1);
+      names = λ id other b reaches there named. absurd (names_nothing b.terminal other named);
+      ends = λ id b reaches there unreachable.
+          let at_entry : block_of hir.blocks entry.0 ≡ Some b = subst (λ (n : ℕ). block_of hir.blocks n ≡ Some b) (only_entry hir id reaches) there in
+          let same : ◌≡◌ {A = Option BasicBlock} (Some (record block { terminal = with_order found.0 block.terminal })) (Some b) = sym found.1 ∙ at_entry in
+          let one : record block { terminal = with_order found.0 block.terminal } ≡ b = cc in
+          still_ended found.0 block.terminal end (subst (λ (x : BasicBlock). IsUnreachable x.terminal) (sym one) unreachable);
+    }

@@ -1,0 +1,49 @@
+-- What holds of any graph: lists, stores, steps.
+use Rattle.std.proofs.Common.{◌≡◌, ℕ, zero, suc, ◌≤◌, ◌++◌, List, [], ◌∷◌, length, slice_get, Some, cond, refl, ap, ◌∙◌, arith}
+use Rattle.std.proofs.lemmas.Bool.{ne_eqb}
+use Rattle.std.proofs.Common.{eq-eqb}
+use Rattle.rl_builder.specs.Builder.{State}
+use Rattle.rl_lower.specs.Simulation.{Comes, Goes, Later}
+use Rattle.rl_model.specs.declared.trace.Value.{Value}
+use Rattle.rl_model.specs.declared.trace.Answer.{Answer}
+use Rattle.rl_model.specs.declared.trace.Trace.{Trace}
+use Rattle.rl_model.specs.Traces.{Store, set}
+use Rattle.rl_model.specs.Machine.{Item, Code, Notes, Next, exec, step}
+
+pub get_more : {X : Type 0} (xs ys : List X) (place : ℕ) (x : X) → slice_get xs place ≡ Some x → slice_get (xs ++ ys) place ≡ Some x
+get_more [] ys place x e = cc
+get_more (y ∷ xs) ys zero x e = e
+get_more (y ∷ xs) ys (suc place) x e = get_more xs ys place x e
+
+pub get_seam : {X : Type 0} (xs : List X) (x : X) (ys : List X) → slice_get (xs ++ x ∷ ys) (length xs) ≡ Some x
+get_seam [] x ys = refl
+get_seam (y ∷ xs) x ys = get_seam xs x ys
+
+pub set_same : (store : Store) (identifier : ℕ) (v : Value) → set store identifier v identifier ≡ v
+set_same store identifier v = ap (λ b. cond b v (store identifier)) (eq-eqb identifier identifier refl)
+
+pub set_other : (store : Store) (identifier other : ℕ) (v : Value) → (other ≡ identifier → ⊥) → set store identifier v other ≡ store other
+set_other store identifier other v ne = ap (λ b. cond b v (store other)) (ne_eqb other identifier ne)
+
+-- the graph has a trace at once
+pub comes_at_once : (c : Code) (f : Next → Trace) (t : Trace) → ((next : Next) → f next ≡ t) → Comes c f t
+comes_at_once c f t is = record { by = (0, λ steps enough. is (exec c steps)) }
+
+-- a step, and then the rest
+pub steps_on : (c : Code) (block place : ℕ) (store : Store) (notes : Notes) (answers : List Answer) (item : Item) (t : Trace) → c block place ≡ Some item → Comes c (λ next. step (Some item) next block place store notes answers) t → Goes c block place store notes answers t
+steps_on c block place store notes answers item t is rest = record { by = (suc rest.by.0, onward) }
+  where
+    onward : (steps : ℕ) → suc rest.by.0 ≤ steps → exec c steps block place store notes answers ≡ t
+    onward zero enough = absurd (omega arith)
+    onward (suc steps) enough = ap (λ o. step o (exec c steps) block place store notes answers) is ∙ rest.by.1 steps (omega arith)
+
+pub later_refl : (s : State) (store : Store) → Later s store store
+later_refl s store = record { temporaries = λ identifier below. refl }
+
+pub later_then : (s new : State) (store later after : Store) → length s.env.identifiers ≤ length new.env.identifiers → Later s store later → Later new later after → Later s store after
+later_then s new store later after more a b = record { temporaries = λ identifier below. b.temporaries identifier (omega arith) ∙ a.temporaries identifier below }
+
+pub later_set : (s : State) (store : Store) (identifier : ℕ) (v : Value) → length s.env.identifiers ≤ identifier → Later s store (set store identifier v)
+later_set s store identifier v fresh = record {
+  temporaries = λ other below. let ne : other ≡ identifier → ⊥ = λ e. omega arith in set_other store identifier other v ne;
+}

@@ -1,0 +1,41 @@
+-- How blocks and bodies end.
+use Rattle.std.specs.Prelude.{◌≡◌, Option, None}
+use Rattle.rl_base.specs.declared.span.Span.{Span}
+use Rattle.rl_hir.specs.declared.environment.Environment.{Environment}
+use Rattle.rl_hir.specs.declared.function.BlockKind.TheVariants as kinds
+use Rattle.rl_hir.specs.declared.instruction.Place.{Place}
+use Rattle.rl_hir.specs.declared.instruction.InstructionValue.TheVariants as values
+use Rattle.rl_hir.specs.declared.instruction.PrimitiveValue.TheVariants as primitives
+use Rattle.rl_hir.specs.declared.terminal.Terminal.{Terminal}
+use Rattle.rl_hir.specs.declared.terminal.Terminal.TheVariants as terminals
+use Rattle.rl_hir.specs.declared.terminal.ReturnVariant.{ReturnVariant}
+use Rattle.rl_hir.specs.declared.terminal.ReturnVariant.TheVariants as returns
+use Rattle.rl_builder.specs.Builder.{State, started, reserved, new_block, completed_by, placeholder}
+use Rattle.rl_hir.specs.declared.function.BlockKind.{BlockKind}
+use Rattle.rl_builder.specs.Temporaries.{temporary, with_value}
+use Rattle.rl_builder.specs.Build.{built_of}
+use Rattle.rl_builder.specs.declared.builder.Built.{Built}
+use Rattle.rl_ast.specs.Syntax.{Syntax}
+use Rattle.rl_lower.specs.Lowering.{LowersBody}
+
+-- a return of a place
+abbrev pub return_of : Option Span → ReturnVariant → Place → Terminal
+return_of span variant place = terminals.Return (record { 0 = 0 }) span variant place
+
+-- the block ends by a return, and a fresh one that nothing leads to goes on
+abbrev pub returned_from : State → Option Span → ReturnVariant → Place → BlockKind → State
+returned_from s span variant place kind = completed_by (reserved s) (return_of span variant place) (new_block s.env.next_block kind)
+
+abbrev pub with_undefined : State → State
+with_undefined s = with_value s (values.Primitive primitives.Undefined) None
+
+-- the end of a body returns Undefined, and no block goes on
+abbrev pub closed_off : State → State
+closed_off s = completed_by (with_undefined s) (return_of None returns.Void (temporary s None)) placeholder
+
+-- what was built over the environment is the graph of a builder that lowered the body and was closed off
+pub record IsGraphOf (body : Syntax) (old new : Environment) (built : Built) : Type 0 where
+  pub state : State
+  pub lowers : LowersBody body (started old kinds.Block) state
+  pub graph : built ≡ built_of (closed_off state)
+  pub after : new ≡ (closed_off state).env

@@ -1,0 +1,85 @@
+//! Statements, and lists of them.
+
+ghost use Rattle.std.specs.Prelude.{◌≡◌, ◌*◌, true, map, OnOk, Some};
+ghost use Rattle.rl_ast.specs.Grammar.{is_statement, are_statements};
+ghost use Rattle.rl_ast.specs.Syntax.{nodes, nodes_of, pieces_of};
+ghost use Rattle.rl_ast.specs.Units as spec;
+ghost use Rattle.rl_builder.specs.Builder.{state_of};
+ghost use Rattle.rl_lower.specs.Endings.{returned_from};
+ghost use Rattle.rl_lower.specs.Lowering.{HasRoom, LowersStatement, LowersStatements};
+
+use crate::expression::{lower_expression, lower_value_to_temporary};
+use rl_ast::tree::Statement;
+use rl_base::failure::OutOfMemory;
+use rl_base::ids::EvaluationOrder;
+use rl_base::span::Span;
+use rl_builder::builder::HirBuilder;
+use rl_hir::function::BlockKind;
+use rl_hir::instruction::{InstructionValue, Place, PrimitiveValue};
+use rl_hir::terminal::{ReturnVariant, Terminal};
+use std::alloc::Global;
+
+/// Ends the block by a return of this value, and goes on in a fresh block that nothing leads to.
+fn lower_return(builder: &mut HirBuilder, span: Span, value: Place) -> Result<(), OutOfMemory>
+    requires { HasRoom (state_of builder.old.env.now builder.old.work) 1 }
+    ensures same_reference { builder.new.env.ghost_name ≡ builder.old.env.ghost_name }
+    ensures state { OnOk result (state_of builder.new.env.now builder.new.work ≡ returned_from (state_of builder.old.env.now builder.old.work) (Some span) ReturnVariant.Explicit value BlockKind.Block) }
+{
+    let next = builder.reserve(BlockKind::Block);
+    builder.terminate_with_continuation(
+        Terminal::Return {
+            order: EvaluationOrder(0),
+            span: Some(span),
+            variant: ReturnVariant::Explicit,
+            value,
+        },
+        next,
+    )
+}
+
+/// Lowers a statement.
+fn lower_statement(
+    alloc: Global,
+    builder: &mut HirBuilder,
+    statement: &Statement,
+) -> Result<(), OutOfMemory>
+    requires grammar { is_statement (spec.statement statement.now) ≡ true }
+    requires room { HasRoom (state_of builder.old.env.now builder.old.work) (4 * nodes (spec.statement statement.now)) }
+    ensures same_reference { builder.new.env.ghost_name ≡ builder.old.env.ghost_name }
+    ensures lowered { OnOk result (LowersStatement (spec.statement statement.now) (state_of builder.old.env.now builder.old.work) (state_of builder.new.env.now builder.new.work)) }
+{
+    match statement {
+        Statement::Expression { at: _, expression } => {
+            lower_expression(alloc, builder, expression)?;
+            Ok(())
+        }
+        Statement::Return { at, argument } => match argument {
+            Some(argument) => {
+                let value = lower_expression(alloc, builder, argument.get())?;
+                lower_return(builder, at.span, value)
+            }
+            None => {
+                let undefined = InstructionValue::Primitive(PrimitiveValue::Undefined);
+                let value = lower_value_to_temporary(builder, undefined, None)?;
+                lower_return(builder, at.span, value)
+            }
+        },
+    }
+}
+
+/// Lowers statements in order. Those behind a return stand in a block that nothing leads to.
+pub(crate) fn lower_statements(
+    alloc: Global,
+    builder: &mut HirBuilder,
+    statements: &[Statement],
+) -> Result<(), OutOfMemory>
+    requires grammar { are_statements (pieces_of (map spec.statement statements.now)) ≡ true }
+    requires room { HasRoom (state_of builder.old.env.now builder.old.work) (4 * nodes_of (pieces_of (map spec.statement statements.now))) }
+    ensures same_reference { builder.new.env.ghost_name ≡ builder.old.env.ghost_name }
+    ensures lowered { OnOk result (LowersStatements (pieces_of (map spec.statement statements.now)) (state_of builder.old.env.now builder.old.work) (state_of builder.new.env.now builder.new.work)) }
+{
+    'statements: for statement in statements {
+        lower_statement(alloc, builder, statement)?;
+    }
+    Ok(())
+}
