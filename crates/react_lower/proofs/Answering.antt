@@ -1,45 +1,84 @@
 -- What was read and answered, where the bytes that were left may not be known.
-use Rattle.std.proofs.Common.{◌≡◌, ◌≢◌, ◌⊎◌, inl, inr, ℕ, ◌+◌, ◌++◌, ◌≤◌, ◌<◌, min, List, Option, Some, None, IfSome, length, length-take, take, refl, sym, ap, subst, ◌∙◌, arith}
+use Rattle.std.proofs.Common.{◌≡◌, ◌≢◌, ◌⊎◌, inl, inr, ℕ, ◌+◌, ◌++◌, ◌≤◌, ◌<◌, min, List, [], Option, Some, None, IfSome, length, length-take, take, refl, sym, ap, subst, ◌∙◌, arith}
 use Rattle.std.proofs.lemmas.Bool.{cases_lt}
 use Rattle.std.proofs.lemmas.List.{take_all}
-use Rattle.std.specs.Io.KnownBytes.{Consumes, Keeps}
+use Rattle.std.specs.Io.KnownBytes.{Appends, Consumes, Keeps}
 use Rattle.rl_ast.specs.Limits.{IsTooLarge}
-use Rattle.rl_ast.specs.Units.{Spells}
+use Rattle.rl_base.specs.declared.diagnostic.Diagnostic.{Diagnostic}
+use Rattle.rl_text.proofs.Spellings.{Spells-one}
+use Rattle.rl_ast.specs.Syntax.{Syntax, plain}
+use Rattle.rl_ast.specs.Units.{Spells, unit}
+use Rattle.rl_ast.proofs.Placement.{placed-one}
+use Rattle.rl_hir.specs.declared.function.Lowered.{Lowered}
+use Rattle.rl_model.specs.Headline.{LowersTo}
+use Rattle.rl_model.specs.Rows.{refusals}
+use Rattle.rl_model.specs.Source.{marked}
 use Rattle.rl_ast.specs.declared.read.TheConstants.{LARGEST_INPUT}
 use Rattle.rl_ast.specs.declared.tree.Unit.{Unit as TreeOfUnit}
-use Rattle.react_lower.specs.Answers.{Explains, HasNoOutput, IsAnswer, IsComplete, IsMalformed, Writes, WritesKnown, ReadsWhole, Refuses, RefusesKnown}
+use Rattle.react_lower.specs.Answers.{Explains, HasNoOutput, IsAnswer, IsOutput, IsComplete, IsMalformed, IsRefused, Writes, WritesKnown, ReadsWhole, Refuses, RefusesKnown, lines, output}
 use Rattle.react_lower.specs.declared.run.Status.{Status}
 use Rattle.react_lower.specs.declared.run.Status.TheVariants.{Done, Reported, Malformed, TooLarge, ReadFault, WriteFault, OutOfMemory, Usage}
 
 -- what was read within the limit is all that was left
-pub all_read : (left : Option (List ℕ)) (bytes : List ℕ) → IfSome left (λ known. bytes ≡ take (LARGEST_INPUT + 1) known) → length bytes ≤ LARGEST_INPUT → IfSome left (λ known. bytes ≡ known)
+all_read : (left : Option (List ℕ)) (bytes : List ℕ) → IfSome left (λ known. bytes ≡ take (LARGEST_INPUT + 1) known) → length bytes ≤ LARGEST_INPUT → IfSome left (λ known. bytes ≡ known)
 all_read None bytes first within = tt
 all_read (Some known) bytes first within =
     let count : length bytes ≡ min (LARGEST_INPUT + 1) (length known) = ap length first ∙ length-take (LARGEST_INPUT + 1) known in
     first ∙ take_all (LARGEST_INPUT + 1) known (omega arith)
 
 -- a part that is past the limit of bytes is past the limits
-pub more_left : (left : Option (List ℕ)) (bytes : List ℕ) → IfSome left (λ known. bytes ≡ take (LARGEST_INPUT + 1) known) → LARGEST_INPUT < length bytes → RefusesKnown left TooLarge
+more_left : (left : Option (List ℕ)) (bytes : List ℕ) → IfSome left (λ known. bytes ≡ take (LARGEST_INPUT + 1) known) → LARGEST_INPUT < length bytes → RefusesKnown left TooLarge
 more_left None bytes first past = record { no_output = tt; refuses = tt }
 more_left (Some known) bytes first past =
     let count : length bytes ≡ min (LARGEST_INPUT + 1) (length known) = ap length first ∙ length-take (LARGEST_INPUT + 1) known in
     record { no_output = tt; refuses = inl (omega arith) }
 
 -- what was read is past the limits where all that was left is
-pub too_large_known : (left : Option (List ℕ)) (bytes : List ℕ) → IfSome left (λ known. bytes ≡ take (LARGEST_INPUT + 1) known) → IsTooLarge bytes → RefusesKnown left TooLarge
+too_large_known : (left : Option (List ℕ)) (bytes : List ℕ) → IfSome left (λ known. bytes ≡ take (LARGEST_INPUT + 1) known) → IsTooLarge bytes → RefusesKnown left TooLarge
 too_large_known None bytes first large = record { no_output = tt; refuses = tt }
 too_large_known (Some known) bytes first large = elim (cases_lt LARGEST_INPUT (length bytes)) [
   | inl past ↦ more_left (Some known) bytes first past
   | inr within ↦ record { no_output = tt; refuses = subst IsTooLarge (all_read (Some known) bytes first (omega (arith, within))) large }
 ]
 
-pub writes_known : (left : Option (List ℕ)) (bytes : List ℕ) (status : Status) (text : List ℕ) → IfSome left (λ known. bytes ≡ known) → Writes bytes status text → WritesKnown left status text
+-- a result and a report are outputs
+pub writes_result : (bytes : List ℕ) (l : Lowered) (text : List ℕ) → LowersTo bytes l → text ≡ output l → Writes bytes Done text
+writes_result bytes l text lowers written = record { source = lowers.0; spelled = lowers.1; is_output = record { result = l; is_lowered = lowers.2; written = written } }
+
+pub writes_report : (bytes : List ℕ) (said : List Diagnostic) (text : List ℕ) → IsRefused bytes said → text ≡ lines said → Writes bytes Reported text
+writes_report bytes said text refused written = record { source = refused.source; spelled = refused.spelled; is_output = record { some = λ none. refused.some (refused.names ∙ none); written = written ∙ ap lines refused.names } }
+
+writes_known : (left : Option (List ℕ)) (bytes : List ℕ) (status : Status) (text : List ℕ) → IfSome left (λ known. bytes ≡ known) → Writes bytes status text → WritesKnown left status text
 writes_known None bytes status text same w = record { source = w.source; spelled = tt; is_output = w.is_output }
 writes_known (Some known) bytes status text same w = record { source = w.source; spelled = subst (λ b. Spells b w.source) same w.spelled; is_output = w.is_output }
 
-pub malformed_known : (left : Option (List ℕ)) (bytes : List ℕ) → IfSome left (λ known. bytes ≡ known) → IsMalformed bytes → RefusesKnown left Malformed
+malformed_known : (left : Option (List ℕ)) (bytes : List ℕ) → IfSome left (λ known. bytes ≡ known) → IsMalformed bytes → RefusesKnown left Malformed
 malformed_known None bytes same m = record { no_output = tt; refuses = tt }
 malformed_known (Some known) bytes same m = record { no_output = tt; refuses = subst IsMalformed same m }
+
+within_bytes : (bytes : List ℕ) → (IsTooLarge bytes → ⊥) → length bytes ≤ LARGEST_INPUT
+within_bytes bytes small = elim (cases_lt LARGEST_INPUT (length bytes)) [
+  | inl past ↦ absurd (small (inl past))
+  | inr within ↦ within
+]
+
+-- what is answered of the bytes that were read, where they are all that was left or past the limit
+pub writes_left : (left : Option (List ℕ)) (bytes : List ℕ) (status : Status) (text : List ℕ) → IfSome left (λ known. bytes ≡ take (LARGEST_INPUT + 1) known) → (IsTooLarge bytes → ⊥) → Writes bytes status text → WritesKnown left status text
+writes_left left bytes status text first small writes = writes_known left bytes status text (all_read left bytes first (within_bytes bytes small)) writes
+
+nothing_said : (left : Option (List ℕ)) → IfSome left (λ known. Unit {0})
+nothing_said None = tt
+nothing_said (Some known) = tt
+
+pub refuses_left : (left : Option (List ℕ)) (bytes : List ℕ) (status : Status) → IfSome left (λ known. bytes ≡ take (LARGEST_INPUT + 1) known) → RefusesKnown (Some bytes) status → RefusesKnown left status
+refuses_left left bytes Malformed first r = malformed_known left bytes (all_read left bytes first (within_bytes bytes r.refuses.within)) r.refuses
+refuses_left left bytes TooLarge first r = too_large_known left bytes first r.refuses
+refuses_left left bytes ReadFault first r = record { no_output = tt; refuses = nothing_said left }
+refuses_left left bytes OutOfMemory first r = record { no_output = tt; refuses = nothing_said left }
+refuses_left left bytes Usage first r = absurd r.no_output
+refuses_left left bytes Reported first r = absurd r.no_output
+refuses_left left bytes Done first r = absurd r.no_output
+refuses_left left bytes WriteFault first r = absurd r.no_output
 
 -- no byte is written where there is no output
 pub kept : (held : Option (List ℕ)) → Keeps held held
@@ -56,10 +95,10 @@ refusal_explained Reported left held r = absurd r.no_output
 refusal_explained Done left held r = absurd r.no_output
 refusal_explained WriteFault left held r = absurd r.no_output
 
--- a unit within the limit is not refused
+-- where there is no output, a unit within the limits is not answered by what the bytes are
 pub refusal_complete : (status : Status) (left : Option (List ℕ)) → RefusesKnown left status → IsComplete left status
 refusal_complete Malformed left r = record { answers = λ bytes u is within spells. (subst (λ o. IfSome o (λ known. Refuses Malformed known)) is r.refuses).no_unit u spells }
-refusal_complete TooLarge left r = record { answers = λ bytes u is within spells. let past : LARGEST_INPUT < length bytes = subst (λ o. IfSome o (λ known. Refuses TooLarge known)) is r.refuses in omega arith }
+refusal_complete TooLarge left r = record { answers = λ bytes u is within spells. within (subst (λ o. IfSome o (λ known. Refuses TooLarge known)) is r.refuses) }
 refusal_complete ReadFault left r = record { answers = λ bytes u is within spells. tt }
 refusal_complete OutOfMemory left r = record { answers = λ bytes u is within spells. tt }
 refusal_complete Usage left r = absurd r.no_output
@@ -67,8 +106,51 @@ refusal_complete Reported left r = absurd r.no_output
 refusal_complete Done left r = absurd r.no_output
 refusal_complete WriteFault left r = absurd r.no_output
 
-pub answer_complete : (status : Status) (left : Option (List ℕ)) → IsAnswer status → IsComplete left status
-answer_complete status left a = record { answers = λ bytes u is within spells. a }
+-- bytes spell one unit
+same_unit : (bytes : List ℕ) (u v : TreeOfUnit) → Spells bytes u → Spells bytes v → unit u ≡ unit v
+same_unit bytes u v one other = placed-one (unit u) (unit v) 0 0 (Spells-one bytes (plain (unit u)) (plain (unit v)) one.spelled other.spelled) one.numbers other.numbers
+
+-- what an output says of the unit that was read, it says of each unit that the bytes spell
+output_answers : (status : Status) (u : TreeOfUnit) (text : List ℕ) → IsOutput status u text → IsAnswer (refusals (marked (unit u))) status
+output_answers Done u text is = is.is_lowered.supported
+output_answers Reported u text is = is.some
+output_answers Malformed u text is = absurd is
+output_answers TooLarge u text is = absurd is
+output_answers ReadFault u text is = absurd is
+output_answers WriteFault u text is = absurd is
+output_answers OutOfMemory u text is = absurd is
+output_answers Usage u text is = absurd is
+
+pub output_complete : (left : Option (List ℕ)) (status : Status) (text : List ℕ) → WritesKnown left status text → IsComplete left status
+output_complete left status text w = record {
+  answers = λ bytes u is within spells.
+    let read : Spells bytes w.source = subst (λ o. IfSome o (λ known. Spells known w.source)) is w.spelled in
+    subst (λ (s : Syntax). IsAnswer (refusals (marked s)) status) (same_unit bytes w.source u read spells) (output_answers status w.source text w.is_output)
+}
+
+pub write_fault_complete : (left : Option (List ℕ)) → IsComplete left WriteFault
+write_fault_complete left = record { answers = λ bytes u is within spells. tt }
+
+-- what an output says where all of it was written
+pub output_explained : (left old new : Option (List ℕ)) (status : Status) (text : List ℕ) → WritesKnown left status text → Appends old new text → Explains status left old new
+output_explained left old new Done text w grew = (text, w, grew)
+output_explained left old new Reported text w grew = (text, w, grew)
+output_explained left old new Malformed text w grew = absurd w.is_output
+output_explained left old new TooLarge text w grew = absurd w.is_output
+output_explained left old new ReadFault text w grew = absurd w.is_output
+output_explained left old new WriteFault text w grew = absurd w.is_output
+output_explained left old new OutOfMemory text w grew = absurd w.is_output
+output_explained left old new Usage text w grew = absurd w.is_output
+
+-- a status with an output is Done or Reported
+pub output_not_usage : (left : Option (List ℕ)) (status : Status) (text : List ℕ) → WritesKnown left status text → status ≢ Usage
+output_not_usage left status text w is = subst (λ (s : Status). IsOutput s w.source text) is w.is_output
+
+pub output_not_read_fault : (left : Option (List ℕ)) (status : Status) (text : List ℕ) → WritesKnown left status text → status ≢ ReadFault
+output_not_read_fault left status text w is = subst (λ (s : Status). IsOutput s w.source text) is w.is_output
+
+pub output_not_write_fault : (left : Option (List ℕ)) (status : Status) (text : List ℕ) → WritesKnown left status text → status ≢ WriteFault
+output_not_write_fault left status text w is = subst (λ (s : Status). IsOutput s w.source text) is w.is_output
 
 -- such a status is neither that of a faulty command line nor of a sink that failed
 pub not_usage : (left : Option (List ℕ)) (status : Status) → RefusesKnown left status → status ≢ Usage
@@ -82,13 +164,13 @@ reads_whole None new bytes gone first = tt
 reads_whole (Some known) None bytes gone first = absurd gone
 reads_whole (Some known) (Some rest) bytes gone first = gone ∙ ap (λ (b : List ℕ). b ++ rest) first
 
--- where neither source nor sink fails, a unit is lowered, or memory was wanted
-pub only_memory : (status : Status) → IsAnswer status → (status ≡ ReadFault → ⊥) → (status ≡ WriteFault → ⊥) → (status ≡ Done) ⊎ (status ≡ OutOfMemory)
-only_memory Done a read write = inl refl
-only_memory OutOfMemory a read write = inr refl
-only_memory ReadFault a read write = absurd (read refl)
-only_memory WriteFault a read write = absurd (write refl)
-only_memory Reported a read write = absurd a
-only_memory Malformed a read write = absurd a
-only_memory TooLarge a read write = absurd a
-only_memory Usage a read write = absurd a
+-- where neither source nor sink fails, a unit to which no row applies is lowered, or memory was wanted
+pub only_memory : (status : Status) (refused : List Diagnostic) → refused ≡ [] → IsAnswer refused status → (status ≡ ReadFault → ⊥) → (status ≡ WriteFault → ⊥) → (status ≡ Done) ⊎ (status ≡ OutOfMemory)
+only_memory Done refused none a read write = inl refl
+only_memory OutOfMemory refused none a read write = inr refl
+only_memory ReadFault refused none a read write = absurd (read refl)
+only_memory WriteFault refused none a read write = absurd (write refl)
+only_memory Reported refused none a read write = absurd (a none)
+only_memory Malformed refused none a read write = absurd a
+only_memory TooLarge refused none a read write = absurd a
+only_memory Usage refused none a read write = absurd a

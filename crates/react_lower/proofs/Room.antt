@@ -14,6 +14,9 @@ use Rattle.rl_ast.proofs.Grammar.{one_statement}
 use Rattle.rl_model.specs.Source.{function_in, marked}
 use Rattle.rl_hir.specs.declared.environment.Environment.{Environment}
 use Rattle.rl_hir.specs.declared.function.Identifier.{Identifier}
+use Rattle.rl_hir.specs.declared.function.HirFunction.{HirFunction}
+use Rattle.rl_hir.specs.declared.function.InnerFunction.{InnerFunction}
+use Rattle.rl_model.specs.Size.{function_size, inner_size}
 use Rattle.rl_hir.specs.declared.function.BlockKind.TheVariants as kinds
 use Rattle.rl_builder.specs.Builder.{started}
 use Rattle.rl_lower.specs.Lowering.{HasRoom}
@@ -39,7 +42,7 @@ function_within : (t : Syntax) → is_marked t ≡ true → nodes (function_in t
 function_within (Node at word.Expr (Then function End)) is = omega arith
 function_within _ is = absurd (cc)
 
-marked_within : (u : TreeOfUnit) → is_unit (unit u) ≡ true → nodes (marked (unit u)) ≤ nodes (unit u)
+pub marked_within : (u : TreeOfUnit) → is_unit (unit u) ≡ true → nodes (marked (unit u)) ≤ nodes (unit u)
 marked_within u grammar =
     let only = one_statement u grammar in
     let inside : nodes (function_in (statement only.0)) ≤ nodes (statement only.0) = function_within (statement only.0) only.2 in
@@ -54,6 +57,13 @@ few_nodes bytes u spells small =
     let few : 65536 < nodes_in bytes → ⊥ = λ more. small (inr (inl more)) in
     let inside : nodes (marked (unit u)) ≤ nodes (unit u) = marked_within u spells.grammar in
     omega (arith, counted, few, inside)
+
+-- a function alone is bounded in the unit's nodes where it is in its own
+pub alone_bounded : (u : TreeOfUnit) → is_unit (unit u) ≡ true → (f : HirFunction) → function_size f ≤ 64 * nodes (marked (unit u)) → (inner : List InnerFunction) → inner ≡ [] → function_size f + inner_size inner ≤ 64 * nodes (unit u)
+alone_bounded u grammar f few inner none =
+    let nothing : inner_size inner ≡ 0 = ap inner_size none in
+    let inside : nodes (marked (unit u)) ≤ nodes (unit u) = marked_within u grammar in
+    omega (arith, few, nothing, inside)
 
 -- an environment in which nothing was made
 pub fresh_room : (env : Environment) (n : ℕ) → env.next_block ≡ 0 → env.next_type ≡ 0 → env.identifiers ≡ [] → n ≤ 65536 → HasRoom (started env kinds.Block) (4 * n)

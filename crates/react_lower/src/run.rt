@@ -61,6 +61,17 @@ impl Status {
     }
 }
 
+impl From<OutOfMemory> for Status {
+    ghost use Rattle.react_lower.specs.declared.run.Status.TheVariants.{OutOfMemory};
+    ghost use Rattle.std.specs.Prelude.{◌≡◌};
+
+    ghost from_gives = { λ _ status. status ≡ OutOfMemory };
+
+    fn from(_e: OutOfMemory) -> Status {
+        Status::OutOfMemory
+    }
+}
+
 /// Whether the words are a command.
 fn is_command(words: &[String]) -> bool
     ensures { IsTrue result ↔ (map string_bytes words.now ≡ codes "lower" ∷ []) }
@@ -84,7 +95,7 @@ fn report(alloc: Global, said: &[Diagnostic]) -> Result<Vec<u8>, OutOfMemory>
     ensures { IfOk result (λ text. text.items ≡ lines said.now) }
 {
     let mut text = Vec::new(alloc);
-    'said: for diagnostic in said {
+    for diagnostic in said {
         diagnostic.write_line(alloc, &mut text)?;
     }
     Ok(text)
@@ -104,16 +115,17 @@ fn listed(alloc: Global, lowered: &Lowered) -> Result<Vec<u8>, OutOfMemory>
 fn output_of(alloc: Global, bytes: &[u8]) -> Result<Output, Status>
     ensures writes { IfOk result (λ output. Writes bytes.now output.status output.text.items) }
     ensures within { IfOk result (λ _. IsTooLarge bytes.now → ⊥) }
-    ensures status { IfErr result (λ status. RefusesKnown (Some bytes.now) status) }
+    ensures status { IfErr result (RefusesKnown (Some bytes.now)) }
+    ensures unread { IsErrOf result Status.ReadFault → ⊥ }
 {
     match lower_unit(alloc, bytes) {
         Ok(lowered) => Ok(Output {
             status: Status::Done,
-            text: listed(alloc, &lowered).map_err(|_| Status::OutOfMemory)?,
+            text: listed(alloc, &lowered)?,
         }),
         Err(LowerError::Refused(said)) => Ok(Output {
             status: Status::Reported,
-            text: report(alloc, said.as_slice()).map_err(|_| Status::OutOfMemory)?,
+            text: report(alloc, said.as_slice())?,
         }),
         Err(LowerError::TooLarge) => Err(Status::TooLarge),
         Err(LowerError::Malformed) => Err(Status::Malformed),
@@ -133,7 +145,10 @@ fn answer<S: Source>(alloc: Global, source: &mut S) -> Result<Output, Status>
         Err(ReadError::Fault) => return Err(Status::ReadFault),
         Err(ReadError::OutOfMemory) => return Err(Status::OutOfMemory),
     };
-    output_of(alloc, bytes.as_slice())
+    match output_of(alloc, bytes.as_slice()) {
+        Ok(output) => Ok(output),
+        Err(status) => Err(status),
+    }
 }
 
 /// Runs the program: the word `lower` lowers the unit that the source has left, and writes its listing to the sink.

@@ -1,4 +1,5 @@
 pub mod ByKind
+pub mod Expressions
 pub mod Grammar
 pub mod Heights
 pub mod Layers

@@ -8,7 +8,6 @@ pub mod Graphs
 pub mod Keeping
 pub mod Lowered
 pub mod Moves
-pub mod Nodes
 pub mod Parts
 pub mod Promises
 pub mod Steps

@@ -20,15 +20,16 @@ use Rattle.rl_model.specs.declared.trace.Value.TheVariants as value
 use Rattle.rl_model.specs.Closed.{IsClosed}
 use Rattle.rl_model.specs.Headline.{SameRuns}
 use Rattle.rl_model.specs.Rows.{refusals}
+use Rattle.rl_model.specs.Size.{function_size}
 use Rattle.rl_model.specs.Source.{runs, body_does}
 use Rattle.rl_model.specs.Traces.{Store, With, returned, threw, unset, set_all}
 use Rattle.rl_lower.specs.Endings.{closed_off, IsGraphOf}
-use Rattle.rl_lower.specs.Lowering.{HasRoom, Keeps, IsBounded, body_runs, texts_in, directives_in}
+use Rattle.rl_lower.specs.Lowering.{HasRoom, Keeps, body_runs, texts_in, directives_in}
 use Rattle.rl_lower.proofs.Building.{keeps_closed}
 use Rattle.rl_lower.proofs.Functions.{function_finished, function_same_runs}
 use Rattle.rl_lower.proofs.Graphs.{without_order, ordered_table_plain}
 use Rattle.rl_lower.proofs.Keeping.{keeps_then}
-use Rattle.rl_lower.proofs.Nodes.{has_expression_word}
+use Rattle.rl_ast.proofs.Expressions.{has_expression_word}
 use Rattle.rl_lower.proofs.Whole.{finished_closed}
 
 pub function_nodes : (f : ArrowFunction) → nodes (function f) ≡ nodes (arrow_body (out-ArrowFunction f).body) + 2
@@ -122,7 +123,7 @@ fewer p (x ∷ xs) = by_test (fewer p xs) (p x)
     by_test rest true = omega (arith, rest)
     by_test rest false = omega (arith, rest)
 
-pub graph_bounded : (env new : Environment) (body : Syntax) (built : Built) → IsGraphOf body env new built → (f : HirFunction) (count : ℕ) → f.body ≡ built.hir → f.instructions ≡ built.instructions → count ≡ nodes body + 2 → IsBounded f count
+pub graph_bounded : (env new : Environment) (body : Syntax) (built : Built) → IsGraphOf body env new built → (f : HirFunction) (count : ℕ) → f.body ≡ built.hir → f.instructions ≡ built.instructions → count ≡ nodes body + 2 → function_size f ≤ 64 * count
 graph_bounded env new body built g f count body_is instructions_is counted =
     let keeps = graph_keeps env new body built g in
     let s : State = closed_off g.state in
@@ -131,7 +132,7 @@ graph_bounded env new body built g f count body_is instructions_is counted =
     let instructions : length f.instructions ≡ length s.table = ap (λ (l : List Instruction). length l) (instructions_is ∙ ap (λ (b : Built). b.instructions) g.graph) ∙ table_length (reached_blocks s.entry s.completed) s.table in
     let listed : length f.body.blocks ≡ length (reached_blocks s.entry s.completed) = ap (λ (h : Rattle.rl_hir.specs.declared.function.Hir.Hir). length h.blocks) (body_is ∙ ap (λ (b : Built). b.hir) g.graph) ∙ blocks_length 1 (reached_blocks s.entry s.completed) in
     let kept : length (reached_blocks s.entry s.completed) ≤ length s.completed = fewer _ s.completed in
-    record { instructions = omega (arith, table, instructions, counted); blocks = omega (arith, blocks, listed, kept, counted) }
+    omega (arith, table, instructions, blocks, listed, kept, counted)
 
 -- directives
 

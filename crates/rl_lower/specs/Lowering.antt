@@ -3,7 +3,6 @@ use Rattle.std.specs.Prelude.{◌≡◌, ℕ, ◌+◌, ◌*◌, ◌<◌, ◌≤�
 use Rattle.rl_base.specs.declared.diagnostic.Diagnostic.{Diagnostic}
 use Rattle.rl_base.specs.declared.ids.InstructionId.{InstructionId}
 use Rattle.rl_hir.specs.declared.terminal.ReturnVariant.TheVariants as returns
-use Rattle.rl_hir.specs.declared.function.HirFunction.{HirFunction}
 use Rattle.rl_builder.specs.Builder.{State}
 use Rattle.rl_builder.specs.Order.{orders_of}
 use Rattle.rl_ast.specs.declared.word.Word.TheVariants as word
@@ -80,8 +79,3 @@ texts_in _ = []
 abbrev pub directives_in : Syntax → List (List ℕ)
 directives_in (Node at word.Body (Then (Listed directives) statements)) = texts_in directives
 directives_in _ = []
-
--- a function's table and graph are at most so large for so many nodes
-pub record IsBounded (f : HirFunction) (nodes : ℕ) : Type 0 where
-  pub instructions : length f.instructions ≤ 64 * nodes
-  pub blocks : length f.body.blocks ≤ 64 * nodes

@@ -1,15 +1,16 @@
 //! Functions: their parameters, bodies and returns.
 
-ghost use Rattle.std.specs.Prelude.{◌≡◌, ◌+◌, ◌*◌, true, false, ◌++◌, OnOk, IfOk, None, Some, []};
+ghost use Rattle.std.specs.Prelude.{◌≡◌, ◌+◌, ◌*◌, ◌≤◌, true, false, ◌++◌, OnOk, IfOk, None, Some, []};
 ghost use Rattle.rl_ast.specs.Grammar.{is_body, is_function};
 ghost use Rattle.rl_ast.specs.Syntax.{nodes};
 ghost use Rattle.rl_ast.specs.Units as spec;
 ghost use Rattle.rl_builder.specs.Builder.{state_of, started};
 ghost use Rattle.rl_lower.specs.Endings.{IsGraphOf};
-ghost use Rattle.rl_lower.specs.Lowering.{HasRoom, LowersBody, IsBounded, directives_in};
+ghost use Rattle.rl_lower.specs.Lowering.{HasRoom, LowersBody, directives_in};
 ghost use Rattle.rl_model.specs.Closed.{IsClosed};
 ghost use Rattle.rl_model.specs.Headline.{SameRuns};
 ghost use Rattle.rl_model.specs.Rows.{refusals};
+ghost use Rattle.rl_model.specs.Size.{function_size};
 
 use crate::expression::{lower_expression, lower_value_to_temporary};
 use crate::statement::lower_statements;
@@ -119,7 +120,7 @@ pub fn lower(
     ensures closed { IfOk result (λ f. refusals (spec.function function.now) ≡ [] → IsClosed f.body) }
     ensures same_runs { IfOk result (λ f. refusals (spec.function function.now) ≡ [] → SameRuns (spec.function function.now) f env.new.pairs) }
     ensures functions { OnOk result (env.new.functions ≡ env.old.functions) }
-    ensures bounds { IfOk result (λ f. IsBounded f (nodes (spec.function function.now))) }
+    ensures bounded { IfOk result (λ f. function_size f ≤ 64 * nodes (spec.function function.now)) }
 
     // The fields that runs do not show.
     ensures span { IfOk result (λ f. f.span ≡ Some function.now.at.span) }

@@ -1,10 +1,11 @@
--- What is promised of a result: it is closed, and it runs as the source does.
-use Rattle.std.specs.Prelude.{◌≡◌, ℕ, ◌≤◌, List, [], All}
-use Rattle.rl_ast.specs.Syntax.{Syntax}
+-- What is promised of a result: no row applied, it is closed, it runs as the source does, and its size.
+use Rattle.std.specs.Prelude.{◌≡◌, ℕ, ◌*◌, ◌≤◌, List, [], All}
+use Rattle.rl_ast.specs.Syntax.{Syntax, nodes}
 use Rattle.rl_model.specs.Rows.{refusals}
 use Rattle.rl_model.specs.Source.{runs, marked}
 use Rattle.rl_model.specs.Machine.{function_trace}
 use Rattle.rl_model.specs.Closed.{IsClosed}
+use Rattle.rl_model.specs.Size.{lowered_size}
 use Rattle.rl_ast.specs.Units.{unit, Spells}
 use Rattle.rl_ast.specs.declared.tree.Unit.{Unit}
 use Rattle.rl_hir.specs.declared.function.HirFunction.{HirFunction}
@@ -30,6 +31,7 @@ pub record IsLowered (u : Unit) (l : Lowered) : Type 0 where
   pub closed : IsClosed l.function.body
   pub inner_closed : All (λ i. IsClosed i.function.body) l.inner
   pub same_runs : SameRuns (marked (unit u)) l.function l.pairs
+  pub bounded : lowered_size l ≤ 64 * nodes (unit u)
 
 -- the bytes spell a unit, and this is its result
 abbrev pub LowersTo : List ℕ → Lowered → Type 0

@@ -7,5 +7,5 @@ never : Rose 0 0 → ⊥
 never h = omega arith
 
 pub returns : goal.returns
-returns c u spells =
-    only_memory c.run.result ((c.run.ensures.complete c.requires.command).answers _ u c.new-source.ensures.left c.requires.within spells) (λ is. never (c.run.ensures.read_cause is)) (λ is. never (c.run.ensures.write_cause is))
+returns c u spells supported =
+    only_memory c.run.result _ supported ((c.run.ensures.complete c.requires.command).answers _ u c.new-source.ensures.left c.requires.within spells) (λ is. never (c.run.ensures.read_cause is)) (λ is. never (c.run.ensures.write_cause is))

@@ -5,7 +5,8 @@ use Rattle.rl_ast.specs.Syntax.{Syntax, nodes}
 use Rattle.rl_ast.specs.Units.{unit, function}
 use Rattle.rl_model.specs.Source.{marked}
 use Rattle.rl_model.specs.Rows.{refusals}
-use Rattle.react_lower.proofs.Room.{few_nodes, fresh_room}
+use Rattle.rl_model.specs.Size.{function_size}
+use Rattle.react_lower.proofs.Room.{alone_bounded, few_nodes, fresh_room}
 use Rattle.rl_hir.specs.declared.environment.Environment.{Environment}
 use Rattle.rl_hir.specs.declared.function.InnerFunction.{InnerFunction}
 use Rattle.rl_hir.specs.declared.function.Lowered.{Lowered}
@@ -31,6 +32,7 @@ returns-clause-lowered c =
         supported = ap refusals (sym c.marked_function.ensures.function) ∙ none;
         closed = c.in_ok-function.ensures.closed none;
         inner_closed = none_closed _ functions;
+        bounded = alone_bounded c.in-Ok.unit c.in-Ok.ensures.found.grammar c.in_ok-function.function (subst (λ (s : Syntax). function_size c.in_ok-function.function ≤ 64 * nodes s) c.marked_function.ensures.function c.in_ok-function.ensures.bounded) _ functions;
         same_runs = subst (λ (s : Syntax). SameRuns s c.in_ok-function.function c.lower.new.env.pairs) c.marked_function.ensures.function (c.in_ok-function.ensures.same_runs none);
       }),
     )

@@ -3,7 +3,7 @@ use Rattle.rl_ast.proofs.Spelled.{body_expression, body_statements}
 use Rattle.rl_ast.specs.Units.{arrow_body, expression}
 use Rattle.rl_lower.specs.Lowering.{directives_in}
 use Rattle.rl_lower.proofs.Answering.{ok_so}
-use Rattle.rl_lower.proofs.Nodes.{expression_word}
+use Rattle.rl_ast.proofs.Expressions.{expression_word}
 use Rattle.rl_lower.proofs.Promises.{no_directives, texts_back}
 use Rattle.rl_lower.proofs.function.directives_of.Goals as goal
 

@@ -52,8 +52,8 @@ returns-clause-same_runs c supported =
     } in
     graph_same_runs c.args.env.now _ c.args.function.now _ c.in_ok-built.ensures (sym (function_refusals c.args.function.now) ∙ supported) f _ refl refl c.new.ensures
 
-pub returns-clause-bounds : goal.returns-clause-bounds
-returns-clause-bounds c =
+pub returns-clause-bounded : goal.returns-clause-bounded
+returns-clause-bounded c =
     let f : HirFunction = record {
       span = Some c.args.function.now.at.span;
       name = None;

@@ -10,7 +10,7 @@ use Rattle.rl_hir.specs.declared.function.BlockKind.TheVariants as kinds
 use Rattle.rl_lower.proofs.Answering.{done_so}
 use Rattle.rl_lower.proofs.Bodies.{expression_body_call, statements_body_call}
 use Rattle.rl_lower.proofs.Keeping.{room_behind, keeps_reserved, room_less}
-use Rattle.rl_lower.proofs.Nodes.{expression_is_no_body}
+use Rattle.rl_ast.proofs.Expressions.{expression_is_no_body}
 use Rattle.rl_lower.proofs.function.lower_body.Goals as goal
 
 pub lower_expression-requires-clause-grammar : goal.lower_expression-requires-clause-grammar

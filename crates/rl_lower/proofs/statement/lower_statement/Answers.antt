@@ -10,7 +10,7 @@ use Rattle.rl_ast.proofs.Spelled.{statement_expression, statement_return, statem
 use Rattle.rl_hir.specs.declared.function.BlockKind.TheVariants as kinds
 use Rattle.rl_lower.proofs.Answering.{done_so}
 use Rattle.rl_lower.proofs.Keeping.{room_less, room_behind}
-use Rattle.rl_lower.proofs.Nodes.{expression_is_node}
+use Rattle.rl_ast.proofs.Expressions.{expression_is_node}
 use Rattle.rl_lower.proofs.Lowered.{expression_statement_call, return_call, return_nothing_call}
 use Rattle.rl_lower.proofs.statement.lower_statement.Goals as goal
 
