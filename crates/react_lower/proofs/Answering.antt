@@ -1,8 +1,8 @@
 -- What was read and answered, where the bytes that were left may not be known.
-use Rattle.std.proofs.Common.{◌≡◌, ◌≢◌, ◌⊎◌, inl, inr, ℕ, ◌+◌, ◌++◌, ◌≤◌, ◌<◌, min, List, [], Option, Some, None, IfSome, length, length-take, take, refl, sym, ap, subst, ◌∙◌, arith}
+use Rattle.std.proofs.Common.{◌≡◌, ◌⊎◌, inl, inr, ℕ, ◌+◌, ◌++◌, ◌≤◌, ◌<◌, min, List, [], Option, Some, None, IfSome, length, length-take, take, refl, ap, subst, ◌∙◌, arith}
 use Rattle.std.proofs.lemmas.Bool.{cases_lt}
 use Rattle.std.proofs.lemmas.List.{take_all}
-use Rattle.std.specs.Io.KnownBytes.{Appends, Consumes, Keeps}
+use Rattle.std.specs.Io.KnownBytes.{Consumes}
 use Rattle.rl_ast.specs.Limits.{IsTooLarge}
 use Rattle.rl_base.specs.declared.diagnostic.Diagnostic.{Diagnostic}
 use Rattle.rl_text.proofs.Spellings.{Spells-one}
@@ -15,7 +15,7 @@ use Rattle.rl_model.specs.Rows.{refusals}
 use Rattle.rl_model.specs.Source.{marked}
 use Rattle.rl_ast.specs.declared.read.TheConstants.{LARGEST_INPUT}
 use Rattle.rl_ast.specs.declared.tree.Unit.{Unit as TreeOfUnit}
-use Rattle.react_lower.specs.Answers.{Explains, HasNoOutput, IsAnswer, IsOutput, IsComplete, IsMalformed, IsRefused, Writes, WritesKnown, ReadsWhole, Refuses, RefusesKnown, lines, output}
+use Rattle.react_lower.specs.Answers.{IsAnswer, IsOutput, IsComplete, IsMalformed, IsRefused, Writes, WritesKnown, ReadsWhole, RefusesKnown, lines, output}
 use Rattle.react_lower.specs.declared.run.Status.{Status}
 use Rattle.react_lower.specs.declared.run.Status.TheVariants.{Done, Reported, Malformed, TooLarge, ReadFault, WriteFault, OutOfMemory, Usage}
 
@@ -80,32 +80,6 @@ refuses_left left bytes Reported first r = absurd r.no_output
 refuses_left left bytes Done first r = absurd r.no_output
 refuses_left left bytes WriteFault first r = absurd r.no_output
 
--- no byte is written where there is no output
-pub kept : (held : Option (List ℕ)) → Keeps held held
-kept None = tt
-kept (Some bytes) = refl
-
-pub refusal_explained : (status : Status) (left held : Option (List ℕ)) → RefusesKnown left status → Explains status left held held
-refusal_explained Malformed left held r = (r, kept held)
-refusal_explained TooLarge left held r = (r, kept held)
-refusal_explained ReadFault left held r = kept held
-refusal_explained OutOfMemory left held r = kept held
-refusal_explained Usage left held r = absurd r.no_output
-refusal_explained Reported left held r = absurd r.no_output
-refusal_explained Done left held r = absurd r.no_output
-refusal_explained WriteFault left held r = absurd r.no_output
-
--- where there is no output, a unit within the limits is not answered by what the bytes are
-pub refusal_complete : (status : Status) (left : Option (List ℕ)) → RefusesKnown left status → IsComplete left status
-refusal_complete Malformed left r = record { answers = λ bytes u is within spells. (subst (λ o. IfSome o (λ known. Refuses Malformed known)) is r.refuses).no_unit u spells }
-refusal_complete TooLarge left r = record { answers = λ bytes u is within spells. within (subst (λ o. IfSome o (λ known. Refuses TooLarge known)) is r.refuses) }
-refusal_complete ReadFault left r = record { answers = λ bytes u is within spells. tt }
-refusal_complete OutOfMemory left r = record { answers = λ bytes u is within spells. tt }
-refusal_complete Usage left r = absurd r.no_output
-refusal_complete Reported left r = absurd r.no_output
-refusal_complete Done left r = absurd r.no_output
-refusal_complete WriteFault left r = absurd r.no_output
-
 -- bytes spell one unit
 same_unit : (bytes : List ℕ) (u v : TreeOfUnit) → Spells bytes u → Spells bytes v → unit u ≡ unit v
 same_unit bytes u v one other = placed-one (unit u) (unit v) 0 0 (Spells-one bytes (plain (unit u)) (plain (unit v)) one.spelled other.spelled) one.numbers other.numbers
@@ -124,40 +98,9 @@ output_answers Usage u text is = absurd is
 pub output_complete : (left : Option (List ℕ)) (status : Status) (text : List ℕ) → WritesKnown left status text → IsComplete left status
 output_complete left status text w = record {
   answers = λ bytes u is within spells.
-    let read : Spells bytes w.source = subst (λ o. IfSome o (λ known. Spells known w.source)) is w.spelled in
-    subst (λ (s : Syntax). IsAnswer (refusals (marked s)) status) (same_unit bytes w.source u read spells) (output_answers status w.source text w.is_output)
+      let read : Spells bytes w.source = subst (λ o. IfSome o (λ known. Spells known w.source)) is w.spelled in
+      subst (λ (s : Syntax). IsAnswer (refusals (marked s)) status) (same_unit bytes w.source u read spells) (output_answers status w.source text w.is_output);
 }
-
-pub write_fault_complete : (left : Option (List ℕ)) → IsComplete left WriteFault
-write_fault_complete left = record { answers = λ bytes u is within spells. tt }
-
--- what an output says where all of it was written
-pub output_explained : (left old new : Option (List ℕ)) (status : Status) (text : List ℕ) → WritesKnown left status text → Appends old new text → Explains status left old new
-output_explained left old new Done text w grew = (text, w, grew)
-output_explained left old new Reported text w grew = (text, w, grew)
-output_explained left old new Malformed text w grew = absurd w.is_output
-output_explained left old new TooLarge text w grew = absurd w.is_output
-output_explained left old new ReadFault text w grew = absurd w.is_output
-output_explained left old new WriteFault text w grew = absurd w.is_output
-output_explained left old new OutOfMemory text w grew = absurd w.is_output
-output_explained left old new Usage text w grew = absurd w.is_output
-
--- a status with an output is Done or Reported
-pub output_not_usage : (left : Option (List ℕ)) (status : Status) (text : List ℕ) → WritesKnown left status text → status ≢ Usage
-output_not_usage left status text w is = subst (λ (s : Status). IsOutput s w.source text) is w.is_output
-
-pub output_not_read_fault : (left : Option (List ℕ)) (status : Status) (text : List ℕ) → WritesKnown left status text → status ≢ ReadFault
-output_not_read_fault left status text w is = subst (λ (s : Status). IsOutput s w.source text) is w.is_output
-
-pub output_not_write_fault : (left : Option (List ℕ)) (status : Status) (text : List ℕ) → WritesKnown left status text → status ≢ WriteFault
-output_not_write_fault left status text w is = subst (λ (s : Status). IsOutput s w.source text) is w.is_output
-
--- such a status is neither that of a faulty command line nor of a sink that failed
-pub not_usage : (left : Option (List ℕ)) (status : Status) → RefusesKnown left status → status ≢ Usage
-not_usage left status r is = subst HasNoOutput is r.no_output
-
-pub not_write_fault : (left : Option (List ℕ)) (status : Status) → RefusesKnown left status → status ≢ WriteFault
-not_write_fault left status r is = subst HasNoOutput is r.no_output
 
 pub reads_whole : (left new : Option (List ℕ)) (bytes : List ℕ) → Consumes left new bytes → IfSome left (λ known. bytes ≡ take (LARGEST_INPUT + 1) known) → ReadsWhole left new
 reads_whole None new bytes gone first = tt

@@ -1,5 +1,5 @@
 -- The marked function of a unit within the limits leaves room for its graph.
-use Rattle.std.proofs.Common.{◌≡◌, ℕ, ◌+◌, ◌*◌, ◌<◌, ◌≤◌, ◌⊎◌, inl, inr, true, List, [], ◌∷◌, map, length, refl, sym, ap, ◌∙◌, arith}
+use Rattle.std.proofs.Common.{◌≡◌, ℕ, ◌+◌, ◌*◌, ◌<◌, ◌≤◌, inl, inr, true, List, [], ◌∷◌, map, length, refl, ap, ◌∙◌, arith}
 use Rattle.rl_text.specs.Measure.{nodes_in}
 use Rattle.rl_text.specs.Nodes.{count, count_of}
 use Rattle.rl_text.proofs.Measures.{nodes_in-spelling}
@@ -48,7 +48,7 @@ marked_within u grammar =
     let inside : nodes (function_in (statement only.0)) ≤ nodes (statement only.0) = function_within (statement only.0) only.2 in
     let same : nodes (marked (unit u)) ≡ nodes (function_in (statement only.0)) = ap nodes (marked_statement u only.0 only.1) in
     let whole : nodes (unit u) ≡ 0 + (nodes (statement only.0) + 0 + 0 + 1 + 0) + 1 =
-        ap (λ (b : List Statement). nodes (node u.at word.Unit (Listed (pieces_of []) ∷ node u.program.at word.Program (Listed (pieces_of (map statement b)) ∷ []) ∷ []))) only.1 in
+    ap (λ (b : List Statement). nodes (node u.at word.Unit (Listed (pieces_of []) ∷ node u.program.at word.Program (Listed (pieces_of (map statement b)) ∷ []) ∷ []))) only.1 in
     omega (arith, inside, same, whole)
 
 pub few_nodes : (bytes : List ℕ) (u : TreeOfUnit) → Spells bytes u → (IsTooLarge bytes → ⊥) → nodes (marked (unit u)) ≤ 65536

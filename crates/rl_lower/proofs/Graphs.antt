@@ -149,11 +149,12 @@ kept : (order entry : ℕ) (blocks : List NumberedBlock) (block : BasicBlock) �
 kept order entry [] block is = absurd (cc)
 kept order entry (b ∷ blocks) block is = elim (eqb_tells b.id.0 entry) [
   | inl t ↦ (let same : ◌≡◌ {A = Option BasicBlock} (Some b.block) (Some block) = sym (ap (λ (c : Bool). if c then Some b.block else block_of blocks entry) t.0) ∙ is in
-      let one : b.block ≡ block = cc in
-      (order + length b.block.instructions,
+      let one : b.block ≡ block = cc in (
+        order + length b.block.instructions,
         ap (λ (c : Bool). block_of (ordered_blocks order (if c then b ∷ filter (λ x. nat_eq x.id.0 entry) blocks else filter (λ x. nat_eq x.id.0 entry) blocks)) entry) t.0
-        ∙ ap (λ (c : Bool). if c then Some (ordered_block order b).block else block_of (ordered_blocks (order_after order b) (filter (λ x. nat_eq x.id.0 entry) blocks)) entry) t.0
-        ∙ ap (λ (x : BasicBlock). Some (record x { terminal = with_order (order + length b.block.instructions) x.terminal })) one))
+            ∙ ap (λ (c : Bool). if c then Some (ordered_block order b).block else block_of (ordered_blocks (order_after order b) (filter (λ x. nat_eq x.id.0 entry) blocks)) entry) t.0
+            ∙ ap (λ (x : BasicBlock). Some (record x { terminal = with_order (order + length b.block.instructions) x.terminal })) one,
+      ))
   | inr t ↦ (let rest = kept order entry blocks block (sym (ap (λ (c : Bool). if c then Some b.block else block_of blocks entry) t.0) ∙ is) in
       (rest.0, ap (λ (c : Bool). block_of (ordered_blocks order (if c then b ∷ filter (λ x. nat_eq x.id.0 entry) blocks else filter (λ x. nat_eq x.id.0 entry) blocks)) entry) t.0 ∙ rest.1))
 ]

@@ -103,6 +103,8 @@ sequence_runs s new after a b d is ra rb = record {
   runs = λ c cover exits source store notes answers throws onward.
       subst (λ t. From c s store notes answers t) (sym (is source answers exits))
       (ra.runs c (covers_before new after c rb.grows cover) (record exits { falls = λ e r. b e r exits }) source store notes answers throws
-      (record { goes = λ env1 store1 notes1 answers1 l1. rb.runs c cover exits env1 store1 notes1 answers1 throws
-          (record { goes = λ env2 store2 notes2 answers2 l2. onward.goes env2 store2 notes2 answers2 (later_then s new store store1 store2 ra.grows.identifiers l1 l2) }) }));
+      (record {
+        goes = λ env1 store1 notes1 answers1 l1. rb.runs c cover exits env1 store1 notes1 answers1 throws
+            (record { goes = λ env2 store2 notes2 answers2 l2. onward.goes env2 store2 notes2 answers2 (later_then s new store store1 store2 ra.grows.identifiers l1 l2) });
+      }));
 }

@@ -46,11 +46,7 @@ pub(crate) fn lower_value_to_temporary(
 }
 
 /// Notes that a number's text is no whole number up to 2^53.
-fn refuse_number(
-    alloc: Global,
-    builder: &mut HirBuilder,
-    at: At,
-) -> Result<(), OutOfMemory>
+fn refuse_number(alloc: Global, builder: &mut HirBuilder, at: At) -> Result<(), OutOfMemory>
     ensures same_reference { builder.new.env.ghost_name ≡ builder.old.env.ghost_name }
     ensures state { OnOk result (state_of builder.new.env.now builder.new.work ≡ recorded (state_of builder.old.env.now builder.old.work) (refusal F43 at)) }
 {

@@ -28,11 +28,7 @@ use std::alloc::Global;
 
 /// Lowers what a function does before its end. An expression's value is returned; the block behind that return is
 /// numbered before the expression is lowered.
-fn lower_body(
-    alloc: Global,
-    builder: &mut HirBuilder,
-    body: &ArrowBody,
-) -> Result<(), OutOfMemory>
+fn lower_body(alloc: Global, builder: &mut HirBuilder, body: &ArrowBody) -> Result<(), OutOfMemory>
     requires grammar { is_body (spec.arrow_body body.now) ≡ true }
     requires room { HasRoom (state_of builder.old.env.now builder.old.work) (4 * (nodes (spec.arrow_body body.now) + 1)) }
     ensures same_reference { builder.new.env.ghost_name ≡ builder.old.env.ghost_name }
@@ -61,11 +57,7 @@ fn lower_body(
 }
 
 /// The graph of a body. Its end returns undefined, also where nothing comes to it.
-fn lower_graph(
-    alloc: Global,
-    body: &ArrowBody,
-    env: &mut Environment,
-) -> Result<Built, OutOfMemory>
+fn lower_graph(alloc: Global, body: &ArrowBody, env: &mut Environment) -> Result<Built, OutOfMemory>
     requires grammar { is_body (spec.arrow_body body.now) ≡ true }
     requires room { HasRoom (started env.old BlockKind.Block) (4 * (nodes (spec.arrow_body body.now) + 2)) }
     ensures { IfOk result (λ built. IsGraphOf (spec.arrow_body body.now) env.old env.new built) }

@@ -2,6 +2,5 @@
 #![tactic(auto)]
 
 mod expression;
-mod statement;
-
 pub mod function;
+mod statement;

@@ -1,4 +1,4 @@
-use Rattle.std.proofs.Common.{◌≡◌, ℕ, List, Some, subst}
+use Rattle.std.proofs.Common.{ℕ, List, Some, subst}
 use Rattle.rl_ast.specs.Limits.{IsTooLarge}
 use Rattle.react_lower.specs.Answers.{RefusesKnown, Writes}
 use Rattle.react_lower.proofs.Answering.{reads_whole, refuses_left, writes_left}

@@ -1,4 +1,4 @@
-use Rattle.std.proofs.Common.{◌≡◌, ℕ, ◌≤◌, ◌*◌, ◌++◌, List, [], Err, ap, sym, subst, refl, ◌∙◌, All, arith}
+use Rattle.std.proofs.Common.{◌≡◌, ◌≤◌, ◌*◌, ◌++◌, List, [], Err, ap, sym, subst, refl, ◌∙◌, All, arith}
 use Rattle.rl_model.specs.Closed.{IsClosed}
 use Rattle.rl_model.specs.Headline.{IsLowered, SameRuns}
 use Rattle.rl_ast.specs.Syntax.{Syntax, nodes}

@@ -1,4 +1,4 @@
-use Rattle.std.proofs.Common.{◌≡◌, ℕ, Some, None, Option, List, ap, sym, subst, ◌∙◌, slice_get, true}
+use Rattle.std.proofs.Common.{◌≡◌, Some, None, Option, List, ap, sym, subst, ◌∙◌, slice_get, true}
 use Rattle.rl_ast.specs.Grammar.{is_marked}
 use Rattle.rl_model.specs.Source.{function_in}
 use Rattle.rl_ast.specs.Units.{statement}

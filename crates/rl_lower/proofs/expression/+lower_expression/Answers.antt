@@ -13,7 +13,7 @@ use Rattle.rl_lower.proofs.expression.+lower_expression.Goals as goal
 pub lower_expression-requires : goal.lower_expression-requires
 lower_expression-requires t c =
     let opened : expression c.args.expression.now ≡ Node c.in-Parenthesized.at word.Paren (Then (expression c.get.result.now) End) =
-        ap expression c.in-Parenthesized.is ∙ expression_parenthesized _ _ ∙ ap (λ (e : Expression). Node c.in-Parenthesized.at word.Paren (Then (expression e) End)) (sym c.get.ensures) in
+    ap expression c.in-Parenthesized.is ∙ expression_parenthesized _ _ ∙ ap (λ (e : Expression). Node c.in-Parenthesized.at word.Paren (Then (expression e) End)) (sym c.get.ensures) in
     let more : nodes (expression c.args.expression.now) ≡ nodes (expression c.get.result.now) + 0 + 1 = ap nodes opened in
     (omega (arith, more), (ap is_expression (sym opened) ∙ c.requires.grammar, room_less _ (4 * nodes (expression c.args.expression.now)) (4 * nodes (expression c.get.result.now)) (omega (arith, more)) c.requires.room))
 

@@ -35,7 +35,7 @@ lower_statements-requires-clause-grammar c =
 pub lower_statements-requires-clause-room : goal.lower_statements-requires-clause-room
 lower_statements-requires-clause-room c =
     let more : nodes (arrow_body c.args.body.now) ≡ nodes_of (pieces_of (map said c.in-Statements.directives)) + (nodes_of (pieces_of (map statement c.in-Statements.statements)) + 0) + 1 =
-        ap nodes (ap arrow_body c.in-Statements.is ∙ body_statements c.in-Statements.at c.in-Statements.directives c.in-Statements.statements) in
+    ap nodes (ap arrow_body c.in-Statements.is ∙ body_statements c.in-Statements.at c.in-Statements.directives c.in-Statements.statements) in
     let same : nodes_of (pieces_of (map statement c.as_slice.result.now)) ≡ nodes_of (pieces_of (map statement c.in-Statements.statements)) = ap (λ (l : List Statement). nodes_of (pieces_of (map statement l))) c.as_slice.ensures in
     room_less _ (4 * (nodes (arrow_body c.args.body.now) + 1)) (4 * nodes_of (pieces_of (map statement c.as_slice.result.now))) (omega (arith, more, same)) c.requires.room
 
@@ -43,13 +43,13 @@ pub returns-in_ok-value-in-Expression-clause-lowered : goal.returns-in_ok-value-
 returns-in_ok-value-in-Expression-clause-lowered c =
     done_so c.terminate_with_continuation.result c.terminate_with_continuation.ensures.state
     (λ moved. expression_body_call _ (expression c.in-Expression.expression) _ _ _ _ c.in_ok-value-in-Expression.value _ kinds.Block None
-        (ap arrow_body c.in-Expression.is ∙ body_expression c.in-Expression.expression)
-        (sym (other_body (expression c.in-Expression.expression) (expression_is_no_body c.in-Expression.expression)) ∙ ap is_body (sym (ap arrow_body c.in-Expression.is ∙ body_expression c.in-Expression.expression)) ∙ c.requires.grammar)
-        c.reserve-fallthrough.ensures.state c.reserve-fallthrough.ensures.block c.in_ok-value-in-Expression.ensures.lowered moved)
+    (ap arrow_body c.in-Expression.is ∙ body_expression c.in-Expression.expression)
+    (sym (other_body (expression c.in-Expression.expression) (expression_is_no_body c.in-Expression.expression)) ∙ ap is_body (sym (ap arrow_body c.in-Expression.is ∙ body_expression c.in-Expression.expression)) ∙ c.requires.grammar)
+    c.reserve-fallthrough.ensures.state c.reserve-fallthrough.ensures.block c.in_ok-value-in-Expression.ensures.lowered moved)
 
 pub returns-in-Statements-clause-lowered : goal.returns-in-Statements-clause-lowered
 returns-in-Statements-clause-lowered c =
     done_so c.lower_statements.result c.lower_statements.ensures.lowered
     (λ l. statements_body_call _ c.in-Statements.at c.in-Statements.directives (pieces_of (map statement c.as_slice.result.now)) _ _
-        (ap arrow_body c.in-Statements.is ∙ body_statements c.in-Statements.at c.in-Statements.directives c.in-Statements.statements
-        ∙ ap (λ (l : List Statement). Node c.in-Statements.at word.Body (Then (Listed (pieces_of (map said c.in-Statements.directives))) (Then (Listed (pieces_of (map statement l))) End))) (sym c.as_slice.ensures)) l)
+    (ap arrow_body c.in-Statements.is ∙ body_statements c.in-Statements.at c.in-Statements.directives c.in-Statements.statements
+    ∙ ap (λ (l : List Statement). Node c.in-Statements.at word.Body (Then (Listed (pieces_of (map said c.in-Statements.directives))) (Then (Listed (pieces_of (map statement l))) End))) (sym c.as_slice.ensures)) l)

@@ -48,12 +48,12 @@ pub returns-in_ok-value-in-Some-clause-lowered : goal.returns-in_ok-value-in-Som
 returns-in_ok-value-in-Some-clause-lowered c =
     done_so c.lower_return.result c.lower_return.ensures.state
     (λ moved. return_call _ (expression c.get.result.now) c.in-Return.at _ _ _ c.in_ok-value-in-Some.value kinds.Block (Some c.in-Return.at.span)
-        (ap statement c.in-Return.is ∙ ap (λ argument. statement (statements.Return c.in-Return.at argument)) (c.in-Some.is ∙ ap (λ (e : Expression). Some e) (sym c.get.ensures)) ∙ statement_return c.in-Return.at c.get.result.now)
-        (expression_is_node c.get.result.now) c.in_ok-value-in-Some.ensures.lowered moved)
+    (ap statement c.in-Return.is ∙ ap (λ argument. statement (statements.Return c.in-Return.at argument)) (c.in-Some.is ∙ ap (λ (e : Expression). Some e) (sym c.get.ensures)) ∙ statement_return c.in-Return.at c.get.result.now)
+    (expression_is_node c.get.result.now) c.in_ok-value-in-Some.ensures.lowered moved)
 
 pub returns-in_ok-value-in-None-clause-lowered : goal.returns-in_ok-value-in-None-clause-lowered
 returns-in_ok-value-in-None-clause-lowered c =
     done_so c.lower_return-in-None.result c.lower_return-in-None.ensures.state
     (λ moved. return_nothing_call _ c.in-Return.at _ _ _ c.in_ok-value-in-None.value kinds.Block (Some c.in-Return.at.span)
-        (ap statement c.in-Return.is ∙ ap (λ argument. statement (statements.Return c.in-Return.at argument)) c.in-None.is ∙ statement_return_alone c.in-Return.at)
-        c.in_ok-value-in-None.ensures.state c.in_ok-value-in-None.ensures.place moved)
+    (ap statement c.in-Return.is ∙ ap (λ argument. statement (statements.Return c.in-Return.at argument)) c.in-None.is ∙ statement_return_alone c.in-Return.at)
+    c.in_ok-value-in-None.ensures.state c.in_ok-value-in-None.ensures.place moved)

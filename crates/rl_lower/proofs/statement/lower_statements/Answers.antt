@@ -14,12 +14,12 @@ use Rattle.rl_lower.proofs.statement.lower_statements.Goals as goal
 pub statements-preserved : goal.statements-preserved
 statements-preserved c =
     let split : drop c.statements.statement-index c.args.statements.now ≡ c.statement-item.result ∷ drop (c.statements.statement-index + 1) c.args.statements.now =
-        drop_more c.args.statements.now c.statements.statement-index c.statement-item.result c.statements-test.true ∙ ap (λ (x : Statement). x ∷ drop (c.statements.statement-index + 1) c.args.statements.now) (sym c.statement-item.is) in
+    drop_more c.args.statements.now c.statements.statement-index c.statement-item.result c.statements-test.true ∙ ap (λ (x : Statement). x ∷ drop (c.statements.statement-index + 1) c.args.statements.now) (sym c.statement-item.is) in
     let rest : List Statement = drop (c.statements.statement-index + 1) c.args.statements.now in
     let grammar : is_statement (statement c.statement-item.result) && are_statements (pieces_of (map statement rest)) ≡ true =
-        ap (λ (l : List Statement). are_statements (pieces_of (map statement l))) (sym split) ∙ c.statements.invariant.grammar in
+    ap (λ (l : List Statement). are_statements (pieces_of (map statement l))) (sym split) ∙ c.statements.invariant.grammar in
     let counted : nodes_of (pieces_of (map statement (drop c.statements.statement-index c.args.statements.now))) ≡ nodes (statement c.statement-item.result) + nodes_of (pieces_of (map statement rest)) =
-        ap (λ (l : List Statement). nodes_of (pieces_of (map statement l))) split in
+    ap (λ (l : List Statement). nodes_of (pieces_of (map statement l))) split in
     record {
       same_reference = c.in_ok-lower_statement.ensures.same_reference ∙ c.statements.invariant.same_reference;
       grammar = both_hold _ _ grammar;
