@@ -1,0 +1,118 @@
+//! Units that are lowered, and their listings. Those that stand whole are outputs of a second implementation.
+
+use super::{UNIT, answer, async_unit_of, unit_of};
+use crate::run::Status;
+use std::test::Fail;
+
+#[test]
+fn lowers_a_number(rt: HostRuntime) -> Result<(), Fail> {
+    let listing =
+        "(lowered (fn (at 25 60) - \"other\" n n [] [] [] (p 2 -) 0 [(block 0 \"block\" [0] (return 2 - \"implicit\" (p 0 (at 50 59))) [])] [(i 1 (p 0 (at 50 59)) (at 50 59) (primitive (number 1))) (i 0 (p 1 -) - (primitive (undefined)))]) [] [(ident - (at 50 59) 0) (ident - - 1) (ident - (at 25 60) 2)] [])\n";
+    let (status, text) = answer(rt.alloc(), UNIT)?;
+    assert_eq!(rt; status, Status::Done);
+    assert_eq!(rt; text.as_slice(), listing.as_bytes());
+    Ok(())
+}
+
+#[test]
+fn lowers_other_literals(rt: HostRuntime) -> Result<(), Fail> {
+    let alloc = rt.alloc();
+    for (body, value) in [
+        ("(null)", "(primitive (null))"),
+        ("(bool y)", "(primitive (bool y))"),
+        ("(bool n)", "(primitive (bool n))"),
+        (
+            "(num \"9007199254740992\")",
+            "(primitive (number 9007199254740992))",
+        ),
+        ("(str \"x_0\")", "(primitive (text \"x_0\"))"),
+    ] {
+        let unit = async_unit_of(alloc, body)?;
+        let (status, text) = answer(alloc, unit.as_bytes())?;
+        assert_eq!(rt; status, Status::Done, "{body}");
+        let end = 50 + body.len();
+        let at = format!(in alloc; "(at 50 {end})")?;
+        let wanted = format!(in alloc;
+            "(lowered (fn (at 25 {}) - \"other\" n y [] [] [] (p 2 -) 0 [(block 0 \"block\" [0] (return 2 - \"implicit\" (p 0 {at})) [])] [(i 1 (p 0 {at}) {at} {value}) (i 0 (p 1 -) - (primitive (undefined)))]) [] [(ident - {at} 0) (ident - - 1) (ident - (at 25 {}) 2)] [])\n",
+            end + 1,
+            end + 1
+        )?;
+        assert_eq!(rt; text.as_slice(), wanted.as_bytes(), "{body}");
+    }
+    Ok(())
+}
+
+#[test]
+fn lowers_expressions(rt: HostRuntime) -> Result<(), Fail> {
+    let alloc = rt.alloc();
+    for (body, listing) in [
+        (
+            "(str \"class\")",
+            "(lowered (fn (at 25 64) - \"other\" n n [] [] [] (p 2 -) 0 [(block 0 \"block\" [0] (return 2 - \"implicit\" (p 0 (at 50 63))) [])] [(i 1 (p 0 (at 50 63)) (at 50 63) (primitive (text \"class\"))) (i 0 (p 1 -) - (primitive (undefined)))]) [] [(ident - (at 50 63) 0) (ident - - 1) (ident - (at 25 64) 2)] [])\n",
+        ),
+        (
+            "(str \"\\0a\")",
+            "(lowered (fn (at 25 62) - \"other\" n n [] [] [] (p 2 -) 0 [(block 0 \"block\" [0] (return 2 - \"implicit\" (p 0 (at 50 61))) [])] [(i 1 (p 0 (at 50 61)) (at 50 61) (primitive (text \"\\0a\"))) (i 0 (p 1 -) - (primitive (undefined)))]) [] [(ident - (at 50 61) 0) (ident - - 1) (ident - (at 25 62) 2)] [])\n",
+        ),
+        (
+            "(paren (paren (null)))",
+            "(lowered (fn (at 25 73) - \"other\" n n [] [] [] (p 2 -) 0 [(block 0 \"block\" [0] (return 2 - \"implicit\" (p 0 (at 64 70))) [])] [(i 1 (p 0 (at 64 70)) (at 64 70) (primitive (null))) (i 0 (p 1 -) - (primitive (undefined)))]) [] [(ident - (at 64 70) 0) (ident - - 1) (ident - (at 25 73) 2)] [])\n",
+        ),
+    ] {
+        let unit = unit_of(alloc, body)?;
+        let (status, text) = answer(alloc, unit.as_bytes())?;
+        assert_eq!(rt; status, Status::Done, "{body}");
+        assert_eq!(rt; text.as_slice(), listing.as_bytes(), "{body}");
+    }
+    Ok(())
+}
+
+#[test]
+fn lowers_bodies(rt: HostRuntime) -> Result<(), Fail> {
+    let alloc = rt.alloc();
+    for (body, listing) in [
+        (
+            "(body [\"use memo\"] [])",
+            "(lowered (fn (at 25 73) - \"other\" n n [\"use memo\"] [] [] (p 1 -) 0 [(block 0 \"block\" [0] (return 2 - \"void\" (p 0 -)) [])] [(i 1 (p 0 -) - (primitive (undefined)))]) [] [(ident - - 0) (ident - (at 25 73) 1)] [])\n",
+        ),
+        (
+            "(body [] [(return -)])",
+            "(lowered (fn (at 25 73) - \"other\" n n [] [] [] (p 2 -) 0 [(block 0 \"block\" [0] (return 2 (at 60 70) \"explicit\" (p 0 -)) [])] [(i 1 (p 0 -) - (primitive (undefined))) (i 0 (p 1 -) - (primitive (undefined)))]) [] [(ident - - 0) (ident - - 1) (ident - (at 25 73) 2)] [])\n",
+        ),
+        (
+            "(body [] [(expr (paren (str \"a\"))) (return (str \"eval\"))])",
+            "(lowered (fn (at 25 109) - \"other\" n n [] [] [] (p 3 -) 0 [(block 0 \"block\" [0 1] (return 3 (at 85 106) \"explicit\" (p 1 (at 93 105))) [])] [(i 1 (p 0 (at 73 82)) (at 73 82) (primitive (text \"a\"))) (i 2 (p 1 (at 93 105)) (at 93 105) (primitive (text \"eval\"))) (i 0 (p 2 -) - (primitive (undefined)))]) [] [(ident - (at 73 82) 0) (ident - (at 93 105) 1) (ident - - 2) (ident - (at 25 109) 3)] [])\n",
+        ),
+        (
+            "(body [\"use strict\"] [(expr (num \"0\")) (expr (paren (paren (num \"42\")))) (expr (bool n))])",
+            "(lowered (fn (at 25 141) - \"other\" n n [\"use strict\"] [] [] (p 4 -) 0 [(block 0 \"block\" [0 1 2 3] (return 5 - \"void\" (p 3 -)) [])] [(i 1 (p 0 (at 78 87)) (at 78 87) (primitive (number 0))) (i 2 (p 1 (at 109 119)) (at 109 119) (primitive (number 42))) (i 3 (p 2 (at 129 137)) (at 129 137) (primitive (bool n))) (i 4 (p 3 -) - (primitive (undefined)))]) [] [(ident - (at 78 87) 0) (ident - (at 109 119) 1) (ident - (at 129 137) 2) (ident - - 3) (ident - (at 25 141) 4)] [])\n",
+        ),
+    ] {
+        let unit = unit_of(alloc, body)?;
+        let (status, text) = answer(alloc, unit.as_bytes())?;
+        assert_eq!(rt; status, Status::Done, "{body}");
+        assert_eq!(rt; text.as_slice(), listing.as_bytes(), "{body}");
+    }
+    Ok(())
+}
+
+#[test]
+fn lowers_bodies_of_async_functions(rt: HostRuntime) -> Result<(), Fail> {
+    let alloc = rt.alloc();
+    for (body, listing) in [
+        (
+            "(body [] [])",
+            "(lowered (fn (at 25 63) - \"other\" n y [] [] [] (p 1 -) 0 [(block 0 \"block\" [0] (return 2 - \"void\" (p 0 -)) [])] [(i 1 (p 0 -) - (primitive (undefined)))]) [] [(ident - - 0) (ident - (at 25 63) 1)] [])\n",
+        ),
+        (
+            "(body [\"use strict\"] [(return -) (return -)])",
+            "(lowered (fn (at 25 96) - \"other\" n y [\"use strict\"] [] [] (p 3 -) 0 [(block 0 \"block\" [0] (return 2 (at 72 82) \"explicit\" (p 0 -)) [])] [(i 1 (p 0 -) - (primitive (undefined))) (i 0 (p 1 -) - (primitive (undefined))) (i 0 (p 2 -) - (primitive (undefined)))]) [] [(ident - - 0) (ident - - 1) (ident - - 2) (ident - (at 25 96) 3)] [])\n",
+        ),
+    ] {
+        let unit = async_unit_of(alloc, body)?;
+        let (status, text) = answer(alloc, unit.as_bytes())?;
+        assert_eq!(rt; status, Status::Done, "{body}");
+        assert_eq!(rt; text.as_slice(), listing.as_bytes(), "{body}");
+    }
+    Ok(())
+}

@@ -1,0 +1,85 @@
+//! Units that are refused, and what is written of them.
+
+use super::{answer, unit_of, words};
+use crate::run::{Status, run};
+use rl_base::memory::{MemSink, MemSource};
+use std::alloc::{AllocError, Global};
+use std::test::Fail;
+
+/// The report on numbers at these places.
+fn report(alloc: Global, places: &[&str]) -> Result<String, AllocError> {
+    let mut text = String::new(alloc);
+    for place in places {
+        text.push_str("F43 Todo ")?;
+        text.push_str(place)?;
+        text.push_str(" Only whole numbers up to 2^53 are supported\n")?;
+    }
+    Ok(text)
+}
+
+#[test]
+fn reports_a_number(rt: HostRuntime) -> Result<(), Fail> {
+    let alloc = rt.alloc();
+    let unit = unit_of(alloc, "(num \"9007199254740993\")")?;
+    let (status, text) = answer(alloc, unit.as_bytes())?;
+    assert_eq!(rt; status, Status::Reported);
+    assert_eq!(rt;
+        text.as_slice(),
+        b"F43 Todo 50..74 Only whole numbers up to 2^53 are supported\n".as_slice()
+    );
+    Ok(())
+}
+
+#[test]
+fn reports_numbers_in_text_order(rt: HostRuntime) -> Result<(), Fail> {
+    let alloc = rt.alloc();
+    let rows: [(&str, &[&str]); 13] = [
+        ("(num \"1.5\")", &["50..61"]),
+        ("(num \"01\")", &["50..60"]),
+        ("(num \"\")", &["50..58"]),
+        ("(num \"-1\")", &["50..60"]),
+        ("(num \"\\0a\")", &["50..61"]),
+        ("(num \"99999999999999999999999999\")", &["50..84"]),
+        ("(paren (num \"1e3\"))", &["57..68"]),
+        ("(paren (paren (num \"0x1\")))", &["64..75"]),
+        ("(body [] [(expr (num \"01\"))])", &["66..76"]),
+        (
+            "(body [] [(expr (num \"01\")) (return (num \"1.5\"))])",
+            &["66..76", "86..97"],
+        ),
+        (
+            "(body [] [(return -) (expr (paren (num \"1.5\")))])",
+            &["84..95"],
+        ),
+        (
+            "(body [] [(return (num \"1.5\")) (expr (num \"1\")) (return (num \"01\"))])",
+            &["68..79", "106..116"],
+        ),
+        (
+            "(body [\"use memo\"] [(return -) (expr (num \"01\")) (return -)])",
+            &["87..97"],
+        ),
+    ];
+    for (body, places) in rows {
+        let unit = unit_of(alloc, body)?;
+        let (status, text) = answer(alloc, unit.as_bytes())?;
+        assert_eq!(rt; status, Status::Reported, "{body}");
+        let wanted = report(alloc, places)?;
+        assert_eq!(rt; text.as_slice(), wanted.as_bytes(), "{body}");
+    }
+    Ok(())
+}
+
+#[test]
+fn stops_where_the_sink_fails_in_a_report(rt: HostRuntime) -> Result<(), Fail> {
+    let alloc = rt.alloc();
+    let words = words(alloc, &["lower"])?;
+    let unit = unit_of(alloc, "(num \"9007199254740993\")")?;
+    let bytes = Vec::from_slice(alloc, unit.as_bytes())?;
+    let mut source = MemSource::new(bytes, 7, Vec::new(alloc));
+    let mut sink = MemSink::new(alloc, 16, vec![in alloc; 1]?);
+    let status = run(alloc, words.as_slice(), &mut source, &mut sink);
+    assert_eq!(rt; status, Status::WriteFault);
+    assert_eq!(rt; sink.held(), b"F43 Todo 50..74 ".as_slice());
+    Ok(())
+}
