@@ -15,7 +15,7 @@ use Rattle.rl_model.specs.Rows.{refusals}
 use Rattle.rl_model.specs.Source.{marked}
 use Rattle.rl_ast.specs.declared.read.TheConstants.{LARGEST_INPUT}
 use Rattle.rl_ast.specs.declared.tree.Unit.{Unit as TreeOfUnit}
-use Rattle.react_lower.specs.Answers.{IsAnswer, IsOutput, IsComplete, IsMalformed, IsRefused, Writes, WritesKnown, ReadsWhole, RefusesKnown, lines, output}
+use Rattle.react_lower.specs.Answers.{HasFieldsOf, IsAnswer, IsOutput, IsComplete, IsMalformed, IsRefused, Writes, WritesKnown, ReadsWhole, RefusesKnown, lines, output}
 use Rattle.react_lower.specs.declared.run.Status.{Status}
 use Rattle.react_lower.specs.declared.run.Status.TheVariants.{Done, Reported, Malformed, TooLarge, ReadFault, WriteFault, OutOfMemory, Usage}
 
@@ -42,8 +42,8 @@ too_large_known (Some known) bytes first large = elim (cases_lt LARGEST_INPUT (l
 ]
 
 -- a result and a report are outputs
-pub writes_result : (bytes : List ℕ) (l : Lowered) (text : List ℕ) → LowersTo bytes l → text ≡ output l → Writes bytes Done text
-writes_result bytes l text lowers written = record { source = lowers.0; spelled = lowers.1; is_output = record { result = l; is_lowered = lowers.2; written = written } }
+pub writes_result : (bytes : List ℕ) (l : Lowered) (text : List ℕ) → LowersTo bytes l → ((u : TreeOfUnit) → Spells bytes u → HasFieldsOf (marked (unit u)) l.function) → text ≡ output l → Writes bytes Done text
+writes_result bytes l text lowers fields written = record { source = lowers.0; spelled = lowers.1; is_output = record { result = l; is_lowered = lowers.2; fields = fields lowers.0 lowers.1; written = written } }
 
 pub writes_report : (bytes : List ℕ) (said : List Diagnostic) (text : List ℕ) → IsRefused bytes said → text ≡ lines said → Writes bytes Reported text
 writes_report bytes said text refused written = record { source = refused.source; spelled = refused.spelled; is_output = record { some = λ none. refused.some (refused.names ∙ none); written = written ∙ ap lines refused.names } }
@@ -81,7 +81,7 @@ refuses_left left bytes Done first r = absurd r.no_output
 refuses_left left bytes WriteFault first r = absurd r.no_output
 
 -- bytes spell one unit
-same_unit : (bytes : List ℕ) (u v : TreeOfUnit) → Spells bytes u → Spells bytes v → unit u ≡ unit v
+pub same_unit : (bytes : List ℕ) (u v : TreeOfUnit) → Spells bytes u → Spells bytes v → unit u ≡ unit v
 same_unit bytes u v one other = placed-one (unit u) (unit v) 0 0 (Spells-one bytes (plain (unit u)) (plain (unit v)) one.spelled other.spelled) one.numbers other.numbers
 
 -- what an output says of the unit that was read, it says of each unit that the bytes spell

@@ -1,12 +1,14 @@
 -- What the program answers, and when.
-use Rattle.std.specs.Prelude.{◌≡◌, ◌≢◌, ℕ, ◌+◌, List, [], ◌∷◌, ◌++◌, take, None, Some, IfSome, ⊤}
+use Rattle.std.specs.Prelude.{◌≡◌, ◌≢◌, ℕ, ◌+◌, Bool, false, List, [], ◌∷◌, ◌++◌, take, None, Some, IfSome, ⊤}
 use Rattle.std.specs.declared.option.Option.{Option}
 use Rattle.std.specs.Io.KnownBytes.{Consumes, Keeps, Appends}
 use Rattle.rl_base.specs.Pieces.{AppendsPrefix}
 use Rattle.rl_text.specs.Notation.{spelling}
 use Rattle.rl_hir.specs.Listing.{lowered}
 use Rattle.rl_ast.specs.Limits.{IsTooLarge}
+use Rattle.rl_ast.specs.Syntax.{Syntax, Node, Flag, Absent, End, Then, span_of}
 use Rattle.rl_ast.specs.Units.{unit, Spells}
+use Rattle.rl_ast.specs.declared.word.Word.TheVariants as word
 use Rattle.rl_base.specs.Diagnostics.{line_of}
 use Rattle.rl_base.specs.declared.diagnostic.Diagnostic.{Diagnostic}
 use Rattle.rl_model.specs.Rows.{refusals}
@@ -16,7 +18,10 @@ use Rattle.rl_ast.specs.declared.read.TheConstants.{LARGEST_INPUT}
 use Rattle.react_lower.specs.declared.run.Status.{Status}
 use Rattle.react_lower.specs.declared.run.Status.TheVariants.{Done, Reported, Malformed, TooLarge, ReadFault, WriteFault, OutOfMemory, Usage}
 use Rattle.rl_ast.specs.declared.tree.Unit.{Unit as TreeOfUnit}
+use Rattle.rl_hir.specs.declared.function.HirFunction.{HirFunction}
 use Rattle.rl_hir.specs.declared.function.Lowered.{Lowered}
+use Rattle.rl_hir.specs.declared.function.ReactFunctionType.TheVariants as types
+use Rattle.rl_lower.specs.Lowering.{directives_in}
 
 -- the bytes are within the limits, and no unit's text
 pub record IsMalformed (bytes : List ℕ) : Type 0 where
@@ -39,10 +44,31 @@ abbrev pub lines : List Diagnostic → List ℕ
 lines [] = []
 lines (d ∷ ds) = line_of d ++ lines ds
 
+-- whether a function is async, and its body
+abbrev pub async_in : Syntax → Bool
+async_in (Node at word.Arrow (Then marked (Then (Flag is_async) (Then params (Then body End))))) = is_async
+async_in _ = false
+
+abbrev pub body_in : Syntax → Syntax
+body_in (Node at word.Arrow (Then marked (Then is_async (Then params (Then body End))))) = body
+body_in _ = Absent
+
+-- the fields that runs do not show are those of the function, or say that there is nothing
+pub record HasFieldsOf (function : Syntax) (f : HirFunction) : Type 0 where
+  pub span : f.span ≡ Some (span_of function)
+  pub name : f.name ≡ None
+  pub fn_type : f.fn_type ≡ types.Other
+  pub is_async : f.is_async ≡ async_in function
+  pub generator : f.generator ≡ false
+  pub directives : f.directives ≡ directives_in (body_in function)
+  pub params : f.params ≡ []
+  pub context : f.context ≡ []
+
 -- the text is the output for a result of this unit
 pub record IsResultOf (u : TreeOfUnit) (text : List ℕ) : Type 0 where
   pub result : Lowered
   pub is_lowered : IsLowered u result
+  pub fields : HasFieldsOf (marked (unit u)) result.function
   pub written : text ≡ output result
 
 -- the text says what this unit is refused for

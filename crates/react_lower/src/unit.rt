@@ -4,8 +4,10 @@ ghost use Rattle.std.specs.Prelude.{◌≡◌, ◌↔◌, true, List, IfErr, IfO
 ghost use Rattle.rl_ast.specs.Grammar.{is_function, is_marked, is_unit};
 ghost use Rattle.rl_model.specs.Source.{function_in, marked};
 ghost use Rattle.rl_ast.specs.Units as spec;
+ghost use Rattle.rl_ast.specs.Units.{Spells};
+ghost use Rattle.rl_ast.specs.declared.tree.Unit.{Unit as TreeOfUnit};
 ghost use Rattle.rl_model.specs.Headline.{LowersTo};
-ghost use Rattle.react_lower.specs.Answers.{IsMalformed, IsRefused};
+ghost use Rattle.react_lower.specs.Answers.{HasFieldsOf, IsMalformed, IsRefused};
 ghost use Rattle.rl_ast.specs.Limits.{IsTooLarge};
 ghost use Rattle.rl_base.specs.declared.diagnostic.Diagnostic.{Diagnostic};
 
@@ -97,7 +99,7 @@ pub fn lower_unit(alloc: Global, bytes: &[u8]) -> Result<Lowered, LowerError>
     ensures lowered { IfOk result (λ l. LowersTo bytes.now l) }
     ensures refused { IfErr result (λ e. (said : List Diagnostic) → e ≡ LowerError.Refused said → IsRefused bytes.now said) }
     ensures too_large { IsErrOf result LowerError.TooLarge ↔ IsTooLarge bytes.now }
-    ensures fn_type { IfOk result (λ l. l.function.fn_type ≡ ReactFunctionType.Other) }
+    ensures fields { IfOk result (λ l. (u : TreeOfUnit) → Spells bytes.now u → HasFieldsOf (marked (spec.unit u)) l.function) }
     ensures malformed { IsErrOf result LowerError.Malformed → IsMalformed bytes.now }
 {
     let unit = match read_tree(alloc, bytes) {

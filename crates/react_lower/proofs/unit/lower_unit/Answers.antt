@@ -6,6 +6,9 @@ use Rattle.rl_ast.specs.Units.{unit, function}
 use Rattle.rl_model.specs.Source.{marked}
 use Rattle.rl_model.specs.Rows.{refusals}
 use Rattle.rl_model.specs.Size.{function_size}
+use Rattle.react_lower.specs.Answers.{HasFieldsOf}
+use Rattle.react_lower.proofs.Answering.{same_unit}
+use Rattle.react_lower.proofs.Fields.{fields_of}
 use Rattle.react_lower.proofs.Room.{alone_bounded, few_nodes, fresh_room}
 use Rattle.rl_hir.specs.declared.environment.Environment.{Environment}
 use Rattle.rl_hir.specs.declared.function.InnerFunction.{InnerFunction}
@@ -36,6 +39,15 @@ returns-clause-lowered c =
         same_runs = subst (λ (s : Syntax). SameRuns s c.in_ok-function.function c.lower.new.env.pairs) c.marked_function.ensures.function (c.in_ok-function.ensures.same_runs none);
       }),
     )
+
+pub returns-clause-fields : goal.returns-clause-fields
+returns-clause-fields c u spells =
+    let fields = c.in_ok-function.ensures in
+    let fn_type = fields.fn_type ∙ ap (λ (e : Environment). e.fn_type) c.new-env.ensures in
+    let same : unit c.in-Ok.unit ≡ unit u = same_unit c.args.bytes.now c.in-Ok.unit u c.in-Ok.ensures.found spells in
+    subst (λ (l : Lowered). HasFieldsOf (marked (unit u)) l.function) (sym c.into_lowered.ensures)
+    (subst (λ (s : Syntax). HasFieldsOf s c.in_ok-function.function) (c.marked_function.ensures.function ∙ ap marked same)
+    (fields_of c.marked_function.result.now c.in_ok-function.function fields.span fields.name fn_type fields.is_async fields.generator fields.directives fields.params fields.context))
 
 pub returns-in-Err-Malformed-clause-malformed : goal.returns-in-Err-Malformed-clause-malformed
 returns-in-Err-Malformed-clause-malformed c h =
