@@ -1,0 +1,6 @@
+//! What names of a unit stand for.
+#![tactic(auto)]
+
+pub mod semantic;
+#[cfg(test)]
+mod tests;
