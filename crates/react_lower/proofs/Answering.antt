@@ -17,7 +17,7 @@ use Rattle.rl_model.specs.Rows.{IsSupported, refusals_of, stop_of}
 use Rattle.rl_model.specs.Source.{marked}
 use Rattle.rl_ast.specs.declared.read.TheConstants.{LARGEST_INPUT}
 use Rattle.rl_ast.specs.declared.tree.Unit.{Unit as TreeOfUnit}
-use Rattle.react_lower.specs.Answers.{HasFieldsOf, IsAnswer, IsOutput, IsComplete, IsMalformed, IsRefused, IsStopped, Writes, WritesKnown, ReadsWhole, RefusesKnown, lines, output, report_of}
+use Rattle.react_lower.specs.Answers.{HasFieldsOf, HasIdentifiersOf, IsAnswer, IsOutput, IsComplete, IsMalformed, IsRefused, IsStopped, Writes, WritesKnown, ReadsWhole, RefusesKnown, lines, output, report_of}
 use Rattle.react_lower.specs.declared.run.Status.{Status}
 use Rattle.react_lower.specs.declared.run.Status.TheVariants.{Done, Reported, Malformed, TooLarge, ReadFault, WriteFault, OutOfMemory, Usage}
 
@@ -48,8 +48,8 @@ never_both : (o : Option Diagnostic) (d : Diagnostic) → o ≡ Some d → o ≡
 never_both o d some none = absurd (cc)
 
 -- a result, a stop and a report are outputs
-pub writes_result : (bytes : List ℕ) (l : Lowered) (text : List ℕ) → LowersTo bytes l → ((u : TreeOfUnit) → Spells bytes u → HasFieldsOf (marked (unit u)) l.function) → text ≡ output l → Writes bytes Done text
-writes_result bytes l text lowers fields written = record { source = lowers.0; spelled = lowers.1; is_output = record { result = l; is_lowered = lowers.2; fields = fields lowers.0 lowers.1.spells; written = written } }
+pub writes_result : (bytes : List ℕ) (l : Lowered) (text : List ℕ) → LowersTo bytes l → ((u : TreeOfUnit) → Spells bytes u → HasFieldsOf (marked (unit u)) l.function) → ((u : TreeOfUnit) → Spells bytes u → HasIdentifiersOf (marked (unit u)) l) → text ≡ output l → Writes bytes Done text
+writes_result bytes l text lowers fields identifiers written = record { source = lowers.0; spelled = lowers.1; is_output = record { result = l; is_lowered = lowers.2; fields = fields lowers.0 lowers.1.spells; identifiers = identifiers lowers.0 lowers.1.spells; written = written } }
 
 pub writes_stop : (bytes : List ℕ) (said : Diagnostic) (text : List ℕ) → IsStopped bytes said → text ≡ line_of said → Writes bytes Reported text
 writes_stop bytes said text stopped written = record {

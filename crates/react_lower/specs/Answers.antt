@@ -1,5 +1,5 @@
 -- What the program answers, and when.
-use Rattle.std.specs.Prelude.{◌≡◌, ◌≢◌, ℕ, ◌+◌, Bool, false, List, [], ◌∷◌, ◌++◌, take, None, Some, IfSome, ⊤}
+use Rattle.std.specs.Prelude.{◌≡◌, ◌≢◌, ℕ, ◌+◌, Bool, false, List, [], ◌∷◌, ◌++◌, length, take, None, Some, IfSome, ⊤}
 use Rattle.std.specs.declared.option.Option.{Option}
 use Rattle.std.specs.Io.KnownBytes.{Consumes, Keeps, Appends}
 use Rattle.rl_base.specs.Pieces.{AppendsPrefix}
@@ -22,8 +22,8 @@ use Rattle.rl_ast.specs.declared.tree.Unit.{Unit as TreeOfUnit}
 use Rattle.rl_hir.specs.declared.function.HirFunction.{HirFunction}
 use Rattle.rl_hir.specs.declared.function.Lowered.{Lowered}
 use Rattle.rl_hir.specs.declared.function.ReactFunctionType.TheVariants as types
-use Rattle.rl_lower.specs.Lowering.{directives_in}
-use Rattle.rl_lower.specs.Parameters.{places_from}
+use Rattle.rl_lower.specs.Lowering.{AddsUnnamed, directives_in}
+use Rattle.rl_lower.specs.Parameters.{known_from, pairs_from, places_from}
 use Rattle.rl_scope.specs.Symbols.{symbols_of}
 
 -- the bytes are within the limits, and no unit's text
@@ -79,11 +79,20 @@ pub record HasFieldsOf (function : Syntax) (f : HirFunction) : Type 0 where
   pub params : f.params ≡ places_from 0 (symbols_of function)
   pub context : f.context ≡ []
 
+-- the identifiers are those of the parameters, by their names, and then others without a name; each parameter is paired with
+-- its own, and the last is that of what is returned
+pub record HasIdentifiersOf (function : Syntax) (l : Lowered) : Type 0 where
+  pub names : AddsUnnamed (known_from 0 (symbols_of function)) l.identifiers
+  pub pairs : l.pairs ≡ pairs_from 0 0 (symbols_of function)
+  pub returns_at : l.function.returns.span ≡ None
+  pub returns_last : l.function.returns.identifier.0 + 1 ≡ length l.identifiers
+
 -- the text is the output for a result of this unit
 pub record IsResultOf (u : TreeOfUnit) (text : List ℕ) : Type 0 where
   pub result : Lowered
   pub is_lowered : IsLowered u result
   pub fields : HasFieldsOf (marked (unit u)) result.function
+  pub identifiers : HasIdentifiersOf (marked (unit u)) result
   pub written : text ≡ output result
 
 -- the text says what this unit is stopped or refused for

@@ -4,6 +4,7 @@ mod limits;
 mod listings;
 mod malformed;
 mod refusals;
+mod statuses;
 mod stops;
 mod streams;
 

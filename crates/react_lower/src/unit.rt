@@ -7,7 +7,7 @@ ghost use Rattle.rl_ast.specs.Units as spec;
 ghost use Rattle.rl_ast.specs.Units.{Spells};
 ghost use Rattle.rl_ast.specs.declared.tree.Unit.{Unit as TreeOfUnit};
 ghost use Rattle.rl_model.specs.Headline.{LowersTo};
-ghost use Rattle.react_lower.specs.Answers.{HasFieldsOf, IsMalformed, IsRefused, IsStopped};
+ghost use Rattle.react_lower.specs.Answers.{HasFieldsOf, HasIdentifiersOf, IsMalformed, IsRefused, IsStopped};
 ghost use Rattle.rl_ast.specs.Limits.{IsTooLarge};
 ghost use Rattle.rl_base.specs.declared.diagnostic.Diagnostic.{Diagnostic};
 
@@ -118,6 +118,7 @@ pub fn lower_unit(alloc: Global, bytes: &[u8]) -> Result<Lowered, LowerError>
     ensures refused { IfErr result (λ e. (said : List Diagnostic) → e ≡ LowerError.Refused said → IsRefused bytes.now said) }
     ensures too_large { IsErrOf result LowerError.TooLarge ↔ IsTooLarge bytes.now }
     ensures fields { IfOk result (λ l. (u : TreeOfUnit) → Spells bytes.now u → HasFieldsOf (marked (spec.unit u)) l.function) }
+    ensures identifiers { IfOk result (λ l. (u : TreeOfUnit) → Spells bytes.now u → HasIdentifiersOf (marked (spec.unit u)) l) }
     ensures malformed { IsErrOf result LowerError.Malformed → IsMalformed bytes.now }
 {
     let unit = match read_tree(alloc, bytes) {

@@ -1,5 +1,5 @@
 -- A function's graph, from its body's.
-use Rattle.std.proofs.Common.{◌≡◌, ℕ, ◌+◌, ◌<◌, inl, inr, List, [], length, slice_get, Option, Some, None, refl, sym, ap, ◌∙◌, subst, arith}
+use Rattle.std.proofs.Common.{◌≡◌, ℕ, ◌+◌, ◌<◌, ◌≤◌, inl, inr, List, [], length, slice_get, Option, Some, None, refl, sym, ap, ◌∙◌, subst, arith}
 use Rattle.rl_base.specs.declared.span.Span.{Span}
 use Rattle.rl_hir.specs.declared.environment.Environment.{Environment}
 use Rattle.rl_hir.specs.declared.instruction.Place.{Place}
@@ -23,9 +23,8 @@ use Rattle.rl_model.specs.declared.trace.Answer.{Answer}
 use Rattle.rl_model.specs.declared.trace.Setting.{Setting}
 use Rattle.rl_model.specs.declared.trace.Trace.{Trace}
 use Rattle.rl_model.specs.Traces.{Store, With, Gives, Means, returned, threw, unset}
-use Rattle.rl_model.specs.Machine.{Ends, Code, Notes, no_notes, code_in, function_trace, set_by, take_arguments}
+use Rattle.rl_model.specs.Machine.{Ends, Code, Notes, no_notes, code_in, positions, set_by, take_arguments, trace_within}
 use Rattle.rl_model.specs.Source.{runs}
-use Rattle.rl_model.specs.Headline.{SameRuns}
 use Rattle.rl_ast.specs.Syntax.{Syntax}
 use Rattle.rl_hir.specs.declared.function.Hir.{Hir}
 use Rattle.rl_hir.specs.declared.instruction.Instruction.{Instruction}
@@ -117,14 +116,14 @@ function_runs begun s m fresh made r throws source store notes answers agrees no
     subst (λ (id : ℕ). Goes c id 0 store notes answers trace) (sym (ap (λ (b : BlockId). b.0) r.grows.entry ∙ fresh.entry))
     (subst (λ (listed : List InstructionId). Goes c begun.current.id.0 (length listed) store notes answers trace) fresh.instructions goes)
 
--- so the function that is built has the runs of its source
-pub function_same_runs : (begun s : State) (m : Means) → IsFresh begun → AreMade begun → RunsStatement m begun s → (f : HirFunction) (pairs : List Pair) (function : Syntax)
+-- so the function that is built has the runs of its source, whatever limit on silent steps lets be as many as it has positions
+pub function_runs_within : (begun s : State) (m : Means) → IsFresh begun → AreMade begun → RunsStatement m begun s → (f : HirFunction) (pairs : List Pair) (function : Syntax)
     → f.body ≡ (built_of (closed_off s)).hir → f.instructions ≡ (built_of (closed_off s)).instructions
     → (source : List Setting → List Value → Store) → ((start : List Setting) (arguments : List Value) → Agrees begun.bindings (source start arguments) (take_arguments f.params arguments (set_by pairs start unset)))
     → ((start : List Setting) (arguments : List Value) (answers : List Answer) → runs function start arguments answers ≡ m (source start arguments) answers (record { falls = λ after rest. returned returns.Void value.Undefined; throws = λ v after rest. threw v }))
-    → SameRuns function f pairs
-function_same_runs begun s m fresh made r f pairs function body_is instructions_is source agrees means start arguments answers =
-    here ∙ total_runs (built_of last).hir.blocks (built_of last).instructions last.entry.0 store no_notes answers trace (entry_built last finished) goes ∙ sym (means start arguments answers)
+    → (most : ℕ) → positions f.body.blocks ≤ most → (start : List Setting) (arguments : List Value) (answers : List Answer) → trace_within most f pairs start arguments answers ≡ runs function start arguments answers
+function_runs_within begun s m fresh made r f pairs function body_is instructions_is source agrees means most large start arguments answers =
+    here ∙ total_runs most (built_of last).hir.blocks (built_of last).instructions last.entry.0 store no_notes answers trace (subst (λ (h : Hir). positions h.blocks ≤ most) body_is large) (entry_built last finished) goes ∙ sym (means start arguments answers)
   where
     last : State
     last = closed_off s
@@ -142,7 +141,7 @@ function_same_runs begun s m fresh made r f pairs function body_is instructions_
     goes = finished_runs last finished store no_notes answers trace
         (function_runs begun s m fresh made r (λ v after rest. threw v) (source start arguments) store no_notes answers (agrees start arguments) (record { ends = λ v after rest. refl }))
 
-    here : function_trace f pairs start arguments answers ≡ limited (built_of last).hir.blocks (built_of last).instructions last.entry.0 store no_notes answers
+    here : trace_within most f pairs start arguments answers ≡ limited most (built_of last).hir.blocks (built_of last).instructions last.entry.0 store no_notes answers
     here =
-        ap (λ (h : Hir). limited h.blocks f.instructions h.entry.0 store no_notes answers) body_is
-        ∙ ap (λ (l : List Instruction). limited (built_of last).hir.blocks l last.entry.0 store no_notes answers) instructions_is
+        ap (λ (h : Hir). limited most h.blocks f.instructions h.entry.0 store no_notes answers) body_is
+        ∙ ap (λ (l : List Instruction). limited most (built_of last).hir.blocks l last.entry.0 store no_notes answers) instructions_is

@@ -1,5 +1,5 @@
 -- What the builder's moves keep: the counters, the lists of places, and what other functions made.
-use Rattle.std.proofs.Common.{◌≡◌, ℕ, zero, suc, ◌+◌, ◌<◌, ◌≤◌, ◌++◌, List, [], ◌∷◌, All, length, length-append, Option, slice_get, refl, sym, ap, ◌∙◌, subst, arith}
+use Rattle.std.proofs.Common.{◌≡◌, ℕ, zero, suc, ◌+◌, ◌<◌, ◌≤◌, ◌++◌, List, [], ◌∷◌, All, length, length-append, append-nil, append_assoc, Option, None, slice_get, refl, sym, ap, ◌∙◌, subst, arith}
 use Rattle.std.proofs.lemmas.List.Elements.{All-append}
 use Rattle.rl_base.specs.declared.diagnostic.Diagnostic.{Diagnostic}
 use Rattle.rl_base.specs.declared.ids.InstructionId.{InstructionId}
@@ -16,7 +16,7 @@ use Rattle.rl_hir.specs.declared.function.Identifier.{Identifier}
 use Rattle.rl_hir.specs.declared.function.Pair.{Pair}
 use Rattle.rl_scope.specs.declared.semantic.Symbol.{Symbol}
 use Rattle.rl_lower.specs.Listed.{AreBelow}
-use Rattle.rl_lower.specs.Lowering.{HasRoom, Uses, Keeps}
+use Rattle.rl_lower.specs.Lowering.{AddsUnnamed, HasRoom, Uses, Keeps}
 use Rattle.rl_lower.specs.Named.{IsNamed}
 use Rattle.rl_lower.proofs.Steps.{get_more}
 
@@ -47,8 +47,26 @@ named_more symbols s new more bindings identifiers n = record {
       };
 }
 
+-- identifiers without a name
+none_unnamed : All (λ (i : Identifier). i.name ≡ None) []
+none_unnamed place default within = absurd (omega arith)
+
+pub one_unnamed : (i : Identifier) → i.name ≡ None → All (λ (j : Identifier). j.name ≡ None) (i ∷ [])
+one_unnamed i none zero default within = none
+one_unnamed i none (suc place) default within = absurd (omega arith)
+
+pub none_added : (identifiers : List Identifier) → AddsUnnamed identifiers identifiers
+none_added identifiers = record { more = []; added = sym (append-nil identifiers); unnamed = none_unnamed }
+
+pub added_then : (old mid new : List Identifier) → AddsUnnamed old mid → AddsUnnamed mid new → AddsUnnamed old new
+added_then old mid new a b = record {
+  more = a.more ++ b.more;
+  added = b.added ∙ ap (λ (l : List Identifier). l ++ b.more) a.added ∙ append_assoc old a.more b.more;
+  unnamed = All-append (λ (i : Identifier). i.name ≡ None) a.more b.more a.unnamed b.unnamed;
+}
+
 pub keeps_refl : (s : State) → Keeps s s 0
-keeps_refl s = record { uses = record { blocks = omega arith; types = omega arith; identifiers = omega arith; instructions = omega arith; completed = omega arith }; listed = λ l. l; named = λ symbols n. n; functions = refl; fn_type = refl }
+keeps_refl s = record { uses = record { blocks = omega arith; types = omega arith; identifiers = omega arith; instructions = omega arith; completed = omega arith }; listed = λ l. l; named = λ symbols n. n; identifiers = none_added s.env.identifiers; pairs = refl; functions = refl; fn_type = refl }
 
 pub keeps_then : (a b c : State) (m n : ℕ) → Keeps a b m → Keeps b c n → Keeps a c (m + n)
 keeps_then a b c m n j k = record {
@@ -61,6 +79,8 @@ keeps_then a b c m n j k = record {
   };
   listed = λ l. k.listed (j.listed l);
   named = λ symbols n. k.named symbols (j.named symbols n);
+  identifiers = added_then a.env.identifiers b.env.identifiers c.env.identifiers j.identifiers k.identifiers;
+  pairs = k.pairs ∙ j.pairs;
   functions = k.functions ∙ j.functions;
   fn_type = k.fn_type ∙ j.fn_type;
 }
@@ -76,6 +96,8 @@ keeps_more a b m n le k = record {
   };
   listed = k.listed;
   named = k.named;
+  identifiers = k.identifiers;
+  pairs = k.pairs;
   functions = k.functions;
   fn_type = k.fn_type;
 }
@@ -98,6 +120,8 @@ keeps_value s v span = record {
     counted = simp length-append (omega (arith, l.counted));
   };
   named = λ symbols n. named_more symbols s (with_value s v span) _ refl refl n;
+  identifiers = record { more = _; added = refl; unnamed = one_unnamed _ refl };
+  pairs = refl;
   functions = refl;
   fn_type = refl;
 }
@@ -106,10 +130,10 @@ keeps_value s v span = record {
     longer = simp length-append (omega arith)
 
 pub keeps_reserved : (s : State) → Keeps s (reserved s) 1
-keeps_reserved s = record { uses = record { blocks = omega arith; types = omega arith; identifiers = omega arith; instructions = omega arith; completed = omega arith }; listed = λ l. record { completed = l.completed; current = l.current; counted = l.counted }; named = λ symbols n. named_same symbols s _ refl refl n; functions = refl; fn_type = refl }
+keeps_reserved s = record { uses = record { blocks = omega arith; types = omega arith; identifiers = omega arith; instructions = omega arith; completed = omega arith }; listed = λ l. record { completed = l.completed; current = l.current; counted = l.counted }; named = λ symbols n. named_same symbols s _ refl refl n; identifiers = none_added s.env.identifiers; pairs = refl; functions = refl; fn_type = refl }
 
 pub keeps_recorded : (s : State) (d : Diagnostic) → Keeps s (recorded s d) 0
-keeps_recorded s d = record { uses = record { blocks = omega arith; types = omega arith; identifiers = omega arith; instructions = omega arith; completed = omega arith }; listed = λ l. record { completed = l.completed; current = l.current; counted = l.counted }; named = λ symbols n. named_same symbols s _ refl refl n; functions = refl; fn_type = refl }
+keeps_recorded s d = record { uses = record { blocks = omega arith; types = omega arith; identifiers = omega arith; instructions = omega arith; completed = omega arith }; listed = λ l. record { completed = l.completed; current = l.current; counted = l.counted }; named = λ symbols n. named_same symbols s _ refl refl n; identifiers = none_added s.env.identifiers; pairs = refl; functions = refl; fn_type = refl }
 
 orders_append : (xs ys : List NumberedBlock) → orders_of (xs ++ ys) ≡ orders_of xs + orders_of ys
 orders_append [] ys = omega arith
@@ -134,6 +158,8 @@ keeps_completed s t next none = record {
         omega (arith, one, empty, more, l.counted);
   };
   named = λ symbols n. named_same symbols s _ refl refl n;
+  identifiers = none_added s.env.identifiers;
+  pairs = refl;
   functions = refl;
   fn_type = refl;
 }

@@ -1,5 +1,5 @@
 -- What a function's graph promises, from what its body's does.
-use Rattle.std.proofs.Common.{◌≡◌, ℕ, ◌+◌, ◌*◌, ◌<◌, ◌≤◌, ◌^◌, ◌++◌, Bool, true, false, cond, if◌then◌else◌, codes, List, [], ◌∷◌, map, filter, length, length-append, Option, refl, sym, ap, ◌∙◌, subst, arith, append-nil, append_assoc, eq-eqb}
+use Rattle.std.proofs.Common.{◌≡◌, ℕ, ◌+◌, ◌*◌, ◌<◌, ◌≤◌, ◌^◌, ◌++◌, Bool, true, false, cond, if◌then◌else◌, codes, List, [], ◌∷◌, map, filter, length, length-append, Option, None, refl, sym, ap, ◌∙◌, subst, arith, append-nil, append_assoc, eq-eqb}
 use Rattle.rl_base.specs.declared.diagnostic.Diagnostic.{Diagnostic}
 use Rattle.rl_base.specs.declared.row.Row.TheVariants as row
 use Rattle.rl_base.specs.declared.span.Span.{Span}
@@ -12,6 +12,7 @@ use Rattle.rl_ast.proofs.Spelled.{function_by_layer}
 use Rattle.rl_hir.specs.declared.environment.Environment.{Environment}
 use Rattle.rl_hir.specs.declared.function.BlockKind.TheVariants as kinds
 use Rattle.rl_hir.specs.declared.function.HirFunction.{HirFunction}
+use Rattle.rl_hir.specs.declared.function.Identifier.{Identifier}
 use Rattle.rl_hir.specs.declared.function.NumberedBlock.{NumberedBlock}
 use Rattle.rl_hir.specs.declared.function.Pair.{Pair}
 use Rattle.rl_hir.specs.declared.function.Param.{Param}
@@ -27,10 +28,11 @@ use Rattle.rl_model.specs.declared.trace.Answer.{Answer}
 use Rattle.rl_model.specs.declared.trace.Setting.{Setting}
 use Rattle.rl_model.specs.declared.trace.Value.{Value}
 use Rattle.rl_model.specs.declared.trace.Value.TheVariants as value
+use Rattle.rl_model.specs.declared.trace.Trace.{Trace}
 use Rattle.rl_model.specs.Closed.{IsClosed}
-use Rattle.rl_model.specs.Headline.{SameRuns}
+use Rattle.rl_model.specs.Headline.{IsCalm, SameRuns}
 use Rattle.rl_model.specs.Held.{call_at, calls_in, calls_among, calls_of, graph_calls, live_calls_in, live_in_body}
-use Rattle.rl_model.specs.Machine.{set_by, take_arguments}
+use Rattle.rl_model.specs.Machine.{positions, set_by, take_arguments, trace_within}
 use Rattle.rl_model.specs.Rows.{is_text, refusal, refusals, refusals_in, refusals_of}
 use Rattle.rl_model.specs.Size.{function_size}
 use Rattle.rl_model.specs.Source.{runs, body_does, take_from}
@@ -41,12 +43,12 @@ use Rattle.rl_lower.specs.Endings.{closed_off, with_undefined, IsGraphOf}
 use Rattle.rl_lower.specs.Listed.{IsListed}
 use Rattle.rl_lower.specs.Live.{entry_calls, is_alive, where_alive}
 use Rattle.rl_lower.proofs.Live.{completed_calls, graph_plain, lives_value, none_where}
-use Rattle.rl_lower.specs.Lowering.{HasRoom, Keeps, LowersBody, body_runs, texts_in, directives_in}
-use Rattle.rl_lower.specs.Parameters.{known_from, places_from, said_of_symbols, with_parameters}
+use Rattle.rl_lower.specs.Lowering.{AddsUnnamed, HasRoom, Keeps, LowersBody, body_runs, texts_in, directives_in}
+use Rattle.rl_lower.specs.Parameters.{known_from, pairs_from, places_from, said_of_symbols, with_parameters}
 use Rattle.rl_lower.proofs.Building.{IsFresh, keeps_closed, listed_fresh}
-use Rattle.rl_lower.proofs.Functions.{function_finished, function_same_runs}
+use Rattle.rl_lower.proofs.Functions.{function_finished, function_runs_within}
 use Rattle.rl_lower.proofs.Graphs.{without_order, ordered_table_plain}
-use Rattle.rl_lower.proofs.Keeping.{keeps_then}
+use Rattle.rl_lower.proofs.Keeping.{added_then, keeps_then, one_unnamed}
 use Rattle.rl_lower.proofs.Parameters.{known_length, parameters_agree, parameters_given, parameters_made, state_with}
 use Rattle.rl_ast.proofs.Expressions.{has_expression_word}
 use Rattle.rl_lower.proofs.Whole.{finished_closed}
@@ -186,12 +188,13 @@ function_runs f start arguments answers =
     ap (λ (t : Syntax). runs t start arguments answers) (function_by_layer f)
     ∙ ap (λ (symbols : List Symbol). body_does symbols (body_of f) (take_from 0 symbols arguments (set_all start unset)) answers (λ v store rest. returned returns.Implicit v) (λ v store rest. threw v)) (sym (ap symbols_of (function_by_layer f)))
 
-pub graph_same_runs : (fn : ArrowFunction) (env new : Environment) (params : List Param) (built : Built) → IsGraphOf (symbols_of (function fn)) (body_of fn) env new params built → are_distinct (symbols_of (function fn)) ≡ true → refusals (symbols_of (function fn)) (body_of fn) ≡ []
-    → (f : HirFunction) (pairs : List Pair) → f.body ≡ built.hir → f.instructions ≡ built.instructions → f.params ≡ params → SameRuns (function fn) f pairs
-graph_same_runs fn env new params built g distinct supported f pairs body_is instructions_is params_is =
+graph_runs_within : (fn : ArrowFunction) (env new : Environment) (params : List Param) (built : Built) → IsGraphOf (symbols_of (function fn)) (body_of fn) env new params built → are_distinct (symbols_of (function fn)) ≡ true → refusals (symbols_of (function fn)) (body_of fn) ≡ []
+    → (f : HirFunction) (pairs : List Pair) → f.body ≡ built.hir → f.instructions ≡ built.instructions → f.params ≡ params
+    → (most : ℕ) → positions f.body.blocks ≤ most → (start : List Setting) (arguments : List Value) (answers : List Answer) → trace_within most f pairs start arguments answers ≡ runs (function fn) start arguments answers
+graph_runs_within fn env new params built g distinct supported f pairs body_is instructions_is params_is =
     let symbols : List Symbol = symbols_of (function fn) in
     let begun : State = state_with (started env kinds.Block) symbols in
-    function_same_runs begun g.state (body_runs symbols (body_of fn)) (begun_fresh env symbols) (parameters_made (started env kinds.Block) symbols) ((lowered_from symbols (body_of fn) env new params built g distinct).runs supported) f pairs (function fn)
+    function_runs_within begun g.state (body_runs symbols (body_of fn)) (begun_fresh env symbols) (parameters_made (started env kinds.Block) symbols) ((lowered_from symbols (body_of fn) env new params built g distinct).runs supported) f pairs (function fn)
     (body_is ∙ ap (λ (b : Built). b.hir) g.graph) (instructions_is ∙ ap (λ (b : Built). b.instructions) g.graph)
     (λ start arguments. take_from 0 symbols arguments (set_all start unset))
     (λ start arguments. subst (λ (ps : List Param). Rattle.rl_lower.specs.Simulation.Agrees begun.bindings (take_from 0 symbols arguments (set_all start unset)) (take_arguments ps arguments (set_by pairs start unset))) (sym (params_is ∙ g.places)) (parameters_agree (started env kinds.Block) symbols arguments (set_all start unset) (set_by pairs start unset)))
@@ -285,11 +288,23 @@ lower_refused f symbols env new params built is distinct g =
 pub lower_closed : (f : ArrowFunction) (symbols : List Symbol) (env new : Environment) (params : List Param) (built : Built) → symbols ≡ symbols_of (function f) → are_distinct symbols ≡ true → IsGraphOf symbols (body_of f) env new params built → refusals_of (function f) ≡ [] → IsClosed built.hir
 lower_closed f symbols env new params built is distinct g supported = graph_closed symbols (body_of f) env new params built g distinct (body_supported f symbols is supported)
 
+lower_runs_within : (f : ArrowFunction) (symbols : List Symbol) (env new : Environment) (params : List Param) (built : Built) → symbols ≡ symbols_of (function f) → are_distinct symbols ≡ true → IsGraphOf symbols (body_of f) env new params built → refusals_of (function f) ≡ []
+    → (h : HirFunction) (pairs : List Pair) → h.body ≡ built.hir → h.instructions ≡ built.instructions → h.params ≡ params
+    → (most : ℕ) → positions h.body.blocks ≤ most → (start : List Setting) (arguments : List Value) (answers : List Answer) → trace_within most h pairs start arguments answers ≡ runs (function f) start arguments answers
+lower_runs_within f symbols env new params built is distinct g supported =
+    graph_runs_within f env new params built (subst (λ (l : List Symbol). IsGraphOf l (body_of f) env new params built) is g) (subst (λ (l : List Symbol). are_distinct l ≡ true) is distinct)
+    (body_supported f (symbols_of (function f)) refl supported)
+
 pub lower_same_runs : (f : ArrowFunction) (symbols : List Symbol) (env new : Environment) (params : List Param) (built : Built) → symbols ≡ symbols_of (function f) → are_distinct symbols ≡ true → IsGraphOf symbols (body_of f) env new params built → refusals_of (function f) ≡ []
     → (h : HirFunction) (pairs : List Pair) → h.body ≡ built.hir → h.instructions ≡ built.instructions → h.params ≡ params → SameRuns (function f) h pairs
-lower_same_runs f symbols env new params built is distinct g supported =
-    graph_same_runs f env new params built (subst (λ (l : List Symbol). IsGraphOf l (body_of f) env new params built) is g) (subst (λ (l : List Symbol). are_distinct l ≡ true) is distinct)
-    (body_supported f (symbols_of (function f)) refl supported)
+lower_same_runs f symbols env new params built is distinct g supported h pairs body_is instructions_is params_is start arguments answers =
+    lower_runs_within f symbols env new params built is distinct g supported h pairs body_is instructions_is params_is (positions h.body.blocks) (omega arith) start arguments answers
+
+pub lower_calm : (f : ArrowFunction) (symbols : List Symbol) (env new : Environment) (params : List Param) (built : Built) → symbols ≡ symbols_of (function f) → are_distinct symbols ≡ true → IsGraphOf symbols (body_of f) env new params built → refusals_of (function f) ≡ []
+    → (h : HirFunction) (pairs : List Pair) → h.body ≡ built.hir → h.instructions ≡ built.instructions → h.params ≡ params → IsCalm h pairs
+lower_calm f symbols env new params built is distinct g supported h pairs body_is instructions_is params_is most large start arguments answers =
+    lower_runs_within f symbols env new params built is distinct g supported h pairs body_is instructions_is params_is most large start arguments answers
+    ∙ sym (lower_same_runs f symbols env new params built is distinct g supported h pairs body_is instructions_is params_is start arguments answers)
 
 pub lower_bounded : (f : ArrowFunction) (symbols : List Symbol) (env new : Environment) (params : List Param) (built : Built) → are_distinct symbols ≡ true → IsGraphOf symbols (body_of f) env new params built → (h : HirFunction) → h.body ≡ built.hir → h.instructions ≡ built.instructions → function_size h ≤ 64 * nodes (function f)
 lower_bounded f symbols env new params built distinct g h body_is instructions_is =
@@ -298,6 +313,16 @@ lower_bounded f symbols env new params built distinct g h body_is instructions_i
 
 pub lower_functions : (symbols : List Symbol) (body : Syntax) (env new : Environment) (params : List Param) (built : Built) → are_distinct symbols ≡ true → IsGraphOf symbols body env new params built → new.functions ≡ env.functions
 lower_functions symbols body env new params built distinct g = ap (λ (e : Environment). e.functions) g.after ∙ (graph_keeps symbols body env new params built g distinct).functions
+
+pub lower_pairs : (symbols : List Symbol) (body : Syntax) (env new : Environment) (params : List Param) (built : Built) → are_distinct symbols ≡ true → IsGraphOf symbols body env new params built → new.pairs ≡ env.pairs ++ pairs_from 0 (length env.identifiers) symbols
+lower_pairs symbols body env new params built distinct g = ap (λ (e : Environment). e.pairs) g.after ∙ (graph_keeps symbols body env new params built g distinct).pairs
+
+-- the identifiers behind the graph, and those after one without a name more
+pub lower_identifiers : (symbols : List Symbol) (body : Syntax) (env new last : Environment) (params : List Param) (built : Built) (i : Identifier) → are_distinct symbols ≡ true → IsGraphOf symbols body env new params built → last.identifiers ≡ new.identifiers ++ i ∷ [] → i.name ≡ None → AddsUnnamed (env.identifiers ++ known_from env.next_type symbols) last.identifiers
+lower_identifiers symbols body env new last params built i distinct g more none =
+    added_then (env.identifiers ++ known_from env.next_type symbols) new.identifiers last.identifiers
+    (subst (λ (e : Environment). AddsUnnamed (env.identifiers ++ known_from env.next_type symbols) e.identifiers) (sym g.after) (graph_keeps symbols body env new params built g distinct).identifiers)
+    (record { more = i ∷ []; added = more; unnamed = one_unnamed i none })
 
 pub lower_fn_type : (symbols : List Symbol) (body : Syntax) (env new : Environment) (params : List Param) (built : Built) → are_distinct symbols ≡ true → IsGraphOf symbols body env new params built → new.fn_type ≡ env.fn_type
 lower_fn_type symbols body env new params built distinct g = ap (λ (e : Environment). e.fn_type) g.after ∙ (graph_keeps symbols body env new params built g distinct).fn_type

@@ -67,9 +67,9 @@ finished_runs s fin store notes answers t goes = record {
 pub entry_built : (s : State) → IsFinished s → (block : BasicBlock) × (block_of (built_of s).hir.blocks s.entry.0 ≡ Some block)
 entry_built s fin = built_entry s.entry s.completed fin.entry.block.block (entry_block s fin)
 
--- the run of a graph with its limits
-abbrev pub limited : List NumberedBlock → List Instruction → ℕ → Store → Notes → List Answer → Trace
-limited blocks table entry store notes answers = exec (code_in blocks table) (positions blocks) (steps_for answers (positions blocks)) (positions blocks) entry 0 store notes answers
+-- the run of a graph with a limit on silent steps
+abbrev pub limited : ℕ → List NumberedBlock → List Instruction → ℕ → Store → Notes → List Answer → Trace
+limited most blocks table entry store notes answers = exec (code_in blocks table) most (steps_for answers most) most entry 0 store notes answers
 
 more_steps : (answers : List Answer) (most : ℕ) → most < steps_for answers most
 more_steps [] most = omega arith
@@ -110,11 +110,11 @@ short_block blocks table id block is = record { instructions = λ place i there.
           | inr u ↦ absurd ((let never : None ≡ Some (Ends t) = sym (ap (λ (b : Bool). cond b (Some (Ends block.terminal)) None) u.0) ∙ is_item in cc))
         ]
 
--- what is led to without limits is led to with them
-pub total_runs : (blocks : List NumberedBlock) (table : List Instruction) (entry : ℕ) (store : Store) (notes : Notes) (answers : List Answer) (t : Trace) → (block : BasicBlock) × (block_of blocks entry ≡ Some block) → Goes (code_in blocks table) entry 0 store notes answers t → limited blocks table entry store notes answers ≡ t
-total_runs blocks table entry store notes answers t there goes =
+-- what is led to without limits is led to with them, where as many silent steps in a row are let be as there are positions
+pub total_runs : (most : ℕ) (blocks : List NumberedBlock) (table : List Instruction) (entry : ℕ) (store : Store) (notes : Notes) (answers : List Answer) (t : Trace) → positions blocks ≤ most → (block : BasicBlock) × (block_of blocks entry ≡ Some block) → Goes (code_in blocks table) entry 0 store notes answers t → limited most blocks table entry store notes answers ≡ t
+total_runs most blocks table entry store notes answers t large there goes =
     let bound : ℕ = length there.0.instructions in
     let few : bound < positions blocks = has_place blocks entry there.0 there.1 in
-    let enough : positions blocks < steps_for answers (positions blocks) = more_steps answers (positions blocks) in
-    calm (code_in blocks table) entry bound (positions blocks) (short_block blocks table entry there.0 there.1) (omega (arith, few)) (steps_for answers (positions blocks)) (positions blocks) (goes.by.0 + bound + 1) 0 store notes answers (omega (arith, few)) (omega (arith, few, enough)) (omega arith)
+    let enough : most < steps_for answers most = more_steps answers most in
+    calm (code_in blocks table) entry bound most (short_block blocks table entry there.0 there.1) (omega (arith, few, large)) (steps_for answers most) most (goes.by.0 + bound + 1) 0 store notes answers (omega (arith, few, large)) (omega (arith, few, large, enough)) (omega arith)
     ∙ goes.by.1 (goes.by.0 + bound + 1) (omega arith)

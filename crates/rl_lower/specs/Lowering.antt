@@ -1,8 +1,9 @@
 -- What lowering a part promises.
-use Rattle.std.specs.Prelude.{◌≡◌, ℕ, ◌+◌, ◌*◌, ◌<◌, ◌≤◌, ◌^◌, List, [], ◌∷◌, ◌++◌, All, Bool, true, Option, length, map}
+use Rattle.std.specs.Prelude.{◌≡◌, ℕ, ◌+◌, ◌*◌, ◌<◌, ◌≤◌, ◌^◌, List, [], ◌∷◌, ◌++◌, All, Bool, true, Option, None, length, map}
 use Rattle.rl_base.specs.declared.diagnostic.Diagnostic.{Diagnostic}
 use Rattle.rl_base.specs.declared.span.Span.{Span}
 use Rattle.rl_base.specs.declared.ids.InstructionId.{InstructionId}
+use Rattle.rl_hir.specs.declared.function.Identifier.{Identifier}
 use Rattle.rl_hir.specs.declared.terminal.ReturnVariant.TheVariants as returns
 use Rattle.rl_builder.specs.Builder.{State}
 use Rattle.rl_builder.specs.Order.{orders_of}
@@ -36,11 +37,19 @@ pub record Uses (old new : State) (more : ℕ) : Type 0 where
   pub instructions : length new.table ≤ length old.table + more
   pub completed : length new.completed ≤ length old.completed + more
 
+-- identifiers without a name were added
+pub record AddsUnnamed (old new : List Identifier) : Type 0 where
+  pub more : List Identifier
+  pub added : new ≡ old ++ more
+  pub unnamed : All (λ i. i.name ≡ None) more
+
 -- what every move keeps
 pub record Keeps (old new : State) (more : ℕ) : Type 0 where
   pub uses : Uses old new more
   pub listed : IsListed old → IsListed new
   pub named : (symbols : List Symbol) → IsNamed symbols old → IsNamed symbols new
+  pub identifiers : AddsUnnamed old.env.identifiers new.env.identifiers
+  pub pairs : new.env.pairs ≡ old.env.pairs
   pub functions : new.env.functions ≡ old.env.functions
   pub fn_type : new.env.fn_type ≡ old.env.fn_type
 

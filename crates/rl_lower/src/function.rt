@@ -9,11 +9,11 @@ ghost use Rattle.rl_base.specs.Reserved.{is_reserved};
 ghost use Rattle.rl_base.specs.declared.diagnostic.Diagnostic.{Diagnostic as Said};
 ghost use Rattle.rl_builder.specs.Builder.{state_of, started};
 ghost use Rattle.rl_lower.specs.Endings.{IsGraphOf};
-ghost use Rattle.rl_lower.specs.Lowering.{HasRoom, LowersBody, directives_in};
+ghost use Rattle.rl_lower.specs.Lowering.{AddsUnnamed, HasRoom, LowersBody, directives_in};
 ghost use Rattle.rl_lower.specs.Named.{IsNamed};
-ghost use Rattle.rl_lower.specs.Parameters.{places_from, with_parameters};
+ghost use Rattle.rl_lower.specs.Parameters.{known_from, pairs_from, places_from, with_parameters};
 ghost use Rattle.rl_model.specs.Closed.{IsClosed};
-ghost use Rattle.rl_model.specs.Headline.{SameRuns};
+ghost use Rattle.rl_model.specs.Headline.{IsCalm, SameRuns};
 ghost use Rattle.rl_model.specs.Held.{HoldsCalls};
 ghost use Rattle.rl_base.specs.declared.row.Row.TheVariants as row;
 ghost use Rattle.rl_model.specs.Rows.{first_named, is_text, refusals_of, stop, stop_at, stop_of};
@@ -206,6 +206,7 @@ pub fn lower(
     ensures refused { OnOk result (env.new.diagnostics ≡ env.old.diagnostics ++ refusals_of (spec.function function.now)) }
     ensures closed { IfOk result (λ f. refusals_of (spec.function function.now) ≡ [] → IsClosed f.body) }
     ensures same_runs { IfOk result (λ f. refusals_of (spec.function function.now) ≡ [] → SameRuns (spec.function function.now) f env.new.pairs) }
+    ensures calm { IfOk result (λ f. refusals_of (spec.function function.now) ≡ [] → IsCalm f env.new.pairs) }
     ensures held { IfOk result (λ f. HoldsCalls (spec.function function.now) f) }
     ensures functions { OnOk result (env.new.functions ≡ env.old.functions) }
     ensures bounded { IfOk result (λ f. function_size f ≤ 64 * nodes (spec.function function.now)) }
@@ -219,6 +220,11 @@ pub fn lower(
     ensures directives { IfOk result (λ f. f.directives ≡ directives_in (spec.arrow_body function.now.body)) }
     ensures params { IfOk result (λ f. f.params ≡ places_from (length env.old.identifiers) semantic.now.symbols) }
     ensures context { IfOk result (λ f. f.context ≡ []) }
+    ensures returns { IfOk result (λ f. (f.returns.span ≡ None) × (f.returns.identifier.0 + 1 ≡ length env.new.identifiers)) }
+
+    // The parameters' identifiers come first, and no other that is made has a name.
+    ensures pairs { OnOk result (env.new.pairs ≡ env.old.pairs ++ pairs_from 0 (length env.old.identifiers) semantic.now.symbols) }
+    ensures identifiers { OnOk result (AddsUnnamed (env.old.identifiers ++ known_from env.old.next_type semantic.now.symbols) env.new.identifiers) }
 {
     if let Some(symbol) = find_this(semantic.symbols.as_slice()) {
         return Err(Stop::Stopped(stop_at_this(alloc, symbol)?));

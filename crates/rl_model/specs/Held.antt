@@ -60,8 +60,12 @@ abbrev pub graph_calls : List Instruction → List NumberedBlock → List (Optio
 graph_calls table [] = []
 graph_calls table (b ∷ blocks) = listed_calls table b.block.instructions ++ graph_calls table blocks
 
+-- no two calls stand at one place
+abbrev pub AreApart : List (Option Span) → Type 0
+AreApart places = (i j : ℕ) (place : Option Span) → slice_get places i ≡ Some place → slice_get places j ≡ Some place → i ≡ j
+
 -- the table has an instruction for each call, in the order of the calls, and no other; the blocks list those that are not
--- dead, each once. Places of two calls differ
+-- dead, each once
 pub record HoldsCalls (function : Syntax) (f : HirFunction) : Type 0 where
   pub table : calls_of f.instructions ≡ calls_in function
   pub blocks : graph_calls f.instructions f.body.blocks ≡ live_calls_in function

@@ -140,12 +140,15 @@ abbrev pub steps_for : List Answer → ℕ → ℕ
 steps_for [] most = most + 1
 steps_for (answer ∷ rest) most = most + 1 + steps_for rest most
 
--- a run of a function's graph. More silent steps in a row than it has positions end it waiting, so it is known how many
--- steps it takes at most
-abbrev pub function_trace : HirFunction → List Pair → List Setting → List Value → List Answer → Trace
-function_trace f pairs start arguments answers =
-    let most = positions f.body.blocks in
+-- a run of a function's graph, which more silent steps in a row than these end waiting, so it is known how many steps it
+-- takes at most
+abbrev pub trace_within : ℕ → HirFunction → List Pair → List Setting → List Value → List Answer → Trace
+trace_within most f pairs start arguments answers =
     exec (code_of f) most (steps_for answers most) most f.body.entry.0 0 (take_arguments f.params arguments (set_by pairs start unset)) no_notes answers
+
+-- a run of a function's graph, which more silent steps in a row than it has positions end waiting
+abbrev pub function_trace : HirFunction → List Pair → List Setting → List Value → List Answer → Trace
+function_trace f = trace_within (positions f.body.blocks) f
 
 -- a run of the marked function's graph
 abbrev pub graph_trace : Lowered → List Setting → List Value → List Answer → Trace

@@ -2,6 +2,7 @@ use Rattle.std.proofs.Common.{◌≡◌, ◌≤◌, ◌*◌, ◌++◌, ℕ, true
 use Rattle.rl_model.specs.Closed.{IsClosed}
 use Rattle.rl_model.specs.Headline.{IsLowered, SameRuns}
 use Rattle.rl_model.specs.Held.{HoldsCalls}
+use Rattle.rl_model.proofs.Apart.{calls_apart}
 use Rattle.rl_model.specs.Units.{IsUnit}
 use Rattle.rl_scope.specs.Symbols.{are_distinct, symbols_of}
 use Rattle.rl_ast.specs.declared.tree.Unit.{Unit as TreeOfUnit}
@@ -11,8 +12,9 @@ use Rattle.rl_ast.specs.Units.{Spells, unit, function}
 use Rattle.rl_model.specs.Source.{marked}
 use Rattle.rl_model.specs.Rows.{IsSupported, refusals_of}
 use Rattle.rl_model.specs.Size.{function_size}
-use Rattle.react_lower.specs.Answers.{HasFieldsOf}
-use Rattle.rl_lower.specs.Parameters.{places_from}
+use Rattle.react_lower.specs.Answers.{HasFieldsOf, HasIdentifiersOf}
+use Rattle.rl_lower.specs.Lowering.{AddsUnnamed}
+use Rattle.rl_lower.specs.Parameters.{known_from, pairs_from, places_from}
 use Rattle.rl_scope.specs.declared.semantic.Symbol.{Symbol}
 use Rattle.react_lower.proofs.Fields.{fields_of}
 use Rattle.react_lower.proofs.Room.{alone_bounded, few_nodes, fresh_room}
@@ -54,6 +56,8 @@ returns-clause-lowered c =
         inner_closed = none_closed _ functions;
         bounded = alone_bounded c.in-Ok.unit c.in-Ok.ensures.found.grammar c.in-Ok-lower.function (subst (λ (s : Syntax). function_size c.in-Ok-lower.function ≤ 64 * nodes s) c.marked_function-marked.ensures.function c.in-Ok-lower.ensures.bounded) _ functions;
         same_runs = subst (λ (s : Syntax). SameRuns s c.in-Ok-lower.function c.lower.new.env.pairs) c.marked_function-marked.ensures.function (c.in-Ok-lower.ensures.same_runs none);
+        calm = c.in-Ok-lower.ensures.calm none;
+        apart = calls_apart c.args.bytes.now c.in-Ok.unit c.in-Ok.ensures.found;
         held = subst (λ (s : Syntax). HoldsCalls s c.in-Ok-lower.function) c.marked_function-marked.ensures.function c.in-Ok-lower.ensures.held;
       }),
     )
@@ -67,6 +71,18 @@ returns-clause-fields c u spells =
     subst (λ (l : Lowered). HasFieldsOf (marked (unit u)) l.function) (sym c.into_lowered.ensures)
     (subst (λ (s : Syntax). HasFieldsOf s c.in-Ok-lower.function) (c.marked_function-marked.ensures.function ∙ ap marked same)
     (fields_of c.marked_function-marked.result.now c.in-Ok-lower.function fields.span fields.name fn_type fields.is_async fields.generator fields.directives params fields.context))
+
+pub returns-clause-identifiers : goal.returns-clause-identifiers
+returns-clause-identifiers c u spells =
+    let same : unit c.in-Ok.unit ≡ unit u = same_unit c.args.bytes.now c.in-Ok.unit u c.in-Ok.ensures.found spells in
+    let pairs = c.in-Ok-lower.ensures.pairs
+    ∙ ap (λ (e : Environment). e.pairs ++ pairs_from 0 (length e.identifiers) c.in-Ok-of.semantic.symbols) c.new-env.ensures
+    ∙ ap (λ (l : List Symbol). pairs_from 0 0 l) c.in-Ok-of.ensures.symbols in
+    let names = subst (λ (l : List Symbol). AddsUnnamed (known_from 0 l) c.lower.new.env.identifiers) c.in-Ok-of.ensures.symbols
+    (subst (λ (e : Environment). AddsUnnamed (e.identifiers ++ known_from e.next_type c.in-Ok-of.semantic.symbols) c.lower.new.env.identifiers) c.new-env.ensures c.in-Ok-lower.ensures.identifiers) in
+    subst (λ (l : Lowered). HasIdentifiersOf (marked (unit u)) l) (sym c.into_lowered.ensures)
+    (subst (λ (s : Syntax). HasIdentifiersOf s (record { function = c.in-Ok-lower.function; inner = c.lower.new.env.functions; identifiers = c.lower.new.env.identifiers; pairs = c.lower.new.env.pairs })) (c.marked_function-marked.ensures.function ∙ ap marked same)
+    (record { names = names; pairs = pairs; returns_at = c.in-Ok-lower.ensures.returns.0; returns_last = c.in-Ok-lower.ensures.returns.1 }))
 
 -- bytes without a spelling are no unit
 pub returns-in-Err-Malformed-clause-malformed : goal.returns-in-Err-Malformed-clause-malformed
