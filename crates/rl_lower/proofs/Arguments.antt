@@ -1,7 +1,7 @@
 -- The arguments of a call, one after the other.
-use Rattle.std.proofs.Common.{◌≡◌, ℕ, zero, suc, ◌+◌, ◌≤◌, ◌++◌, codes, List, [], ◌∷◌, map, drop, refl, sym, ap, ◌∙◌, arith, append_assoc}
+use Rattle.std.proofs.Common.{◌≡◌, ℕ, zero, suc, ◌≤◌, ◌++◌, codes, List, [], ◌∷◌, map, drop, refl, sym, ap, ◌∙◌, arith}
 use Rattle.rl_ast.specs.declared.tree.Expression.{Expression}
-use Rattle.rl_ast.specs.Syntax.{nodes, nodes_of, pieces_of}
+use Rattle.rl_ast.specs.Syntax.{nodes_of, pieces_of}
 use Rattle.rl_ast.specs.Units.{expression}
 use Rattle.rl_hir.specs.Instructions.{argument_place, argument_shape}
 use Rattle.rl_hir.specs.declared.instruction.Place.{Place}

@@ -1,5 +1,5 @@
 -- Events: what follows them, and that no variable is open to them.
-use Rattle.std.proofs.Common.{◌≡◌, ℕ, Bool, List, [], ◌∷◌, refl, ap}
+use Rattle.std.proofs.Common.{◌≡◌, List, [], ◌∷◌, refl, ap}
 use Rattle.rl_model.specs.declared.trace.Value.{Value}
 use Rattle.rl_model.specs.declared.trace.Setting.{Setting}
 use Rattle.rl_model.specs.declared.trace.Answer.{Answer}

@@ -1,5 +1,5 @@
 -- What lowering each kind of part promises, from the moves that it makes.
-use Rattle.std.proofs.Common.{◌≡◌, ℕ, ◌+◌, ◌*◌, ◌≤◌, ◌++◌, Bool, true, false, not, if◌then◌else◌, List, [], ◌∷◌, length, map, Option, Some, None, refl, sym, ap, ◌∙◌, subst, arith}
+use Rattle.std.proofs.Common.{◌≡◌, ℕ, ◌+◌, ◌*◌, ◌≤◌, ◌++◌, Bool, true, false, if◌then◌else◌, List, [], ◌∷◌, length, map, Option, Some, None, refl, sym, ap, ◌∙◌, subst, arith}
 use Rattle.std.proofs.Common.{append-nil, append_assoc}
 use Rattle.rl_base.specs.declared.diagnostic.Diagnostic.{Diagnostic}
 use Rattle.rl_base.specs.declared.row.Row.TheVariants as row
@@ -26,11 +26,10 @@ use Rattle.rl_scope.specs.declared.semantic.Symbol.{Symbol}
 use Rattle.rl_scope.specs.Symbols.{symbol_named}
 use Rattle.rl_model.specs.declared.trace.Answer.{Answer}
 use Rattle.rl_model.specs.declared.trace.Value.TheVariants as value
-use Rattle.rl_model.specs.Events.{global, binary, call}
 use Rattle.rl_model.specs.Held.{call_at, calls_in, calls_among, calls_of, can_fall, live_calls}
 use Rattle.rl_model.specs.Rows.{declaration_in, refusals, refusals_in, refusal, said_of_name}
-use Rattle.rl_model.specs.Traces.{Exits, returned, Means, Store, With, WithAll, Gives, waiting}
-use Rattle.rl_model.specs.Source.{asks, gives, gives_all, reads, shape_of, does, does_all}
+use Rattle.rl_model.specs.Traces.{Exits, returned, Store, With, waiting}
+use Rattle.rl_model.specs.Source.{gives, gives_all, reads, shape_of, does, does_all}
 use Rattle.rl_hir.specs.Instructions.{argument_place, argument_shape}
 use Rattle.rl_model.specs.Machine.{value_of}
 use Rattle.rl_lower.specs.Endings.{return_of, returned_from}

@@ -1,5 +1,5 @@
 -- What a name stands for, and what is said of it.
-use Rattle.std.proofs.Common.{◌≡◌, ℕ, zero, suc, ◌+◌, ◌&&◌, ◌++◌, Bool, true, false, if◌then◌else◌, codes, List, [], ◌∷◌, slice_get, Option, Some, None, refl, sym, ap, ◌∙◌, subst, arith, append-nil}
+use Rattle.std.proofs.Common.{◌≡◌, ℕ, suc, ◌+◌, ◌&&◌, ◌++◌, Bool, true, false, if◌then◌else◌, List, [], ◌∷◌, slice_get, Option, Some, None, refl, sym, ap, ◌∙◌, subst, arith, append-nil}
 use Rattle.std.specs.Option.{option_map}
 use Rattle.std.specs.Str.{bytes_eq}
 use Rattle.std.proofs.lemmas.Slice.Eq.{bytes_eq-Decides}
@@ -17,7 +17,7 @@ use Rattle.rl_builder.specs.Names.{fbt, fbt_diagnostic, is_named, name_of, refus
 use Rattle.rl_builder.specs.Temporaries.{temporary, with_value}
 use Rattle.rl_ast.specs.declared.numbered.At.{At}
 use Rattle.rl_ast.specs.declared.word.Word.TheVariants as word
-use Rattle.rl_ast.specs.Syntax.{Syntax, Node, Said, End, Then}
+use Rattle.rl_ast.specs.Syntax.{Node, Said, End, Then}
 use Rattle.rl_scope.specs.declared.semantic.Symbol.{Symbol}
 use Rattle.rl_scope.specs.Symbols.{symbol_from, symbol_named}
 use Rattle.rl_model.specs.Rows.{declaration_in, refusal, said_of_name}

@@ -1,18 +1,15 @@
 -- What the builder is behind the parameters of a function.
-use Rattle.std.proofs.Common.{◌≡◌, ℕ, zero, suc, ◌+◌, ◌<◌, ◌≤◌, ◌^◌, ◌++◌, ◌&&◌, Bool, true, false, not, cond, nat_eq, if◌then◌else◌, List, [], ◌∷◌, length, length-append, Option, Some, None, slice_get, refl, sym, ap, ◌∙◌, subst, arith, append-nil, append_assoc, codes, eq-eqb, inl, inr}
+use Rattle.std.proofs.Common.{◌≡◌, ℕ, zero, suc, ◌+◌, ◌<◌, ◌≤◌, ◌^◌, ◌++◌, ◌&&◌, Bool, true, false, not, nat_eq, if◌then◌else◌, List, [], ◌∷◌, length, length-append, Option, Some, None, slice_get, refl, sym, ap, ◌∙◌, subst, arith, append-nil, append_assoc, codes, eq-eqb, inl, inr}
 use Rattle.std.specs.Str.{bytes_eq}
 use Rattle.std.specs.Option.{is_some, option_map_or}
 use Rattle.std.proofs.lemmas.Bool.{cases_lt, ne_eqb}
 use Rattle.std.proofs.lemmas.Bool.Decides.{eqb_tells}
 use Rattle.rl_base.specs.declared.diagnostic.Diagnostic.{Diagnostic}
 use Rattle.rl_base.specs.declared.row.Row.TheVariants as row
-use Rattle.rl_base.specs.declared.span.Span.{Span}
 use Rattle.rl_hir.specs.Pairs.{identifier_of}
 use Rattle.rl_hir.specs.declared.environment.Environment.{Environment}
 use Rattle.rl_hir.specs.declared.function.Identifier.{Identifier}
-use Rattle.rl_hir.specs.declared.function.IdentifierName.TheVariants.{Named}
 use Rattle.rl_hir.specs.declared.function.Pair.{Pair}
-use Rattle.rl_hir.specs.declared.function.Param.{Param}
 use Rattle.rl_builder.specs.Builder.{State}
 use Rattle.rl_builder.specs.Names.{candidate, chosen, fbt, fbt_diagnostic, is_free, named_identifier, pair, place_from, resolved, resolved_by, user_of, with_user}
 use Rattle.rl_builder.specs.UsedName.{UsedName}
@@ -24,7 +21,7 @@ use Rattle.rl_model.specs.Machine.{take_arguments}
 use Rattle.rl_model.specs.Rows.{is_text, refusal}
 use Rattle.rl_model.specs.Source.{take_from}
 use Rattle.rl_model.specs.Traces.{Store, set}
-use Rattle.rl_lower.specs.Named.{HasIdentifier, IsNamed}
+use Rattle.rl_lower.specs.Named.{IsNamed}
 use Rattle.rl_lower.specs.Parameters.{known_from, pairs_from, places_from, resolved_from, said_of_symbols, with_parameters}
 use Rattle.rl_lower.specs.Simulation.{Agrees, AreMade}
 use Rattle.rl_lower.proofs.Steps.{set_same, set_other}

@@ -28,7 +28,6 @@ use Rattle.rl_model.specs.declared.trace.Answer.{Answer}
 use Rattle.rl_model.specs.declared.trace.Setting.{Setting}
 use Rattle.rl_model.specs.declared.trace.Value.{Value}
 use Rattle.rl_model.specs.declared.trace.Value.TheVariants as value
-use Rattle.rl_model.specs.declared.trace.Trace.{Trace}
 use Rattle.rl_model.specs.Closed.{IsClosed}
 use Rattle.rl_model.specs.Headline.{IsCalm, SameRuns}
 use Rattle.rl_model.specs.Held.{call_at, calls_in, calls_among, calls_of, graph_calls, live_calls_in, live_in_body}
@@ -44,7 +43,7 @@ use Rattle.rl_lower.specs.Listed.{IsListed}
 use Rattle.rl_lower.specs.Live.{entry_calls, is_alive, where_alive}
 use Rattle.rl_lower.proofs.Live.{completed_calls, graph_plain, lives_value, none_where}
 use Rattle.rl_lower.specs.Lowering.{AddsUnnamed, HasRoom, Keeps, LowersBody, body_runs, texts_in, directives_in}
-use Rattle.rl_lower.specs.Parameters.{known_from, pairs_from, places_from, said_of_symbols, with_parameters}
+use Rattle.rl_lower.specs.Parameters.{known_from, pairs_from, said_of_symbols, with_parameters}
 use Rattle.rl_lower.proofs.Building.{IsFresh, keeps_closed, listed_fresh}
 use Rattle.rl_lower.proofs.Functions.{function_finished, function_runs_within}
 use Rattle.rl_lower.proofs.Graphs.{without_order, ordered_table_plain}

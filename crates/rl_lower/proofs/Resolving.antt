@@ -1,5 +1,5 @@
 -- A parameter that gets its identifier.
-use Rattle.std.proofs.Common.{◌≡◌, ℕ, ◌+◌, ◌<◌, ◌≤◌, ◌++◌, Bool, true, false, nat_eq, if◌then◌else◌, List, [], ◌∷◌, length, length-append, Option, Some, None, refl, sym, ap, ◌∙◌, subst, arith, append_assoc}
+use Rattle.std.proofs.Common.{◌≡◌, ℕ, ◌+◌, ◌≤◌, ◌++◌, Bool, true, false, nat_eq, if◌then◌else◌, List, [], ◌∷◌, length, length-append, Option, Some, None, refl, sym, ap, ◌∙◌, subst, arith, append_assoc}
 use Rattle.std.proofs.lemmas.Bool.{ne_eqb}
 use Rattle.std.proofs.Common.{eq-eqb}
 use Rattle.rl_base.specs.Reserved.{is_reserved}
@@ -8,13 +8,12 @@ use Rattle.rl_hir.specs.Pairs.{identifier_of}
 use Rattle.rl_hir.specs.declared.function.Pair.{Pair}
 use Rattle.rl_hir.specs.declared.function.Param.{Param}
 use Rattle.rl_hir.specs.declared.function.Param.TheVariants as params
-use Rattle.rl_hir.specs.declared.instruction.Place.{Place}
 use Rattle.rl_builder.specs.Builder.{State}
 use Rattle.rl_builder.specs.Names.{pair, resolved, resolved_by}
 use Rattle.rl_scope.specs.declared.semantic.Symbol.{Symbol}
 use Rattle.rl_model.specs.Rows.{first_named}
 use Rattle.rl_lower.specs.Lowering.{HasRoom}
-use Rattle.rl_lower.specs.Parameters.{places_from, resolved_from}
+use Rattle.rl_lower.specs.Parameters.{places_from}
 
 -- look-ups in pairs that got one more
 unbound_more : (bindings : List Pair) (number identifier other : ℕ) → (number ≡ other → ⊥) → identifier_of bindings other ≡ None → identifier_of (bindings ++ pair number identifier ∷ []) other ≡ None

@@ -1,5 +1,5 @@
 -- The calls that the entry block lists, and whether the builder still stands in it.
-use Rattle.std.specs.Prelude.{◌≡◌, ℕ, ◌<◌, ◌≤◌, ◌&&◌, nat_eq, Bool, true, false, if◌then◌else◌, Option, List, [], ◌++◌}
+use Rattle.std.specs.Prelude.{◌≡◌, ◌<◌, ◌≤◌, ◌&&◌, nat_eq, Bool, true, false, if◌then◌else◌, Option, List, [], ◌++◌}
 use Rattle.rl_base.specs.declared.span.Span.{Span}
 use Rattle.rl_ast.specs.declared.word.Word.TheVariants as word
 use Rattle.rl_ast.specs.Syntax.{Syntax, Node, Listed, Pieces, End, Then}

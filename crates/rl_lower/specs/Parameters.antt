@@ -1,6 +1,5 @@
 -- The builder behind the parameters of a function.
-use Rattle.std.specs.Prelude.{◌≡◌, ℕ, ◌+◌, Some, List, [], ◌∷◌, ◌++◌, if◌then◌else◌, codes, length}
-use Rattle.std.specs.Str.{bytes_eq}
+use Rattle.std.specs.Prelude.{ℕ, ◌+◌, Some, List, [], ◌∷◌, ◌++◌, if◌then◌else◌, codes}
 use Rattle.rl_base.specs.declared.diagnostic.Diagnostic.{Diagnostic}
 use Rattle.rl_base.specs.declared.row.Row.TheVariants as row
 use Rattle.rl_hir.specs.declared.function.Identifier.{Identifier}

@@ -3,7 +3,7 @@ use Rattle.std.proofs.Common.{◌≡◌, ℕ, zero, suc, ◌+◌, ◌<◌, ◌�
 use Rattle.rl_base.specs.declared.span.Span.{Span}
 use Rattle.rl_text.specs.Notation.{spelled_on, spelling}
 use Rattle.rl_ast.proofs.Grammar.{one_statement}
-use Rattle.rl_ast.specs.Grammar.{is_marked, is_unit}
+use Rattle.rl_ast.specs.Grammar.{is_marked}
 use Rattle.rl_ast.specs.Syntax.{Syntax, Node, Listed, Said, Count, Flag, Absent, Pieces, End, Then, IsPlaced, ArePlaced, nodes, pieces_of, plain, plain_parts, width}
 use Rattle.rl_ast.specs.Units.{Spells, node, statement, unit}
 use Rattle.rl_ast.specs.Words.{word_text}

@@ -1,6 +1,6 @@
 -- What is promised of a result: no row applied, it is closed, it runs as the source does and never too long in silence, it
 -- holds each call once, and its size.
-use Rattle.std.specs.Prelude.{◌≡◌, ℕ, ◌*◌, ◌≤◌, List, [], All}
+use Rattle.std.specs.Prelude.{◌≡◌, ℕ, ◌*◌, ◌≤◌, List, All}
 use Rattle.rl_ast.specs.Syntax.{Syntax, nodes}
 use Rattle.rl_model.specs.Held.{AreApart, HoldsCalls, calls_in}
 use Rattle.rl_model.specs.Rows.{IsSupported}
@@ -17,7 +17,6 @@ use Rattle.rl_hir.specs.declared.function.Lowered.{Lowered}
 use Rattle.rl_model.specs.declared.trace.Value.{Value}
 use Rattle.rl_model.specs.declared.trace.Setting.{Setting}
 use Rattle.rl_model.specs.declared.trace.Answer.{Answer}
-use Rattle.rl_model.specs.declared.trace.Trace.{Trace}
 
 -- the graph has the trace of the function of the source, for every start, arguments and answers
 abbrev pub SameRuns : Syntax → HirFunction → List Pair → Type 0

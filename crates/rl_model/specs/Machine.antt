@@ -1,5 +1,5 @@
 -- What a graph does: one step for each instruction and terminal.
-use Rattle.std.specs.Prelude.{ℕ, zero, suc, ◌+◌, ◌==◌, nat_eq, Bool, false, if◌then◌else◌, Option, Some, None, List, [], ◌∷◌, length, map, slice_get, codes}
+use Rattle.std.specs.Prelude.{ℕ, zero, suc, ◌+◌, ◌==◌, nat_eq, Bool, false, if◌then◌else◌, Option, Some, None, List, [], ◌∷◌, length, map, slice_get}
 use Rattle.std.specs.Option.{option_map}
 use Rattle.rl_text.specs.Operators.{operator_text}
 use Rattle.rl_model.specs.Events.{global, binary, call}

@@ -10,7 +10,7 @@ use Rattle.rl_text.specs.Numeral.{is_numeral}
 use Rattle.rl_ast.specs.declared.word.Word.TheVariants as word
 use Rattle.rl_ast.specs.Syntax.{Syntax, Node, Listed, Said, Pieces, End, Then}
 use Rattle.rl_scope.specs.declared.semantic.Symbol.{Symbol}
-use Rattle.rl_scope.specs.Symbols.{symbol_named, symbols_of}
+use Rattle.rl_scope.specs.Symbols.{symbols_of}
 
 -- the text is this word
 abbrev pub is_text : List ℕ → List ℕ → Bool

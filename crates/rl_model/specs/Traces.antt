@@ -1,5 +1,5 @@
 -- How traces are put together: both sides, syntax and graph, say what follows as a function of what came before.
-use Rattle.std.specs.Prelude.{ℕ, nat_eq, Bool, false, if◌then◌else◌, List, [], ◌∷◌}
+use Rattle.std.specs.Prelude.{ℕ, nat_eq, Bool, if◌then◌else◌, List, [], ◌∷◌}
 use Rattle.rl_hir.specs.declared.terminal.ReturnVariant.{ReturnVariant}
 use Rattle.rl_model.specs.declared.trace.Value.{Value}
 use Rattle.rl_model.specs.declared.trace.Value.TheVariants.{Undefined}

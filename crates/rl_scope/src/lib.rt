@@ -2,5 +2,6 @@
 #![tactic(auto)]
 
 pub mod semantic;
+pub mod symbols;
 #[cfg(test)]
 mod tests;

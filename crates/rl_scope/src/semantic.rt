@@ -6,10 +6,10 @@ ghost use Rattle.rl_ast.specs.Syntax.{pieces_of};
 ghost use Rattle.rl_ast.specs.Units as spec;
 ghost use Rattle.rl_scope.specs.Symbols.{are_distinct, declared_in, symbol_named, symbols_of};
 
+use crate::symbols::Symbols;
 use rl_ast::tree::{ArrowFunction, FormalParameter};
 use rl_base::failure::OutOfMemory;
 use rl_base::ids::SymbolId;
-use rl_base::list::List;
 use rl_base::span::Span;
 use rl_base::text::Text;
 use std::alloc::Global;
@@ -26,7 +26,7 @@ pub struct Symbol {
 /// The symbols of a unit, by number. (The unit has one function, whose parameters are all that it declares.)
 #[derive(Drop)]
 pub struct Semantic {
-    pub symbols: List<Symbol>,
+    pub symbols: Symbols,
 }
 
 /// Why a unit has no symbols.
@@ -52,7 +52,7 @@ impl From<OutOfMemory> for RuleError {
 }
 
 /// The symbol that a parameter declares.
-fn declare(alloc: Global, param: &FormalParameter) -> Result<Symbol, OutOfMemory>
+fn declared_by(alloc: Global, param: &FormalParameter) -> Result<Symbol, OutOfMemory>
     ensures { IfOk result (λ symbol. symbol ≡ record { name = param.now.pattern.name; declaration = param.now.pattern.at.span }) }
 {
     Ok(Symbol {
@@ -61,40 +61,19 @@ fn declare(alloc: Global, param: &FormalParameter) -> Result<Symbol, OutOfMemory
     })
 }
 
-/// The symbols that parameters declare.
-fn declare_all(alloc: Global, params: &[FormalParameter]) -> Result<List<Symbol>, OutOfMemory>
-    ensures { IfOk result (λ symbols. symbols ≡ declared_in (pieces_of (map spec.param params.now))) }
+/// The symbols that parameters declare. `Malformed(4)` at the first of a name that an earlier one has.
+fn declare_all(alloc: Global, params: &[FormalParameter]) -> Result<Symbols, RuleError>
+    ensures symbols { IfOk result (λ symbols. symbols ≡ declared_in (pieces_of (map spec.param params.now))) }
+    ensures distinct { IfOk result (λ symbols. are_distinct symbols ≡ true) }
+    ensures malformed { IfErr result (λ e. (rule : ℕ) → e ≡ RuleError.Malformed rule → (rule ≡ 4) × (are_distinct (declared_in (pieces_of (map spec.param params.now))) ≡ false)) }
 {
-    let mut symbols = List::new(alloc);
+    let mut symbols = Symbols::new(alloc);
     for param in params {
-        symbols.push(declare(alloc, param)?)?;
+        if !symbols.declare(alloc, declared_by(alloc, param)?)? {
+            return Err(RuleError::Malformed(4));
+        }
     }
     Ok(symbols)
-}
-
-/// The place of the first symbol of this name.
-fn position(symbols: &[Symbol], name: &str) -> Option<usize>
-    ensures place { result ≡ symbol_named symbols.now name.now }
-    ensures within { IfSome result (λ place. place < length symbols.now) }
-{
-    for (place, symbol) in symbols.iter().enumerate() {
-        if symbol.name.as_str() == name {
-            return Some(place);
-        }
-    }
-    None
-}
-
-/// Whether no two symbols have one name.
-fn are_distinct(symbols: &[Symbol]) -> bool
-    ensures { result ≡ are_distinct symbols.now }
-{
-    for (place, symbol) in symbols.iter().enumerate() {
-        if position(&symbols[place + 1..], symbol.name.as_str()).is_some() {
-            return false;
-        }
-    }
-    true
 }
 
 impl Semantic {
@@ -105,9 +84,6 @@ impl Semantic {
         ensures malformed { IfErr result (λ e. (rule : ℕ) → e ≡ RuleError.Malformed rule → (rule ≡ 4) × (are_distinct (symbols_of (spec.function function.now)) ≡ false)) }
     {
         let symbols = declare_all(alloc, function.params.items.as_slice())?;
-        if !are_distinct(symbols.as_slice()) {
-            return Err(RuleError::Malformed(4));
-        }
         Ok(Semantic { symbols })
     }
 
@@ -117,8 +93,8 @@ impl Semantic {
         ensures found { option_map (λ symbol. symbol.0) result ≡ symbol_named self.now.symbols name.now }
         ensures within { IfSome result (λ symbol. symbol.0 < length self.now.symbols) }
     {
-        match position(self.symbols.as_slice(), name) {
-            Some(place) => Some(SymbolId(place as u32)),
+        match self.symbols.find(name) {
+            Some(number) => Some(SymbolId(number as u32)),
             None => None,
         }
     }
@@ -128,7 +104,7 @@ impl Semantic {
         requires { symbol.0 < length self.now.symbols }
         ensures { option_map (λ s. s.declaration) (slice_get self.now.symbols symbol.0) ≡ Some result }
     {
-        match self.symbols.get(symbol.0 as usize) {
+        match self.symbols.as_slice().get(symbol.0 as usize) {
             Some(symbol) => symbol.declaration,
             None => unreachable!(),
         }

@@ -1,4 +1,5 @@
-use crate::semantic::{RuleError, Semantic};
+use crate::semantic::{RuleError, Semantic, Symbol};
+use crate::symbols::Symbols;
 use rl_ast::numbered::At;
 use rl_ast::tree::{
     ArrowBody, ArrowFunction, BindingIdentifier, Expression, FormalParameter, Params,
@@ -16,7 +17,7 @@ fn at(start: u32) -> At {
         id: NodeId(start),
         span: Span {
             start,
-            end: start + 1,
+            end: start.saturating_add(1),
         },
     }
 }
@@ -34,7 +35,7 @@ fn function(alloc: Global, names: &[&str]) -> Result<ArrowFunction, Fail> {
             at: at(start),
             pattern,
         })?;
-        start += 1;
+        start = start.saturating_add(1);
     }
     Ok(ArrowFunction {
         at: at(0),
@@ -72,6 +73,36 @@ fn refuses_two_parameters_of_one_name(rt: HostRuntime) -> Result<(), Fail> {
         let function = function(rt.alloc(), names.as_slice())?;
         let result = Semantic::of(rt.alloc(), &function).map(|_| ());
         assert_eq!(rt; result, Err(RuleError::Malformed(4)));
+    }
+    Ok(())
+}
+
+#[test]
+fn declares_each_name_once(rt: HostRuntime) -> Result<(), Fail> {
+    let mut symbols = Symbols::new(rt.alloc());
+    assert_eq!(rt; symbols.find("a"), None);
+    for (place, name) in ["a", "b", "", "ab", "A"].iter().enumerate() {
+        let symbol = Symbol {
+            name: Text::from_str(rt.alloc(), name)?,
+            declaration: at(place as u32).span,
+        };
+        assert!(rt; symbols.declare(rt.alloc(), symbol)?, "{name}");
+    }
+    let again = Symbol {
+        name: Text::from_str(rt.alloc(), "b")?,
+        declaration: at(9).span,
+    };
+    assert!(rt; !symbols.declare(rt.alloc(), again)?);
+    assert_eq!(rt; symbols.len(), 5);
+    for (name, number) in [
+        ("a", Some(0)),
+        ("b", Some(1)),
+        ("", Some(2)),
+        ("ab", Some(3)),
+        ("A", Some(4)),
+        ("B", None),
+    ] {
+        assert_eq!(rt; symbols.find(name), number, "{name}");
     }
     Ok(())
 }

@@ -1,6 +1,6 @@
-use Rattle.std.proofs.Common.{◌≡◌, ◌+◌, ◌*◌, ◌≤◌, ◌++◌, ℕ, None, Some, false, List, [], length, sym, ap, ◌∙◌, subst, arith, refl}
+use Rattle.std.proofs.Common.{None, Some, false, ap, ◌∙◌, refl}
 use Rattle.rl_ast.proofs.Grammar.{function_body}
-use Rattle.rl_ast.specs.Units.{arrow_body, function}
+use Rattle.rl_ast.specs.Units.{arrow_body}
 use Rattle.rl_hir.specs.declared.environment.Environment.{Environment}
 use Rattle.rl_hir.specs.declared.function.HirFunction.{HirFunction}
 use Rattle.rl_lower.proofs.Promises.{identifiers_fit, types_fit, lower_bounded, lower_calls, lower_calm, lower_closed, lower_fn_type, lower_functions, lower_identifiers, lower_live, lower_pairs, lower_refused, lower_room, lower_same_runs}

@@ -1,4 +1,4 @@
-use Rattle.std.proofs.Common.{rules, ◌≡◌, ◌+◌, ◌*◌, List, length, ap, sym, ◌∙◌, subst, refl, arith}
+use Rattle.std.proofs.Common.{rules, ◌+◌, ◌*◌, length, ap, sym, ◌∙◌, subst, arith}
 use Rattle.rl_ast.specs.Syntax.{nodes}
 use Rattle.rl_ast.specs.Units.{arrow_body}
 use Rattle.rl_hir.specs.declared.function.BlockKind.TheVariants as kinds
@@ -9,7 +9,7 @@ use Rattle.rl_lower.specs.Parameters.{places_from, with_parameters}
 use Rattle.rl_lower.proofs.Closings.{listed_call, orders_call, graph_call}
 use Rattle.rl_lower.proofs.Building.{IsFresh}
 use Rattle.rl_lower.proofs.Keeping.{room_behind, room_less}
-use Rattle.rl_lower.proofs.Parameters.{parameters_named, state_with}
+use Rattle.rl_lower.proofs.Parameters.{parameters_named}
 use Rattle.rl_lower.proofs.Promises.{begun_call, begun_fresh, begun_room}
 use Rattle.rl_lower.proofs.function.lower_graph.Goals as goal
 

@@ -1,4 +1,4 @@
-use Rattle.std.proofs.Common.{◌≡◌, ◌+◌, ◌++◌, ◌≤◌, ℕ, None, length, drop}
+use Rattle.std.proofs.Common.{◌≡◌, ◌++◌, ◌≤◌, ℕ, None, length, drop}
 use Rattle.rl_base.specs.Reserved.{is_reserved}
 use Rattle.rl_hir.specs.Pairs.{identifier_of}
 use Rattle.rl_builder.specs.Builder.{state_of}
