@@ -1,6 +1,6 @@
 #!/usr/bin/env bash
 # Builds the program and times it: an input of 2^24 + 1 bytes that is refused, a unit of 2^24 bytes that is lowered, and
-# units of 4,096 and 65,536 nodes. Prints bytes per second, and the time of a node. Given the path of a program that is
+# units of some 4,096 and 65,536 nodes. Prints bytes per second, and the time of a node. Given the path of a program that is
 # built, it times that one.
 set -eu
 program=${1:+$(realpath "$1")}
@@ -43,29 +43,49 @@ unit() {
     printf '))]))'
 }
 
-# Writes a unit of so many nodes. Six are around the statements, each of which has two.
-unit_of_nodes() { # nodes, statement, file
-    {
-        printf '(body [] ['
-        yes "$2" | head -n $(( ($1 - 6) / 2 )) | paste -s -d ' ' | tr -d '\n'
-        printf '])'
-    } | unit > "$3"
-    [ "$(tr -cd '(' < "$3" | wc -c)" -eq "$1" ] || { echo "$3: not $1 nodes" >&2; exit 1; }
+# Prints its lines as one, with spaces between them.
+joined() {
+    paste -s -d ' ' | tr -d '\n'
 }
 
-# Times units of many equal statements.
-time_nodes() { # name, statement
-    local few many ratio
-    unit_of_nodes 4096 "$2" "$folder/few"
-    unit_of_nodes 65536 "$2" "$folder/many"
+nodes_in() { # file
+    tr -cd '(' < "$1" | wc -c
+}
+
+# Writes a unit of equal statements, of so many nodes at most. Six nodes are around the statements.
+unit_of_statements() { # nodes, file, statement
+    local each
+    each=$(printf '%s' "$3" | tr -cd '(' | wc -c)
+    { printf '(body [] ['; yes "$3" | head -n $(( ($1 - 6) / each )) | joined; printf '])'; } | unit > "$2"
+}
+
+# Writes a unit of a function that calls with all its parameters, of so many nodes at most. A parameter and its argument
+# have three, and seven are around them.
+unit_of_parameters() { # nodes, file
+    {
+        printf '(unit [] (program [(expr (arrow y n (params ['
+        seq $(( ($1 - 7) / 3 )) | sed 's/.*/(param (bind "p&" -) -)/' | joined
+        printf '] -) (call n (id "f") ['
+        seq $(( ($1 - 7) / 3 )) | sed 's/.*/(id "p&")/' | joined
+        printf '])))]))'
+    } > "$2"
+}
+
+# Times units of some 4,096 and 65,536 nodes, which a function writes.
+time_nodes() { # name, function, argument
+    local few many ratio few_nodes many_nodes
+    "$2" 4096 "$folder/few" "${@:3}"
+    "$2" 65536 "$folder/many" "${@:3}"
+    few_nodes=$(nodes_in "$folder/few")
+    many_nodes=$(nodes_in "$folder/many")
     few=$(nanoseconds 50 0 "$folder/few")
     few=$(( few - started ))
     many=$(nanoseconds 3 0 "$folder/many")
     many=$(( many - started ))
-    ratio=$(( 100 * many / (16 * few) ))
-    echo "4096 nodes, $1: $(( few / 4096 )) nanoseconds a node"
-    echo "65536 nodes, $1: $(( many / 65536 )) nanoseconds a node"
-    printf '%s: %d.%02d times the time of a node at 65536 nodes, at most 1.5 is wanted\n' "$1" $(( ratio / 100 )) $(( ratio % 100 ))
+    ratio=$(( 100 * many * few_nodes / (many_nodes * few) ))
+    echo "$few_nodes nodes, $1: $(( few / few_nodes )) nanoseconds a node"
+    echo "$many_nodes nodes, $1: $(( many / many_nodes )) nanoseconds a node"
+    printf '%s: %d.%02d times the time of a node at %d nodes, at most 1.5 is wanted\n' "$1" $(( ratio / 100 )) $(( ratio % 100 )) "$many_nodes"
 }
 
 size=$(( (1 << 24) + 1 ))
@@ -88,5 +108,8 @@ size=$(( 1 << 24 ))
 time=$(nanoseconds 3 0 "$folder/longest")
 echo "$size bytes, lowered: $(( size * 1000000000 / (time - started) )) bytes per second"
 
-time_nodes "expression statements" '(expr (null))'
-time_nodes "returns" '(return (num "1"))'
+time_nodes "expression statements" unit_of_statements '(expr (null))'
+time_nodes "returns" unit_of_statements '(return (num "1"))'
+time_nodes "operators" unit_of_statements '(expr (binary "+" (id "a") (num "1")))'
+time_nodes "calls" unit_of_statements '(expr (call n (id "f") [(id "a")]))'
+time_nodes "parameters" unit_of_parameters

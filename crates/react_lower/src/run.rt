@@ -3,10 +3,12 @@
 ghost use Rattle.std.specs.Prelude.{◌≡◌, ◌≢◌, ◌≤◌, ◌<◌, ◌↔◌, ◌⊎◌, [], ◌∷◌, map, length, IfOk, IfErr, MatchResult, IsTrue, IsErrOf, string_bytes, codes};
 ghost use Rattle.std.specs.Io.KnownBytes.{Keeps};
 ghost use Rattle.rl_base.specs.Faults.{Rose};
-ghost use Rattle.rl_ast.specs.Units.{Spells, unit};
+ghost use Rattle.rl_ast.specs.Units.{unit};
+ghost use Rattle.rl_base.specs.Diagnostics.{line_of};
 ghost use Rattle.rl_ast.specs.Limits.{IsTooLarge};
-ghost use Rattle.rl_model.specs.Rows.{refusals};
+ghost use Rattle.rl_model.specs.Rows.{IsSupported};
 ghost use Rattle.rl_model.specs.Source.{marked};
+ghost use Rattle.rl_model.specs.Units.{IsUnit};
 ghost use Rattle.rl_ast.specs.declared.tree.Unit.{Unit as TreeOfUnit};
 ghost use Rattle.react_lower.specs.Answers.{Explains, HasRead, IsComplete, ReadsWhole, RefusesKnown, Writes, WritesKnown, exit_code, lines, output};
 
@@ -27,7 +29,7 @@ use std::alloc::Global;
 pub enum Status {
     /// The output was written.
     Done,
-    /// The unit was refused, and the causes were written.
+    /// The unit was stopped or refused, and the causes were written.
     Reported,
     /// The bytes spell no unit.
     Malformed,
@@ -101,6 +103,15 @@ fn report(alloc: Global, said: &[Diagnostic]) -> Result<Vec<u8>, OutOfMemory>
     Ok(text)
 }
 
+/// The line of what stops a unit.
+fn stop_line(alloc: Global, stop: &Diagnostic) -> Result<Vec<u8>, OutOfMemory>
+    ensures { IfOk result (λ text. text.items ≡ line_of stop.now) }
+{
+    let mut text = Vec::new(alloc);
+    stop.write_line(alloc, &mut text)?;
+    Ok(text)
+}
+
 /// The text of a result, and a line feed.
 fn listed(alloc: Global, lowered: &Lowered) -> Result<Vec<u8>, OutOfMemory>
     ensures { IfOk result (λ text. text.items ≡ output lowered.now) }
@@ -109,6 +120,17 @@ fn listed(alloc: Global, lowered: &Lowered) -> Result<Vec<u8>, OutOfMemory>
     let mut text = write_raw(alloc, &raw)?;
     text.push(b'\n')?;
     Ok(text)
+}
+
+/// The output where rows apply.
+fn reported(text: Vec<u8>) -> Output
+    ensures status { result.status ≡ Status.Reported }
+    ensures text { result.text ≡ text }
+{
+    Output {
+        status: Status::Reported,
+        text,
+    }
 }
 
 /// The output for the unit that the bytes spell.
@@ -123,10 +145,8 @@ fn output_of(alloc: Global, bytes: &[u8]) -> Result<Output, Status>
             status: Status::Done,
             text: listed(alloc, &lowered)?,
         }),
-        Err(LowerError::Refused(said)) => Ok(Output {
-            status: Status::Reported,
-            text: report(alloc, said.as_slice())?,
-        }),
+        Err(LowerError::Stopped(stop)) => Ok(reported(stop_line(alloc, &stop)?)),
+        Err(LowerError::Refused(said)) => Ok(reported(report(alloc, said.as_slice())?)),
         Err(LowerError::TooLarge) => Err(Status::TooLarge),
         Err(LowerError::Malformed) => Err(Status::Malformed),
         Err(LowerError::OutOfMemory) => Err(Status::OutOfMemory),
@@ -191,7 +211,7 @@ pub fn run<S: Source, K: Sink>(
 pub fn run_steady(alloc: Global, words: &[String], bytes: Vec<u8>) -> Status
     requires command { map string_bytes words.now ≡ codes "lower" ∷ [] }
     requires within { IsTooLarge bytes.items → ⊥ }
-    ensures { (u : TreeOfUnit) → Spells bytes.items u → refusals (marked (unit u)) ≡ [] → (result ≡ Status.Done) ⊎ (result ≡ Status.OutOfMemory) }
+    ensures { (u : TreeOfUnit) → IsUnit bytes.items u → IsSupported (marked (unit u)) → (result ≡ Status.Done) ⊎ (result ≡ Status.OutOfMemory) }
 {
     let mut source = SteadySource::new(bytes);
     let mut sink = SteadySink;

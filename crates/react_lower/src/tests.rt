@@ -4,6 +4,8 @@ mod limits;
 mod listings;
 mod malformed;
 mod refusals;
+mod statuses;
+mod stops;
 mod streams;
 
 use crate::run::{Status, run};
@@ -45,6 +47,23 @@ fn async_unit_of(alloc: Global, body: &str) -> Result<String, AllocError> {
     let mut text = String::from_str(alloc, "(unit [] (program [(expr (arrow y y (params [] -) ")?;
     text.push_str(body)?;
     text.push_str("))]))")?;
+    Ok(text)
+}
+
+/// The unit of a function with these parameters and statements. The place of the first parameter's name begins at byte 52.
+fn function_of(alloc: Global, names: &[&str], statements: &str) -> Result<String, AllocError> {
+    let mut text = String::from_str(alloc, "(unit [] (program [(expr (arrow y n (params [")?;
+    let mut separator = "";
+    for name in names {
+        text.push_str(separator)?;
+        text.push_str("(param (bind \"")?;
+        text.push_str(name)?;
+        text.push_str("\" -) -)")?;
+        separator = " ";
+    }
+    text.push_str("] -) (body [] [")?;
+    text.push_str(statements)?;
+    text.push_str("])))]))")?;
     Ok(text)
 }
 

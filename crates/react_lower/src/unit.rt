@@ -7,7 +7,7 @@ ghost use Rattle.rl_ast.specs.Units as spec;
 ghost use Rattle.rl_ast.specs.Units.{Spells};
 ghost use Rattle.rl_ast.specs.declared.tree.Unit.{Unit as TreeOfUnit};
 ghost use Rattle.rl_model.specs.Headline.{LowersTo};
-ghost use Rattle.react_lower.specs.Answers.{HasFieldsOf, IsMalformed, IsRefused};
+ghost use Rattle.react_lower.specs.Answers.{HasFieldsOf, HasIdentifiersOf, IsMalformed, IsRefused, IsStopped};
 ghost use Rattle.rl_ast.specs.Limits.{IsTooLarge};
 ghost use Rattle.rl_base.specs.declared.diagnostic.Diagnostic.{Diagnostic};
 
@@ -16,9 +16,11 @@ use rl_ast::tree::{ArrowFunction, Expression, Statement, Unit};
 use rl_base::diagnostic::Diagnostic;
 use rl_base::failure::OutOfMemory;
 use rl_base::list::List;
+use rl_builder::stop::Stop;
 use rl_hir::environment::Environment;
 use rl_hir::function::{Lowered, ReactFunctionType};
 use rl_lower::function::lower;
+use rl_scope::semantic::{RuleError, Semantic};
 use std::alloc::Global;
 use thiserror::Error;
 
@@ -28,9 +30,12 @@ pub enum LowerError {
     /// The bytes pass a limit: too many of them, too many nodes, or too many open at once. This is looked at first.
     #[error("TooLarge")]
     TooLarge,
-    /// The bytes spell no unit.
+    /// The bytes spell no unit, or two parameters have one name.
     #[error("Malformed")]
     Malformed,
+    /// A stop row applies to the unit: what is said of it. What was refused before is not told.
+    #[error("Stopped")]
+    Stopped(Diagnostic),
     /// Rows apply to the unit: what is said of each node to which one does, in the order in which they were met.
     #[error("Refused")]
     Refused(List<Diagnostic>),
@@ -65,6 +70,18 @@ fn arrow_of(expression: &Expression) -> &ArrowFunction
             at: _,
             expression: _,
         } => unreachable!(),
+        Expression::Identifier { at: _, name: _ } => unreachable!(),
+        Expression::Binary {
+            at: _,
+            operator: _,
+            left: _,
+            right: _,
+        } => unreachable!(),
+        Expression::Call {
+            at: _,
+            callee: _,
+            arguments: _,
+        } => unreachable!(),
         Expression::ArrowFunction(function) => function.get(),
     }
 }
@@ -97,9 +114,11 @@ fn marked_function(unit: &Unit) -> &ArrowFunction
 /// Lowers the unit that the bytes spell, all of them.
 pub fn lower_unit(alloc: Global, bytes: &[u8]) -> Result<Lowered, LowerError>
     ensures lowered { IfOk result (λ l. LowersTo bytes.now l) }
+    ensures stopped { IfErr result (λ e. (d : Diagnostic) → e ≡ LowerError.Stopped d → IsStopped bytes.now d) }
     ensures refused { IfErr result (λ e. (said : List Diagnostic) → e ≡ LowerError.Refused said → IsRefused bytes.now said) }
     ensures too_large { IsErrOf result LowerError.TooLarge ↔ IsTooLarge bytes.now }
     ensures fields { IfOk result (λ l. (u : TreeOfUnit) → Spells bytes.now u → HasFieldsOf (marked (spec.unit u)) l.function) }
+    ensures identifiers { IfOk result (λ l. (u : TreeOfUnit) → Spells bytes.now u → HasIdentifiersOf (marked (spec.unit u)) l) }
     ensures malformed { IsErrOf result LowerError.Malformed → IsMalformed bytes.now }
 {
     let unit = match read_tree(alloc, bytes) {
@@ -108,8 +127,18 @@ pub fn lower_unit(alloc: Global, bytes: &[u8]) -> Result<Lowered, LowerError>
         Err(TreeError::Malformed) => return Err(LowerError::Malformed),
         Err(TreeError::OutOfMemory) => return Err(LowerError::OutOfMemory),
     };
+    let marked = marked_function(&unit);
+    let semantic = match Semantic::of(alloc, marked) {
+        Ok(semantic) => semantic,
+        Err(RuleError::Malformed(_)) => return Err(LowerError::Malformed),
+        Err(RuleError::OutOfMemory) => return Err(LowerError::OutOfMemory),
+    };
     let mut env = Environment::new(alloc, ReactFunctionType::Other);
-    let function = lower(alloc, marked_function(&unit), &mut env)?;
+    let function = match lower(alloc, marked, &semantic, &mut env) {
+        Ok(function) => function,
+        Err(Stop::Stopped(diagnostic)) => return Err(LowerError::Stopped(diagnostic)),
+        Err(Stop::OutOfMemory) => return Err(LowerError::OutOfMemory),
+    };
     if !env.diagnostics.is_empty() {
         return Err(LowerError::Refused(env.diagnostics));
     }

@@ -1,5 +1,6 @@
 -- What the grammar says of a tree whose kind is known in part.
 use Rattle.std.proofs.Common.{◌≡◌, ℕ, List, false, refl}
+use Rattle.rl_text.proofs.Operators.{is_operator-text, operator-unknown}
 use Rattle.rl_ast.specs.Syntax.{Syntax, Node, Listed, Said, Count, Flag, Absent, Pieces, End, Then}
 use Rattle.rl_ast.specs.Grammar.{is_expression, is_statement, is_body, are_texts}
 use Rattle.rl_ast.specs.declared.word.Word.TheVariants as word
@@ -22,11 +23,16 @@ other_body (Node at word.Program parts) none = refl
 other_body (Node at word.Expr parts) none = refl
 other_body (Node at word.Arrow parts) none = refl
 other_body (Node at word.Params parts) none = refl
+other_body (Node at word.Param parts) none = refl
+other_body (Node at word.Bind parts) none = refl
 other_body (Node at word.Null parts) none = refl
 other_body (Node at word.Bool parts) none = refl
 other_body (Node at word.Num parts) none = refl
 other_body (Node at word.Str parts) none = refl
 other_body (Node at word.Paren parts) none = refl
+other_body (Node at word.Id parts) none = refl
+other_body (Node at word.Binary parts) none = refl
+other_body (Node at word.Call parts) none = refl
 other_body (Node at word.Return parts) none = refl
 other_body (Listed parts) none = refl
 other_body (Said text) none = refl
@@ -43,3 +49,6 @@ no_body at _ none = refl
 pub first_no_text : (part : Syntax) (rest : Pieces) → ((text : List ℕ) → part ≡ Said text → ⊥) → are_texts (Then part rest) ≡ false
 first_no_text (Said text) rest none = absurd (none text refl)
 first_no_text _ rest none = refl
+
+-- what an operator writes, and that a text that none writes is none's
+pub ruleset operators = (is_operator-text, operator-unknown)

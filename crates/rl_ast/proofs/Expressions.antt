@@ -19,6 +19,9 @@ has_expression_word (Node at word.Bool parts) = true
 has_expression_word (Node at word.Num parts) = true
 has_expression_word (Node at word.Str parts) = true
 has_expression_word (Node at word.Paren parts) = true
+has_expression_word (Node at word.Id parts) = true
+has_expression_word (Node at word.Binary parts) = true
+has_expression_word (Node at word.Call parts) = true
 has_expression_word (Node at word.Arrow parts) = true
 has_expression_word _ = false
 
@@ -29,6 +32,9 @@ layer_word (layers.Boolean at value) = ap has_expression_word (fold-roll-Express
 layer_word (layers.Number at text) = ap has_expression_word (fold-roll-Expression Syntax Syntax Syntax Syntax of_body of_expression of_statement of_function (layers.Number at text))
 layer_word (layers.String at text) = ap has_expression_word (fold-roll-Expression Syntax Syntax Syntax Syntax of_body of_expression of_statement of_function (layers.String at text))
 layer_word (layers.Parenthesized at inner) = ap has_expression_word (fold-roll-Expression Syntax Syntax Syntax Syntax of_body of_expression of_statement of_function (layers.Parenthesized at inner))
+layer_word (layers.Identifier at name) = ap has_expression_word (fold-roll-Expression Syntax Syntax Syntax Syntax of_body of_expression of_statement of_function (layers.Identifier at name))
+layer_word (layers.Binary at operator left right) = ap has_expression_word (fold-roll-Expression Syntax Syntax Syntax Syntax of_body of_expression of_statement of_function (layers.Binary at operator left right))
+layer_word (layers.Call at callee arguments) = ap has_expression_word (fold-roll-Expression Syntax Syntax Syntax Syntax of_body of_expression of_statement of_function (layers.Call at callee arguments))
 layer_word (layers.ArrowFunction f) = ap has_expression_word (fold-roll-Expression Syntax Syntax Syntax Syntax of_body of_expression of_statement of_function (layers.ArrowFunction f)) ∙ ap has_expression_word (function_by_layer f)
 
 pub expression_word : (x : Expression) → has_expression_word (expression x) ≡ true

@@ -21,11 +21,16 @@ word-back word.Program = refl
 word-back word.Expr = refl
 word-back word.Arrow = refl
 word-back word.Params = refl
+word-back word.Param = refl
+word-back word.Bind = refl
 word-back word.Null = refl
 word-back word.Bool = refl
 word-back word.Num = refl
 word-back word.Str = refl
 word-back word.Paren = refl
+word-back word.Id = refl
+word-back word.Binary = refl
+word-back word.Call = refl
 word-back word.Body = refl
 word-back word.Return = refl
 

@@ -1,6 +1,6 @@
 -- What a numbered tree is, by its plain tree, and how many pieces parts are.
-use Rattle.std.proofs.Common.{◌≡◌, ℕ, Bool, List, [], ◌∷◌, length, get_or, map, sym, ap, ◌∙◌, refl, arith}
-use Rattle.rl_ast.specs.Syntax.{Syntax, Node, Listed, Said, Count, Flag, Absent, Pieces, End, Then, pieces_of, syntax}
+use Rattle.std.proofs.Common.{◌≡◌, ℕ, ◌≤◌, Bool, List, [], ◌∷◌, length, get_or, drop, map, sym, ap, ◌∙◌, refl, arith, zero, suc}
+use Rattle.rl_ast.specs.Syntax.{Syntax, Node, Listed, Said, Count, Flag, Absent, Pieces, End, Then, pieces_of, syntax, nodes, nodes_of}
 use Rattle.rl_ast.specs.declared.word.Word.{Word}
 use Rattle.rl_ast.specs.declared.numbered.At.{At}
 use Rattle.rl_ast.specs.declared.numbered.Numbered.{Numbered}
@@ -98,6 +98,10 @@ pub two_inside : (parts : List Numbered) (a b : Syntax) → pieces_of (map synta
 two_inside [] a b e = absurd (cc)
 two_inside (x ∷ parts) a b e = let rest : length parts ≡ 1 = one_inside parts b (cc) in omega arith
 
+pub three_inside : (parts : List Numbered) (a b c : Syntax) → pieces_of (map syntax parts) ≡ Then a (Then b (Then c End)) → length parts ≡ 3
+three_inside [] a b c e = absurd (cc)
+three_inside (x ∷ parts) a b c e = let rest : length parts ≡ 2 = two_inside parts b c (cc) in omega arith
+
 pub four_inside : (parts : List Numbered) (a b c d : Syntax) → pieces_of (map syntax parts) ≡ Then a (Then b (Then c (Then d End))) → length parts ≡ 4
 four_inside [] a b c d e = absurd (cc)
 four_inside (x ∷ []) a b c d e = absurd (cc)
@@ -118,6 +122,22 @@ two_of (x ∷ []) a b count first second = absurd (omega arith)
 two_of (x ∷ y ∷ []) a b count first second = rw (first, second) refl
 two_of (x ∷ y ∷ z ∷ parts) a b count first second = absurd (omega arith)
 
+pub three_of : (parts : List Numbered) (a b c : Numbered) → length parts ≡ 3 → a ≡ get_or parts 0 a → b ≡ get_or parts 1 b → c ≡ get_or parts 2 c → pieces_of (map syntax parts) ≡ Then (syntax a) (Then (syntax b) (Then (syntax c) End))
+three_of (x ∷ y ∷ z ∷ []) a b c count first second third = rw (first, second, third) refl
+three_of _ a b c count first second third = absurd (omega arith)
+
 pub four_of : (parts : List Numbered) (a b c d : Numbered) → length parts ≡ 4 → a ≡ get_or parts 0 a → b ≡ get_or parts 1 b → c ≡ get_or parts 2 c → d ≡ get_or parts 3 d → pieces_of (map syntax parts) ≡ Then (syntax a) (Then (syntax b) (Then (syntax c) (Then (syntax d) End)))
 four_of (x ∷ y ∷ z ∷ w ∷ []) a b c d count first second third fourth = rw (first, second, third, fourth) refl
 four_of _ a b c d count first second third fourth = absurd (omega arith)
+
+-- a part has at most the nodes of all
+pub nodes_within : (parts : List Numbered) (k : ℕ) (part : Numbered) (rest : List Numbered) → drop k parts ≡ part ∷ rest → nodes (syntax part) ≤ nodes_of (pieces_of (map syntax parts))
+nodes_within [] zero part rest h = absurd (cc)
+nodes_within [] (suc k) part rest h = absurd (cc)
+nodes_within (x ∷ parts) zero part rest h =
+    let same : x ≡ part = cc in
+    let nodes_same : nodes (syntax x) ≡ nodes (syntax part) = ap (λ n. nodes (syntax n)) same in
+    omega arith
+nodes_within (x ∷ parts) (suc k) part rest h =
+    let inside : nodes (syntax part) ≤ nodes_of (pieces_of (map syntax parts)) = nodes_within parts k part rest h in
+    omega arith

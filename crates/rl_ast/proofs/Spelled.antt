@@ -1,5 +1,7 @@
 -- The plain tree of each expression, statement, function and body.
-use Rattle.std.proofs.Common.{◌≡◌, ℕ, Bool, Some, None, List, map, sym, ap, ◌∙◌}
+use Rattle.std.proofs.Common.{◌≡◌, ℕ, Bool, false, Some, None, List, map, sym, ap, ◌∙◌}
+use Rattle.rl_text.specs.Operators.{operator_text}
+use Rattle.rl_text.specs.declared.operator.BinaryOperator.{BinaryOperator}
 use Rattle.rl_ast.specs.Syntax.{Syntax, Node, Listed, Said, Flag, Absent, End, Then, pieces_of}
 use Rattle.rl_ast.specs.Units.{said, params, of_body, of_expression, of_statement, of_function, arrow_body, expression, statement, function}
 use Rattle.rl_ast.specs.declared.word.Word.TheVariants as word
@@ -44,6 +46,18 @@ pub expression_parenthesized : (at : At) (e : Expression) → expression (expres
 unfolding expression
 expression_parenthesized at e = ap (λ q. fold-Expression Syntax Syntax Syntax Syntax of_body of_expression of_statement of_function q) (sym (expressions.rolls-Parenthesized at e)) ∙ fold-roll-Expression Syntax Syntax Syntax Syntax of_body of_expression of_statement of_function (layers.Parenthesized at e)
 
+pub expression_identifier : (at : At) (name : List ℕ) → expression (expressions.Identifier at name) ≡ Node at word.Id (Then (Said name) End)
+unfolding expression
+expression_identifier at name = ap (λ q. fold-Expression Syntax Syntax Syntax Syntax of_body of_expression of_statement of_function q) (sym (expressions.rolls-Identifier at name)) ∙ fold-roll-Expression Syntax Syntax Syntax Syntax of_body of_expression of_statement of_function (layers.Identifier at name)
+
+pub expression_binary : (at : At) (operator : BinaryOperator) (left right : Expression) → expression (expressions.Binary at operator left right) ≡ Node at word.Binary (Then (Said (operator_text operator)) (Then (expression left) (Then (expression right) End)))
+unfolding expression
+expression_binary at operator left right = ap (λ q. fold-Expression Syntax Syntax Syntax Syntax of_body of_expression of_statement of_function q) (sym (expressions.rolls-Binary at operator left right)) ∙ fold-roll-Expression Syntax Syntax Syntax Syntax of_body of_expression of_statement of_function (layers.Binary at operator left right)
+
+pub expression_call : (at : At) (callee : Expression) (arguments : List Expression) → expression (expressions.Call at callee arguments) ≡ Node at word.Call (Then (Flag false) (Then (expression callee) (Then (Listed (pieces_of (map expression arguments))) End)))
+unfolding expression
+expression_call at callee arguments = ap (λ q. fold-Expression Syntax Syntax Syntax Syntax of_body of_expression of_statement of_function q) (sym (expressions.rolls-Call at callee arguments)) ∙ fold-roll-Expression Syntax Syntax Syntax Syntax of_body of_expression of_statement of_function (layers.Call at callee arguments)
+
 pub expression_arrow : (f : ArrowFunction) → expression (expressions.ArrowFunction f) ≡ function f
 unfolding expression function
 expression_arrow f = ap (λ q. fold-Expression Syntax Syntax Syntax Syntax of_body of_expression of_statement of_function q) (sym (expressions.rolls-ArrowFunction f)) ∙ fold-roll-Expression Syntax Syntax Syntax Syntax of_body of_expression of_statement of_function (layers.ArrowFunction f)
@@ -68,4 +82,4 @@ pub function_by_layer : (f : ArrowFunction) → function f ≡ Node (out-ArrowFu
 unfolding function arrow_body
 function_by_layer f = fold_out-ArrowFunction Syntax Syntax Syntax Syntax of_body of_expression of_statement of_function f
 
-pub ruleset spelled = (body_expression, body_statements, expression_null, expression_boolean, expression_number, expression_string, expression_parenthesized, expression_arrow, statement_expression, statement_return, statement_return_alone, function_arrow)
+pub ruleset spelled = (body_expression, body_statements, expression_null, expression_boolean, expression_number, expression_string, expression_parenthesized, expression_identifier, expression_binary, expression_call, expression_arrow, statement_expression, statement_return, statement_return_alone, function_arrow)

@@ -1,6 +1,7 @@
 -- A unit as a plain tree, and the bytes that spell it.
-use Rattle.std.specs.Prelude.{◌≡◌, ℕ, true, Option, Some, None, List, [], ◌∷◌, map}
+use Rattle.std.specs.Prelude.{◌≡◌, ℕ, true, false, Option, Some, None, List, [], ◌∷◌, map}
 use Rattle.rl_text.specs.Notation as notation
+use Rattle.rl_text.specs.Operators.{operator_text}
 use Rattle.rl_ast.specs.Syntax.{Syntax, Node, Listed, Said, Flag, Absent, pieces_of, plain, IsPlaced}
 use Rattle.rl_ast.specs.Grammar.{is_unit}
 use Rattle.rl_ast.specs.declared.numbered.At.{At}
@@ -11,6 +12,8 @@ use Rattle.rl_ast.specs.declared.tree.ArrowBody.TheOpen as layers
 use Rattle.rl_ast.specs.declared.tree.Expression.{Expression}
 use Rattle.rl_ast.specs.declared.tree.ArrowBody.TheFolds.{fold-ArrowBody, fold-Expression, fold-Statement, fold-ArrowFunction}
 use Rattle.rl_ast.specs.declared.tree.ArrowFunction.{ArrowFunction}
+use Rattle.rl_ast.specs.declared.tree.BindingIdentifier.{BindingIdentifier}
+use Rattle.rl_ast.specs.declared.tree.FormalParameter.{FormalParameter}
 use Rattle.rl_ast.specs.declared.tree.Params.{Params}
 use Rattle.rl_ast.specs.declared.tree.Program.{Program}
 use Rattle.rl_ast.specs.declared.tree.Statement.{Statement}
@@ -19,8 +22,14 @@ use Rattle.rl_ast.specs.declared.tree.Unit.{Unit as TreeOfUnit}
 abbrev pub node : At → Word → List Syntax → Syntax
 node at word parts = Node at word (pieces_of parts)
 
+abbrev pub binding : BindingIdentifier → Syntax
+binding b = node b.at word.Bind (Said b.name ∷ Absent ∷ [])
+
+abbrev pub param : FormalParameter → Syntax
+param p = node p.at word.Param (binding p.pattern ∷ Absent ∷ [])
+
 abbrev pub params : Params → Syntax
-params all = node all.at word.Params (Listed (pieces_of []) ∷ Absent ∷ [])
+params all = node all.at word.Params (Listed (pieces_of (map param all.items)) ∷ Absent ∷ [])
 
 abbrev pub said : List ℕ → Syntax
 said text = Said text
@@ -40,6 +49,9 @@ of_expression (layers.Boolean at value) = node at word.Bool (Flag value ∷ [])
 of_expression (layers.Number at text) = node at word.Num (Said text ∷ [])
 of_expression (layers.String at text) = node at word.Str (Said text ∷ [])
 of_expression (layers.Parenthesized at expression) = node at word.Paren (expression ∷ [])
+of_expression (layers.Identifier at name) = node at word.Id (Said name ∷ [])
+of_expression (layers.Binary at operator left right) = node at word.Binary (Said (operator_text operator) ∷ left ∷ right ∷ [])
+of_expression (layers.Call at callee arguments) = node at word.Call (Flag false ∷ callee ∷ Listed (pieces_of arguments) ∷ [])
 of_expression (layers.ArrowFunction function) = function
 
 abbrev pub of_statement : layers.Statement-F Syntax Syntax Syntax Syntax → Syntax

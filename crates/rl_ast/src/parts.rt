@@ -1,11 +1,13 @@
 //! What the parts of a node are.
 
-ghost use Rattle.std.specs.Prelude.{◌≡◌, ℕ, Bool, List as Items, map, MatchOption, IsTrue, ◌↔◌};
+ghost use Rattle.std.specs.Prelude.{◌≡◌, ℕ, Bool, true, false, List as Items, map, MatchOption, IfSome, IfNone, IsTrue, ◌↔◌};
+ghost use Rattle.rl_text.specs.Operators.{operator_text, is_operator};
 ghost use Rattle.rl_ast.specs.Syntax.{Syntax, Node, Listed, Said, Flag, Absent, Pieces, End, Then, pieces_of, syntax};
 
 use crate::numbered::{At, Numbered};
 use crate::word::Word;
 use rl_base::text::Text;
+use rl_text::operator::BinaryOperator;
 
 /// The number, the place and the parts of a node with this word. `None` at anything else.
 #[tactic(auto, using(crate::proofs::Layers::by_layer))]
@@ -44,6 +46,16 @@ pub(crate) fn as_text(tree: &Numbered) -> Option<&Text>
         Numbered::Text(text) => Some(text),
         _ => None,
     }
+}
+
+/// The operator that a text writes. `None` at anything else.
+#[tactic(auto, using(crate::proofs::ByKind::operators))]
+pub(crate) fn as_operator(tree: &Numbered) -> Option<BinaryOperator>
+    ensures found { IfSome result (λ operator. (syntax tree.now ≡ Said (operator_text operator)) × (is_operator (operator_text operator) ≡ true)) }
+    ensures none { IfNone result ((text : Items ℕ) → syntax tree.now ≡ Said text → is_operator text ≡ false) }
+{
+    let text = as_text(tree)?;
+    BinaryOperator::from_text(text.as_str())
 }
 
 /// Whether a flag is set. `None` at anything else.
@@ -105,6 +117,18 @@ pub(crate) fn two(parts: &[Numbered]) -> Option<(&Numbered, &Numbered)>
 {
     if parts.len() == 2 {
         Some((&parts[0], &parts[1]))
+    } else {
+        None
+    }
+}
+
+/// The three parts. `None` at more or fewer.
+#[tactic(auto, using(crate::proofs::Shapes::three_of, crate::proofs::Shapes::three_inside))]
+pub(crate) fn three(parts: &[Numbered]) -> Option<(&Numbered, &Numbered, &Numbered)>
+    ensures { MatchOption result ((a b c : Syntax) → pieces_of (map syntax parts.now) ≡ Then a (Then b (Then c End)) → ⊥) (λ p. pieces_of (map syntax parts.now) ≡ Then (syntax p.0.now) (Then (syntax p.1.now) (Then (syntax p.2.now) End))) }
+{
+    if parts.len() == 3 {
+        Some((&parts[0], &parts[1], &parts[2]))
     } else {
         None
     }

@@ -2,15 +2,19 @@
 
 ghost use Rattle.std.specs.Prelude.{◌≡◌, ◌↔◌, true, false, map, IfOk, IfSome, IfNone, IsErrOf, IsTrue};
 ghost use Rattle.rl_ast.specs.Syntax.{Node, pieces_of, syntax};
-ghost use Rattle.rl_ast.specs.Grammar.{is_expression, is_statement, are_statements, are_texts, is_body, is_params, is_function, is_marked, is_program, is_unit};
+ghost use Rattle.rl_ast.specs.Grammar.{is_expression, are_expressions, is_statement, are_statements, are_texts, is_body, is_binding, is_param, are_params, is_params, is_function, is_marked, is_program, is_unit};
 ghost use Rattle.rl_ast.specs.Limits.{IsTooLarge};
-ghost use Rattle.rl_ast.specs.Units.{said, params, arrow_body, expression, statement, function, program, unit, Spells};
+ghost use Rattle.rl_ast.specs.Units.{said, binding, param, params, arrow_body, expression, statement, function, program, unit, Spells};
 
 use crate::numbered::{At, Numbered, number_tree};
 use crate::parts::{
-    as_flag, as_list, as_node, as_text, four, is_absent, is_empty_list, no_parts, one, two,
+    as_flag, as_list, as_node, as_operator, as_text, four, is_absent, is_empty_list, no_parts, one,
+    three, two,
 };
-use crate::tree::{ArrowBody, ArrowFunction, Expression, Params, Program, Statement, Unit};
+use crate::tree::{
+    ArrowBody, ArrowFunction, BindingIdentifier, Expression, FormalParameter, Params, Program,
+    Statement, Unit,
+};
 use crate::word::Word;
 use rl_base::boxed::Boxed;
 use rl_base::failure::OutOfMemory;
@@ -132,6 +136,105 @@ fn read_parenthesized(
     Ok(Some(Expression::Parenthesized { at, expression }))
 }
 
+/// `(id TEXT)`. `None` where the parts are not one text.
+#[tactic(auto, using(crate::proofs::Spelled::spelled))]
+fn read_identifier(
+    alloc: Global,
+    at: At,
+    parts: &[Numbered],
+) -> Result<Option<Expression>, OutOfMemory>
+    ensures found { IfOk result (λ r. IfSome r (λ e. (expression e ≡ Node at Word.Id (pieces_of (map syntax parts.now))) × (is_expression (Node at Word.Id (pieces_of (map syntax parts.now))) ≡ true))) }
+    ensures none { IfOk result (λ r. IfNone r (is_expression (Node at Word.Id (pieces_of (map syntax parts.now))) ≡ false)) }
+{
+    let Some(part) = one(parts) else {
+        return Ok(None);
+    };
+    let Some(name) = as_text(part) else {
+        return Ok(None);
+    };
+    let name = name.copy(alloc)?;
+    Ok(Some(Expression::Identifier { at, name }))
+}
+
+/// `(binary TEXT EXPRESSION EXPRESSION)`. `None` where the parts are not an operator and two expressions of the grammar.
+#[cycle(expressions)]
+#[tactic(auto, using(crate::proofs::Spelled::spelled))]
+fn read_binary(alloc: Global, at: At, parts: &[Numbered]) -> Result<Option<Expression>, OutOfMemory>
+    ensures found { IfOk result (λ r. IfSome r (λ e. (expression e ≡ Node at Word.Binary (pieces_of (map syntax parts.now))) × (is_expression (Node at Word.Binary (pieces_of (map syntax parts.now))) ≡ true))) }
+    ensures none { IfOk result (λ r. IfNone r (is_expression (Node at Word.Binary (pieces_of (map syntax parts.now))) ≡ false)) }
+{
+    let Some((operator, left, right)) = three(parts) else {
+        return Ok(None);
+    };
+    let Some(operator) = as_operator(operator) else {
+        return Ok(None);
+    };
+    let Some(left) = read_expression(alloc, left)? else {
+        return Ok(None);
+    };
+    let Some(right) = read_expression(alloc, right)? else {
+        return Ok(None);
+    };
+    let left = Boxed::new(alloc, left)?;
+    let right = Boxed::new(alloc, right)?;
+    Ok(Some(Expression::Binary {
+        at,
+        operator,
+        left,
+        right,
+    }))
+}
+
+/// Expressions in a row. `None` where a part is no expression of the grammar.
+#[cycle(expressions)]
+fn read_expressions(
+    alloc: Global,
+    parts: &[Numbered],
+) -> Result<Option<List<Expression>>, OutOfMemory>
+    ensures found { IfOk result (λ r. IfSome r (λ es. (map expression es ≡ map syntax parts.now) × (are_expressions (pieces_of (map syntax parts.now)) ≡ true))) }
+    ensures none { IfOk result (λ r. IfNone r (are_expressions (pieces_of (map syntax parts.now)) ≡ false)) }
+{
+    let mut expressions = List::new(alloc);
+    for part in parts {
+        let Some(expression) = read_expression(alloc, part)? else {
+            return Ok(None);
+        };
+        expressions.push(expression)?;
+    }
+    Ok(Some(expressions))
+}
+
+/// `(call n EXPRESSION [EXPRESSION ..])`. `None` where the parts are not the flag `n`, an expression and a list of
+/// expressions of the grammar.
+#[cycle(expressions)]
+#[tactic(auto, using(crate::proofs::Spelled::spelled))]
+fn read_call(alloc: Global, at: At, parts: &[Numbered]) -> Result<Option<Expression>, OutOfMemory>
+    ensures found { IfOk result (λ r. IfSome r (λ e. (expression e ≡ Node at Word.Call (pieces_of (map syntax parts.now))) × (is_expression (Node at Word.Call (pieces_of (map syntax parts.now))) ≡ true))) }
+    ensures none { IfOk result (λ r. IfNone r (is_expression (Node at Word.Call (pieces_of (map syntax parts.now))) ≡ false)) }
+{
+    let Some((optional, callee, arguments)) = three(parts) else {
+        return Ok(None);
+    };
+    let Some(false) = as_flag(optional) else {
+        return Ok(None);
+    };
+    let Some(arguments) = as_list(arguments) else {
+        return Ok(None);
+    };
+    let Some(callee) = read_expression(alloc, callee)? else {
+        return Ok(None);
+    };
+    let Some(arguments) = read_expressions(alloc, arguments)? else {
+        return Ok(None);
+    };
+    let callee = Boxed::new(alloc, callee)?;
+    Ok(Some(Expression::Call {
+        at,
+        callee,
+        arguments,
+    }))
+}
+
 /// An expression. `None` where the tree is no expression of the grammar.
 #[cycle(expressions)]
 pub fn read_expression(alloc: Global, tree: &Numbered) -> Result<Option<Expression>, OutOfMemory>
@@ -145,22 +248,22 @@ pub fn read_expression(alloc: Global, tree: &Numbered) -> Result<Option<Expressi
         return Ok(read_boolean(at, parts));
     }
     if let Some((at, parts)) = as_node(tree, Word::Num) {
-        return match read_number(alloc, at, parts) {
-            Ok(read) => Ok(read),
-            Err(e) => Err(e),
-        };
+        return Ok(read_number(alloc, at, parts)?);
     }
     if let Some((at, parts)) = as_node(tree, Word::Str) {
-        return match read_string(alloc, at, parts) {
-            Ok(read) => Ok(read),
-            Err(e) => Err(e),
-        };
+        return Ok(read_string(alloc, at, parts)?);
     }
     if let Some((at, parts)) = as_node(tree, Word::Paren) {
-        return match read_parenthesized(alloc, at, parts) {
-            Ok(read) => Ok(read),
-            Err(e) => Err(e),
-        };
+        return Ok(read_parenthesized(alloc, at, parts)?);
+    }
+    if let Some((at, parts)) = as_node(tree, Word::Id) {
+        return Ok(read_identifier(alloc, at, parts)?);
+    }
+    if let Some((at, parts)) = as_node(tree, Word::Binary) {
+        return Ok(read_binary(alloc, at, parts)?);
+    }
+    if let Some((at, parts)) = as_node(tree, Word::Call) {
+        return Ok(read_call(alloc, at, parts)?);
     }
     Ok(None)
 }
@@ -309,18 +412,86 @@ pub fn read_body(alloc: Global, tree: &Numbered) -> Result<Option<ArrowBody>, Ou
     Ok(Some(ArrowBody::Expression(expression)))
 }
 
-/// The parameters of a function, of which there are none: `(params [] -)`. `None` at any other tree.
-pub fn read_params(tree: &Numbered) -> Option<Params>
-    ensures found { IfSome result (λ p. (params p ≡ syntax tree.now) × (is_params (syntax tree.now) ≡ true)) }
-    ensures none { IfNone result (is_params (syntax tree.now) ≡ false) }
+/// The name that a parameter binds: `(bind TEXT -)`. `None` at any other tree.
+fn read_binding(alloc: Global, tree: &Numbered) -> Result<Option<BindingIdentifier>, OutOfMemory>
+    ensures found { IfOk result (λ r. IfSome r (λ b. (binding b ≡ syntax tree.now) × (is_binding (syntax tree.now) ≡ true))) }
+    ensures none { IfOk result (λ r. IfNone r (is_binding (syntax tree.now) ≡ false)) }
 {
-    let (at, parts) = as_node(tree, Word::Params)?;
-    let (items, rest) = two(parts)?;
-    if is_empty_list(items) && is_absent(rest) {
-        Some(Params { at })
-    } else {
-        None
+    let Some((at, parts)) = as_node(tree, Word::Bind) else {
+        return Ok(None);
+    };
+    let Some((name, annotation)) = two(parts) else {
+        return Ok(None);
+    };
+    let Some(name) = as_text(name) else {
+        return Ok(None);
+    };
+    if !is_absent(annotation) {
+        return Ok(None);
     }
+    let name = name.copy(alloc)?;
+    Ok(Some(BindingIdentifier { at, name }))
+}
+
+/// A parameter without a default: `(param BIND -)`. `None` at any other tree.
+fn read_param(alloc: Global, tree: &Numbered) -> Result<Option<FormalParameter>, OutOfMemory>
+    ensures found { IfOk result (λ r. IfSome r (λ p. (param p ≡ syntax tree.now) × (is_param (syntax tree.now) ≡ true))) }
+    ensures none { IfOk result (λ r. IfNone r (is_param (syntax tree.now) ≡ false)) }
+{
+    let Some((at, parts)) = as_node(tree, Word::Param) else {
+        return Ok(None);
+    };
+    let Some((pattern, default)) = two(parts) else {
+        return Ok(None);
+    };
+    if !is_absent(default) {
+        return Ok(None);
+    }
+    let Some(pattern) = read_binding(alloc, pattern)? else {
+        return Ok(None);
+    };
+    Ok(Some(FormalParameter { at, pattern }))
+}
+
+/// Parameters in a row. `None` where a part is no parameter of the grammar.
+fn read_param_list(
+    alloc: Global,
+    parts: &[Numbered],
+) -> Result<Option<List<FormalParameter>>, OutOfMemory>
+    ensures found { IfOk result (λ r. IfSome r (λ ps. (map param ps ≡ map syntax parts.now) × (are_params (pieces_of (map syntax parts.now)) ≡ true))) }
+    ensures none { IfOk result (λ r. IfNone r (are_params (pieces_of (map syntax parts.now)) ≡ false)) }
+{
+    let mut params = List::new(alloc);
+    for part in parts {
+        let Some(param) = read_param(alloc, part)? else {
+            return Ok(None);
+        };
+        params.push(param)?;
+    }
+    Ok(Some(params))
+}
+
+/// The parameters of a function, and no rest: `(params [PARAM ..] -)`. `None` at any other tree.
+pub fn read_params(alloc: Global, tree: &Numbered) -> Result<Option<Params>, OutOfMemory>
+    ensures found { IfOk result (λ r. IfSome r (λ p. (params p ≡ syntax tree.now) × (is_params (syntax tree.now) ≡ true))) }
+    ensures none { IfOk result (λ r. IfNone r (is_params (syntax tree.now) ≡ false)) }
+{
+    let Some((at, parts)) = as_node(tree, Word::Params) else {
+        return Ok(None);
+    };
+    let Some((items, rest)) = two(parts) else {
+        return Ok(None);
+    };
+    let Some(items) = as_list(items) else {
+        return Ok(None);
+    };
+    if !is_absent(rest) {
+        return Ok(None);
+    }
+    let Some(items) = read_param_list(alloc, items)? else {
+        return Ok(None);
+    };
+    Ok(Some(Params { at, items }))
 }
 
 /// The marked function. `None` where the tree is no function of the grammar.
@@ -341,7 +512,7 @@ pub fn read_function(alloc: Global, tree: &Numbered) -> Result<Option<ArrowFunct
     let Some(is_async) = as_flag(is_async) else {
         return Ok(None);
     };
-    let Some(params) = read_params(params) else {
+    let Some(params) = read_params(alloc, params)? else {
         return Ok(None);
     };
     let Some(body) = read_body(alloc, body)? else {

@@ -3,6 +3,7 @@ use crate::read::{TreeError, read_tree};
 use crate::tree::{ArrowBody, ArrowFunction, Expression, Statement, Unit};
 use crate::word::Word;
 use rl_base::text::Text;
+use rl_text::operator::BinaryOperator;
 use std::alloc::{AllocError, Global};
 use std::test::Fail;
 
@@ -16,6 +17,26 @@ fn function_of(unit: &Unit) -> Option<&ArrowFunction> {
             },
         ) => Some(function.get()),
         _ => None,
+    }
+}
+
+/// A unit whose function has these parameters and this body.
+fn unit_of(alloc: Global, params: &str, body: &str) -> Result<String, AllocError> {
+    let mut text = String::new(alloc);
+    text.push_str("(unit [] (program [(expr (arrow y n ")?;
+    text.push_str(params)?;
+    text.push_str(" ")?;
+    text.push_str(body)?;
+    text.push_str("))]))")?;
+    Ok(text)
+}
+
+/// Whether a unit whose function has these parameters and this body is Malformed.
+fn is_malformed(alloc: Global, params: &str, body: &str) -> Result<bool, AllocError> {
+    let text = unit_of(alloc, params, body)?;
+    match read_tree(alloc, text.as_bytes()) {
+        Err(TreeError::Malformed) => Ok(true),
+        _ => Ok(false),
     }
 }
 
@@ -200,6 +221,173 @@ fn reads_parentheses(rt: HostRuntime) -> Result<(), Fail> {
     Ok(())
 }
 
+/// The expression that a function returns.
+fn value_of(unit: &Unit) -> Option<&Expression> {
+    match function_of(unit) {
+        Some(function) => match &function.body {
+            ArrowBody::Expression(expression) => Some(expression),
+            _ => None,
+        },
+        None => None,
+    }
+}
+
+/// The name of a reference.
+fn name_of(expression: &Expression) -> Option<&str> {
+    match expression {
+        Expression::Identifier { at: _, name } => Some(name.as_str()),
+        _ => None,
+    }
+}
+
+#[test]
+fn reads_parameters(rt: HostRuntime) -> Result<(), Fail> {
+    let params =
+        "(params [(param (bind \"first\" -) -) (param (bind \"\" -) -) (param (bind \"first\" -) -)] -)";
+    let text = unit_of(rt.alloc(), params, "(id \"first\")")?;
+    let unit = read_tree(rt.alloc(), text.as_bytes())?;
+    let Some(function) = function_of(&unit) else {
+        assert!(rt; false, "no function");
+        return Ok(());
+    };
+    assert_eq!(rt; numbers(function.params.at), (4, 36, 124));
+    let [first, second, third] = function.params.items.as_slice() else {
+        assert!(rt; false, "not three parameters");
+        return Ok(());
+    };
+    assert_eq!(rt; numbers(first.at), (5, 45, 71));
+    assert_eq!(rt; numbers(first.pattern.at), (6, 52, 68));
+    assert_eq!(rt; first.pattern.name.as_str(), "first");
+    assert_eq!(rt; numbers(second.at), (7, 72, 93));
+    assert_eq!(rt; second.pattern.name.as_str(), "");
+    assert_eq!(rt; numbers(third.pattern.at), (10, 101, 117));
+    assert_eq!(rt; third.pattern.name.as_str(), "first");
+    assert_eq!(rt;
+        value_of(&unit).and_then(|value| name_of(value)),
+        Some("first")
+    );
+    Ok(())
+}
+
+#[test]
+fn reads_calls(rt: HostRuntime) -> Result<(), Fail> {
+    let body =
+        "(call n (call n (id \"f\") []) [(id \"a\") (paren (call n (null) [(str \"x\")])) (id \"b\")])";
+    let text = unit_of(rt.alloc(), "(params [] -)", body)?;
+    let unit = read_tree(rt.alloc(), text.as_bytes())?;
+    let Some(
+        Expression::Call {
+            at,
+            callee,
+            arguments,
+        },
+    ) = value_of(&unit)
+    else {
+        assert!(rt; false, "no call");
+        return Ok(());
+    };
+    assert_eq!(rt; numbers(*at), (5, 50, 135));
+    match callee.get() {
+        Expression::Call {
+            at,
+            callee,
+            arguments,
+        } => {
+            assert_eq!(rt; numbers(*at), (6, 58, 78));
+            assert_eq!(rt; name_of(callee.get()), Some("f"));
+            assert_eq!(rt; arguments.len(), 0);
+        }
+        _ => assert!(rt; false, "no call"),
+    }
+    let [first, second, third] = arguments.as_slice() else {
+        assert!(rt; false, "not three arguments");
+        return Ok(());
+    };
+    assert_eq!(rt; name_of(first), Some("a"));
+    assert_eq!(rt; second.span().start, 89);
+    assert_eq!(rt; second.span().end, 124);
+    assert_eq!(rt; name_of(third), Some("b"));
+    assert_eq!(rt; third.span().start, 125);
+    Ok(())
+}
+
+/// The operator and the operands of a binary expression.
+fn operation(expression: &Expression) -> Option<(BinaryOperator, &Expression, &Expression)> {
+    match expression {
+        Expression::Binary {
+            at: _,
+            operator,
+            left,
+            right,
+        } => Some((*operator, left.get(), right.get())),
+        _ => None,
+    }
+}
+
+#[test]
+fn reads_binary_expressions(rt: HostRuntime) -> Result<(), Fail> {
+    let body = "(binary \"-\" (binary \"in\" (id \"a\") (id \"b\")) (id \"c\"))";
+    let text = unit_of(rt.alloc(), "(params [] -)", body)?;
+    let unit = read_tree(rt.alloc(), text.as_bytes())?;
+    let Some((operator, left, right)) = value_of(&unit).and_then(|value| operation(value)) else {
+        assert!(rt; false, "no binary expression");
+        return Ok(());
+    };
+    assert_eq!(rt; operator, BinaryOperator::Subtraction);
+    assert_eq!(rt; left.span().start, 62);
+    assert_eq!(rt; left.span().end, 93);
+    assert_eq!(rt; name_of(right), Some("c"));
+    let Some((operator, left, right)) = operation(left) else {
+        assert!(rt; false, "no binary expression");
+        return Ok(());
+    };
+    assert_eq!(rt; operator, BinaryOperator::In);
+    assert_eq!(rt; name_of(left), Some("a"));
+    assert_eq!(rt; name_of(right), Some("b"));
+    Ok(())
+}
+
+#[test]
+fn reads_each_operator(rt: HostRuntime) -> Result<(), Fail> {
+    let all = [
+        ("==", BinaryOperator::Equality),
+        ("!=", BinaryOperator::Inequality),
+        ("===", BinaryOperator::StrictEquality),
+        ("!==", BinaryOperator::StrictInequality),
+        ("<", BinaryOperator::LessThan),
+        ("<=", BinaryOperator::LessEqualThan),
+        (">", BinaryOperator::GreaterThan),
+        (">=", BinaryOperator::GreaterEqualThan),
+        ("+", BinaryOperator::Addition),
+        ("-", BinaryOperator::Subtraction),
+        ("*", BinaryOperator::Multiplication),
+        ("/", BinaryOperator::Division),
+        ("%", BinaryOperator::Remainder),
+        ("**", BinaryOperator::Exponential),
+        ("<<", BinaryOperator::ShiftLeft),
+        (">>", BinaryOperator::ShiftRight),
+        (">>>", BinaryOperator::ShiftRightZeroFill),
+        ("|", BinaryOperator::BitwiseOR),
+        ("^", BinaryOperator::BitwiseXOR),
+        ("&", BinaryOperator::BitwiseAnd),
+        ("in", BinaryOperator::In),
+        ("instanceof", BinaryOperator::Instanceof),
+    ];
+    for (written, operator) in all {
+        let mut body = String::new(rt.alloc());
+        body.push_str("(binary \"")?;
+        body.push_str(written)?;
+        body.push_str("\" (null) (null))")?;
+        let text = unit_of(rt.alloc(), "(params [] -)", body.as_str())?;
+        let unit = read_tree(rt.alloc(), text.as_bytes())?;
+        match value_of(&unit).and_then(|value| operation(value)) {
+            Some((read, _, _)) => assert_eq!(rt; read, operator),
+            None => assert!(rt; false, "no binary expression: {written}"),
+        }
+    }
+    Ok(())
+}
+
 #[test]
 fn refuses_what_is_no_unit(rt: HostRuntime) -> Result<(), Fail> {
     let texts: [&[u8]; 9] = [
@@ -245,14 +433,77 @@ fn refuses_what_is_no_body(rt: HostRuntime) -> Result<(), Fail> {
         "(body - [])",
     ];
     for body in bodies {
-        let mut text = String::new(rt.alloc());
-        text.push_str("(unit [] (program [(expr (arrow y n (params [] -) ")?;
-        text.push_str(body)?;
-        text.push_str("))]))")?;
-        match read_tree(rt.alloc(), text.as_bytes()) {
-            Ok(_) => assert!(rt; false, "read {body}"),
-            Err(error) => assert_eq!(rt; error, TreeError::Malformed),
-        }
+        assert!(rt;
+            is_malformed(rt.alloc(), "(params [] -)", body)?,
+            "read {body}"
+        );
+    }
+    Ok(())
+}
+
+#[test]
+fn refuses_what_is_no_expression(rt: HostRuntime) -> Result<(), Fail> {
+    let expressions = [
+        "(id)",
+        "(id -)",
+        "(id \"a\" \"b\")",
+        "(binary \"&&\" (null) (null))",
+        "(binary \"=\" (null) (null))",
+        "(binary \"+=\" (null) (null))",
+        "(binary \"\" (null) (null))",
+        "(binary \"In\" (null) (null))",
+        "(binary + (null) (null))",
+        "(binary (null) (null) (null))",
+        "(binary - (null) (null))",
+        "(binary \"+\" (null))",
+        "(binary \"+\" (null) (null) (null))",
+        "(binary \"+\" (null) -)",
+        "(binary \"+\" \"a\" (null))",
+        "(binary \"+\" (null) (expr (null)))",
+        "(binary \"+\" [(null) (null)])",
+        "(call y (id \"f\") [])",
+        "(call (id \"f\") [])",
+        "(call n (id \"f\"))",
+        "(call n (id \"f\") (null))",
+        "(call n [] [])",
+        "(call n (expr (null)) [])",
+        "(call n (id \"f\") [(spread (id \"a\"))])",
+        "(call n (id \"f\") [\"a\"])",
+        "(call n (id \"f\") [(null) (expr (null)) (null)])",
+        "(call n (id \"f\") [] [])",
+    ];
+    for expression in expressions {
+        assert!(rt;
+            is_malformed(rt.alloc(), "(params [] -)", expression)?,
+            "read {expression}"
+        );
+    }
+    Ok(())
+}
+
+#[test]
+fn refuses_what_are_no_parameters(rt: HostRuntime) -> Result<(), Fail> {
+    let all = [
+        "(params [])",
+        "(params - -)",
+        "(params [] (bind \"a\" -))",
+        "(params [] (param (bind \"a\" -) -))",
+        "(params [\"a\"] -)",
+        "(params [(bind \"a\" -)] -)",
+        "(params [(param (id \"a\") -)] -)",
+        "(params [(param (bind \"a\" -))] -)",
+        "(params [(param (bind \"a\" -) (null))] -)",
+        "(params [(param (bind \"a\" -) -) (null)] -)",
+        "(params [(param (bind \"a\") -)] -)",
+        "(params [(param (bind - -) -)] -)",
+        "(params [(param (bind \"a\" (str \"number\")) -)] -)",
+        "(params [(param (bind \"a\" \"number\") -)] -)",
+    ];
+    for params in all {
+        assert!(rt;
+            is_malformed(rt.alloc(), params, "(null)")?,
+            "read {params}"
+        );
     }
     Ok(())
 }

@@ -9,6 +9,7 @@ use rl_base::boxed::Boxed;
 use rl_base::list::List;
 use rl_base::span::Span;
 use rl_base::text::Text;
+use rl_text::operator::BinaryOperator;
 
 /// A program with one marked function: `(unit [] PROGRAM)`.
 #[derive(Drop)]
@@ -68,6 +69,24 @@ pub enum Expression {
         at: At,
         expression: Boxed<Expression>,
     },
+    /// `(id TEXT)`: a reference by its name.
+    Identifier {
+        at: At,
+        name: Text,
+    },
+    /// `(binary TEXT EXPRESSION EXPRESSION)`.
+    Binary {
+        at: At,
+        operator: BinaryOperator,
+        left: Boxed<Expression>,
+        right: Boxed<Expression>,
+    },
+    /// `(call n EXPRESSION [EXPRESSION ..])`: a call that is not optional.
+    Call {
+        at: At,
+        callee: Boxed<Expression>,
+        arguments: List<Expression>,
+    },
     /// `(arrow MARK ASYNC PARAMS BODY)`.
     ArrowFunction(Boxed<ArrowFunction>),
 }
@@ -98,10 +117,25 @@ pub enum ArrowBody {
     },
 }
 
-/// The parameters of a function: `(params [] -)`.
+/// The parameters of a function: `(params [PARAM ..] -)`.
 #[derive(Drop)]
 pub struct Params {
     pub at: At,
+    pub items: List<FormalParameter>,
+}
+
+/// A parameter without a default: `(param BIND -)`.
+#[derive(Drop)]
+pub struct FormalParameter {
+    pub at: At,
+    pub pattern: BindingIdentifier,
+}
+
+/// The name that a parameter binds, without a type: `(bind TEXT -)`.
+#[derive(Drop)]
+pub struct BindingIdentifier {
+    pub at: At,
+    pub name: Text,
 }
 
 impl Expression {
@@ -116,6 +150,18 @@ impl Expression {
             Expression::Number { at, text: _ } => at.span,
             Expression::String { at, text: _ } => at.span,
             Expression::Parenthesized { at, expression: _ } => at.span,
+            Expression::Identifier { at, name: _ } => at.span,
+            Expression::Binary {
+                at,
+                operator: _,
+                left: _,
+                right: _,
+            } => at.span,
+            Expression::Call {
+                at,
+                callee: _,
+                arguments: _,
+            } => at.span,
             Expression::ArrowFunction(function) => function.get().at.span,
         }
     }

@@ -129,14 +129,14 @@ mod tests {
     use super::*;
     use std::test::Fail;
 
-    fn line(alloc: Global, spans: &[Span]) -> Result<Vec<u8>, OutOfMemory> {
+    fn line(alloc: Global, row: Row, word: &str, spans: &[Span]) -> Result<Vec<u8>, OutOfMemory> {
         let mut labels = List::new(alloc);
         for span in spans {
             labels.push(*span)?;
         }
         let diagnostic = Diagnostic {
-            row: Row::F43,
-            word: Text::from_str(alloc, "")?,
+            row,
+            word: Text::from_str(alloc, word)?,
             labels,
         };
         let mut out = Vec::new(alloc);
@@ -145,20 +145,52 @@ mod tests {
     }
 
     #[test]
-    fn writes_a_line(rt: HostRuntime) -> Result<(), Fail> {
+    fn writes_the_line_of_each_row(rt: HostRuntime) -> Result<(), Fail> {
+        let rows = [
+            (
+                Row::F2,
+                "",
+                "F2 UnsupportedSyntax 75..90 The 'eval' function is not supported; Eval is an anti-pattern in JavaScript, and the code executed cannot be evaluated by React Compiler\n",
+            ),
+            (
+                Row::F40,
+                "",
+                "F40 Todo 75..90 Support local variables named `fbt`; Local variables named `fbt` may conflict with the fbt plugin and are not yet supported\n",
+            ),
+            (
+                Row::F43,
+                "",
+                "F43 Todo 75..90 Only whole numbers up to 2^53 are supported\n",
+            ),
+            (
+                Row::S1,
+                "class",
+                "S1 Syntax 75..90 Expected a non-reserved identifier name; `class` is a reserved word in JavaScript and cannot be used as an identifier name\n",
+            ),
+            (
+                Row::S2,
+                "this",
+                "S2 Syntax 75..90 Expected a non-reserved identifier name; `this` is a reserved word in JavaScript and cannot be used as an identifier name\n",
+            ),
+        ];
+        let label = Span { start: 75, end: 90 };
+        for (row, word, want) in rows {
+            let written = line(rt.alloc(), row, word, &[label])?;
+            assert_eq!(rt; written.as_slice(), want.as_bytes());
+        }
+        Ok(())
+    }
+
+    #[test]
+    fn writes_each_label(rt: HostRuntime) -> Result<(), Fail> {
         let first = Span { start: 50, end: 74 };
         let second = Span {
             start: 0,
             end: 4294967295,
         };
-        let one = line(rt.alloc(), &[first])?;
+        let written = line(rt.alloc(), Row::F43, "", &[first, second])?;
         assert_eq!(rt;
-            one.as_slice(),
-            b"F43 Todo 50..74 Only whole numbers up to 2^53 are supported\n".as_slice()
-        );
-        let two = line(rt.alloc(), &[first, second])?;
-        assert_eq!(rt;
-            two.as_slice(),
+            written.as_slice(),
             b"F43 Todo 50..74,0..4294967295 Only whole numbers up to 2^53 are supported\n".as_slice()
         );
         Ok(())

@@ -10,6 +10,7 @@ pub mod failure;
 pub mod ids;
 pub mod list;
 pub mod memory;
+pub mod reserved;
 pub mod row;
 pub mod span;
 pub mod steady;

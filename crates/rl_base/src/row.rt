@@ -28,7 +28,11 @@ impl Category {
 /// A cause for which a unit is refused or stopped.
 #[derive(Clone, Copy, Debug, PartialEq, Eq)]
 pub enum Row {
+    F2,
+    F40,
     F43,
+    S1,
+    S2,
 }
 
 impl Row {
@@ -36,7 +40,9 @@ impl Row {
         ensures { result ≡ category_of self.now }
     {
         match self {
-            Row::F43 => Category::Todo,
+            Row::F2 => Category::UnsupportedSyntax,
+            Row::F40 | Row::F43 => Category::Todo,
+            Row::S1 | Row::S2 => Category::Syntax,
         }
     }
 
@@ -45,7 +51,11 @@ impl Row {
         ensures { result.now ≡ row_name self.now }
     {
         match self {
+            Row::F2 => "F2",
+            Row::F40 => "F40",
             Row::F43 => "F43",
+            Row::S1 => "S1",
+            Row::S2 => "S2",
         }
     }
 
@@ -54,7 +64,10 @@ impl Row {
         ensures { result.now ≡ message_template self.now }
     {
         match self {
+            Row::F2 => "The 'eval' function is not supported",
+            Row::F40 => "Support local variables named `fbt`",
             Row::F43 => "Only whole numbers up to 2^53 are supported",
+            Row::S1 | Row::S2 => "Expected a non-reserved identifier name",
         }
     }
 
@@ -63,7 +76,16 @@ impl Row {
         ensures { option_copied result ≡ help_template self.now }
     {
         match self {
+            Row::F2 => Some(
+                "Eval is an anti-pattern in JavaScript, and the code executed cannot be evaluated by React Compiler",
+            ),
+            Row::F40 => Some(
+                "Local variables named `fbt` may conflict with the fbt plugin and are not yet supported",
+            ),
             Row::F43 => None,
+            Row::S1 | Row::S2 => Some(
+                "`%` is a reserved word in JavaScript and cannot be used as an identifier name",
+            ),
         }
     }
 }

@@ -1,1 +1,4 @@
+pub mod Candidates
+pub mod NameEntries
+pub mod NameLaws
 pub mod OrderLaws

@@ -9,8 +9,10 @@ use Rattle.rl_hir.specs.declared.environment.Environment.{Environment}
 use Rattle.rl_hir.specs.declared.function.NumberedBlock.{NumberedBlock}
 use Rattle.rl_hir.specs.declared.function.BlockKind.{BlockKind}
 use Rattle.rl_hir.specs.declared.function.BlockKind.TheVariants as kinds
+use Rattle.rl_hir.specs.declared.function.Pair.{Pair}
 use Rattle.rl_hir.specs.declared.instruction.Instruction.{Instruction}
 use Rattle.rl_hir.specs.declared.terminal.Terminal.{Terminal}
+use Rattle.rl_builder.specs.UsedName.{UsedName}
 
 pub record State : Type 0 where
   pub env : Environment
@@ -18,9 +20,19 @@ pub record State : Type 0 where
   pub current : WipBlock
   pub entry : BlockId
   pub table : List Instruction
+  pub bindings : List Pair
+  pub used_names : List UsedName
 
 abbrev pub state_of : Environment → Work → State
-state_of env work = record { env = env; completed = work.completed.items; current = work.current; entry = work.entry; table = work.instructions.items }
+state_of env work = record {
+  env = env;
+  completed = work.completed.items;
+  current = work.current;
+  entry = work.entry;
+  table = work.instructions.items;
+  bindings = work.bindings;
+  used_names = work.used_names;
+}
 
 -- an empty block
 abbrev pub new_block : ℕ → BlockKind → WipBlock
@@ -35,7 +47,15 @@ one_block_more env = record env { next_block = env.next_block + 1 }
 
 -- before anything is lowered: the entry block
 abbrev pub started : Environment → BlockKind → State
-started env kind = record { env = one_block_more env; completed = []; current = new_block env.next_block kind; entry = record { 0 = env.next_block }; table = [] }
+started env kind = record {
+  env = one_block_more env;
+  completed = [];
+  current = new_block env.next_block kind;
+  entry = record { 0 = env.next_block };
+  table = [];
+  bindings = [];
+  used_names = [];
+}
 
 abbrev pub reserved : State → State
 reserved s = record s { env = one_block_more s.env }

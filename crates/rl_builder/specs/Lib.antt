@@ -1,4 +1,6 @@
 pub mod Build
 pub mod Builder
+pub mod Names
 pub mod Order
 pub mod Temporaries
+pub mod UsedName

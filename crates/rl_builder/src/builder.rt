@@ -1,18 +1,27 @@
 //! A function's graph under construction.
 
-ghost use Rattle.std.specs.Prelude.{◌≡◌, ◌+◌, ◌<◌, ◌^◌, All, OnOk, IfOk, length};
+ghost use Rattle.std.specs.Prelude.{◌≡◌, ◌+◌, ◌<◌, ◌^◌, true, false, None, Some, All, OnOk, IfOk, IfErr, length};
+ghost use Rattle.std.specs.Option.{option_map};
+ghost use Rattle.rl_base.specs.Reserved.{is_reserved};
+ghost use Rattle.rl_base.specs.declared.diagnostic.Diagnostic.{Diagnostic};
+ghost use Rattle.rl_hir.specs.Pairs.{identifier_of};
+ghost use Rattle.rl_builder.specs.Names.{with_refused, with_binding, resolved, IsStopped, NamesAgree};
 ghost use Rattle.rl_builder.specs.Builder.{state_of, started, new_block, reserved, with_temporary, pushed, completed_by, placeholder, recorded};
 ghost use Rattle.rl_builder.specs.Order.{reached_blocks, orders_of};
 ghost use Rattle.rl_builder.specs.Build.{built_of};
 
+use crate::names::{Bindings, UsedNames, fbt_diagnostic, is_fbt, reserved_identifier_diagnostic};
 use crate::order::{mark_instruction_ids, reached_blocks};
+use crate::stop::Stop;
 use rl_base::diagnostic::Diagnostic;
 use rl_base::failure::OutOfMemory;
-use rl_base::ids::{BlockId, InstructionId};
+use rl_base::ids::{BlockId, IdentifierId, InstructionId, SymbolId};
 use rl_base::list::List;
+use rl_base::reserved::is_always_reserved_word;
 use rl_base::span::Span;
+use rl_base::text::Text;
 use rl_hir::environment::Environment;
-use rl_hir::function::{BasicBlock, BlockKind, Hir, NumberedBlock};
+use rl_hir::function::{BasicBlock, BlockKind, Hir, IdentifierName, NumberedBlock};
 use rl_hir::instruction::{Instruction, Place};
 use rl_hir::terminal::Terminal;
 use std::alloc::Global;
@@ -34,6 +43,10 @@ pub struct Work {
     current: WipBlock,
     entry: BlockId,
     instructions: Vec<Instruction>,
+    /// The identifiers of symbols.
+    bindings: Bindings,
+    /// The names of identifiers, each with its symbol.
+    used_names: UsedNames,
 }
 
 /// A builder's own parts, and the environment that it shares with others.
@@ -84,6 +97,8 @@ impl<'e> Over<'e, Work> {
             current: new_block(alloc, entry, kind),
             entry,
             instructions: Vec::new(alloc),
+            bindings: Bindings::new(alloc),
+            used_names: UsedNames::new(alloc),
         };
         Over { env, work }
     }
@@ -117,6 +132,83 @@ impl<'e> Over<'e, Work> {
         ensures state { OnOk result (state_of self.new.env.now self.new.work ≡ recorded (state_of self.old.env.now self.old.work) diagnostic) }
     {
         self.env.record_error(diagnostic)
+    }
+
+    /// The identifier of a symbol that is declared at a place. A symbol that has none gets a fresh one, under the first
+    /// that is free of its name and the name with `_0`, `_1` and so on. A name that is reserved stops the unit, and the
+    /// name `fbt` is refused as long as the symbol has no identifier of another name.
+    pub fn resolve_binding(
+        &mut self,
+        name: &Text,
+        symbol: SymbolId,
+        declaration: Span,
+    ) -> Result<IdentifierId, Stop>
+        requires identifiers { length self.old.env.now.identifiers < 2 ^ 32 }
+        requires types { self.old.env.now.next_type + 1 < 2 ^ 32 }
+        ensures same_reference { self.new.env.ghost_name ≡ self.old.env.ghost_name }
+        ensures state { OnOk result (state_of self.new.env.now self.new.work ≡ resolved (state_of self.old.env.now self.old.work) name.now symbol.0 declaration) }
+        ensures identifier { IfOk result (λ i. identifier_of self.new.work.bindings symbol.0 ≡ Some i.0) }
+        ensures names { OnOk result (NamesAgree (state_of self.old.env.now self.old.work) → NamesAgree (state_of self.new.env.now self.new.work)) }
+        ensures allowed { OnOk result (identifier_of self.old.work.bindings symbol.0 ≡ None → is_reserved name.now ≡ false) }
+        ensures stopped { IfErr result (λ e. (d : Diagnostic) → e ≡ Stop.Stopped d → IsStopped (state_of self.old.env.now self.old.work) name.now symbol.0 declaration d) }
+        ensures unchanged { IfErr result (λ e. (d : Diagnostic) → e ≡ Stop.Stopped d → state_of self.new.env.now self.new.work ≡ state_of self.old.env.now self.old.work) }
+    {
+        let known = self.work.bindings.get(symbol);
+        self.refuse_fbt(name, known, declaration)?;
+        if let Some(identifier) = known {
+            return Ok(identifier);
+        }
+        if is_always_reserved_word(name.as_str()) {
+            let alloc = self.work.alloc;
+            let diagnostic = reserved_identifier_diagnostic(alloc, name, declaration)?;
+            return Err(Stop::Stopped(diagnostic));
+        }
+        Ok(self.add_binding(name, symbol, declaration)?)
+    }
+
+    /// Refuses a local named `fbt` where its symbol, which has this identifier, has no identifier of another name.
+    fn refuse_fbt(
+        &mut self,
+        name: &Text,
+        known: Option<IdentifierId>,
+        declaration: Span,
+    ) -> Result<(), OutOfMemory>
+        ensures same_reference { self.new.env.ghost_name ≡ self.old.env.ghost_name }
+        ensures state { OnOk result (state_of self.new.env.now self.new.work ≡ with_refused (option_map (λ i. i.0) known) (state_of self.old.env.now self.old.work) name.now declaration) }
+    {
+        if name.as_str() == "fbt" && is_fbt(&self.env.identifiers, known) {
+            let diagnostic = fbt_diagnostic(self.work.alloc, declaration)?;
+            return self.record_error(diagnostic);
+        }
+        Ok(())
+    }
+
+    /// Gives a symbol a fresh identifier, under the first candidate that is free.
+    fn add_binding(
+        &mut self,
+        name: &Text,
+        symbol: SymbolId,
+        declaration: Span,
+    ) -> Result<IdentifierId, OutOfMemory>
+        requires identifiers { length self.old.env.now.identifiers < 2 ^ 32 }
+        requires types { self.old.env.now.next_type + 1 < 2 ^ 32 }
+        requires fresh { identifier_of self.old.work.bindings symbol.0 ≡ None }
+        ensures same_reference { self.new.env.ghost_name ≡ self.old.env.ghost_name }
+        ensures state { OnOk result (state_of self.new.env.now self.new.work ≡ with_binding (state_of self.old.env.now self.old.work) name.now symbol.0 declaration) }
+        ensures identifier { IfOk result (λ i. identifier_of self.new.work.bindings symbol.0 ≡ Some i.0) }
+        ensures names { OnOk result (NamesAgree (state_of self.old.env.now self.old.work) → NamesAgree (state_of self.new.env.now self.new.work)) }
+    {
+        let alloc = self.work.alloc;
+        let free = self
+            .work
+            .used_names
+            .free_name(alloc, name.as_str(), symbol)?;
+        let identifier = self.env.next_identifier_id(Some(declaration))?;
+        self.work.used_names.insert(alloc, free.as_str(), symbol)?;
+        self.work.bindings.insert(symbol, identifier)?;
+        self.env.add_pair(symbol, identifier)?;
+        self.env.set_name(identifier, IdentifierName::Named(free));
+        Ok(identifier)
     }
 
     /// Adds an instruction to the table and to the current block.
@@ -176,6 +268,8 @@ impl<'e> Over<'e, Work> {
             current: _,
             entry,
             mut instructions,
+            bindings: _,
+            used_names: _,
         } = work;
         let mut blocks = reached_blocks(alloc, completed, entry)?;
         mark_instruction_ids(&mut blocks, &mut instructions);
@@ -188,3 +282,6 @@ impl<'e> Over<'e, Work> {
         })
     }
 }
+
+#[cfg(test)]
+mod tests;

@@ -2,4 +2,6 @@
 #![tactic(auto)]
 
 pub mod builder;
+pub mod names;
 pub mod order;
+pub mod stop;

@@ -1,18 +1,24 @@
 -- A result is read back from its tree, so no two results have one tree. Where a tree is no result's, what is read does
 -- not matter.
-use Rattle.std.proofs.Common.{◌≡◌, ℕ, zero, suc, Bool, true, false, Option, Some, None, List, [], ◌∷◌, codes, refl, sym, ap, ◌∙◌}
+use Rattle.std.proofs.Common.{◌≡◌, ℕ, zero, suc, Bool, true, false, Option, Some, None, List, [], ◌∷◌, map, codes, refl, sym, ap, ◌∙◌}
 use Rattle.std.specs.Str.{bytes_eq}
 use Rattle.rl_base.specs.declared.span.Span.{Span}
 use Rattle.rl_base.specs.declared.ids.BlockId.{BlockId}
 use Rattle.rl_base.specs.declared.ids.EvaluationOrder.{EvaluationOrder}
 use Rattle.rl_base.specs.declared.ids.InstructionId.{InstructionId}
+use Rattle.rl_text.proofs.Operators.{operator_of, operator-back}
 use Rattle.rl_text.proofs.Spellings.{Spells-one}
 use Rattle.rl_text.specs.Notation.{Tree, spelling, Node, Listed, Said, Count, Flag, Absent, Parts, End, Then}
+use Rattle.rl_text.specs.Raw.{parts_of}
 use Rattle.rl_hir.specs.Listing as spec
 use Rattle.rl_hir.specs.declared.instruction.Place.{Place}
 use Rattle.rl_hir.specs.declared.instruction.Instruction.{Instruction}
 use Rattle.rl_hir.specs.declared.instruction.InstructionValue.{InstructionValue}
 use Rattle.rl_hir.specs.declared.instruction.InstructionValue.TheVariants as values
+use Rattle.rl_hir.specs.declared.instruction.NonLocalBinding.{NonLocalBinding}
+use Rattle.rl_hir.specs.declared.instruction.NonLocalBinding.TheVariants as bindings
+use Rattle.rl_hir.specs.declared.instruction.PlaceOrSpread.{PlaceOrSpread}
+use Rattle.rl_hir.specs.declared.instruction.PlaceOrSpread.TheVariants as arguments
 use Rattle.rl_hir.specs.declared.instruction.PrimitiveValue.{PrimitiveValue}
 use Rattle.rl_hir.specs.declared.instruction.PrimitiveValue.TheVariants as primitives
 use Rattle.rl_hir.specs.declared.terminal.Terminal.{Terminal}
@@ -147,12 +153,87 @@ primitive-back (primitives.Boolean value) = refl
 primitive-back (primitives.Number number) = refl
 primitive-back (primitives.String text) = refl
 
+binding_of : Tree → NonLocalBinding
+binding_of tree =
+    let name = text_of (part 0 tree) in
+    let kind = text_of (part 1 tree) in
+    let source = text_of (part 2 tree) in
+    elim (bytes_eq kind (codes "module")) [
+      | true ↦ bindings.ModuleLocal name
+      | false ↦
+          elim (bytes_eq kind (codes "default")) [
+            | true ↦ bindings.ImportDefault name source
+            | false ↦
+                elim (bytes_eq kind (codes "namespace")) [
+                  | true ↦ bindings.ImportNamespace name source
+                  | false ↦
+                      elim (bytes_eq kind (codes "named")) [
+                        | true ↦ bindings.ImportSpecifier name source (text_of (part 3 tree))
+                        | false ↦ bindings.Global name
+                      ]
+                ]
+          ]
+    ]
+
+binding-back : (b : NonLocalBinding) → binding_of (spec.binding b) ≡ b
+unfolding binding_of text_of
+binding-back (bindings.Global name) = refl
+binding-back (bindings.ModuleLocal name) = refl
+binding-back (bindings.ImportDefault name source) = refl
+binding-back (bindings.ImportNamespace name source) = refl
+binding-back (bindings.ImportSpecifier name source imported) = refl
+
+argument_of : Tree → Tree → PlaceOrSpread
+argument_of shape operand = elim (bytes_eq (text_of shape) (codes "spread")) [ true ↦ arguments.Spread (place_of operand) | false ↦ arguments.Place (place_of operand) ]
+
+argument-back : (a : PlaceOrSpread) → argument_of (spec.shape_of a) (spec.operand_of a) ≡ a
+unfolding argument_of text_of
+argument-back (arguments.Place p) = rw (place-back p) refl
+argument-back (arguments.Spread p) = rw (place-back p) refl
+
+arguments_of : Parts → Parts → List PlaceOrSpread
+arguments_of End operands = []
+arguments_of (Then shape shapes) End = []
+arguments_of (Then shape shapes) (Then operand operands) = argument_of shape operand ∷ arguments_of shapes operands
+
+arguments-back : (xs : List PlaceOrSpread) → arguments_of (parts_of (map spec.shape_of xs)) (parts_of (map spec.operand_of xs)) ≡ xs
+unfolding arguments_of
+arguments-back [] = refl
+arguments-back (x ∷ xs) =
+    ap (λ first. first ∷ arguments_of (parts_of (map spec.shape_of xs)) (parts_of (map spec.operand_of xs))) (argument-back x)
+    ∙ ap (λ rest. x ∷ rest) (arguments-back xs)
+
+abbrev later : Parts → Parts
+later End = End
+later (Then first rest) = rest
+
 value_of : Tree → InstructionValue
-value_of tree = values.Primitive (primitive_of (part 0 tree))
+value_of tree =
+    let operands = part 1 tree in
+    elim (bytes_eq (word_of tree) (codes "primitive")) [
+      | true ↦ values.Primitive (primitive_of (part 0 tree))
+      | false ↦
+          elim (bytes_eq (word_of tree) (codes "loadlocal")) [
+            | true ↦ values.LoadLocal (place_of (part 0 tree))
+            | false ↦
+                elim (bytes_eq (word_of tree) (codes "loadglobal")) [
+                  | true ↦ values.LoadGlobal (binding_of (part 0 tree))
+                  | false ↦
+                      elim (bytes_eq (word_of tree) (codes "binary")) [
+                        | true ↦ values.Binary (operator_of (text_of (part 0 (part 0 tree)))) (place_of (part 0 operands)) (place_of (part 1 operands))
+                        | false ↦ values.Call (place_of (part 0 operands)) (arguments_of (parts_in (part 0 tree)) (later (parts_in operands)))
+                      ]
+                ]
+          ]
+    ]
 
 value-back : (v : InstructionValue) → value_of (spec.value v) ≡ v
-unfolding value_of
+unfolding value_of text_of
 value-back (values.Primitive v) = rw (primitive-back v) refl
+value-back (values.LoadLocal p) = rw (place-back p) refl
+value-back (values.LoadGlobal b) = rw (binding-back b) refl
+value-back (values.Binary operator left right) = rw (operator-back operator, place-back left, place-back right) refl
+value-back (values.Call callee xs) = rw (place-back callee, arguments-back xs) refl
 
 instruction_of : Tree → Instruction
 instruction_of tree = record {

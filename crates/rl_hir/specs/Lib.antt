@@ -1,2 +1,5 @@
+pub mod Identifiers
+pub mod Instructions
 pub mod Listing
+pub mod Pairs
 pub mod Terminals

@@ -5,10 +5,14 @@ use Rattle.rl_text.specs.Raw.{parts_of}
 use Rattle.rl_base.specs.declared.span.Span.{Span}
 use Rattle.rl_base.specs.declared.ids.BlockId.{BlockId}
 use Rattle.rl_base.specs.declared.ids.InstructionId.{InstructionId}
+use Rattle.rl_text.specs.Operators.{operator_text}
 use Rattle.rl_hir.specs.declared.instruction.Place.{Place}
 use Rattle.rl_hir.specs.declared.instruction.Instruction.{Instruction}
 use Rattle.rl_hir.specs.declared.instruction.InstructionValue.{InstructionValue}
 use Rattle.rl_hir.specs.declared.instruction.InstructionValue.TheVariants as values
+use Rattle.rl_hir.specs.Instructions.{binding_texts, argument_shape, argument_place}
+use Rattle.rl_hir.specs.declared.instruction.NonLocalBinding.{NonLocalBinding}
+use Rattle.rl_hir.specs.declared.instruction.PlaceOrSpread.{PlaceOrSpread}
 use Rattle.rl_hir.specs.declared.instruction.PrimitiveValue.{PrimitiveValue}
 use Rattle.rl_hir.specs.declared.instruction.PrimitiveValue.TheVariants as primitives
 use Rattle.rl_hir.specs.declared.terminal.Terminal.{Terminal}
@@ -33,12 +37,18 @@ use Rattle.rl_hir.specs.declared.function.Lowered.{Lowered}
 abbrev pub node : List ℕ → List Tree → Tree
 node word parts = Node word (parts_of parts)
 
+abbrev pub listed : List Tree → Tree
+listed parts = Listed (parts_of parts)
+
 abbrev pub list : {X : Type 0} → (X → Tree) → List X → Tree
-list tree items = Listed (parts_of (map tree items))
+list tree items = listed (map tree items)
 
 abbrev pub optional : {X : Type 0} → (X → Tree) → Option X → Tree
 optional tree None = Absent
 optional tree (Some item) = tree item
+
+abbrev pub said : List ℕ → Tree
+said text = Said text
 
 -- `(at START END)`
 abbrev pub span : Span → Tree
@@ -56,8 +66,28 @@ primitive (primitives.Boolean value) = node (codes "bool") (Flag value ∷ [])
 primitive (primitives.Number number) = node (codes "number") (Count number ∷ [])
 primitive (primitives.String text) = node (codes "text") (Said text ∷ [])
 
+-- `[TEXT]`
+abbrev pub binding : NonLocalBinding → Tree
+binding b = list said (binding_texts b)
+
+abbrev pub shape_of : PlaceOrSpread → Tree
+shape_of argument = Said (argument_shape argument)
+
+abbrev pub operand_of : PlaceOrSpread → Tree
+operand_of argument = place (argument_place argument)
+
+-- `[CALLEE ARGUMENT ..]`
+abbrev pub operands : Place → List PlaceOrSpread → Tree
+operands callee arguments = listed (place callee ∷ map operand_of arguments)
+
+-- a word, and then the value, the place, or the texts of an event and its operands: those of `loadglobal` are the name's,
+-- that of `binary` is the operator's, those of `call` are the shapes of the arguments
 abbrev pub value : InstructionValue → Tree
 value (values.Primitive v) = node (codes "primitive") (primitive v ∷ [])
+value (values.LoadLocal p) = node (codes "loadlocal") (place p ∷ [])
+value (values.LoadGlobal b) = node (codes "loadglobal") (binding b ∷ listed [] ∷ [])
+value (values.Binary operator left right) = node (codes "binary") (listed (Said (operator_text operator) ∷ []) ∷ listed (place left ∷ place right ∷ []) ∷ [])
+value (values.Call callee arguments) = node (codes "call") (list shape_of arguments ∷ operands callee arguments ∷ [])
 
 -- `(i ORDER PLACE SPAN VALUE)`
 abbrev pub instruction : Instruction → Tree
@@ -98,9 +128,6 @@ function_type types.Other = codes "other"
 abbrev pub param : Param → Tree
 param (params.Place p) = place p
 param (params.Spread p) = node (codes "spread") (place p ∷ [])
-
-abbrev pub said : List ℕ → Tree
-said text = Said text
 
 -- `(fn SPAN NAME TYPE GENERATOR ASYNC [DIRECTIVE] [PARAM] [CONTEXT] RETURNS ENTRY [BLOCK] [INSTRUCTION])`
 abbrev pub function : HirFunction → Tree

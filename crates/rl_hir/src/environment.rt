@@ -1,9 +1,12 @@
 ghost use Rattle.std.specs.Prelude.{◌≡◌, ◌+◌, ◌<◌, ◌^◌, ◌∷◌, ◌++◌, [], OnOk, OnErr, IfOk, length, None};
+ghost use Rattle.rl_hir.specs.Identifiers.{with_name, with_span, changed_at};
 
-use crate::function::{HirFunction, Identifier, InnerFunction, Lowered, Pair, ReactFunctionType};
+use crate::function::{
+    HirFunction, Identifier, IdentifierName, InnerFunction, Lowered, Pair, ReactFunctionType,
+};
 use rl_base::diagnostic::Diagnostic;
 use rl_base::failure::OutOfMemory;
-use rl_base::ids::{BlockId, IdentifierId, TypeId};
+use rl_base::ids::{BlockId, IdentifierId, SymbolId, TypeId};
 use rl_base::list::List;
 use rl_base::span::Span;
 use std::alloc::Global;
@@ -87,6 +90,36 @@ impl Environment {
         Ok(id)
     }
 
+    /// Gives an identifier this name.
+    pub fn set_name(&mut self, identifier: IdentifierId, name: IdentifierName)
+        requires { identifier.0 < length self.old.identifiers }
+        ensures { self.new ≡ record self.old { identifiers = changed_at (with_name name) identifier.0 self.old.identifiers } }
+    {
+        self.identifiers.item_mut(identifier.0 as usize).name = Some(name);
+    }
+
+    /// Gives an identifier this place of its own, or none.
+    pub fn set_span(&mut self, identifier: IdentifierId, span: Option<Span>)
+        requires { identifier.0 < length self.old.identifiers }
+        ensures { self.new ≡ record self.old { identifiers = changed_at (with_span span) identifier.0 self.old.identifiers } }
+    {
+        self.identifiers.item_mut(identifier.0 as usize).span = span;
+    }
+
+    /// Notes which identifier stands for a symbol. Where memory is wanted and not given, nothing was noted.
+    pub fn add_pair(
+        &mut self,
+        symbol: SymbolId,
+        identifier: IdentifierId,
+    ) -> Result<(), OutOfMemory>
+        ensures ok { OnOk result (self.new ≡ record self.old {
+          pairs = self.old.pairs ++ record { symbol = symbol; identifier = identifier } ∷ [];
+        }) }
+        ensures err { OnErr result (self.new ≡ self.old) }
+    {
+        self.pairs.push(Pair { symbol, identifier })
+    }
+
     /// Notes what the unit is refused for.
     pub fn record_error(&mut self, diagnostic: Diagnostic) -> Result<(), OutOfMemory>
         ensures { OnOk result (self.new ≡ record self.old { diagnostics = self.old.diagnostics ++ diagnostic ∷ [] }) }
@@ -104,5 +137,36 @@ impl Environment {
             identifiers: self.identifiers,
             pairs: self.pairs,
         }
+    }
+}
+
+#[cfg(test)]
+mod tests {
+    use super::*;
+    use rl_base::text::Text;
+    use std::test::Fail;
+
+    #[test]
+    fn changes_one_identifier(rt: HostRuntime) -> Result<(), Fail> {
+        let mut environment = Environment::new(rt.alloc(), ReactFunctionType::Other);
+        let span = Span { start: 3, end: 4 };
+        let first = environment.next_identifier_id(None)?;
+        let second = environment.next_identifier_id(Some(span))?;
+        let name = Text::from_str(rt.alloc(), "a")?;
+        environment.set_name(second, IdentifierName::Named(name));
+        environment.set_span(first, Some(span));
+        environment.set_span(second, None);
+        environment.add_pair(SymbolId(7), second)?;
+        let identifiers = environment.identifiers.as_slice();
+        assert_eq!(rt; identifiers[0].span, Some(span));
+        assert!(rt; identifiers[0].name.is_none());
+        assert_eq!(rt; identifiers[1].span, None);
+        assert!(rt; identifiers[1].name.is_some());
+        let pair = Pair {
+            symbol: SymbolId(7),
+            identifier: second,
+        };
+        assert_eq!(rt; environment.pairs.as_slice(), [pair].as_slice());
+        Ok(())
     }
 }

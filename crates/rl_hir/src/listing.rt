@@ -9,7 +9,9 @@ use crate::function::{
     BlockKind, HirFunction, Identifier, IdentifierName, InnerFunction, Lowered, NumberedBlock,
     Pair, Param, ReactFunctionType,
 };
-use crate::instruction::{Instruction, InstructionValue, Place, PrimitiveValue};
+use crate::instruction::{
+    Instruction, InstructionValue, NonLocalBinding, Place, PlaceOrSpread, PrimitiveValue,
+};
 use crate::terminal::{ReturnVariant, Terminal};
 use rl_base::failure::OutOfMemory;
 use rl_base::ids::{BlockId, InstructionId};
@@ -34,6 +36,21 @@ fn node<const N: usize>(alloc: Global, word: &str, parts: [Raw; N]) -> Result<Ra
 {
     let parts = Vec::from_array(alloc, parts)?;
     Ok(Raw::Node(Text::from_str(alloc, word)?, List::from_vec(parts)))
+}
+
+/// A list of these trees.
+#[tactic(auto, using(rl_text::proofs::Trees::tree_forms))]
+fn listed(parts: List<Raw>) -> Raw
+    ensures { tree result ≡ spec.listed (map tree parts) }
+{
+    Raw::List(parts)
+}
+
+/// A list of so many trees.
+fn list_of<const N: usize>(alloc: Global, parts: [Raw; N]) -> Result<Raw, OutOfMemory>
+    ensures { IfOk result (λ raw. tree raw ≡ spec.listed (map tree parts.entry)) }
+{
+    Ok(listed(List::from_vec(Vec::from_array(alloc, parts)?)))
 }
 
 /// A text of the program's own.
@@ -138,12 +155,100 @@ impl ToRaw for PrimitiveValue {
     }
 }
 
+impl ToRaw for NonLocalBinding {
+    ghost shown = { spec.binding };
+
+    fn to_raw(&self, alloc: Global) -> Result<Raw, OutOfMemory> {
+        match self {
+            NonLocalBinding::Global { name } => list_of(alloc, [name.to_raw(alloc)?]),
+            NonLocalBinding::ModuleLocal { name } => {
+                list_of(alloc, [name.to_raw(alloc)?, said(alloc, "module")?])
+            }
+            NonLocalBinding::ImportDefault { name, module } => {
+                let parts = [
+                    name.to_raw(alloc)?,
+                    said(alloc, "default")?,
+                    module.to_raw(alloc)?,
+                ];
+                list_of(alloc, parts)
+            }
+            NonLocalBinding::ImportNamespace { name, module } => {
+                let parts = [
+                    name.to_raw(alloc)?,
+                    said(alloc, "namespace")?,
+                    module.to_raw(alloc)?,
+                ];
+                list_of(alloc, parts)
+            }
+            NonLocalBinding::ImportSpecifier {
+                name,
+                module,
+                imported,
+            } => {
+                let parts = [
+                    name.to_raw(alloc)?,
+                    said(alloc, "named")?,
+                    module.to_raw(alloc)?,
+                    imported.to_raw(alloc)?,
+                ];
+                list_of(alloc, parts)
+            }
+        }
+    }
+}
+
+/// The shape of each argument.
+fn shapes(alloc: Global, arguments: &[PlaceOrSpread]) -> Result<Raw, OutOfMemory>
+    ensures { IfOk result (λ raw. tree raw ≡ spec.list spec.shape_of arguments.now) }
+{
+    let mut texts = List::new(alloc);
+    'arguments: for argument in arguments {
+        texts.push(said(alloc, argument.shape())?)?;
+    }
+    Ok(listed(texts))
+}
+
+/// The places of what is called and of each argument.
+fn operands(alloc: Global, callee: Place, arguments: &[PlaceOrSpread]) -> Result<Raw, OutOfMemory>
+    ensures { IfOk result (λ raw. tree raw ≡ spec.operands callee arguments.now) }
+{
+    let mut places = List::new(alloc);
+    places.push(callee.to_raw(alloc)?)?;
+    'arguments: for argument in arguments {
+        places.push(argument.place().to_raw(alloc)?)?;
+    }
+    Ok(listed(places))
+}
+
 impl ToRaw for InstructionValue {
     ghost shown = { spec.value };
 
     fn to_raw(&self, alloc: Global) -> Result<Raw, OutOfMemory> {
         match self {
             InstructionValue::Primitive(value) => node(alloc, "primitive", [value.to_raw(alloc)?]),
+            InstructionValue::LoadLocal(place) => node(alloc, "loadlocal", [place.to_raw(alloc)?]),
+            InstructionValue::LoadGlobal(binding) => {
+                let parts = [binding.to_raw(alloc)?, list_of(alloc, [])?];
+                node(alloc, "loadglobal", parts)
+            }
+            InstructionValue::Binary {
+                operator,
+                left,
+                right,
+            } => {
+                let parts = [
+                    list_of(alloc, [said(alloc, operator.as_str())?])?,
+                    list_of(alloc, [left.to_raw(alloc)?, right.to_raw(alloc)?])?,
+                ];
+                node(alloc, "binary", parts)
+            }
+            InstructionValue::Call { callee, arguments } => {
+                let parts = [
+                    shapes(alloc, arguments.as_slice())?,
+                    operands(alloc, *callee, arguments.as_slice())?,
+                ];
+                node(alloc, "call", parts)
+            }
         }
     }
 }
@@ -347,6 +452,7 @@ mod tests {
     use super::*;
     use crate::function::{BasicBlock, Hir};
     use rl_base::ids::{EvaluationOrder, IdentifierId, TypeId};
+    use rl_text::operator::BinaryOperator;
     use rl_text::write::write_raw;
     use std::test::Fail;
 
@@ -433,6 +539,110 @@ mod tests {
             pairs: List::new(alloc),
         };
         write_raw(alloc, &listing(alloc, &lowered)?)
+    }
+
+    /// The listing of an instruction value.
+    fn value_text(alloc: Global, value: &InstructionValue) -> Result<Vec<u8>, OutOfMemory> {
+        write_raw(alloc, &value.to_raw(alloc)?)
+    }
+
+    #[test]
+    fn lists_a_load(rt: HostRuntime) -> Result<(), Fail> {
+        let name = Some(Span {
+            start: 95,
+            end: 103,
+        });
+        let load = Instruction {
+            order: EvaluationOrder(1),
+            lvalue: place(2, name),
+            value: InstructionValue::LoadLocal(place(0, name)),
+            span: name,
+        };
+        let written = write_raw(rt.alloc(), &load.to_raw(rt.alloc())?)?;
+        assert_eq!(rt;
+            written.as_slice(),
+            b"(i 1 (p 2 (at 95 103)) (at 95 103) (loadlocal (p 0 (at 95 103))))".as_slice()
+        );
+        Ok(())
+    }
+
+    #[test]
+    fn lists_an_operator(rt: HostRuntime) -> Result<(), Fail> {
+        let binary = InstructionValue::Binary {
+            operator: BinaryOperator::ShiftRightZeroFill,
+            left: place(4, Some(Span { start: 9, end: 17 })),
+            right: place(5, None),
+        };
+        let written = value_text(rt.alloc(), &binary)?;
+        assert_eq!(rt;
+            written.as_slice(),
+            b"(binary [\">>>\"] [(p 4 (at 9 17)) (p 5 -)])".as_slice()
+        );
+        Ok(())
+    }
+
+    #[test]
+    fn lists_a_call(rt: HostRuntime) -> Result<(), Fail> {
+        let mut arguments = List::new(rt.alloc());
+        arguments.push(PlaceOrSpread::Place(place(2, None)))?;
+        arguments.push(PlaceOrSpread::Spread(place(3, None)))?;
+        let callee = place(1, Some(Span { start: 9, end: 17 }));
+        let call = InstructionValue::Call { callee, arguments };
+        let written = value_text(rt.alloc(), &call)?;
+        assert_eq!(rt;
+            written.as_slice(),
+            b"(call [\"place\" \"spread\"] [(p 1 (at 9 17)) (p 2 -) (p 3 -)])".as_slice()
+        );
+        Ok(())
+    }
+
+    fn global_text(alloc: Global, binding: NonLocalBinding) -> Result<Vec<u8>, OutOfMemory> {
+        value_text(alloc, &InstructionValue::LoadGlobal(binding))
+    }
+
+    #[test]
+    fn lists_names_that_are_no_locals(rt: HostRuntime) -> Result<(), Fail> {
+        let alloc = rt.alloc();
+        let name = Text::from_str(alloc, "f")?;
+        let global = global_text(alloc, NonLocalBinding::Global { name })?;
+        assert_eq!(rt; global.as_slice(), b"(loadglobal [\"f\"] [])".as_slice());
+        let name = Text::from_str(alloc, "f")?;
+        let local = global_text(alloc, NonLocalBinding::ModuleLocal { name })?;
+        assert_eq!(rt;
+            local.as_slice(),
+            b"(loadglobal [\"f\" \"module\"] [])".as_slice()
+        );
+        Ok(())
+    }
+
+    #[test]
+    fn lists_imports(rt: HostRuntime) -> Result<(), Fail> {
+        let alloc = rt.alloc();
+        let name = Text::from_str(alloc, "f")?;
+        let module = Text::from_str(alloc, "m")?;
+        let default = global_text(alloc, NonLocalBinding::ImportDefault { name, module })?;
+        assert_eq!(rt;
+            default.as_slice(),
+            b"(loadglobal [\"f\" \"default\" \"m\"] [])".as_slice()
+        );
+        let name = Text::from_str(alloc, "f")?;
+        let module = Text::from_str(alloc, "m")?;
+        let namespace = global_text(alloc, NonLocalBinding::ImportNamespace { name, module })?;
+        assert_eq!(rt;
+            namespace.as_slice(),
+            b"(loadglobal [\"f\" \"namespace\" \"m\"] [])".as_slice()
+        );
+        let specifier = NonLocalBinding::ImportSpecifier {
+            name: Text::from_str(alloc, "f")?,
+            module: Text::from_str(alloc, "m")?,
+            imported: Text::from_str(alloc, "g")?,
+        };
+        let named = global_text(alloc, specifier)?;
+        assert_eq!(rt;
+            named.as_slice(),
+            b"(loadglobal [\"f\" \"named\" \"m\" \"g\"] [])".as_slice()
+        );
+        Ok(())
     }
 
     #[test]

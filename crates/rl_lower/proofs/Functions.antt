@@ -1,7 +1,6 @@
 -- A function's graph, from its body's.
-use Rattle.std.proofs.Common.{◌≡◌, ℕ, ◌+◌, inl, inr, List, [], length, slice_get, Option, Some, None, refl, sym, ap, ◌∙◌, subst, arith}
+use Rattle.std.proofs.Common.{◌≡◌, ℕ, ◌+◌, ◌≤◌, inl, inr, List, [], length, slice_get, Option, Some, None, refl, sym, ap, ◌∙◌, subst, arith}
 use Rattle.rl_base.specs.declared.span.Span.{Span}
-use Rattle.rl_hir.specs.declared.environment.Environment.{Environment}
 use Rattle.rl_hir.specs.declared.instruction.Place.{Place}
 use Rattle.rl_hir.specs.declared.instruction.PrimitiveValue.TheVariants as primitives
 use Rattle.rl_hir.specs.declared.terminal.Terminal.{Terminal}
@@ -9,8 +8,11 @@ use Rattle.rl_hir.specs.declared.terminal.ReturnVariant.{ReturnVariant}
 use Rattle.rl_hir.specs.declared.terminal.ReturnVariant.TheVariants as returns
 use Rattle.rl_hir.specs.declared.function.BlockKind.{BlockKind}
 use Rattle.rl_hir.specs.declared.function.HirFunction.{HirFunction}
+use Rattle.rl_hir.specs.declared.function.NumberedBlock.{NumberedBlock}
+use Rattle.rl_base.specs.declared.ids.BlockId.{BlockId}
+use Rattle.rl_base.specs.declared.ids.InstructionId.{InstructionId}
 use Rattle.rl_hir.specs.declared.function.Pair.{Pair}
-use Rattle.rl_builder.specs.Builder.{State, started, reserved, new_block, ended_by, completed_by, placeholder}
+use Rattle.rl_builder.specs.Builder.{State, reserved, new_block, ended_by, completed_by, placeholder}
 use Rattle.rl_builder.specs.Temporaries.{temporary}
 use Rattle.rl_builder.specs.Build.{built_of}
 use Rattle.rl_builder.specs.declared.builder.WipBlock.{WipBlock}
@@ -19,21 +21,20 @@ use Rattle.rl_model.specs.declared.trace.Value.TheVariants as value
 use Rattle.rl_model.specs.declared.trace.Answer.{Answer}
 use Rattle.rl_model.specs.declared.trace.Setting.{Setting}
 use Rattle.rl_model.specs.declared.trace.Trace.{Trace}
-use Rattle.rl_model.specs.Traces.{Store, With, Gives, Means, returned, threw, unset, set_all}
-use Rattle.rl_model.specs.Machine.{Ends, Code, Notes, no_notes, code_in, exec, set_by, take_arguments}
+use Rattle.rl_model.specs.Traces.{Store, With, Gives, Means, returned, threw, unset}
+use Rattle.rl_model.specs.Machine.{Ends, Code, Notes, no_notes, code_in, positions, set_by, take_arguments, trace_within}
 use Rattle.rl_model.specs.Source.{runs}
-use Rattle.rl_model.specs.Headline.{SameRuns}
 use Rattle.rl_ast.specs.Syntax.{Syntax}
 use Rattle.rl_hir.specs.declared.function.Hir.{Hir}
-use Rattle.rl_hir.specs.declared.function.Param.{Param}
 use Rattle.rl_hir.specs.declared.instruction.Instruction.{Instruction}
-use Rattle.rl_lower.specs.Simulation.{IsCompleted, IsCurrentOrCompleted, Grows, Covers, IsClean, AreEnded, Goes, From, Throws, RunsExpression, RunsStatement}
+use Rattle.rl_lower.specs.Simulation.{Agrees, AreMade, IsCompleted, IsCurrentOrCompleted, Grows, Covers, IsClean, AreEnded, Goes, From, Throws, RunsExpression, RunsStatement}
 use Rattle.rl_lower.specs.Endings.{return_of, with_undefined, closed_off}
-use Rattle.rl_lower.proofs.Steps.{get_seam, comes_at_once, steps_on}
+use Rattle.rl_lower.proofs.Building.{IsFresh}
+use Rattle.rl_lower.proofs.Steps.{agrees_then, made_then, get_seam, comes_at_once, steps_on}
 use Rattle.rl_lower.proofs.Moves.{grows_then, grows_reserved, grows_completed, covers_before, terminal_met}
 use Rattle.rl_lower.proofs.Clean.{apart_ended, tidy_then, tidy_counted, tidy_ended, free_fresh, free_then, ended_more}
 use Rattle.rl_lower.proofs.Parts.{value_runs}
-use Rattle.rl_lower.proofs.Whole.{IsFinished, finished_covers, finished_runs}
+use Rattle.rl_lower.proofs.Whole.{IsFinished, entry_built, finished_covers, finished_runs, limited, total_runs}
 
 -- where the block ends by a return, the run does, with the value
 pub block_returns : (s : State) (span : Option Span) (variant : ReturnVariant) (place : Place) (next : WipBlock) (c : Code) → Covers (completed_by s (return_of span variant place) next) c → (v : Value) (store : Store) (notes : Notes) (answers : List Answer) → store place.identifier.0 ≡ v → From c s store notes answers (returned variant v)
@@ -51,9 +52,9 @@ value_returned s new d identifier span place kind named r = record {
       (inr (omega arith))
       (λ c. free_then s.env.next_block r.tidy (free_fresh s.completed s.current.id.0 s.env.next_block (s.env.next_block + 1) s.env.next_block c (omega arith) (omega arith)));
   ended = λ e. ended_more new.completed (ended_by new.current (return_of span returns.Implicit place)) (λ h. h) (r.ended e);
-  runs = λ c cover exits source store notes answers throws onward.
-      r.runs c (covers_before new _ c ended cover) (λ v after rest. returned returns.Implicit v) exits.throws source store notes answers throws
-      (record { goes = λ v after later notes1 answers1 l is. block_returns new span returns.Implicit place (new_block s.env.next_block kind) c cover v later notes1 answers1 (ap later named ∙ is) });
+  runs = λ c cover m exits source store notes answers a throws onward.
+      r.runs c (covers_before new _ c ended cover) (record { below = m.below }) (λ v after rest. returned returns.Implicit v) exits.throws source store notes answers a throws
+      (record { goes = λ v after later notes1 answers1 a1 l is. block_returns new span returns.Implicit place (new_block s.env.next_block kind) c cover v later notes1 answers1 (ap later named ∙ is) });
 }
   where
     ended : Grows new (completed_by new (return_of span returns.Implicit place) (new_block s.env.next_block kind))
@@ -63,22 +64,22 @@ undefined_runs : (s : State) → RunsExpression (λ source answers onward throws
 undefined_runs s = value_runs s (λ source answers onward throws. onward value.Undefined source answers) primitives.Undefined None (λ source answers onward throws. refl)
 
 -- at the end of a body the function returns Undefined
-falls_off : (s : State) (c : Code) → Covers (closed_off s) c → (throws : With) (source store : Store) (notes : Notes) (answers : List Answer) → Throws throws → From c s store notes answers (returned returns.Void value.Undefined)
-falls_off s c cover throws source store notes answers none =
-    (undefined_runs s).runs c (covers_before (with_undefined s) (closed_off s) c (grows_completed (with_undefined s) _ placeholder) cover)
-    (λ v after rest. returned returns.Void v) throws source store notes answers none
-    (record { goes = λ v after later notes1 answers1 l is. block_returns (with_undefined s) None returns.Void (temporary s None) placeholder c cover v later notes1 answers1 is })
+falls_off : (s : State) (c : Code) → Covers (closed_off s) c → AreMade s → (throws : With) (source store : Store) (notes : Notes) (answers : List Answer) → Agrees s.bindings source store → Throws throws → From c s store notes answers (returned returns.Void value.Undefined)
+falls_off s c cover m throws source store notes answers a none =
+    (undefined_runs s).runs c (covers_before (with_undefined s) (closed_off s) c (grows_completed (with_undefined s) _ placeholder) cover) m
+    (λ v after rest. returned returns.Void v) throws source store notes answers a none
+    (record { goes = λ v after later notes1 answers1 a1 l is. block_returns (with_undefined s) None returns.Void (temporary s None) placeholder c cover v later notes1 answers1 is })
 
-clean_started : (env : Environment) (kind : BlockKind) → IsClean [] env.next_block (env.next_block + 1)
-clean_started env kind = record {
-  apart = λ i j a b ea eb same. absurd (cc);
-  open_block = λ k. none k.place k.block k.found;
-  below = λ id k. absurd (none k.place k.block k.found);
-  current_below = omega arith;
+nothing_completed : (completed : List NumberedBlock) → completed ≡ [] → (id : ℕ) → IsCompleted completed id → ⊥
+nothing_completed completed none id k = (let never : slice_get {X = NumberedBlock} [] k.place ≡ Some k.block = ap (λ (l : List NumberedBlock). slice_get l k.place) (sym none) ∙ k.found in cc)
+
+clean_fresh : (s : State) → IsFresh s → IsClean s.completed s.current.id.0 s.env.next_block
+clean_fresh s fresh = record {
+  apart = λ i j a b ea eb same. absurd (nothing_completed s.completed fresh.completed a.id.0 (record { place = i; block = a; found = ea; named = refl }));
+  open_block = λ k. nothing_completed s.completed fresh.completed s.current.id.0 k;
+  below = λ id k. absurd (nothing_completed s.completed fresh.completed id k);
+  current_below = fresh.below;
 }
-  where
-    none : (place : ℕ) (b : Rattle.rl_hir.specs.declared.function.NumberedBlock.NumberedBlock) → slice_get {X = Rattle.rl_hir.specs.declared.function.NumberedBlock.NumberedBlock} [] place ≡ Some b → ⊥
-    none place b e = cc
 
 entry_completed : (s : State) (t : Terminal) (next : WipBlock) (id : ℕ) → IsCurrentOrCompleted s id → IsCompleted (completed_by s t next).completed id
 entry_completed s t next id h = elim h [
@@ -90,51 +91,56 @@ none_ended : AreEnded []
 none_ended k d below = absurd (omega arith)
 
 -- the builder of a function is finished
-pub function_finished : (env : Environment) (kind : BlockKind) (m : Means) (s : State) → RunsStatement m (started env kind) s → IsFinished (closed_off s)
-function_finished env kind m s r = record {
-  apart = apart_ended s.completed s.current.id.0 s.env.next_block (ended_by (with_undefined s).current (return_of None returns.Void (temporary s None))) refl (r.tidy.clean (clean_started env kind));
-  ended = ended_more s.completed (ended_by (with_undefined s).current (return_of None returns.Void (temporary s None))) (λ h. h) (r.ended none_ended);
+pub function_finished : (begun s : State) (m : Means) → IsFresh begun → RunsStatement m begun s → IsFinished (closed_off s)
+function_finished begun s m fresh r = record {
+  apart = apart_ended s.completed s.current.id.0 s.env.next_block (ended_by (with_undefined s).current (return_of None returns.Void (temporary s None))) refl (r.tidy.clean (clean_fresh begun fresh));
+  ended = ended_more s.completed (ended_by (with_undefined s).current (return_of None returns.Void (temporary s None))) (λ h. h) (r.ended (subst AreEnded (sym fresh.completed) none_ended));
   empty = refl;
-  entry = subst (λ (id : ℕ). IsCompleted (closed_off s).completed id) (sym (ap (λ (b : Rattle.rl_base.specs.declared.ids.BlockId.BlockId). b.0) r.grows.entry))
-      (entry_completed (with_undefined s) (return_of None returns.Void (temporary s None)) placeholder env.next_block
-      (grows_then (started env kind) s (with_undefined s) r.grows (undefined_runs s).grows).current);
+  entry = subst (λ (id : ℕ). IsCompleted (closed_off s).completed id) (sym (ap (λ (b : BlockId). b.0) r.grows.entry ∙ fresh.entry))
+      (entry_completed (with_undefined s) (return_of None returns.Void (temporary s None)) placeholder begun.current.id.0
+      (grows_then begun s (with_undefined s) r.grows (undefined_runs s).grows).current);
 }
 
 -- and its blocks run as the body does
-pub function_runs : (env : Environment) (kind : BlockKind) (m : Means) (s : State) → RunsStatement m (started env kind) s → (throws : With) (source store : Store) (notes : Notes) (answers : List Answer) → Throws throws
-    → Goes (code_in (closed_off s).completed (closed_off s).table) env.next_block 0 store notes answers (m source answers (record { falls = λ after rest. returned returns.Void value.Undefined; throws = throws }))
-function_runs env kind m s r throws source store notes answers none =
+pub function_runs : (begun s : State) (m : Means) → IsFresh begun → AreMade begun → RunsStatement m begun s → (throws : With) (source store : Store) (notes : Notes) (answers : List Answer) → Agrees begun.bindings source store → Throws throws
+    → Goes (code_in (closed_off s).completed (closed_off s).table) (closed_off s).entry.0 0 store notes answers (m source answers (record { falls = λ after rest. returned returns.Void value.Undefined; throws = throws }))
+function_runs begun s m fresh made r throws source store notes answers agrees none =
     let c : Code = code_in (closed_off s).completed (closed_off s).table in
-    let cover : Covers (closed_off s) c = finished_covers (closed_off s) (function_finished env kind m s r) in
-    r.runs c (covers_before s (closed_off s) c (grows_then s (with_undefined s) (closed_off s) (undefined_runs s).grows (grows_completed (with_undefined s) _ placeholder)) cover)
-    (record { falls = λ after rest. returned returns.Void value.Undefined; throws = throws }) source store notes answers none
-    (record { goes = λ after later notes1 answers1 l. falls_off s c cover throws after later notes1 answers1 none })
+    let trace : Trace = m source answers (record { falls = λ after rest. returned returns.Void value.Undefined; throws = throws }) in
+    let cover : Covers (closed_off s) c = finished_covers (closed_off s) (function_finished begun s m fresh r) in
+    let goes : From c begun store notes answers trace =
+    r.runs c (covers_before s (closed_off s) c (grows_then s (with_undefined s) (closed_off s) (undefined_runs s).grows (grows_completed (with_undefined s) _ placeholder)) cover) made
+    (record { falls = λ after rest. returned returns.Void value.Undefined; throws = throws }) source store notes answers agrees none
+    (record { goes = λ after later notes1 answers1 a1 l. falls_off s c cover (made_then begun s r.grows made) throws after later notes1 answers1 (agrees_then begun s after later r.grows a1) none }) in
+    subst (λ (id : ℕ). Goes c id 0 store notes answers trace) (sym (ap (λ (b : BlockId). b.0) r.grows.entry ∙ fresh.entry))
+    (subst (λ (listed : List InstructionId). Goes c begun.current.id.0 (length listed) store notes answers trace) fresh.instructions goes)
 
--- so the function that is built has the runs of its source
-pub function_same_runs : (env : Environment) (kind : BlockKind) (m : Means) (s : State) → RunsStatement m (started env kind) s → (f : HirFunction) (pairs : List Pair) (function : Syntax)
-    → f.body ≡ (built_of (closed_off s)).hir → f.instructions ≡ (built_of (closed_off s)).instructions → f.params ≡ []
-    → ((start : List Setting) (arguments : List Value) (answers : List Answer) → runs function start arguments answers ≡ m (set_all start unset) answers (record { falls = λ after rest. returned returns.Void value.Undefined; throws = λ v after rest. threw v }))
-    → SameRuns function f pairs
-function_same_runs env kind m s r f pairs function body_is instructions_is params_is means start arguments answers = (goes.by.0, λ steps enough. here steps ∙ goes.by.1 steps enough ∙ sym (means start arguments answers))
+-- so the function that is built has the runs of its source, whatever limit on silent steps lets be as many as it has positions
+pub function_runs_within : (begun s : State) (m : Means) → IsFresh begun → AreMade begun → RunsStatement m begun s → (f : HirFunction) (pairs : List Pair) (function : Syntax)
+    → f.body ≡ (built_of (closed_off s)).hir → f.instructions ≡ (built_of (closed_off s)).instructions
+    → (source : List Setting → List Value → Store) → ((start : List Setting) (arguments : List Value) → Agrees begun.bindings (source start arguments) (take_arguments f.params arguments (set_by pairs start unset)))
+    → ((start : List Setting) (arguments : List Value) (answers : List Answer) → runs function start arguments answers ≡ m (source start arguments) answers (record { falls = λ after rest. returned returns.Void value.Undefined; throws = λ v after rest. threw v }))
+    → (most : ℕ) → positions f.body.blocks ≤ most → (start : List Setting) (arguments : List Value) (answers : List Answer) → trace_within most f pairs start arguments answers ≡ runs function start arguments answers
+function_runs_within begun s m fresh made r f pairs function body_is instructions_is source agrees means most large start arguments answers =
+    here ∙ total_runs most (built_of last).hir.blocks (built_of last).instructions last.entry.0 store no_notes answers trace (subst (λ (h : Hir). positions h.blocks ≤ most) body_is large) (entry_built last finished) goes ∙ sym (means start arguments answers)
   where
     last : State
     last = closed_off s
 
     store : Store
-    store = set_by pairs start unset
+    store = take_arguments f.params arguments (set_by pairs start unset)
 
     trace : Trace
-    trace = m (set_all start unset) answers (record { falls = λ after rest. returned returns.Void value.Undefined; throws = λ v after rest. threw v })
+    trace = m (source start arguments) answers (record { falls = λ after rest. returned returns.Void value.Undefined; throws = λ v after rest. threw v })
 
-    from : Goes (code_in last.completed last.table) last.entry.0 0 store no_notes answers trace
-    from = subst (λ (id : ℕ). Goes (code_in last.completed last.table) id 0 store no_notes answers trace) (sym (ap (λ (b : Rattle.rl_base.specs.declared.ids.BlockId.BlockId). b.0) r.grows.entry))
-        (function_runs env kind m s r (λ v after rest. threw v) (set_all start unset) store no_notes answers (record { ends = λ v after rest. refl }))
+    finished : IsFinished last
+    finished = function_finished begun s m fresh r
 
     goes : Goes (code_in (built_of last).hir.blocks (built_of last).instructions) last.entry.0 0 store no_notes answers trace
-    goes = finished_runs last (function_finished env kind m s r) store no_notes answers trace from
+    goes = finished_runs last finished store no_notes answers trace
+        (function_runs begun s m fresh made r (λ v after rest. threw v) (source start arguments) store no_notes answers (agrees start arguments) (record { ends = λ v after rest. refl }))
 
-    here : (steps : ℕ) → exec (code_in f.body.blocks f.instructions) steps f.body.entry.0 0 (take_arguments f.params arguments store) no_notes answers ≡ exec (code_in (built_of last).hir.blocks (built_of last).instructions) steps last.entry.0 0 store no_notes answers
-    here steps =
-        ap (λ (h : Hir). exec (code_in h.blocks f.instructions) steps h.entry.0 0 (take_arguments f.params arguments store) no_notes answers) body_is
-        ∙ ap (λ (l : List Instruction). exec (code_in (built_of last).hir.blocks l) steps last.entry.0 0 (take_arguments f.params arguments store) no_notes answers) instructions_is
-        ∙ ap (λ (ps : List Param). exec (code_in (built_of last).hir.blocks (built_of last).instructions) steps last.entry.0 0 (take_arguments ps arguments store) no_notes answers) params_is
+    here : trace_within most f pairs start arguments answers ≡ limited most (built_of last).hir.blocks (built_of last).instructions last.entry.0 store no_notes answers
+    here =
+        ap (λ (h : Hir). limited most h.blocks f.instructions h.entry.0 store no_notes answers) body_is
+        ∙ ap (λ (l : List Instruction). limited most (built_of last).hir.blocks l last.entry.0 store no_notes answers) instructions_is

@@ -6,8 +6,6 @@ use Rattle.std.proofs.lemmas.Option.{slice_get_past}
 use Rattle.rl_base.specs.declared.ids.BlockId.{BlockId}
 use Rattle.rl_base.specs.declared.ids.InstructionId.{InstructionId}
 use Rattle.rl_hir.specs.declared.instruction.Instruction.{Instruction}
-use Rattle.rl_hir.specs.declared.instruction.InstructionValue.{InstructionValue}
-use Rattle.rl_hir.specs.declared.instruction.InstructionValue.TheVariants as values
 use Rattle.rl_hir.specs.declared.terminal.Terminal.{Terminal}
 use Rattle.rl_hir.specs.declared.terminal.Terminal.TheVariants as terminals
 use Rattle.rl_hir.specs.declared.function.BasicBlock.{BasicBlock}
@@ -16,11 +14,12 @@ use Rattle.rl_hir.specs.declared.function.NumberedBlock.{NumberedBlock}
 use Rattle.rl_hir.specs.Terminals.{with_order}
 use Rattle.rl_builder.specs.Order.{reached_blocks, ordered_at, ordered_list, order_after, ordered_block, ordered_blocks, ordered_table}
 use Rattle.rl_model.specs.declared.trace.Answer.{Answer}
-use Rattle.rl_model.specs.Traces.{Store, set}
+use Rattle.rl_model.specs.Traces.{Store, set, set_open, threw}
 use Rattle.rl_model.specs.Closed.{successors, named, IsUnreachable, IsClosed, Reaches}
 use Rattle.rl_model.specs.Closed as closed
-use Rattle.rl_model.specs.Machine.{Item, Runs, Ends, Code, Notes, Next, block_of, item_in, code_in, exec, executed, step, value_of}
-use Rattle.rl_lower.specs.Simulation.{InBlock}
+use Rattle.rl_model.specs.Machine.{Item, Runs, Ends, Code, Notes, Next, Act, Computes, Asks, act, block_of, item_in, code_in, executed, is_open, step}
+use Rattle.rl_lower.specs.Simulation.{InBlock, walk}
+use Rattle.rl_lower.proofs.Asking.{asked_same}
 
 -- a block is found by its number
 abbrev pub Apart : List NumberedBlock → Type 0
@@ -59,37 +58,35 @@ abbrev pub plain : Option Item → Option Item
 plain o = option_map plain_item o
 
 -- a step does not look at orders
-step_plain : (o : Option Item) (next : Next) (block place : ℕ) (store : Store) (notes : Notes) (answers : List Answer) → step (plain o) next block place store notes answers ≡ step o next block place store notes answers
-step_plain None next block place store notes answers = refl
-step_plain (Some (Runs i)) next block place store notes answers = refl
-step_plain (Some (Ends (terminals.Return order at variant p))) next block place store notes answers = refl
-step_plain (Some (Ends (terminals.Unreachable order at))) next block place store notes answers = refl
+step_plain : (o : Option Item) (silent loud : Next) (block place : ℕ) (store : Store) (notes : Notes) (answers : List Answer) → step (plain o) silent loud block place store notes answers ≡ step o silent loud block place store notes answers
+step_plain None silent loud block place store notes answers = refl
+step_plain (Some (Runs i)) silent loud block place store notes answers = refl
+step_plain (Some (Ends (terminals.Return order at variant p))) silent loud block place store notes answers = refl
+step_plain (Some (Ends (terminals.Unreachable order at))) silent loud block place store notes answers = refl
 
 -- a run that stays in one block is the same in two graphs whose items there are the same without their orders
 
-stays : (item : Item) (c d : Code) (steps block place : ℕ) (store : Store) (notes : Notes) (answers : List Answer)
-    → ((place1 : ℕ) (store1 : Store) → exec c steps block place1 store1 notes answers ≡ exec d steps block place1 store1 notes answers)
-    → step (Some item) (exec c steps) block place store notes answers ≡ step (Some item) (exec d steps) block place store notes answers
-stays (Runs i) c d steps block place store notes answers same = stays_value i.value i.lvalue.identifier.0
-  where
-    stays_value : (v : InstructionValue) (identifier : ℕ) → executed v identifier (exec c steps) block place store notes answers ≡ executed v identifier (exec d steps) block place store notes answers
-    stays_value (values.Primitive p) identifier = same (place + 1) (set store identifier (value_of p))
-stays (Ends (terminals.Return order at variant p)) c d steps block place store notes answers same = refl
-stays (Ends (terminals.Unreachable order at)) c d steps block place store notes answers same = refl
+-- what follows a step in the block is the same in both
+abbrev SameBehind : Next → Next → ℕ → Notes → Type 0
+SameBehind f g block notes = (place : ℕ) (store : Store) (answers : List Answer) → f block place store notes answers ≡ g block place store notes answers
 
-stays_at : (o : Option Item) (c d : Code) (steps block place : ℕ) (store : Store) (notes : Notes) (answers : List Answer)
-    → ((place1 : ℕ) (store1 : Store) → exec c steps block place1 store1 notes answers ≡ exec d steps block place1 store1 notes answers)
-    → step o (exec c steps) block place store notes answers ≡ step o (exec d steps) block place store notes answers
-stays_at None c d steps block place store notes answers same = refl
-stays_at (Some item) c d steps block place store notes answers same = stays item c d steps block place store notes answers same
+stays_act : (a : Act) (identifier : ℕ) (f g : Next) (block place : ℕ) (store : Store) (notes : Notes) (answers : List Answer) → SameBehind f g block notes → executed a identifier f f block place store notes answers ≡ executed a identifier g g block place store notes answers
+stays_act (Computes v) identifier f g block place store notes answers same = same (place + 1) (set store identifier v) answers
+stays_act (Asks event) identifier f g block place store notes answers same = asked_same (λ settings before. set_open is_open settings before) event store answers _ _ (λ v after rest. threw v) (λ v after rest. same (place + 1) (set after identifier v) rest)
 
-pub same_in_block : (c d : Code) (block : ℕ) → ((place : ℕ) → plain (c block place) ≡ plain (d block place)) → (steps place : ℕ) (store : Store) (notes : Notes) (answers : List Answer) → exec c steps block place store notes answers ≡ exec d steps block place store notes answers
+stays : (o : Option Item) (f g : Next) (block place : ℕ) (store : Store) (notes : Notes) (answers : List Answer) → SameBehind f g block notes → step o f f block place store notes answers ≡ step o g g block place store notes answers
+stays None f g block place store notes answers same = refl
+stays (Some (Runs i)) f g block place store notes answers same = stays_act (act i.value store) i.lvalue.identifier.0 f g block place store notes answers same
+stays (Some (Ends (terminals.Return order at variant p))) f g block place store notes answers same = refl
+stays (Some (Ends (terminals.Unreachable order at))) f g block place store notes answers same = refl
+
+pub same_in_block : (c d : Code) (block : ℕ) → ((place : ℕ) → plain (c block place) ≡ plain (d block place)) → (steps place : ℕ) (store : Store) (notes : Notes) (answers : List Answer) → walk c steps block place store notes answers ≡ walk d steps block place store notes answers
 same_in_block c d block same zero place store notes answers = refl
 same_in_block c d block same (suc steps) place store notes answers =
-    stays_at (c block place) c d steps block place store notes answers (λ place1 store1. same_in_block c d block same steps place1 store1 notes answers)
-    ∙ sym (step_plain (c block place) (exec d steps) block place store notes answers)
-    ∙ ap (λ o. step o (exec d steps) block place store notes answers) (same place)
-    ∙ step_plain (d block place) (exec d steps) block place store notes answers
+    stays (c block place) (walk c steps) (walk d steps) block place store notes answers (λ place1 store1 answers1. same_in_block c d block same steps place1 store1 notes answers1)
+    ∙ sym (step_plain (c block place) (walk d steps) (walk d steps) block place store notes answers)
+    ∙ ap (λ o. step o (walk d steps) (walk d steps) block place store notes answers) (same place)
+    ∙ step_plain (d block place) (walk d steps) (walk d steps) block place store notes answers
 
 -- numbering changes orders alone
 
@@ -113,7 +110,7 @@ pub ordered_table_plain : (order : ℕ) (blocks : List NumberedBlock) (table : L
 ordered_table_plain order [] table = refl
 ordered_table_plain order (b ∷ blocks) table = ordered_table_plain (order_after order b) blocks (ordered_list order b.block.instructions table) ∙ ordered_list_plain order b.block.instructions table
 
-get_map : {X Y : Type 0} (f : X → Y) (xs : List X) (k : ℕ) → slice_get (map f xs) k ≡ option_map f (slice_get xs k)
+pub get_map : {X Y : Type 0} (f : X → Y) (xs : List X) (k : ℕ) → slice_get (map f xs) k ≡ option_map f (slice_get xs k)
 get_map f [] k = refl
 get_map f (x ∷ xs) zero = refl
 get_map f (x ∷ xs) (suc k) = get_map f xs k
@@ -185,6 +182,10 @@ only_entry hir id (closed.next from successor block before is there) = absurd (l
 still_ended : (order : ℕ) (t : Terminal) → (IsUnreachable t → ⊥) → IsUnreachable (with_order order t) → ⊥
 still_ended order (terminals.Return old at variant p) end u = u
 still_ended order (terminals.Unreachable old at) end u = end u
+
+-- the entry is a block of it
+pub built_entry : (entry : BlockId) (completed : List NumberedBlock) (block : BasicBlock) → block_of completed entry.0 ≡ Some block → (b : BasicBlock) × (block_of (ordered_blocks 1 (reached_blocks entry completed)) entry.0 ≡ Some b)
+built_entry entry completed block is = let found = kept 1 entry.0 completed block is in (record block { terminal = with_order found.0 block.terminal }, found.1)
 
 pub built_closed : (entry : BlockId) (completed : List NumberedBlock) (block : BasicBlock) → block_of completed entry.0 ≡ Some block → (IsUnreachable block.terminal → ⊥) → IsClosed (record { entry = entry; blocks = ordered_blocks 1 (reached_blocks entry completed) })
 built_closed entry completed block is end =

@@ -1,5 +1,5 @@
 -- What the builder's moves keep: the counters, the lists of places, and what other functions made.
-use Rattle.std.proofs.Common.{◌≡◌, ℕ, zero, suc, ◌+◌, ◌<◌, ◌≤◌, ◌++◌, List, [], ◌∷◌, All, length, length-append, Option, refl, sym, ap, ◌∙◌, subst, arith}
+use Rattle.std.proofs.Common.{◌≡◌, ℕ, zero, suc, ◌+◌, ◌<◌, ◌≤◌, ◌++◌, List, [], ◌∷◌, All, length, length-append, append-nil, append_assoc, Option, None, slice_get, refl, sym, ap, ◌∙◌, subst, arith}
 use Rattle.std.proofs.lemmas.List.Elements.{All-append}
 use Rattle.rl_base.specs.declared.diagnostic.Diagnostic.{Diagnostic}
 use Rattle.rl_base.specs.declared.ids.InstructionId.{InstructionId}
@@ -11,10 +11,62 @@ use Rattle.rl_builder.specs.Builder.{State, reserved, ended_by, completed_by, re
 use Rattle.rl_builder.specs.Temporaries.{temporary, unordered, with_value}
 use Rattle.rl_builder.specs.Order.{orders_of}
 use Rattle.rl_builder.specs.declared.builder.WipBlock.{WipBlock}
-use Rattle.rl_lower.specs.Lowering.{HasRoom, Uses, AreBelow, Keeps}
+use Rattle.rl_hir.specs.Pairs.{identifier_of}
+use Rattle.rl_hir.specs.declared.function.Identifier.{Identifier}
+use Rattle.rl_hir.specs.declared.function.Pair.{Pair}
+use Rattle.rl_scope.specs.declared.semantic.Symbol.{Symbol}
+use Rattle.rl_lower.specs.Listed.{AreBelow}
+use Rattle.rl_lower.specs.Lowering.{AddsUnnamed, HasRoom, Uses, Keeps}
+use Rattle.rl_lower.specs.Named.{IsNamed}
+use Rattle.rl_lower.proofs.Steps.{get_more}
+
+-- names that were given stand
+named_same : (symbols : List Symbol) (s new : State) → new.bindings ≡ s.bindings → new.env.identifiers ≡ s.env.identifiers → IsNamed symbols s → IsNamed symbols new
+named_same symbols s new bindings identifiers n = record {
+  few = n.few;
+  each = λ number symbol there.
+      let h = n.each number symbol there in record {
+        identifier = h.identifier;
+        bound = ap (λ (b : List Pair). identifier_of b number) bindings ∙ h.bound;
+        known = h.known;
+        made = ap (λ (l : List Identifier). slice_get l h.identifier) identifiers ∙ h.made;
+        named = h.named;
+      };
+}
+
+named_more : (symbols : List Symbol) (s new : State) (more : List Identifier) → new.bindings ≡ s.bindings → new.env.identifiers ≡ s.env.identifiers ++ more → IsNamed symbols s → IsNamed symbols new
+named_more symbols s new more bindings identifiers n = record {
+  few = n.few;
+  each = λ number symbol there.
+      let h = n.each number symbol there in record {
+        identifier = h.identifier;
+        bound = ap (λ (b : List Pair). identifier_of b number) bindings ∙ h.bound;
+        known = h.known;
+        made = ap (λ (l : List Identifier). slice_get l h.identifier) identifiers ∙ get_more s.env.identifiers more h.identifier h.known h.made;
+        named = h.named;
+      };
+}
+
+-- identifiers without a name
+none_unnamed : All (λ (i : Identifier). i.name ≡ None) []
+none_unnamed place default within = absurd (omega arith)
+
+pub one_unnamed : (i : Identifier) → i.name ≡ None → All (λ (j : Identifier). j.name ≡ None) (i ∷ [])
+one_unnamed i none zero default within = none
+one_unnamed i none (suc place) default within = absurd (omega arith)
+
+pub none_added : (identifiers : List Identifier) → AddsUnnamed identifiers identifiers
+none_added identifiers = record { more = []; added = sym (append-nil identifiers); unnamed = none_unnamed }
+
+pub added_then : (old mid new : List Identifier) → AddsUnnamed old mid → AddsUnnamed mid new → AddsUnnamed old new
+added_then old mid new a b = record {
+  more = a.more ++ b.more;
+  added = b.added ∙ ap (λ (l : List Identifier). l ++ b.more) a.added ∙ append_assoc old a.more b.more;
+  unnamed = All-append (λ (i : Identifier). i.name ≡ None) a.more b.more a.unnamed b.unnamed;
+}
 
 pub keeps_refl : (s : State) → Keeps s s 0
-keeps_refl s = record { uses = record { blocks = omega arith; types = omega arith; identifiers = omega arith; instructions = omega arith; completed = omega arith }; listed = λ l. l; functions = refl; fn_type = refl }
+keeps_refl s = record { uses = record { blocks = omega arith; types = omega arith; identifiers = omega arith; instructions = omega arith; completed = omega arith }; listed = λ l. l; named = λ symbols n. n; identifiers = none_added s.env.identifiers; pairs = refl; functions = refl; fn_type = refl }
 
 pub keeps_then : (a b c : State) (m n : ℕ) → Keeps a b m → Keeps b c n → Keeps a c (m + n)
 keeps_then a b c m n j k = record {
@@ -26,6 +78,9 @@ keeps_then a b c m n j k = record {
     completed = omega (arith, j.uses.completed, k.uses.completed);
   };
   listed = λ l. k.listed (j.listed l);
+  named = λ symbols n. k.named symbols (j.named symbols n);
+  identifiers = added_then a.env.identifiers b.env.identifiers c.env.identifiers j.identifiers k.identifiers;
+  pairs = k.pairs ∙ j.pairs;
   functions = k.functions ∙ j.functions;
   fn_type = k.fn_type ∙ j.fn_type;
 }
@@ -40,6 +95,9 @@ keeps_more a b m n le k = record {
     completed = omega (arith, le, k.uses.completed);
   };
   listed = k.listed;
+  named = k.named;
+  identifiers = k.identifiers;
+  pairs = k.pairs;
   functions = k.functions;
   fn_type = k.fn_type;
 }
@@ -61,6 +119,9 @@ keeps_value s v span = record {
         (subst (λ (n : ℕ). AreBelow n (record { 0 = length s.table } ∷ [])) (sym (length-append s.table (unordered (temporary s span) v span ∷ []))) (one_below (length s.table)));
     counted = simp length-append (omega (arith, l.counted));
   };
+  named = λ symbols n. named_more symbols s (with_value s v span) _ refl refl n;
+  identifiers = record { more = _; added = refl; unnamed = one_unnamed _ refl };
+  pairs = refl;
   functions = refl;
   fn_type = refl;
 }
@@ -69,10 +130,10 @@ keeps_value s v span = record {
     longer = simp length-append (omega arith)
 
 pub keeps_reserved : (s : State) → Keeps s (reserved s) 1
-keeps_reserved s = record { uses = record { blocks = omega arith; types = omega arith; identifiers = omega arith; instructions = omega arith; completed = omega arith }; listed = λ l. record { completed = l.completed; current = l.current; counted = l.counted }; functions = refl; fn_type = refl }
+keeps_reserved s = record { uses = record { blocks = omega arith; types = omega arith; identifiers = omega arith; instructions = omega arith; completed = omega arith }; listed = λ l. record { completed = l.completed; current = l.current; counted = l.counted }; named = λ symbols n. named_same symbols s _ refl refl n; identifiers = none_added s.env.identifiers; pairs = refl; functions = refl; fn_type = refl }
 
 pub keeps_recorded : (s : State) (d : Diagnostic) → Keeps s (recorded s d) 0
-keeps_recorded s d = record { uses = record { blocks = omega arith; types = omega arith; identifiers = omega arith; instructions = omega arith; completed = omega arith }; listed = λ l. record { completed = l.completed; current = l.current; counted = l.counted }; functions = refl; fn_type = refl }
+keeps_recorded s d = record { uses = record { blocks = omega arith; types = omega arith; identifiers = omega arith; instructions = omega arith; completed = omega arith }; listed = λ l. record { completed = l.completed; current = l.current; counted = l.counted }; named = λ symbols n. named_same symbols s _ refl refl n; identifiers = none_added s.env.identifiers; pairs = refl; functions = refl; fn_type = refl }
 
 orders_append : (xs ys : List NumberedBlock) → orders_of (xs ++ ys) ≡ orders_of xs + orders_of ys
 orders_append [] ys = omega arith
@@ -96,6 +157,9 @@ keeps_completed s t next none = record {
         let more : length (s.completed ++ ended_by s.current t ∷ []) ≡ length s.completed + 1 = length-append s.completed (ended_by s.current t ∷ []) in
         omega (arith, one, empty, more, l.counted);
   };
+  named = λ symbols n. named_same symbols s _ refl refl n;
+  identifiers = none_added s.env.identifiers;
+  pairs = refl;
   functions = refl;
   fn_type = refl;
 }

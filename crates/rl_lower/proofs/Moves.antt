@@ -3,15 +3,17 @@ use Rattle.std.proofs.Common.{◌≡◌, ℕ, ◌+◌, inl, inr, ◌++◌, List,
 use Rattle.rl_base.specs.declared.ids.InstructionId.{InstructionId}
 use Rattle.rl_base.specs.declared.span.Span.{Span}
 use Rattle.rl_hir.specs.declared.instruction.Instruction.{Instruction}
+use Rattle.rl_hir.specs.declared.instruction.InstructionValue.{InstructionValue}
 use Rattle.rl_hir.specs.declared.terminal.Terminal.{Terminal}
 use Rattle.rl_hir.specs.declared.function.NumberedBlock.{NumberedBlock}
 use Rattle.rl_builder.specs.Builder.{State, reserved, with_temporary, pushed, ended_by, completed_by}
+use Rattle.rl_builder.specs.Temporaries.{with_value}
 use Rattle.rl_builder.specs.declared.builder.WipBlock.{WipBlock}
 use Rattle.rl_model.specs.declared.trace.Answer.{Answer}
 use Rattle.rl_model.specs.declared.trace.Trace.{Trace}
 use Rattle.rl_model.specs.Traces.{Store}
-use Rattle.rl_model.specs.Machine.{Item, Runs, Ends, Code, Notes, Next, exec, step}
-use Rattle.rl_lower.specs.Simulation.{IsCurrentOrCompleted, InBlock, InWip, Grows, Covers, Goes, From}
+use Rattle.rl_model.specs.Machine.{Item, Runs, Ends, Code, Notes, Next, step}
+use Rattle.rl_lower.specs.Simulation.{IsCurrentOrCompleted, InBlock, InWip, Grows, Covers, Goes, From, walk}
 use Rattle.rl_lower.proofs.Steps.{get_more, get_seam, steps_on}
 
 block_more : (table more : List Instruction) (b : NumberedBlock) (place : ℕ) (item : Item) → InBlock table b place item → InBlock (table ++ more) b place item
@@ -23,7 +25,7 @@ wip_more table more listed others place (Runs i) h = record { number = h.number;
 wip_more table more listed others place (Ends t) h = absurd h
 
 pub grows_refl : (s : State) → Grows s s
-grows_refl s = record { done = λ f d. d; wip = λ f w. inr w; completed = λ id k. k; current = inl refl; entry = refl; blocks = omega arith; identifiers = omega arith }
+grows_refl s = record { done = λ f d. d; wip = λ f w. inr w; completed = λ id k. k; current = inl refl; entry = refl; blocks = omega arith; identifiers = omega arith; bindings = refl }
 
 pub grows_then : (a b c : State) → Grows a b → Grows b c → Grows a c
 grows_then a b c g h = record {
@@ -34,6 +36,7 @@ grows_then a b c g h = record {
   entry = h.entry ∙ g.entry;
   blocks = omega (arith, g.blocks, h.blocks);
   identifiers = omega (arith, g.identifiers, h.identifiers);
+  bindings = h.bindings ∙ g.bindings;
 }
 
 pub grows_reserved : (s : State) → Grows s (reserved s)
@@ -45,6 +48,7 @@ grows_reserved s = record {
   entry = refl;
   blocks = omega arith;
   identifiers = omega arith;
+  bindings = refl;
 }
 
 pub grows_temporary : (s : State) (span : Option Span) → Grows s (with_temporary s span)
@@ -56,6 +60,7 @@ grows_temporary s span = record {
   entry = refl;
   blocks = omega arith;
   identifiers = simp length-append (omega arith);
+  bindings = refl;
 }
 
 pub grows_pushed : (s : State) (i : Instruction) → Grows s (pushed s i)
@@ -67,7 +72,12 @@ grows_pushed s i = record {
   entry = refl;
   blocks = omega arith;
   identifiers = omega arith;
+  bindings = refl;
 }
+
+-- a value goes into a fresh identifier
+pub grows_value : (s : State) (value : InstructionValue) (span : Option Span) → Grows s (with_value s value span)
+grows_value s value span = grows_then s (with_temporary s span) _ (grows_temporary s span) (grows_pushed (with_temporary s span) _)
 
 block_from_wip : (table : List Instruction) (wip : WipBlock) (t : Terminal) (place : ℕ) (item : Item) → InWip table wip.instructions place item → InBlock table (ended_by wip t) place item
 block_from_wip table wip t place (Runs i) h = record { number = h.number; at = h.at; kept = h.kept }
@@ -82,6 +92,7 @@ grows_completed s t next = record {
   entry = refl;
   blocks = omega arith;
   identifiers = omega arith;
+  bindings = refl;
 }
 
 -- what a graph covers
@@ -100,9 +111,9 @@ instruction_met s i c cover =
     (inr (record { named = refl; holds = record { number = record { 0 = length s.table }; at = get_seam s.current.instructions (record { 0 = length s.table }) []; kept = get_seam s.table i [] } }))
 
 -- a silent instruction: the rest runs from where the builder stands behind it
-pub push_runs : (s : State) (i : Instruction) (c : Code) (store later : Store) (notes : Notes) (answers : List Answer) (t : Trace) → ((next : Next) (block place : ℕ) → step (Some (Runs i)) next block place store notes answers ≡ next block (place + 1) later notes answers) → Covers (pushed s i) c → From c (pushed s i) later notes answers t → From c s store notes answers t
+pub push_runs : (s : State) (i : Instruction) (c : Code) (store later : Store) (notes : Notes) (answers : List Answer) (t : Trace) → ((next : Next) (block place : ℕ) → step (Some (Runs i)) next next block place store notes answers ≡ next block (place + 1) later notes answers) → Covers (pushed s i) c → From c (pushed s i) later notes answers t → From c s store notes answers t
 push_runs s i c store later notes answers t acts cover rest =
     let one : length (s.current.instructions ++ record { 0 = length s.table } ∷ []) ≡ length s.current.instructions + 1 = length-append s.current.instructions (record { 0 = length s.table } ∷ []) in
     let behind : Goes c s.current.id.0 (length s.current.instructions + 1) later notes answers t = subst (λ place. Goes c s.current.id.0 place later notes answers t) one rest in
     steps_on c s.current.id.0 (length s.current.instructions) store notes answers (Runs i) t (instruction_met s i c cover)
-    (record { by = (behind.by.0, λ steps enough. acts (exec c steps) s.current.id.0 (length s.current.instructions) ∙ behind.by.1 steps enough) })
+    (record { by = (behind.by.0, λ steps enough. acts (walk c steps) s.current.id.0 (length s.current.instructions) ∙ behind.by.1 steps enough) })

@@ -1,14 +1,16 @@
 -- What holds of any graph: lists, stores, steps.
-use Rattle.std.proofs.Common.{◌≡◌, ℕ, zero, suc, ◌≤◌, ◌++◌, List, [], ◌∷◌, length, slice_get, Some, cond, refl, ap, ◌∙◌, arith}
+use Rattle.std.proofs.Common.{◌≡◌, ℕ, zero, suc, ◌<◌, ◌≤◌, ◌++◌, List, [], ◌∷◌, length, slice_get, Some, cond, refl, sym, ap, ◌∙◌, subst, arith}
 use Rattle.std.proofs.lemmas.Bool.{ne_eqb}
 use Rattle.std.proofs.Common.{eq-eqb}
 use Rattle.rl_builder.specs.Builder.{State}
-use Rattle.rl_lower.specs.Simulation.{Comes, Goes, Later}
+use Rattle.rl_hir.specs.declared.function.Pair.{Pair}
+use Rattle.rl_hir.specs.Pairs.{identifier_of}
+use Rattle.rl_lower.specs.Simulation.{Agrees, AreMade, Comes, Goes, Grows, Later, walk}
 use Rattle.rl_model.specs.declared.trace.Value.{Value}
 use Rattle.rl_model.specs.declared.trace.Answer.{Answer}
 use Rattle.rl_model.specs.declared.trace.Trace.{Trace}
 use Rattle.rl_model.specs.Traces.{Store, set}
-use Rattle.rl_model.specs.Machine.{Item, Code, Notes, Next, exec, step}
+use Rattle.rl_model.specs.Machine.{Item, Code, Notes, Next, step}
 
 pub get_more : {X : Type 0} (xs ys : List X) (place : ℕ) (x : X) → slice_get xs place ≡ Some x → slice_get (xs ++ ys) place ≡ Some x
 get_more [] ys place x e = cc
@@ -27,15 +29,15 @@ set_other store identifier other v ne = ap (λ b. cond b v (store other)) (ne_eq
 
 -- the graph has a trace at once
 pub comes_at_once : (c : Code) (f : Next → Trace) (t : Trace) → ((next : Next) → f next ≡ t) → Comes c f t
-comes_at_once c f t is = record { by = (0, λ steps enough. is (exec c steps)) }
+comes_at_once c f t is = record { by = (0, λ steps enough. is (walk c steps)) }
 
 -- a step, and then the rest
-pub steps_on : (c : Code) (block place : ℕ) (store : Store) (notes : Notes) (answers : List Answer) (item : Item) (t : Trace) → c block place ≡ Some item → Comes c (λ next. step (Some item) next block place store notes answers) t → Goes c block place store notes answers t
+pub steps_on : (c : Code) (block place : ℕ) (store : Store) (notes : Notes) (answers : List Answer) (item : Item) (t : Trace) → c block place ≡ Some item → Comes c (λ next. step (Some item) next next block place store notes answers) t → Goes c block place store notes answers t
 steps_on c block place store notes answers item t is rest = record { by = (suc rest.by.0, onward) }
   where
-    onward : (steps : ℕ) → suc rest.by.0 ≤ steps → exec c steps block place store notes answers ≡ t
+    onward : (steps : ℕ) → suc rest.by.0 ≤ steps → walk c steps block place store notes answers ≡ t
     onward zero enough = absurd (omega arith)
-    onward (suc steps) enough = ap (λ o. step o (exec c steps) block place store notes answers) is ∙ rest.by.1 steps (omega arith)
+    onward (suc steps) enough = ap (λ o. step o (walk c steps) (walk c steps) block place store notes answers) is ∙ rest.by.1 steps (omega arith)
 
 pub later_refl : (s : State) (store : Store) → Later s store store
 later_refl s store = record { temporaries = λ identifier below. refl }
@@ -47,3 +49,27 @@ pub later_set : (s : State) (store : Store) (identifier : ℕ) (v : Value) → l
 later_set s store identifier v fresh = record {
   temporaries = λ other below. let ne : other ≡ identifier → ⊥ = λ e. omega arith in set_other store identifier other v ne;
 }
+
+-- what was made is made still
+pub made_then : (old new : State) → Grows old new → AreMade old → AreMade new
+made_then old new g m = record {
+  below = λ symbol identifier is.
+      let below : identifier < length old.env.identifiers = m.below symbol identifier (ap (λ (b : List Pair). identifier_of b symbol) (sym g.bindings) ∙ is) in
+      omega (arith, below, g.identifiers);
+}
+
+-- a fresh identifier is no variable's
+pub agrees_set : (s : State) (source store : Store) (identifier : ℕ) (v : Value) → AreMade s → length s.env.identifiers ≤ identifier → Agrees s.bindings source store → Agrees s.bindings source (set store identifier v)
+agrees_set s source store identifier v m fresh a = record {
+  at = λ symbol other is.
+      let below : other < length s.env.identifiers = m.below symbol other is in
+      let ne : other ≡ identifier → ⊥ = λ e. omega arith in
+      set_other store identifier other v ne ∙ a.at symbol other is;
+}
+
+-- the same in a later state
+pub agrees_then : (old new : State) (source store : Store) → Grows old new → Agrees old.bindings source store → Agrees new.bindings source store
+agrees_then old new source store g a = subst (λ (b : List Pair). Agrees b source store) (sym g.bindings) a
+
+pub agrees_before : (old new : State) (source store : Store) → Grows old new → Agrees new.bindings source store → Agrees old.bindings source store
+agrees_before old new source store g a = subst (λ (b : List Pair). Agrees b source store) g.bindings a

@@ -1,6 +1,11 @@
 -- Whole functions.
-use Rattle.std.proofs.Common.{◌≡◌, ℕ, zero, suc, ◌<◌, inl, inr, List, [], ◌∷◌, length, slice_get, Option, Some, None, sym, ap, ◌∙◌, subst, arith}
+use Rattle.std.proofs.Common.{◌≡◌, ℕ, zero, suc, ◌<◌, inl, inr, List, [], ◌∷◌, length, slice_get, nat_eq, Bool, true, false, cond, if◌then◌else◌, ◌==◌, ◌≤◌, ◌+◌, Option, Some, None, refl, sym, ap, ◌∙◌, subst, arith}
+use Rattle.std.specs.Option.{option_map}
+use Rattle.std.proofs.lemmas.Bool.Decides.{eqb_tells}
 use Rattle.std.proofs.lemmas.Option.{get_or_from_slice_get}
+use Rattle.rl_base.specs.declared.ids.InstructionId.{InstructionId}
+use Rattle.rl_hir.specs.declared.instruction.Instruction.{Instruction}
+use Rattle.rl_hir.specs.declared.terminal.Terminal.{Terminal}
 use Rattle.rl_hir.specs.declared.function.BasicBlock.{BasicBlock}
 use Rattle.rl_hir.specs.declared.function.NumberedBlock.{NumberedBlock}
 use Rattle.rl_builder.specs.Builder.{State}
@@ -9,9 +14,10 @@ use Rattle.rl_model.specs.declared.trace.Answer.{Answer}
 use Rattle.rl_model.specs.declared.trace.Trace.{Trace}
 use Rattle.rl_model.specs.Traces.{Store}
 use Rattle.rl_model.specs.Closed.{IsUnreachable, IsClosed}
-use Rattle.rl_model.specs.Machine.{Item, Runs, Ends, Code, Notes, block_of, code_in, exec}
+use Rattle.rl_model.specs.Machine.{Item, Runs, Ends, Code, Notes, block_of, code_in, exec, item_in, positions, steps_for}
 use Rattle.rl_lower.specs.Simulation.{Fact, InBlock, Done, Wip, Has, IsCompleted, IsCurrentOrCompleted, Grows, Covers, IsClean, IsOwn, IsTidy, Tidy, AreEnded, Comes, Goes, From, Later, Follows, Continues, Throws, RunsExpression, RunsStatement}
-use Rattle.rl_lower.proofs.Graphs.{Apart, found_by, item_met, same_in_block, entry_plain, built_closed}
+use Rattle.rl_lower.proofs.Calm.{IsShort, calm}
+use Rattle.rl_lower.proofs.Graphs.{Apart, built_entry, found_by, item_met, same_in_block, entry_plain, built_closed}
 
 -- a builder with a complete block for each number, whose last block is done
 pub record IsFinished (s : State) : Type 0 where
@@ -56,3 +62,59 @@ pub finished_runs : (s : State) → IsFinished s → (store : Store) (notes : No
 finished_runs s fin store notes answers t goes = record {
   by = (goes.by.0, λ steps enough. sym (same_in_block (code_in s.completed s.table) (code_in (built_of s).hir.blocks (built_of s).instructions) s.entry.0 (entry_plain s.entry s.completed s.table fin.entry.block.block (entry_block s fin)) steps 0 store notes answers) ∙ goes.by.1 steps enough);
 }
+
+-- the entry is a block of the graph that is built
+pub entry_built : (s : State) → IsFinished s → (block : BasicBlock) × (block_of (built_of s).hir.blocks s.entry.0 ≡ Some block)
+entry_built s fin = built_entry s.entry s.completed fin.entry.block.block (entry_block s fin)
+
+-- the run of a graph with a limit on silent steps
+abbrev pub limited : ℕ → List NumberedBlock → List Instruction → ℕ → Store → Notes → List Answer → Trace
+limited most blocks table entry store notes answers = exec (code_in blocks table) most (steps_for answers most) most entry 0 store notes answers
+
+more_steps : (answers : List Answer) (most : ℕ) → most < steps_for answers most
+more_steps [] most = omega arith
+more_steps (a ∷ rest) most = omega arith
+
+has_place : (blocks : List NumberedBlock) (id : ℕ) (block : BasicBlock) → block_of blocks id ≡ Some block → length block.instructions < positions blocks
+has_place [] id block is = absurd (cc)
+has_place (b ∷ blocks) id block is = by_test (λ there. has_place blocks id block there) (nat_eq b.id.0 id) is
+  where
+    by_test : (block_of blocks id ≡ Some block → length block.instructions < positions blocks) → (t : Bool) → cond t (Some b.block) (block_of blocks id) ≡ Some block → length block.instructions < positions (b ∷ blocks)
+    by_test rest true e = (let same : b.block ≡ block = cc in let long : length b.block.instructions ≡ length block.instructions = ap (λ (x : BasicBlock). length x.instructions) same in omega (arith, long))
+    by_test rest false e = (let later : length block.instructions < positions blocks = rest e in omega (arith, later))
+
+short_block : (blocks : List NumberedBlock) (table : List Instruction) (id : ℕ) (block : BasicBlock) → block_of blocks id ≡ Some block → IsShort (code_in blocks table) id (length block.instructions)
+short_block blocks table id block is = record { instructions = λ place i there. runs_before place i (sym (opened place) ∙ there); terminal = λ place t there. ends_at place t (sym (opened place) ∙ there) }
+  where
+    opened : (place : ℕ) → code_in blocks table id place ≡ item_in table block place
+    opened place = ap (λ (o : Option BasicBlock). elim o [ Some b ↦ item_in table b place | None ↦ None ]) is
+
+    runs_before : (place : ℕ) (i : Instruction) → item_in table block place ≡ Some (Runs i) → place < length block.instructions
+    runs_before place i e = by_number (slice_get block.instructions place) refl e
+      where
+        by_number : (o : Option InstructionId) → slice_get block.instructions place ≡ o → elim o [ Some number ↦ option_map (λ j. Runs j) (slice_get table number.0) | None ↦ if place == length block.instructions then Some (Ends block.terminal) else None ] ≡ Some (Runs i) → place < length block.instructions
+        by_number (Some number) found is_item = within block.instructions place number found
+        by_number None found is_item = absurd (last (place == length block.instructions) is_item)
+          where
+            last : (b : Bool) → cond b (Some (Ends block.terminal)) None ≡ Some (Runs i) → ⊥
+            last true h = cc
+            last false h = cc
+
+    ends_at : (place : ℕ) (t : Terminal) → item_in table block place ≡ Some (Ends t) → place ≤ length block.instructions
+    ends_at place t e = by_number (slice_get block.instructions place) refl e
+      where
+        by_number : (o : Option InstructionId) → slice_get block.instructions place ≡ o → elim o [ Some number ↦ option_map (λ j. Runs j) (slice_get table number.0) | None ↦ if place == length block.instructions then Some (Ends block.terminal) else None ] ≡ Some (Ends t) → place ≤ length block.instructions
+        by_number (Some number) found is_item = (let before : place < length block.instructions = within block.instructions place number found in omega arith)
+        by_number None found is_item = elim (eqb_tells place (length block.instructions)) [
+          | inl u ↦ omega (arith, u.1)
+          | inr u ↦ absurd ((let never : None ≡ Some (Ends t) = sym (ap (λ (b : Bool). cond b (Some (Ends block.terminal)) None) u.0) ∙ is_item in cc))
+        ]
+
+-- what is led to without limits is led to with them, where as many silent steps in a row are let be as there are positions
+pub total_runs : (most : ℕ) (blocks : List NumberedBlock) (table : List Instruction) (entry : ℕ) (store : Store) (notes : Notes) (answers : List Answer) (t : Trace) → positions blocks ≤ most → (block : BasicBlock) × (block_of blocks entry ≡ Some block) → Goes (code_in blocks table) entry 0 store notes answers t → limited most blocks table entry store notes answers ≡ t
+total_runs most blocks table entry store notes answers t large there goes =
+    let bound : ℕ = length there.0.instructions in
+    let few : bound < positions blocks = has_place blocks entry there.0 there.1 in
+    let enough : most < steps_for answers most = more_steps answers most in
+    calm (code_in blocks table) entry bound most (short_block blocks table entry there.0 there.1) (omega (arith, few, large)) (steps_for answers most) most (goes.by.0 + bound + 1) 0 store notes answers (omega (arith, few, large)) (omega (arith, few, large, enough)) (omega arith)
+    ∙ goes.by.1 (goes.by.0 + bound + 1) (omega arith)

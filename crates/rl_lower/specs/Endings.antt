@@ -1,5 +1,5 @@
 -- How blocks and bodies end.
-use Rattle.std.specs.Prelude.{◌≡◌, Option, None}
+use Rattle.std.specs.Prelude.{◌≡◌, Option, None, List, length}
 use Rattle.rl_base.specs.declared.span.Span.{Span}
 use Rattle.rl_hir.specs.declared.environment.Environment.{Environment}
 use Rattle.rl_hir.specs.declared.function.BlockKind.TheVariants as kinds
@@ -16,7 +16,10 @@ use Rattle.rl_builder.specs.Temporaries.{temporary, with_value}
 use Rattle.rl_builder.specs.Build.{built_of}
 use Rattle.rl_builder.specs.declared.builder.Built.{Built}
 use Rattle.rl_ast.specs.Syntax.{Syntax}
+use Rattle.rl_hir.specs.declared.function.Param.{Param}
+use Rattle.rl_scope.specs.declared.semantic.Symbol.{Symbol}
 use Rattle.rl_lower.specs.Lowering.{LowersBody}
+use Rattle.rl_lower.specs.Parameters.{places_from, with_parameters}
 
 -- a return of a place
 abbrev pub return_of : Option Span → ReturnVariant → Place → Terminal
@@ -33,9 +36,11 @@ with_undefined s = with_value s (values.Primitive primitives.Undefined) None
 abbrev pub closed_off : State → State
 closed_off s = completed_by (with_undefined s) (return_of None returns.Void (temporary s None)) placeholder
 
--- what was built over the environment is the graph of a builder that lowered the body and was closed off
-pub record IsGraphOf (body : Syntax) (old new : Environment) (built : Built) : Type 0 where
+-- what was built over the environment is the graph of a builder that gave the parameters their identifiers, lowered the
+-- body, and was closed off
+pub record IsGraphOf (symbols : List Symbol) (body : Syntax) (old new : Environment) (params : List Param) (built : Built) : Type 0 where
   pub state : State
-  pub lowers : LowersBody body (started old kinds.Block) state
+  pub places : params ≡ places_from (length old.identifiers) symbols
+  pub lowers : LowersBody symbols body (with_parameters (started old kinds.Block) symbols) state
   pub graph : built ≡ built_of (closed_off state)
   pub after : new ≡ (closed_off state).env

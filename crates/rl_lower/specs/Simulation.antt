@@ -1,15 +1,17 @@
 -- What it means that the graph built between two states of the builder runs as a part of the source does.
-use Rattle.std.specs.Prelude.{◌≡◌, ℕ, ◌<◌, ◌≤◌, ◌⊎◌, Some, List, All, length, slice_get}
+use Rattle.std.specs.Prelude.{◌≡◌, ℕ, zero, suc, ◌<◌, ◌≤◌, ◌⊎◌, Some, List, All, length, map, slice_get}
 use Rattle.rl_base.specs.declared.ids.InstructionId.{InstructionId}
 use Rattle.rl_hir.specs.declared.instruction.Instruction.{Instruction}
 use Rattle.rl_hir.specs.declared.function.NumberedBlock.{NumberedBlock}
+use Rattle.rl_hir.specs.declared.function.Pair.{Pair}
+use Rattle.rl_hir.specs.Pairs.{identifier_of}
 use Rattle.rl_builder.specs.Builder.{State}
 use Rattle.rl_model.specs.declared.trace.Value.{Value}
 use Rattle.rl_model.specs.declared.trace.Answer.{Answer}
 use Rattle.rl_model.specs.declared.trace.Trace.{Trace}
-use Rattle.rl_model.specs.Traces.{Store, With, Go, Gives, Means, Exits, threw}
+use Rattle.rl_model.specs.Traces.{Store, With, WithAll, Go, Gives, GivesAll, Means, Exits, threw, waiting}
 use Rattle.rl_model.specs.Closed.{IsUnreachable}
-use Rattle.rl_model.specs.Machine.{Item, Runs, Ends, Code, Notes, Next, exec}
+use Rattle.rl_model.specs.Machine.{Item, Runs, Ends, Code, Notes, Next, step}
 
 -- what stands at a place of a block
 pub record Fact : Type 0 where
@@ -69,6 +71,7 @@ pub record Grows (old new : State) : Type 0 where
   pub entry : new.entry ≡ old.entry
   pub blocks : old.env.next_block ≤ new.env.next_block
   pub identifiers : length old.env.identifiers ≤ length new.env.identifiers
+  pub bindings : new.bindings ≡ old.bindings
 
 -- a graph in which all that the state has is found
 pub record Covers (s : State) (c : Code) : Type 0 where
@@ -99,9 +102,14 @@ Tidy old new = IsTidy old.completed old.current.id.0 old.env.next_block new.comp
 abbrev pub AreEnded : List NumberedBlock → Type 0
 AreEnded completed = All (λ b. IsUnreachable b.block.terminal → ⊥) completed
 
+-- the graph's run with no limit on silent steps, of at most this many steps
+abbrev pub walk : Code → ℕ → Next
+walk code zero id place store notes answers = waiting
+walk code (suc steps) id place store notes answers = step (code id place) (walk code steps) (walk code steps) id place store notes answers
+
 -- with enough steps, what is led to has this trace
 pub record Comes (c : Code) (f : Next → Trace) (t : Trace) : Type 0 where
-  pub by : (enough : ℕ) × ((steps : ℕ) → enough ≤ steps → f (exec c steps) ≡ t)
+  pub by : (enough : ℕ) × ((steps : ℕ) → enough ≤ steps → f (walk c steps) ≡ t)
 
 -- the graph has this trace from a place
 abbrev pub Goes : Code → ℕ → ℕ → Store → Notes → List Answer → Trace → Type 0
@@ -115,13 +123,25 @@ From c s store notes answers t = Goes c s.current.id.0 (length s.current.instruc
 pub record Later (s : State) (store later : Store) : Type 0 where
   pub temporaries : (identifier : ℕ) → identifier < length s.env.identifiers → later identifier ≡ store identifier
 
+-- the stores of source and graph agree on the variables that have an identifier
+pub record Agrees (bindings : List Pair) (source store : Store) : Type 0 where
+  pub at : (symbol identifier : ℕ) → identifier_of bindings symbol ≡ Some identifier → store identifier ≡ source symbol
+
+-- the identifiers of variables were made
+pub record AreMade (s : State) : Type 0 where
+  pub below : (symbol identifier : ℕ) → identifier_of s.bindings symbol ≡ Some identifier → identifier < length s.env.identifiers
+
 -- what follows at a state
 pub record Follows (c : Code) (s new : State) (store : Store) (k : Go) : Type 0 where
-  pub goes : (source later : Store) (notes : Notes) (answers : List Answer) → Later s store later → From c new later notes answers (k source answers)
+  pub goes : (source later : Store) (notes : Notes) (answers : List Answer) → Agrees s.bindings source later → Later s store later → From c new later notes answers (k source answers)
 
 -- what follows with a value in an identifier
 pub record Continues (c : Code) (s new : State) (store : Store) (identifier : ℕ) (k : With) : Type 0 where
-  pub goes : (v : Value) (source later : Store) (notes : Notes) (answers : List Answer) → Later s store later → later identifier ≡ v → From c new later notes answers (k v source answers)
+  pub goes : (v : Value) (source later : Store) (notes : Notes) (answers : List Answer) → Agrees s.bindings source later → Later s store later → later identifier ≡ v → From c new later notes answers (k v source answers)
+
+-- what follows with values in some identifiers
+pub record ContinuesAll (c : Code) (s new : State) (store : Store) (identifiers : List ℕ) (k : WithAll) : Type 0 where
+  pub goes : (vs : List Value) (source later : Store) (notes : Notes) (answers : List Answer) → Agrees s.bindings source later → Later s store later → map later identifiers ≡ vs → From c new later notes answers (k vs source answers)
 
 -- no handler is there: a throw ends the run
 pub record Throws (k : With) : Type 0 where
@@ -134,11 +154,19 @@ pub record RunsExpression (d : Gives) (old new : State) (identifier : ℕ) : Typ
   pub ended : AreEnded old.completed → AreEnded new.completed
   pub fresh : length old.env.identifiers ≤ identifier
   pub made : identifier < length new.env.identifiers
-  pub runs : (c : Code) → Covers new c → (k h : With) (source store : Store) (notes : Notes) (answers : List Answer) → Throws h → Continues c old new store identifier k → From c old store notes answers (d source answers k h)
+  pub runs : (c : Code) → Covers new c → AreMade old → (k h : With) (source store : Store) (notes : Notes) (answers : List Answer) → Agrees old.bindings source store → Throws h → Continues c old new store identifier k → From c old store notes answers (d source answers k h)
+
+-- the same for parts from left to right, whose values are in the identifiers
+pub record RunsAll (d : GivesAll) (old new : State) (identifiers : List ℕ) : Type 0 where
+  pub grows : Grows old new
+  pub tidy : Tidy old new
+  pub ended : AreEnded old.completed → AreEnded new.completed
+  pub made : All (λ identifier. identifier < length new.env.identifiers) identifiers
+  pub runs : (c : Code) → Covers new c → AreMade old → (k : WithAll) (h : With) (source store : Store) (notes : Notes) (answers : List Answer) → Agrees old.bindings source store → Throws h → ContinuesAll c old new store identifiers k → From c old store notes answers (d source answers k h)
 
 -- between the states the graph runs as the statement does
 pub record RunsStatement (d : Means) (old new : State) : Type 0 where
   pub grows : Grows old new
   pub tidy : Tidy old new
   pub ended : AreEnded old.completed → AreEnded new.completed
-  pub runs : (c : Code) → Covers new c → (exits : Exits) (source store : Store) (notes : Notes) (answers : List Answer) → Throws exits.throws → Follows c old new store exits.falls → From c old store notes answers (d source answers exits)
+  pub runs : (c : Code) → Covers new c → AreMade old → (exits : Exits) (source store : Store) (notes : Notes) (answers : List Answer) → Agrees old.bindings source store → Throws exits.throws → Follows c old new store exits.falls → From c old store notes answers (d source answers exits)

@@ -1,17 +1,20 @@
 //! Expressions: each goes into an identifier.
 
-ghost use Rattle.std.specs.Prelude.{◌≡◌, ◌*◌, true, OnOk, IfOk};
-ghost use Rattle.rl_ast.specs.Grammar.{is_expression};
-ghost use Rattle.rl_ast.specs.Syntax.{nodes};
+ghost use Rattle.std.specs.Prelude.{◌≡◌, ◌*◌, true, map, List, None, OnOk, IfOk};
+ghost use Rattle.rl_ast.specs.Grammar.{are_expressions, is_expression};
+ghost use Rattle.rl_ast.specs.Syntax.{Node, Said, End, Then, nodes, nodes_of, pieces_of};
 ghost use Rattle.rl_ast.specs.Units as spec;
 ghost use Rattle.rl_builder.specs.Builder.{state_of, recorded};
 ghost use Rattle.rl_builder.specs.Temporaries.{temporary, with_value};
-ghost use Rattle.rl_lower.specs.Lowering.{HasRoom, LowersExpression};
+ghost use Rattle.rl_lower.specs.Lowering.{HasRoom, LowersExpression, LowersArguments};
+ghost use Rattle.rl_lower.specs.Named.{IsNamed};
 ghost use Rattle.rl_model.specs.Rows.{refusal};
-ghost use Rattle.rl_base.specs.declared.row.Row.TheVariants.{F43};
+ghost use Rattle.rl_scope.specs.declared.semantic.Symbol.{Symbol};
+ghost use Rattle.rl_scope.specs.Symbols.{symbol_named};
 
 use rl_ast::numbered::At;
 use rl_ast::tree::Expression;
+use rl_ast::word::Word;
 use rl_base::diagnostic::Diagnostic;
 use rl_base::failure::OutOfMemory;
 use rl_base::ids::EvaluationOrder;
@@ -20,7 +23,11 @@ use rl_base::row::Row;
 use rl_base::span::Span;
 use rl_base::text::Text;
 use rl_builder::builder::HirBuilder;
-use rl_hir::instruction::{Instruction, InstructionValue, Place, PrimitiveValue};
+use rl_builder::stop::Stop;
+use rl_hir::instruction::{
+    Instruction, InstructionValue, NonLocalBinding, Place, PlaceOrSpread, PrimitiveValue,
+};
+use rl_scope::semantic::Semantic;
 use rl_text::number::parse_number;
 use std::alloc::Global;
 
@@ -45,30 +52,109 @@ pub(crate) fn lower_value_to_temporary(
     Ok(place)
 }
 
-/// Notes that a number's text is no whole number up to 2^53.
-fn refuse_number(alloc: Global, builder: &mut HirBuilder, at: At) -> Result<(), OutOfMemory>
+/// Notes that a row refuses a node, which is its label.
+fn refuse(alloc: Global, builder: &mut HirBuilder, row: Row, at: At) -> Result<(), OutOfMemory>
     ensures same_reference { builder.new.env.ghost_name ≡ builder.old.env.ghost_name }
-    ensures state { OnOk result (state_of builder.new.env.now builder.new.work ≡ recorded (state_of builder.old.env.now builder.old.work) (refusal F43 at)) }
+    ensures state { OnOk result (state_of builder.new.env.now builder.new.work ≡ recorded (state_of builder.old.env.now builder.old.work) (refusal row at.span)) }
 {
     let mut labels = List::new(alloc);
     labels.push(at.span)?;
     builder.record_error(Diagnostic {
-        row: Row::F43,
+        row,
         word: Text::from_str(alloc, "")?,
         labels,
     })
 }
 
-/// Lowers an expression. A number that is refused stands as undefined in a graph that is never handed out.
+/// Lowers a name that no symbol has. `eval` is refused.
+fn lower_global(
+    alloc: Global,
+    builder: &mut HirBuilder,
+    at: At,
+    name: &Text,
+) -> Result<Place, OutOfMemory>
+    requires room { HasRoom (state_of builder.old.env.now builder.old.work) 1 }
+    ensures same_reference { builder.new.env.ghost_name ≡ builder.old.env.ghost_name }
+    ensures lowered { IfOk result (λ place. (symbols : List Symbol) → symbol_named symbols name.now ≡ None → LowersExpression symbols (Node at Word.Id (Then (Said name.now) End)) (state_of builder.old.env.now builder.old.work) (state_of builder.new.env.now builder.new.work) place.identifier.0) }
+{
+    let binding = NonLocalBinding::Global {
+        name: name.copy(alloc)?,
+    };
+    let value = InstructionValue::LoadGlobal(binding);
+    if name.as_str() == "eval" {
+        refuse(alloc, builder, Row::F2, at)?;
+        return lower_value_to_temporary(builder, value, Some(at.span));
+    }
+    lower_value_to_temporary(builder, value, Some(at.span))
+}
+
+/// Lowers a name. A variable has an identifier already.
+fn lower_identifier(
+    alloc: Global,
+    builder: &mut HirBuilder,
+    semantic: &Semantic,
+    at: At,
+    name: &Text,
+) -> Result<Place, OutOfMemory>
+    requires names { IsNamed semantic.now.symbols (state_of builder.old.env.now builder.old.work) }
+    requires room { HasRoom (state_of builder.old.env.now builder.old.work) 1 }
+    ensures same_reference { builder.new.env.ghost_name ≡ builder.old.env.ghost_name }
+    ensures lowered { IfOk result (λ place. LowersExpression semantic.now.symbols (Node at Word.Id (Then (Said name.now) End)) (state_of builder.old.env.now builder.old.work) (state_of builder.new.env.now builder.new.work) place.identifier.0) }
+{
+    let Some(symbol) = semantic.find_binding(name.as_str()) else {
+        return lower_global(alloc, builder, at, name);
+    };
+    let identifier = match builder.resolve_binding(name, symbol, semantic.declaration(symbol)) {
+        Ok(identifier) => identifier,
+        Err(Stop::OutOfMemory) => return Err(OutOfMemory),
+        Err(Stop::Stopped(_)) => unreachable!(),
+    };
+    let variable = Place {
+        identifier,
+        span: Some(at.span),
+    };
+    lower_value_to_temporary(
+        builder,
+        InstructionValue::LoadLocal(variable),
+        Some(at.span),
+    )
+}
+
+/// Lowers arguments from left to right.
+#[cycle(expressions)]
+fn lower_arguments(
+    alloc: Global,
+    builder: &mut HirBuilder,
+    semantic: &Semantic,
+    arguments: &[Expression],
+) -> Result<List<PlaceOrSpread>, OutOfMemory>
+    requires grammar { are_expressions (pieces_of (map spec.expression arguments.now)) ≡ true }
+    requires names { IsNamed semantic.now.symbols (state_of builder.old.env.now builder.old.work) }
+    requires room { HasRoom (state_of builder.old.env.now builder.old.work) (4 * nodes_of (pieces_of (map spec.expression arguments.now))) }
+    ensures same_reference { builder.new.env.ghost_name ≡ builder.old.env.ghost_name }
+    ensures lowered { IfOk result (λ given. LowersArguments semantic.now.symbols (pieces_of (map spec.expression arguments.now)) (state_of builder.old.env.now builder.old.work) (state_of builder.new.env.now builder.new.work) given) }
+{
+    let mut given = List::new(alloc);
+    'arguments: for argument in arguments {
+        let place = lower_expression(alloc, builder, semantic, argument)?;
+        given.push(PlaceOrSpread::Place(place))?;
+    }
+    Ok(given)
+}
+
+/// Lowers an expression. What is refused stands as something else in a graph that is never handed out.
+#[cycle(expressions)]
 pub(crate) fn lower_expression(
     alloc: Global,
     builder: &mut HirBuilder,
+    semantic: &Semantic,
     expression: &Expression,
 ) -> Result<Place, OutOfMemory>
     requires grammar { is_expression (spec.expression expression.now) ≡ true }
+    requires names { IsNamed semantic.now.symbols (state_of builder.old.env.now builder.old.work) }
     requires room { HasRoom (state_of builder.old.env.now builder.old.work) (4 * nodes (spec.expression expression.now)) }
     ensures same_reference { builder.new.env.ghost_name ≡ builder.old.env.ghost_name }
-    ensures lowered { IfOk result (λ place. LowersExpression (spec.expression expression.now) (state_of builder.old.env.now builder.old.work) (state_of builder.new.env.now builder.new.work) place.identifier.0) }
+    ensures lowered { IfOk result (λ place. LowersExpression semantic.now.symbols (spec.expression expression.now) (state_of builder.old.env.now builder.old.work) (state_of builder.new.env.now builder.new.work) place.identifier.0) }
 {
     match expression {
         Expression::Null { at } => {
@@ -85,7 +171,7 @@ pub(crate) fn lower_expression(
                 lower_value_to_temporary(builder, value, Some(at.span))
             }
             None => {
-                refuse_number(alloc, builder, *at)?;
+                refuse(alloc, builder, Row::F43, *at)?;
                 let value = InstructionValue::Primitive(PrimitiveValue::Undefined);
                 lower_value_to_temporary(builder, value, Some(at.span))
             }
@@ -95,7 +181,35 @@ pub(crate) fn lower_expression(
             lower_value_to_temporary(builder, value, Some(at.span))
         }
         Expression::Parenthesized { at: _, expression } => {
-            lower_expression(alloc, builder, expression.get())
+            lower_expression(alloc, builder, semantic, expression.get())
+        }
+        Expression::Identifier { at, name } => {
+            lower_identifier(alloc, builder, semantic, *at, name)
+        }
+        Expression::Binary {
+            at,
+            operator,
+            left,
+            right,
+        } => {
+            let left = lower_expression(alloc, builder, semantic, left.get())?;
+            let right = lower_expression(alloc, builder, semantic, right.get())?;
+            let value = InstructionValue::Binary {
+                operator: *operator,
+                left,
+                right,
+            };
+            lower_value_to_temporary(builder, value, Some(at.span))
+        }
+        Expression::Call {
+            at,
+            callee,
+            arguments,
+        } => {
+            let callee = lower_expression(alloc, builder, semantic, callee.get())?;
+            let arguments = lower_arguments(alloc, builder, semantic, arguments.as_slice())?;
+            let value = InstructionValue::Call { callee, arguments };
+            lower_value_to_temporary(builder, value, Some(at.span))
         }
         Expression::ArrowFunction(_) => unreachable!(),
     }

@@ -7,6 +7,7 @@ ghost use Rattle.rl_ast.specs.Units as spec;
 ghost use Rattle.rl_builder.specs.Builder.{state_of};
 ghost use Rattle.rl_lower.specs.Endings.{returned_from};
 ghost use Rattle.rl_lower.specs.Lowering.{HasRoom, LowersStatement, LowersStatements};
+ghost use Rattle.rl_lower.specs.Named.{IsNamed};
 
 use crate::expression::{lower_expression, lower_value_to_temporary};
 use rl_ast::tree::Statement;
@@ -17,6 +18,7 @@ use rl_builder::builder::HirBuilder;
 use rl_hir::function::BlockKind;
 use rl_hir::instruction::{InstructionValue, Place, PrimitiveValue};
 use rl_hir::terminal::{ReturnVariant, Terminal};
+use rl_scope::semantic::Semantic;
 use std::alloc::Global;
 
 /// Ends the block by a return of this value, and goes on in a fresh block that nothing leads to.
@@ -41,21 +43,23 @@ fn lower_return(builder: &mut HirBuilder, span: Span, value: Place) -> Result<()
 fn lower_statement(
     alloc: Global,
     builder: &mut HirBuilder,
+    semantic: &Semantic,
     statement: &Statement,
 ) -> Result<(), OutOfMemory>
     requires grammar { is_statement (spec.statement statement.now) ≡ true }
+    requires names { IsNamed semantic.now.symbols (state_of builder.old.env.now builder.old.work) }
     requires room { HasRoom (state_of builder.old.env.now builder.old.work) (4 * nodes (spec.statement statement.now)) }
     ensures same_reference { builder.new.env.ghost_name ≡ builder.old.env.ghost_name }
-    ensures lowered { OnOk result (LowersStatement (spec.statement statement.now) (state_of builder.old.env.now builder.old.work) (state_of builder.new.env.now builder.new.work)) }
+    ensures lowered { OnOk result (LowersStatement semantic.now.symbols (spec.statement statement.now) (state_of builder.old.env.now builder.old.work) (state_of builder.new.env.now builder.new.work)) }
 {
     match statement {
         Statement::Expression { at: _, expression } => {
-            lower_expression(alloc, builder, expression)?;
+            lower_expression(alloc, builder, semantic, expression)?;
             Ok(())
         }
         Statement::Return { at, argument } => match argument {
             Some(argument) => {
-                let value = lower_expression(alloc, builder, argument.get())?;
+                let value = lower_expression(alloc, builder, semantic, argument.get())?;
                 lower_return(builder, at.span, value)
             }
             None => {
@@ -71,15 +75,17 @@ fn lower_statement(
 pub(crate) fn lower_statements(
     alloc: Global,
     builder: &mut HirBuilder,
+    semantic: &Semantic,
     statements: &[Statement],
 ) -> Result<(), OutOfMemory>
     requires grammar { are_statements (pieces_of (map spec.statement statements.now)) ≡ true }
+    requires names { IsNamed semantic.now.symbols (state_of builder.old.env.now builder.old.work) }
     requires room { HasRoom (state_of builder.old.env.now builder.old.work) (4 * nodes_of (pieces_of (map spec.statement statements.now))) }
     ensures same_reference { builder.new.env.ghost_name ≡ builder.old.env.ghost_name }
-    ensures lowered { OnOk result (LowersStatements (pieces_of (map spec.statement statements.now)) (state_of builder.old.env.now builder.old.work) (state_of builder.new.env.now builder.new.work)) }
+    ensures lowered { OnOk result (LowersStatements semantic.now.symbols (pieces_of (map spec.statement statements.now)) (state_of builder.old.env.now builder.old.work) (state_of builder.new.env.now builder.new.work)) }
 {
     'statements: for statement in statements {
-        lower_statement(alloc, builder, statement)?;
+        lower_statement(alloc, builder, semantic, statement)?;
     }
     Ok(())
 }

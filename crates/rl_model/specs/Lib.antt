@@ -1,7 +1,10 @@
 pub mod Closed
+pub mod Events
 pub mod Headline
+pub mod Held
 pub mod Machine
 pub mod Rows
 pub mod Size
 pub mod Source
 pub mod Traces
+pub mod Units

@@ -1,12 +1,16 @@
 -- What a graph does: one step for each instruction and terminal.
-use Rattle.std.specs.Prelude.{ℕ, zero, suc, ◌+◌, ◌==◌, nat_eq, if◌then◌else◌, Option, Some, None, List, [], ◌∷◌, length, slice_get}
+use Rattle.std.specs.Prelude.{ℕ, zero, suc, ◌+◌, ◌==◌, nat_eq, Bool, false, if◌then◌else◌, Option, Some, None, List, [], ◌∷◌, length, map, slice_get}
 use Rattle.std.specs.Option.{option_map}
-use Rattle.rl_model.specs.Traces.{Store, unset, set, returned, waiting}
+use Rattle.rl_text.specs.Operators.{operator_text}
+use Rattle.rl_model.specs.Events.{global, binary, call}
+use Rattle.rl_model.specs.Traces.{Store, unset, set, set_open, asked, returned, threw, waiting}
 use Rattle.rl_hir.specs.declared.instruction.Instruction.{Instruction}
 use Rattle.rl_hir.specs.declared.instruction.InstructionValue.{InstructionValue}
 use Rattle.rl_hir.specs.declared.instruction.InstructionValue.TheVariants as values
 use Rattle.rl_hir.specs.declared.instruction.PrimitiveValue.{PrimitiveValue}
 use Rattle.rl_hir.specs.declared.instruction.PrimitiveValue.TheVariants as primitives
+use Rattle.rl_hir.specs.Pairs.{identifier_of}
+use Rattle.rl_hir.specs.Instructions.{argument_place, argument_shape, binding_texts}
 use Rattle.rl_hir.specs.declared.terminal.Terminal.{Terminal}
 use Rattle.rl_hir.specs.declared.terminal.Terminal.TheVariants as terminals
 use Rattle.rl_hir.specs.declared.function.BasicBlock.{BasicBlock}
@@ -20,6 +24,7 @@ use Rattle.rl_model.specs.declared.trace.Value.{Value}
 use Rattle.rl_model.specs.declared.trace.Value.TheVariants as value
 use Rattle.rl_model.specs.declared.trace.Setting.{Setting}
 use Rattle.rl_model.specs.declared.trace.Answer.{Answer}
+use Rattle.rl_model.specs.declared.trace.Event.{Event}
 use Rattle.rl_model.specs.declared.trace.Trace.{Trace}
 
 -- the block of this number
@@ -67,26 +72,44 @@ value_of (primitives.Boolean flag) = value.Bool flag
 value_of (primitives.Number number) = value.Number number
 value_of (primitives.String text) = value.Text text
 
--- an instruction: the value goes to the identifier, and the place after it is next
-abbrev pub executed : InstructionValue → ℕ → Next → Next
-executed (values.Primitive v) identifier next id place store notes answers = next id (place + 1) (set store identifier (value_of v)) notes answers
+-- the identifiers of symbols that another function assigns: none, since there is no other
+abbrev pub is_open : ℕ → Bool
+is_open identifier = false
+
+-- what an instruction does: it computes a value, silently, or it asks
+pub data Act : Type 0 where
+  Computes : (v : Value) → Act
+  Asks : (event : Event) → Act
+
+abbrev pub act : InstructionValue → Store → Act
+act (values.Primitive v) store = Computes (value_of v)
+act (values.LoadLocal p) store = Computes (store p.identifier.0)
+act (values.LoadGlobal binding) store = Asks (global (binding_texts binding))
+act (values.Binary operator left right) store = Asks (binary (operator_text operator) (store left.identifier.0) (store right.identifier.0))
+act (values.Call callee arguments) store = Asks (call (map argument_shape arguments) (store callee.identifier.0) (map (λ a. store (argument_place a).identifier.0) arguments))
+
+-- an instruction: its value goes to its identifier, and the place after it is next, by the first after a silent step and by
+-- the second after an event; what is thrown ends the run
+abbrev pub executed : Act → ℕ → Next → Next → Next
+executed (Computes v) identifier silent loud id place store notes answers = silent id (place + 1) (set store identifier v) notes answers
+executed (Asks event) identifier silent loud id place store notes answers =
+    asked (λ settings before. set_open is_open settings before) event store answers (λ v after rest. loud id (place + 1) (set after identifier v) notes rest) (λ v after rest. threw v)
 
 -- one step
-abbrev pub step : Option Item → Next → Next
-step None next id place store notes answers = waiting
-step (Some (Runs i)) next id place store notes answers = executed i.value i.lvalue.identifier.0 next id place store notes answers
-step (Some (Ends (terminals.Return order at variant p))) next id place store notes answers = returned variant (store p.identifier.0)
-step (Some (Ends (terminals.Unreachable order at))) next id place store notes answers = waiting
+abbrev pub step : Option Item → Next → Next → Next
+step None silent loud id place store notes answers = waiting
+step (Some (Runs i)) silent loud id place store notes answers = executed (act i.value store) i.lvalue.identifier.0 silent loud id place store notes answers
+step (Some (Ends (terminals.Return order at variant p))) silent loud id place store notes answers = returned variant (store p.identifier.0)
+step (Some (Ends (terminals.Unreachable order at))) silent loud id place store notes answers = waiting
 
--- at most this many steps
-abbrev pub exec : Code → ℕ → Next
-exec code zero id place store notes answers = waiting
-exec code (suc steps) id place store notes answers = step (code id place) (exec code steps) id place store notes answers
+abbrev pub no_way : Next
+no_way id place store notes answers = waiting
 
--- the identifier of a symbol
-abbrev pub identifier_of : List Pair → ℕ → Option ℕ
-identifier_of [] symbol = None
-identifier_of (p ∷ pairs) symbol = if nat_eq p.symbol.0 symbol then Some p.identifier.0 else identifier_of pairs symbol
+-- at most this many steps, at most so many silent ones in a row, and at most so many before the next event
+abbrev pub exec : Code → ℕ → ℕ → ℕ → Next
+exec code most zero quiet id place store notes answers = waiting
+exec code most (suc steps) zero id place store notes answers = step (code id place) no_way (exec code most steps most) id place store notes answers
+exec code most (suc steps) (suc quiet) id place store notes answers = step (code id place) (exec code most steps quiet) (exec code most steps most) id place store notes answers
 
 abbrev pub set_where : Option ℕ → Store → Value → Store
 set_where None store v = store
@@ -107,11 +130,26 @@ take_arguments [] arguments store = store
 take_arguments (p ∷ ps) [] store = take_arguments ps [] (set store (param_identifier p) value.Undefined)
 take_arguments (p ∷ ps) (v ∷ arguments) store = take_arguments ps arguments (set store (param_identifier p) v)
 
--- a run of a function's graph, of at most this many steps
-abbrev pub function_trace : HirFunction → List Pair → ℕ → List Setting → List Value → List Answer → Trace
-function_trace f pairs steps start arguments answers =
-    exec (code_of f) steps f.body.entry.0 0 (take_arguments f.params arguments (set_by pairs start unset)) no_notes answers
+-- the blocks of a graph, and the instructions that they list
+abbrev pub positions : List NumberedBlock → ℕ
+positions [] = 0
+positions (b ∷ blocks) = 1 + length b.block.instructions + positions blocks
+
+-- so many steps for each answer, and once more
+abbrev pub steps_for : List Answer → ℕ → ℕ
+steps_for [] most = most + 1
+steps_for (answer ∷ rest) most = most + 1 + steps_for rest most
+
+-- a run of a function's graph, which more silent steps in a row than these end waiting, so it is known how many steps it
+-- takes at most
+abbrev pub trace_within : ℕ → HirFunction → List Pair → List Setting → List Value → List Answer → Trace
+trace_within most f pairs start arguments answers =
+    exec (code_of f) most (steps_for answers most) most f.body.entry.0 0 (take_arguments f.params arguments (set_by pairs start unset)) no_notes answers
+
+-- a run of a function's graph, which more silent steps in a row than it has positions end waiting
+abbrev pub function_trace : HirFunction → List Pair → List Setting → List Value → List Answer → Trace
+function_trace f = trace_within (positions f.body.blocks) f
 
 -- a run of the marked function's graph
-abbrev pub graph_trace : Lowered → ℕ → List Setting → List Value → List Answer → Trace
+abbrev pub graph_trace : Lowered → List Setting → List Value → List Answer → Trace
 graph_trace l = function_trace l.function l.pairs

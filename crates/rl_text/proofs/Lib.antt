@@ -3,6 +3,7 @@ pub mod Measures
 pub mod Measuring
 pub mod Numbers
 pub mod Numerals
+pub mod Operators
 pub mod Quotes
 pub mod Reading
 pub mod Runs

@@ -3,6 +3,7 @@
 
 pub mod measure;
 pub mod number;
+pub mod operator;
 pub mod quoted;
 pub mod raw;
 pub mod read;

@@ -1,6 +1,7 @@
-//! Units that are lowered, and their listings. Those that stand whole are outputs of a second implementation.
+//! Units that are lowered, and their listings. Those that stand whole are outputs of a second implementation, but for the
+//! listings of names, operators and calls: those were read by hand.
 
-use super::{UNIT, answer, async_unit_of, unit_of};
+use super::{UNIT, answer, async_unit_of, function_of, unit_of};
 use crate::run::Status;
 use std::test::Fail;
 
@@ -113,6 +114,40 @@ fn lowers_bodies_of_async_functions(rt: HostRuntime) -> Result<(), Fail> {
         let (status, text) = answer(alloc, unit.as_bytes())?;
         assert_eq!(rt; status, Status::Done, "{body}");
         assert_eq!(rt; text.as_slice(), listing.as_bytes(), "{body}");
+    }
+    Ok(())
+}
+
+#[test]
+fn lowers_names_operators_and_calls(rt: HostRuntime) -> Result<(), Fail> {
+    let alloc = rt.alloc();
+    let rows: [(&[&str], &str, &str); 4] = [
+        (
+            &["x"],
+            "(return (call n (id \"f\") [(id \"x\")]))",
+            "(lowered (fn (at 25 122) - \"other\" n n [] [(p 0 (at 52 64))] [] (p 5 -) 0 [(block 0 \"block\" [0 1 2] (return 4 (at 82 119) \"explicit\" (p 3 (at 90 118))) [])] [(i 1 (p 1 (at 98 106)) (at 98 106) (loadglobal [\"f\"] [])) (i 2 (p 2 (at 108 116)) (at 108 116) (loadlocal (p 0 (at 108 116)))) (i 3 (p 3 (at 90 118)) (at 90 118) (call [\"place\"] [(p 1 (at 98 106)) (p 2 (at 108 116))])) (i 0 (p 4 -) - (primitive (undefined)))]) [] [(ident (named \"x\") (at 52 64) 0) (ident - (at 98 106) 1) (ident - (at 108 116) 2) (ident - (at 90 118) 3) (ident - - 4) (ident - (at 25 122) 5)] [(pair 0 0)])\n",
+        ),
+        (
+            &["a"],
+            "(return (binary \"+\" (id \"a\") (num \"1\")))",
+            "(lowered (fn (at 25 125) - \"other\" n n [] [(p 0 (at 52 64))] [] (p 5 -) 0 [(block 0 \"block\" [0 1 2] (return 4 (at 82 122) \"explicit\" (p 3 (at 90 121))) [])] [(i 1 (p 1 (at 102 110)) (at 102 110) (loadlocal (p 0 (at 102 110)))) (i 2 (p 2 (at 111 120)) (at 111 120) (primitive (number 1))) (i 3 (p 3 (at 90 121)) (at 90 121) (binary [\"+\"] [(p 1 (at 102 110)) (p 2 (at 111 120))])) (i 0 (p 4 -) - (primitive (undefined)))]) [] [(ident (named \"a\") (at 52 64) 0) (ident - (at 102 110) 1) (ident - (at 111 120) 2) (ident - (at 90 121) 3) (ident - - 4) (ident - (at 25 125) 5)] [(pair 0 0)])\n",
+        ),
+        (
+            &["eval"],
+            "(return (id \"eval\"))",
+            "(lowered (fn (at 25 108) - \"other\" n n [] [(p 0 (at 52 67))] [] (p 3 -) 0 [(block 0 \"block\" [0] (return 2 (at 85 105) \"explicit\" (p 1 (at 93 104))) [])] [(i 1 (p 1 (at 93 104)) (at 93 104) (loadlocal (p 0 (at 93 104)))) (i 0 (p 2 -) - (primitive (undefined)))]) [] [(ident (named \"eval\") (at 52 67) 0) (ident - (at 93 104) 1) (ident - - 2) (ident - (at 25 108) 3)] [(pair 0 0)])\n",
+        ),
+        (
+            &[],
+            "(return (id \"this\"))",
+            "(lowered (fn (at 25 83) - \"other\" n n [] [] [] (p 2 -) 0 [(block 0 \"block\" [0] (return 2 (at 60 80) \"explicit\" (p 0 (at 68 79))) [])] [(i 1 (p 0 (at 68 79)) (at 68 79) (loadglobal [\"this\"] [])) (i 0 (p 1 -) - (primitive (undefined)))]) [] [(ident - (at 68 79) 0) (ident - - 1) (ident - (at 25 83) 2)] [])\n",
+        ),
+    ];
+    for (names, statements, listing) in rows {
+        let unit = function_of(alloc, names, statements)?;
+        let (status, text) = answer(alloc, unit.as_bytes())?;
+        assert_eq!(rt; status, Status::Done, "{statements}");
+        assert_eq!(rt; text.as_slice(), listing.as_bytes(), "{statements}");
     }
     Ok(())
 }

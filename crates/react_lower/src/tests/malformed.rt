@@ -1,6 +1,6 @@
 //! Bytes that spell no unit.
 
-use super::{UNIT, answer, unit_of};
+use super::{UNIT, answer, function_of, unit_of};
 use crate::run::Status;
 use std::test::Fail;
 
@@ -63,6 +63,25 @@ fn refuses_what_is_no_body(rt: HostRuntime) -> Result<(), Fail> {
         let (status, text) = answer(alloc, unit.as_bytes())?;
         assert_eq!(rt; status, Status::Malformed, "{body}");
         assert!(rt; text.is_empty(), "{body}");
+    }
+    Ok(())
+}
+
+#[test]
+fn refuses_two_parameters_of_one_name(rt: HostRuntime) -> Result<(), Fail> {
+    let alloc = rt.alloc();
+    let rows: [&[&str]; 5] = [
+        &["p", "p"],
+        &["p", "q", "p"],
+        &["q", "p", "p"],
+        &["this", "this"],
+        &["class", "fbt", "fbt"],
+    ];
+    for (row, names) in rows.iter().enumerate() {
+        let unit = function_of(alloc, names, "(return (num \"1.5\"))")?;
+        let (status, text) = answer(alloc, unit.as_bytes())?;
+        assert_eq!(rt; status, Status::Malformed, "row {row}");
+        assert!(rt; text.is_empty(), "row {row}");
     }
     Ok(())
 }

@@ -1,6 +1,6 @@
 //! Units that are refused, and what is written of them.
 
-use super::{answer, unit_of, words};
+use super::{answer, function_of, unit_of, words};
 use crate::run::{Status, run};
 use rl_base::memory::{MemSink, MemSource};
 use std::alloc::{AllocError, Global};
@@ -67,6 +67,42 @@ fn reports_numbers_in_text_order(rt: HostRuntime) -> Result<(), Fail> {
         let wanted = report(alloc, places)?;
         assert_eq!(rt; text.as_slice(), wanted.as_bytes(), "{body}");
     }
+    Ok(())
+}
+
+#[test]
+fn reports_the_global_eval(rt: HostRuntime) -> Result<(), Fail> {
+    let alloc = rt.alloc();
+    for (body, report) in [
+        (
+            "(id \"eval\")",
+            "F2 UnsupportedSyntax 50..61 The 'eval' function is not supported; Eval is an anti-pattern in JavaScript, and the code executed cannot be evaluated by React Compiler\n",
+        ),
+        (
+            "(body [] [(expr (id \"eval\")) (return (call n (id \"eval\") [(id \"x\")]))])",
+            "F2 UnsupportedSyntax 66..77 The 'eval' function is not supported; Eval is an anti-pattern in JavaScript, and the code executed cannot be evaluated by React Compiler\nF2 UnsupportedSyntax 95..106 The 'eval' function is not supported; Eval is an anti-pattern in JavaScript, and the code executed cannot be evaluated by React Compiler\n",
+        ),
+    ] {
+        let unit = unit_of(alloc, body)?;
+        let (status, text) = answer(alloc, unit.as_bytes())?;
+        assert_eq!(rt; status, Status::Reported, "{body}");
+        assert_eq!(rt; text.as_slice(), report.as_bytes(), "{body}");
+    }
+    Ok(())
+}
+
+#[test]
+fn reports_a_parameter_fbt_and_its_reads(rt: HostRuntime) -> Result<(), Fail> {
+    let unit = function_of(
+        rt.alloc(),
+        &["fbt"],
+        "(expr (id \"fbt\")) (return (id \"fbt\"))",
+    )?;
+    let report =
+        "F40 Todo 52..66 Support local variables named `fbt`; Local variables named `fbt` may conflict with the fbt plugin and are not yet supported\nF40 Todo 52..66 Support local variables named `fbt`; Local variables named `fbt` may conflict with the fbt plugin and are not yet supported\nF40 Todo 52..66 Support local variables named `fbt`; Local variables named `fbt` may conflict with the fbt plugin and are not yet supported\n";
+    let (status, text) = answer(rt.alloc(), unit.as_bytes())?;
+    assert_eq!(rt; status, Status::Reported);
+    assert_eq!(rt; text.as_slice(), report.as_bytes());
     Ok(())
 }
 

@@ -1,11 +1,57 @@
+use Rattle.std.proofs.Common.{rules, ◌+◌, ◌*◌, length, ap, sym, ◌∙◌, subst, arith}
+use Rattle.rl_ast.specs.Syntax.{nodes}
 use Rattle.rl_ast.specs.Units.{arrow_body}
-use Rattle.rl_lower.proofs.Closings.{listed_call, orders_call}
+use Rattle.rl_hir.specs.declared.function.BlockKind.TheVariants as kinds
+use Rattle.rl_builder.specs.Builder.{State, started}
+use Rattle.rl_lower.specs.Named.{IsNamed}
+use Rattle.rl_lower.specs.Lowering.{HasRoom}
+use Rattle.rl_lower.specs.Parameters.{places_from, with_parameters}
+use Rattle.rl_lower.proofs.Closings.{listed_call, orders_call, graph_call}
+use Rattle.rl_lower.proofs.Building.{IsFresh}
+use Rattle.rl_lower.proofs.Keeping.{room_behind, room_less}
+use Rattle.rl_lower.proofs.Parameters.{parameters_named}
+use Rattle.rl_lower.proofs.Promises.{begun_call, begun_fresh, begun_room}
 use Rattle.rl_lower.proofs.function.lower_graph.Goals as goal
+
+pub lower_parameters-requires-clause-nothing : goal.lower_parameters-requires-clause-nothing
+lower_parameters-requires-clause-nothing c = ap (λ (s : State). s.bindings) c.new-builder.ensures.state
+
+pub lower_parameters-requires-clause-room : goal.lower_parameters-requires-clause-room
+lower_parameters-requires-clause-room c = subst (λ (s : State). HasRoom s (length c.args.semantic.now.symbols)) (sym c.new-builder.ensures.state) (room_less _ _ (length c.args.semantic.now.symbols) (omega arith) c.requires.room)
+
+pub lower_body-requires-clause-names : goal.lower_body-requires-clause-names
+lower_body-requires-clause-names c =
+    subst (λ (s : State). IsNamed c.args.semantic.now.symbols s) (sym (begun_call c.args.env.now c.args.semantic.now.symbols _ _ c.requires.distinct c.new-builder.ensures.state c.in_ok-params.ensures.state))
+    (parameters_named (started c.args.env.now kinds.Block) c.args.semantic.now.symbols (omega (arith, c.requires.room.types)))
+
+pub lower_body-requires-clause-room : goal.lower_body-requires-clause-room
+lower_body-requires-clause-room c =
+    subst (λ (s : State). HasRoom s (4 * (nodes (arrow_body c.args.body.now) + 1))) (sym (begun_call c.args.env.now c.args.semantic.now.symbols _ _ c.requires.distinct c.new-builder.ensures.state c.in_ok-params.ensures.state))
+    (room_less _ (4 * (nodes (arrow_body c.args.body.now) + 2)) (4 * (nodes (arrow_body c.args.body.now) + 1)) (omega arith) (begun_room c.args.env.now c.args.semantic.now.symbols (4 * (nodes (arrow_body c.args.body.now) + 2)) c.requires.room))
+
+pub lower_value_to_temporary-requires : goal.lower_value_to_temporary-requires
+lower_value_to_temporary-requires c =
+    room_behind _ _ (4 * (nodes (arrow_body c.args.body.now) + 1)) 1 (4 * (nodes (arrow_body c.args.body.now) + 2)) (omega arith) c.in_ok-lower_body.ensures.lowered.keeps.uses
+    (subst (λ (s : State). HasRoom s (4 * (nodes (arrow_body c.args.body.now) + 2))) (sym (begun_call c.args.env.now c.args.semantic.now.symbols _ _ c.requires.distinct c.new-builder.ensures.state c.in_ok-params.ensures.state))
+    (begun_room c.args.env.now c.args.semantic.now.symbols (4 * (nodes (arrow_body c.args.body.now) + 2)) c.requires.room))
 
 pub build-requires-clause-listed : goal.build-requires-clause-listed
 build-requires-clause-listed c =
-    listed_call c.args.env.now (arrow_body c.args.body.now) _ _ _ _ _ c.new-builder.ensures.state c.in_ok-lower_body.ensures.lowered c.in_ok-value.ensures.state c.in_ok-value.ensures.place c.in_ok-terminate.ensures.state
+    listed_call c.args.semantic.now.symbols _ (arrow_body c.args.body.now) _ _ _ _
+    (subst IsFresh (sym (begun_call c.args.env.now c.args.semantic.now.symbols _ _ c.requires.distinct c.new-builder.ensures.state c.in_ok-params.ensures.state)) (begun_fresh c.args.env.now c.args.semantic.now.symbols))
+    c.in_ok-lower_body.ensures.lowered c.in_ok-value.ensures.state c.in_ok-value.ensures.place c.in_ok-terminate.ensures.state
 
 pub build-requires-clause-room : goal.build-requires-clause-room
 build-requires-clause-room c =
-    orders_call c.args.env.now (arrow_body c.args.body.now) _ _ _ _ _ c.new-builder.ensures.state c.in_ok-lower_body.ensures.lowered c.in_ok-value.ensures.state c.in_ok-value.ensures.place c.in_ok-terminate.ensures.state c.requires.room
+    orders_call c.args.semantic.now.symbols _ (arrow_body c.args.body.now) _ _ _ _
+    (subst IsFresh (sym (begun_call c.args.env.now c.args.semantic.now.symbols _ _ c.requires.distinct c.new-builder.ensures.state c.in_ok-params.ensures.state)) (begun_fresh c.args.env.now c.args.semantic.now.symbols))
+    c.in_ok-lower_body.ensures.lowered c.in_ok-value.ensures.state c.in_ok-value.ensures.place c.in_ok-terminate.ensures.state
+    (subst (λ (s : State). HasRoom s (4 * (nodes (arrow_body c.args.body.now) + 2))) (sym (begun_call c.args.env.now c.args.semantic.now.symbols _ _ c.requires.distinct c.new-builder.ensures.state c.in_ok-params.ensures.state))
+    (begun_room c.args.env.now c.args.semantic.now.symbols (4 * (nodes (arrow_body c.args.body.now) + 2)) c.requires.room))
+
+pub returns-clause-graph : goal.returns-clause-graph
+returns-clause-graph c =
+    graph_call c.args.semantic.now.symbols c.args.env.now _ (arrow_body c.args.body.now) _ _ _ _ _ c.in_ok-params.params c.in_ok-built.built
+    (c.in_ok-params.ensures.state ∙ ap (λ (s : State). with_parameters s c.args.semantic.now.symbols) c.new-builder.ensures.state)
+    (c.in_ok-params.ensures.places ∙ ap (λ (s : State). places_from (length s.env.identifiers) c.args.semantic.now.symbols) c.new-builder.ensures.state)
+    c.in_ok-lower_body.ensures.lowered c.in_ok-value.ensures.state c.in_ok-value.ensures.place c.in_ok-terminate.ensures.state c.in_ok-built.ensures.built (search rules)

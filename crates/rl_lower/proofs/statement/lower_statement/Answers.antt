@@ -42,18 +42,18 @@ lower_return-requires c =
 
 pub returns-in_ok-lower_expression-in-Expression-clause-lowered : goal.returns-in_ok-lower_expression-in-Expression-clause-lowered
 returns-in_ok-lower_expression-in-Expression-clause-lowered c =
-    expression_statement_call _ (expression c.in-Expression.expression) c.in-Expression.at _ _ _ (ap statement c.in-Expression.is ∙ statement_expression c.in-Expression.at c.in-Expression.expression) c.in_ok-lower_expression-in-Expression.ensures.lowered
+    expression_statement_call c.args.semantic.now.symbols _ (expression c.in-Expression.expression) c.in-Expression.at _ _ _ (ap statement c.in-Expression.is ∙ statement_expression c.in-Expression.at c.in-Expression.expression) c.in_ok-lower_expression-in-Expression.ensures.lowered
 
 pub returns-in_ok-value-in-Some-clause-lowered : goal.returns-in_ok-value-in-Some-clause-lowered
 returns-in_ok-value-in-Some-clause-lowered c =
     done_so c.lower_return.result c.lower_return.ensures.state
-    (λ moved. return_call _ (expression c.get.result.now) c.in-Return.at _ _ _ c.in_ok-value-in-Some.value kinds.Block (Some c.in-Return.at.span)
+    (λ moved. return_call c.args.semantic.now.symbols _ (expression c.get.result.now) c.in-Return.at _ _ _ c.in_ok-value-in-Some.value kinds.Block (Some c.in-Return.at.span)
     (ap statement c.in-Return.is ∙ ap (λ argument. statement (statements.Return c.in-Return.at argument)) (c.in-Some.is ∙ ap (λ (e : Expression). Some e) (sym c.get.ensures)) ∙ statement_return c.in-Return.at c.get.result.now)
     (expression_is_node c.get.result.now) c.in_ok-value-in-Some.ensures.lowered moved)
 
 pub returns-in_ok-value-in-None-clause-lowered : goal.returns-in_ok-value-in-None-clause-lowered
 returns-in_ok-value-in-None-clause-lowered c =
     done_so c.lower_return-in-None.result c.lower_return-in-None.ensures.state
-    (λ moved. return_nothing_call _ c.in-Return.at _ _ _ c.in_ok-value-in-None.value kinds.Block (Some c.in-Return.at.span)
+    (λ moved. return_nothing_call c.args.semantic.now.symbols _ c.in-Return.at _ _ _ c.in_ok-value-in-None.value kinds.Block (Some c.in-Return.at.span)
     (ap statement c.in-Return.is ∙ ap (λ argument. statement (statements.Return c.in-Return.at argument)) c.in-None.is ∙ statement_return_alone c.in-Return.at)
     c.in_ok-value-in-None.ensures.state c.in_ok-value-in-None.ensures.place moved)

@@ -1,0 +1,23 @@
+-- What instructions name and take, as texts and places.
+use Rattle.std.specs.Prelude.{ℕ, List, [], ◌∷◌, codes}
+use Rattle.rl_hir.specs.declared.instruction.Place.{Place}
+use Rattle.rl_hir.specs.declared.instruction.NonLocalBinding.{NonLocalBinding}
+use Rattle.rl_hir.specs.declared.instruction.NonLocalBinding.TheVariants as bindings
+use Rattle.rl_hir.specs.declared.instruction.PlaceOrSpread.{PlaceOrSpread}
+use Rattle.rl_hir.specs.declared.instruction.PlaceOrSpread.TheVariants as arguments
+
+-- what tells one such name from all others: the name, and where it comes from
+abbrev pub binding_texts : NonLocalBinding → List (List ℕ)
+binding_texts (bindings.Global name) = name ∷ []
+binding_texts (bindings.ModuleLocal name) = name ∷ codes "module" ∷ []
+binding_texts (bindings.ImportDefault name source) = name ∷ codes "default" ∷ source ∷ []
+binding_texts (bindings.ImportNamespace name source) = name ∷ codes "namespace" ∷ source ∷ []
+binding_texts (bindings.ImportSpecifier name source imported) = name ∷ codes "named" ∷ source ∷ imported ∷ []
+
+abbrev pub argument_shape : PlaceOrSpread → List ℕ
+argument_shape (arguments.Place p) = codes "place"
+argument_shape (arguments.Spread p) = codes "spread"
+
+abbrev pub argument_place : PlaceOrSpread → Place
+argument_place (arguments.Place p) = p
+argument_place (arguments.Spread p) = p

@@ -1,0 +1,65 @@
+-- A parameter that gets its identifier.
+use Rattle.std.proofs.Common.{◌≡◌, ℕ, ◌+◌, ◌≤◌, ◌++◌, Bool, true, false, nat_eq, if◌then◌else◌, List, [], ◌∷◌, length, length-append, Option, Some, None, refl, sym, ap, ◌∙◌, subst, arith, append_assoc}
+use Rattle.std.proofs.lemmas.Bool.{ne_eqb}
+use Rattle.std.proofs.Common.{eq-eqb}
+use Rattle.rl_base.specs.Reserved.{is_reserved}
+use Rattle.rl_base.specs.declared.span.Span.{Span}
+use Rattle.rl_hir.specs.Pairs.{identifier_of}
+use Rattle.rl_hir.specs.declared.function.Pair.{Pair}
+use Rattle.rl_hir.specs.declared.function.Param.{Param}
+use Rattle.rl_hir.specs.declared.function.Param.TheVariants as params
+use Rattle.rl_builder.specs.Builder.{State}
+use Rattle.rl_builder.specs.Names.{pair, resolved, resolved_by}
+use Rattle.rl_scope.specs.declared.semantic.Symbol.{Symbol}
+use Rattle.rl_model.specs.Rows.{first_named}
+use Rattle.rl_lower.specs.Lowering.{HasRoom}
+use Rattle.rl_lower.specs.Parameters.{places_from}
+
+-- look-ups in pairs that got one more
+unbound_more : (bindings : List Pair) (number identifier other : ℕ) → (number ≡ other → ⊥) → identifier_of bindings other ≡ None → identifier_of (bindings ++ pair number identifier ∷ []) other ≡ None
+unbound_more [] number identifier other ne none = ap (λ (b : Bool). if b then Some identifier else None) (ne_eqb number other ne)
+unbound_more (p ∷ bindings) number identifier other ne none = by_test (unbound_more bindings number identifier other ne) (nat_eq p.symbol.0 other) refl
+  where
+    by_test : (identifier_of bindings other ≡ None → identifier_of (bindings ++ pair number identifier ∷ []) other ≡ None) → (b : Bool) → nat_eq p.symbol.0 other ≡ b → identifier_of (p ∷ (bindings ++ pair number identifier ∷ [])) other ≡ None
+    by_test rest true is = absurd ((let never : Some p.identifier.0 ≡ None = sym (ap (λ (b : Bool). if b then Some p.identifier.0 else identifier_of bindings other) is) ∙ none in cc))
+    by_test rest false is = ap (λ (b : Bool). if b then Some p.identifier.0 else identifier_of (bindings ++ pair number identifier ∷ []) other) is ∙ rest (sym (ap (λ (b : Bool). if b then Some p.identifier.0 else identifier_of bindings other) is) ∙ none)
+
+bound_last : (bindings : List Pair) (number identifier : ℕ) → identifier_of bindings number ≡ None → identifier_of (bindings ++ pair number identifier ∷ []) number ≡ Some identifier
+bound_last [] number identifier none = ap (λ (b : Bool). if b then Some identifier else None) (eq-eqb number number refl)
+bound_last (p ∷ bindings) number identifier none = by_test (bound_last bindings number identifier) (nat_eq p.symbol.0 number) refl
+  where
+    by_test : (identifier_of bindings number ≡ None → identifier_of (bindings ++ pair number identifier ∷ []) number ≡ Some identifier) → (b : Bool) → nat_eq p.symbol.0 number ≡ b → identifier_of (p ∷ (bindings ++ pair number identifier ∷ [])) number ≡ Some identifier
+    by_test rest true is = absurd ((let never : Some p.identifier.0 ≡ None = sym (ap (λ (b : Bool). if b then Some p.identifier.0 else identifier_of bindings number) is) ∙ none in cc))
+    by_test rest false is = ap (λ (b : Bool). if b then Some p.identifier.0 else identifier_of (bindings ++ pair number identifier ∷ []) number) is ∙ rest (sym (ap (λ (b : Bool). if b then Some p.identifier.0 else identifier_of bindings number) is) ∙ none)
+
+-- a symbol that had no identifier
+pub resolved_fresh : (s new : State) (name : List ℕ) (number : ℕ) (declaration : Span) → identifier_of s.bindings number ≡ None → new ≡ resolved s name number declaration → new ≡ resolved_by None s name number declaration
+resolved_fresh s new name number declaration none moved = moved ∙ ap (λ (o : Option ℕ). resolved_by o s name number declaration) none
+
+pub fresh_room : (s new : State) (name : List ℕ) (number : ℕ) (declaration : Span) (left more : ℕ) → new ≡ resolved_by None s name number declaration → left ≡ more + 1 → HasRoom s left → HasRoom new more
+fresh_room s new name number declaration left more moved is room = subst (λ (t : State). HasRoom t more) (sym moved) (record {
+  blocks = omega (arith, is, room.blocks);
+  types = omega (arith, is, room.types);
+  identifiers = simp length-append (omega (arith, is, room.identifiers));
+  instructions = omega (arith, is, room.instructions);
+  completed = omega (arith, is, room.completed);
+})
+
+pub fresh_unbound : (s new : State) (name : List ℕ) (number : ℕ) (declaration : Span) → new ≡ resolved_by None s name number declaration → ((other : ℕ) → number ≤ other → identifier_of s.bindings other ≡ None) → (other : ℕ) → number + 1 ≤ other → identifier_of new.bindings other ≡ None
+fresh_unbound s new name number declaration moved none other later =
+    ap (λ (t : State). identifier_of t.bindings other) moved ∙ unbound_more s.bindings number (length s.env.identifiers) other (λ e. absurd (omega (arith, later, e))) (none other (omega (arith, later)))
+
+-- its place among the parameters
+pub fresh_place : (s new : State) (x : Symbol) (number identifier : ℕ) (rest : List Symbol) (given more all : List Param) → new ≡ resolved_by None s x.name number x.declaration → identifier_of s.bindings number ≡ None → identifier_of new.bindings number ≡ Some identifier
+    → more ≡ given ++ params.Place (record { identifier = record { 0 = identifier }; span = Some x.declaration }) ∷ [] → given ++ places_from (length s.env.identifiers) (x ∷ rest) ≡ all → more ++ places_from (length new.env.identifiers) rest ≡ all
+fresh_place s new x number identifier rest given more all moved none bound pushed before =
+    let told : Some (length s.env.identifiers) ≡ Some identifier = sym (bound_last s.bindings number (length s.env.identifiers) none) ∙ ap (λ (t : State). identifier_of t.bindings number) (sym moved) ∙ bound in
+    let is : length s.env.identifiers ≡ identifier = cc in
+    let long : length new.env.identifiers ≡ length s.env.identifiers + 1 = ap (λ (t : State). length t.env.identifiers) moved ∙ length-append s.env.identifiers _ in
+    ap (λ (n : ℕ). more ++ places_from n rest) long
+    ∙ ap (λ (l : List Param). l ++ places_from (length s.env.identifiers + 1) rest) (pushed ∙ ap (λ (n : ℕ). given ++ params.Place (record { identifier = record { 0 = n }; span = Some x.declaration }) ∷ []) (sym is))
+    ∙ append_assoc given (params.Place (record { identifier = record { 0 = length s.env.identifiers }; span = Some x.declaration }) ∷ []) (places_from (length s.env.identifiers + 1) rest)
+    ∙ before
+
+pub unreserved_more : (x : Symbol) (rest : List Symbol) (all : Option Symbol) → is_reserved x.name ≡ false → first_named (λ name. is_reserved name) (x ∷ rest) ≡ all → first_named (λ name. is_reserved name) rest ≡ all
+unreserved_more x rest all free is = sym (ap (λ (b : Bool). if b then Some x else first_named (λ name. is_reserved name) rest) free) ∙ is

@@ -1,0 +1,143 @@
+-- No two calls of a unit stand at one place: each ends after those before it, which are its parts or stand before it.
+use Rattle.std.proofs.Common.{◌≡◌, ℕ, zero, suc, ◌+◌, ◌<◌, ◌≤◌, ◌++◌, ◌⊎◌, inl, inr, true, List, [], ◌∷◌, length, length-append, append-nil, slice_get, Option, Some, None, map, refl, sym, ap, ◌∙◌, subst, arith}
+use Rattle.rl_base.specs.declared.span.Span.{Span}
+use Rattle.rl_text.specs.Notation.{spelled_on, spelling}
+use Rattle.rl_ast.proofs.Grammar.{one_statement}
+use Rattle.rl_ast.specs.Grammar.{is_marked}
+use Rattle.rl_ast.specs.Syntax.{Syntax, Node, Listed, Said, Count, Flag, Absent, Pieces, End, Then, IsPlaced, ArePlaced, nodes, pieces_of, plain, plain_parts, width}
+use Rattle.rl_ast.specs.Units.{Spells, node, statement, unit}
+use Rattle.rl_ast.specs.Words.{word_text}
+use Rattle.rl_ast.specs.declared.numbered.At.{At}
+use Rattle.rl_ast.specs.declared.tree.Statement.{Statement}
+use Rattle.rl_ast.specs.declared.tree.Unit.{Unit as TreeOfUnit}
+use Rattle.rl_ast.specs.declared.word.Word.{Word}
+use Rattle.rl_ast.specs.declared.word.Word.TheVariants as word
+use Rattle.rl_model.specs.Held.{AreApart, calls_in, calls_among}
+use Rattle.rl_model.specs.Source.{function_in, marked}
+
+-- the ends of the places rise, from above the first number to the last one at most
+abbrev Rise : ℕ → List (Option Span) → ℕ → Type 0
+Rise low [] high = low ≤ high
+Rise low (None ∷ places) high = ⊥
+Rise low (Some place ∷ places) high = (low < place.end) × Rise place.end places high
+
+rise_from : (places : List (Option Span)) (lower low high : ℕ) → lower ≤ low → Rise low places high → Rise lower places high
+rise_from [] lower low high below r = omega (arith, below, r)
+rise_from (None ∷ places) lower low high below r = absurd r
+rise_from (Some place ∷ places) lower low high below r = (omega (arith, below, r.0), r.1)
+
+rise_to : (places : List (Option Span)) (low high higher : ℕ) → high ≤ higher → Rise low places high → Rise low places higher
+rise_to [] low high higher above r = omega (arith, above, r)
+rise_to (None ∷ places) low high higher above r = absurd r
+rise_to (Some place ∷ places) low high higher above r = (r.0, rise_to places place.end high higher above r.1)
+
+rise_then : (places more : List (Option Span)) (low between high : ℕ) → Rise low places between → Rise between more high → Rise low (places ++ more) high
+rise_then [] more low between high r s = rise_from more low between high r s
+rise_then (None ∷ places) more low between high r s = absurd r
+rise_then (Some place ∷ places) more low between high r s = (r.0, rise_then places more place.end between high r.1 s)
+
+-- parts end with a bracket
+bracket_last : (close : ℕ) (parts : Pieces) → (before : ℕ) × (length (spelled_on close (plain_parts parts)) ≡ before + 1)
+bracket_last close End = (0, refl)
+bracket_last close (Then piece pieces) = (
+  1 + width piece + (bracket_last close pieces).0,
+  (let rest : length (spelled_on close (plain_parts pieces)) ≡ (bracket_last close pieces).0 + 1 = (bracket_last close pieces).1 in
+      let both : length (spelling (plain piece) ++ spelled_on close (plain_parts pieces)) ≡ width piece + length (spelled_on close (plain_parts pieces)) = length-append (spelling (plain piece)) (spelled_on close (plain_parts pieces)) in
+      omega (arith, rest, both)),
+)
+
+-- a node's calls are those of its parts, and itself where it is one
+own_call : (at : At) (w : Word) (parts : Pieces) → (calls_in (Node at w parts) ≡ calls_among parts) ⊎ (calls_in (Node at w parts) ≡ calls_among parts ++ Some at.span ∷ [])
+own_call at word.Call parts = inr refl
+own_call at _ parts = inl refl
+
+-- behind the calls of its parts a node ends
+node_rise : (at : At) (w : Word) (parts : Pieces) (low high : ℕ) → Rise low (calls_among parts) high → high < at.span.end → Rise low (calls_in (Node at w parts)) at.span.end
+node_rise at w parts low high r last = elim (own_call at w parts) [
+  | inl same ↦ subst (λ (l : List (Option Span)). Rise low l at.span.end) (sym same) (rise_to (calls_among parts) low high at.span.end (omega (arith, last)) r)
+  | inr more ↦ subst (λ (l : List (Option Span)). Rise low l at.span.end) (sym more) (rise_then (calls_among parts) (Some at.span ∷ []) low high at.span.end r (last, omega arith))
+]
+
+mutual
+  -- the calls of a tree that stands at a byte end behind it, one after the other
+  calls_rise : (s : Syntax) (node byte : ℕ) → IsPlaced node byte s → Rise byte (calls_in s) (byte + width s)
+  calls_rise (Node at w parts) node byte placed = (
+      let last = bracket_last 41 parts in
+      let long : length (word_text w ++ spelled_on 41 (plain_parts parts)) ≡ length (word_text w) + length (spelled_on 41 (plain_parts parts)) = length-append (word_text w) (spelled_on 41 (plain_parts parts)) in
+      let start = byte + 1 + length (word_text w) in
+      let inside : Rise start (calls_among parts) (start + last.0) = calls_among_rise 41 parts (node + 1) start (start + last.0) placed.1 (omega (arith, last.1)) in
+      subst (λ (n : ℕ). Rise byte (calls_in (Node at w parts)) n) placed.0.end
+      (rise_from (calls_in (Node at w parts)) byte start at.span.end (omega arith) (node_rise at w parts start (start + last.0) inside (omega (arith, placed.0.end, long, last.1))))
+      )
+  calls_rise (Listed End) node byte placed = omega arith
+  calls_rise (Listed (Then piece pieces)) node byte placed = (
+      let both : length (spelling (plain piece) ++ spelled_on 93 (plain_parts pieces)) ≡ width piece + length (spelled_on 93 (plain_parts pieces)) = length-append (spelling (plain piece)) (spelled_on 93 (plain_parts pieces)) in
+      let last = bracket_last 93 (Then piece pieces) in
+      rise_to (calls_among (Then piece pieces)) byte (byte + last.0) _ (omega (arith, both, last.1)) (calls_among_rise 93 (Then piece pieces) node byte (byte + last.0) placed (omega (arith, last.1)))
+      )
+  calls_rise (Said text) node byte placed = omega arith
+  calls_rise (Count number) node byte placed = omega arith
+  calls_rise (Flag flag) node byte placed = omega arith
+  calls_rise Absent node byte placed = omega arith
+
+  -- the same of parts and the bracket behind them
+  calls_among_rise : (close : ℕ) (parts : Pieces) (node byte high : ℕ) → ArePlaced node byte parts → byte + length (spelled_on close (plain_parts parts)) ≡ high + 1 → Rise byte (calls_among parts) high
+  calls_among_rise close End node byte high placed long = omega (arith, long)
+  calls_among_rise close (Then piece pieces) node byte high placed long = (
+      let both : length (spelling (plain piece) ++ spelled_on close (plain_parts pieces)) ≡ width piece + length (spelled_on close (plain_parts pieces)) = length-append (spelling (plain piece)) (spelled_on close (plain_parts pieces)) in
+      rise_then (calls_in piece) (calls_among pieces) byte (byte + 1 + width piece) high
+      (rise_from (calls_in piece) byte (byte + 1) (byte + 1 + width piece) (omega arith) (calls_rise piece node (byte + 1) placed.0))
+      (calls_among_rise close pieces (node + nodes piece) (byte + 1 + width piece) high placed.1 (omega (arith, both, long)))
+      )
+
+-- what ends above a number
+above : (places : List (Option Span)) (low high i : ℕ) (place : Option Span) → Rise low places high → slice_get places i ≡ Some place → (span : Span) × (place ≡ Some span) × (low < span.end)
+above [] low high i place r at = absurd (cc)
+above (None ∷ places) low high i place r at = absurd r
+above (Some span ∷ places) low high zero place r at = (span, (cc), r.0)
+above (Some span ∷ places) low high (suc i) place r at =
+    let later = above places span.end high i place r.1 at in
+    (later.0, later.1, (let first : low < span.end = r.0 in let second : span.end < later.0.end = later.2 in omega (arith, first, second)))
+
+-- no place stands before a later one's end and after it
+never_before : (places : List (Option Span)) (span : Span) (high i : ℕ) (place : Option Span) → Rise span.end places high → slice_get places i ≡ Some place → Some span ≡ place → ⊥
+never_before places span high i place r at same =
+    let later = above places span.end high i place r at in
+    let one : span ≡ later.0 = (cc) in
+    let behind : span.end < later.0.end = later.2 in
+    let ends : span.end ≡ later.0.end = ap (λ (s : Span). s.end) one in
+    omega (arith, behind, ends)
+
+-- places whose ends rise are apart
+rise_apart : (places : List (Option Span)) (low high : ℕ) → Rise low places high → AreApart places
+rise_apart [] low high r i j place at there = absurd (cc)
+rise_apart (None ∷ places) low high r i j place at there = absurd r
+rise_apart (Some span ∷ places) low high r zero zero place at there = refl
+rise_apart (Some span ∷ places) low high r zero (suc j) place at there = absurd (never_before places span high j place r.1 there (cc))
+rise_apart (Some span ∷ places) low high r (suc i) zero place at there = absurd (never_before places span high i place r.1 at (cc))
+rise_apart (Some span ∷ places) low high r (suc i) (suc j) place at there = ap suc (rise_apart places span.end high r.1 i j place at there)
+
+-- a statement that is a marked function has its calls
+marked_calls : (s : Syntax) → is_marked s ≡ true → calls_in s ≡ calls_in (function_in s)
+marked_calls (Node at word.Expr (Then function End)) is = append-nil (calls_in function)
+marked_calls _ is = absurd (cc)
+
+-- the calls of a unit's function are apart
+pub calls_apart : (bytes : List ℕ) (u : TreeOfUnit) → Spells bytes u → AreApart (calls_in (marked (unit u)))
+calls_apart bytes u spells =
+    subst AreApart all (rise_apart (calls_in (unit u)) 0 (0 + width (unit u)) (calls_rise (unit u) 0 0 spells.numbers))
+  where
+    only : (s : Statement) × (u.program.body ≡ s ∷ []) × (is_marked (statement s) ≡ true)
+    only = one_statement u spells.grammar
+
+    of_body : List Statement → Syntax
+    of_body body = node u.at word.Unit (Listed (pieces_of []) ∷ node u.program.at word.Program (Listed (pieces_of (map statement body)) ∷ []) ∷ [])
+
+    all : calls_in (unit u) ≡ calls_in (marked (unit u))
+    all =
+        ap (λ (body : List Statement). calls_in (of_body body)) only.1
+        ∙ append-nil ((calls_in (statement only.0) ++ []) ++ [])
+        ∙ append-nil (calls_in (statement only.0) ++ [])
+        ∙ append-nil (calls_in (statement only.0))
+        ∙ marked_calls (statement only.0) only.2
+        ∙ sym (ap (λ (body : List Statement). calls_in (marked (of_body body))) only.1)
