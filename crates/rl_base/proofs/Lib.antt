@@ -1,2 +1,4 @@
 pub mod KnownBytes
 pub mod Lines
+pub mod Operators
+pub mod Templates

@@ -1,6 +1,9 @@
 pub mod Diagnostics
+pub mod Distinct
 pub mod Faults
+pub mod Operators
 pub mod Pieces
 pub mod Reserved
 pub mod Rows
+pub mod Templates
 pub mod formers

@@ -1,6 +1,6 @@
 ghost use Rattle.std.specs.Prelude.{◌≡◌, IfOk};
 
-use crate::failure::OutOfMemory;
+use crate::error::OutOfMemory;
 use std::alloc::Global;
 use std::marker::Model;
 
@@ -19,6 +19,7 @@ impl<T> Model for Boxed<T> {
 }
 
 impl<T> Boxed<T> {
+    /// The value in the box.
     pub fn get(&self) -> &T
         ensures { result.now ≡ self.now }
     {
@@ -27,7 +28,7 @@ impl<T> Boxed<T> {
 }
 
 impl<T: Drop> Boxed<T> {
-    /// Puts a value into memory of its own.
+    /// Moves a value into memory of its own. On `OutOfMemory` an allocation failed, and the value is dropped.
     pub fn new(alloc: Global, value: T) -> Result<Boxed<T>, OutOfMemory>
         ensures { IfOk result (λ boxed. boxed ≡ value) }
     {

@@ -1,19 +1,20 @@
-//! What every crate of the front end stands on: places in the tree text, numbers of things, texts and lists that
-//! contracts see as plain data, and the byte streams at the edge.
+//! The base of the front end: spans, ids, texts and lists that contracts see as plain data, operators, rows, diagnostics,
+//! and byte streams.
 #![tactic(auto)]
 
 pub mod boxed;
 mod copy;
 pub mod diagnostic;
-pub mod edge;
-pub mod failure;
+pub mod error;
 pub mod ids;
+pub mod infallible_io;
+pub mod io;
 pub mod list;
 pub mod memory;
-pub mod reserved;
+pub mod operator;
 pub mod row;
 pub mod span;
-pub mod steady;
+pub mod stop;
 pub mod streams;
+mod template;
 pub mod text;
-pub mod transfer;

@@ -3,12 +3,12 @@ ghost use Rattle.std.specs.Option.{option_copied};
 ghost use Rattle.std.specs.Borrow.{Lends, sem};
 ghost use Rattle.rl_base.specs.contracts.list.List.{the_row};
 
-use crate::failure::OutOfMemory;
+use crate::error::OutOfMemory;
 use std::alloc::Global;
 use std::marker::Model;
 
-/// A list that contracts see as its items, so that a tree of lists is plain data. A recursive type may hold lists of
-/// itself.
+/// A list that contracts see as its items alone, so that a tree of lists is plain data. A recursive type may hold lists
+/// of itself.
 #[derive(Debug, Drop)]
 pub struct List<T> {
     items: Vec<T>,
@@ -26,7 +26,7 @@ impl<T> Model for List<T> {
 }
 
 impl<T> List<T> {
-    /// The empty list, which takes no memory.
+    /// The empty list. It takes no memory.
     pub fn new(alloc: Global) -> List<T>
         ensures { result ≡ [] }
     {
@@ -35,50 +35,60 @@ impl<T> List<T> {
         }
     }
 
-    /// The list of a vector's elements, with the vector's memory.
+    /// The list of a vector's items, in the vector's memory.
     pub fn from_vec(items: Vec<T>) -> List<T>
         ensures { result ≡ items.items }
     {
         List { items }
     }
 
+    /// The vector of the list's items, in the list's memory. It takes no memory.
+    pub fn into_vec(self) -> Vec<T>
+        ensures { result.items ≡ self }
+    {
+        self.items
+    }
+
+    /// The items, in order.
     pub fn as_slice(&self) -> &[T]
         ensures { result.now ≡ self.now }
     {
         self.items.as_slice()
     }
 
+    /// The number of items.
     pub fn len(&self) -> usize
         ensures { result ≡ length self.now }
     {
         self.items.len()
     }
 
+    /// True if there is no item.
     pub fn is_empty(&self) -> bool
         ensures { IsTrue result ↔ (self.now ≡ []) }
     {
         self.items.is_empty()
     }
 
-    /// The item at a place counted from 0, if there is one.
-    pub fn get(&self, place: usize) -> Option<&T>
-        ensures { option_copied result ≡ slice_get self.now place }
+    /// The item at an index, if there is one.
+    pub fn get(&self, index: usize) -> Option<&T>
+        ensures { option_copied result ≡ slice_get self.now index }
     {
-        self.items.get(place)
+        self.items.get(index)
     }
 
-    /// The item at a place counted from 0, to be changed there.
-    pub fn item_mut(&mut self, place: usize) -> &mut T
-        requires { place < length self.old }
-        ensures* writes_back { sem 𝓛 (Lends (the_row T.row) T.row self.entry result (slice_set self.old place)) }
-        ensures value { slice_get self.old place ≡ Some result.now }
+    /// The item at an index below the length, for a change in place.
+    pub fn item_mut(&mut self, index: usize) -> &mut T
+        requires { index < length self.old }
+        ensures* writes_back { sem 𝓛 (Lends (the_row T.row) T.row self.entry result (slice_set self.old index)) }
+        ensures value { slice_get self.old index ≡ Some result.now }
     {
-        &mut self.items[place]
+        &mut self.items[index]
     }
 }
 
 impl<T: Drop> List<T> {
-    /// Adds an item at the end. Where memory is wanted and not given, the item is dropped and the list stays.
+    /// Appends an item. On `OutOfMemory` an allocation failed: the item is dropped, and the list is unchanged.
     pub fn push(&mut self, item: T) -> Result<(), OutOfMemory>
         ensures ok { OnOk result (self.new ≡ self.old ++ item ∷ []) }
         ensures err { OnErr result (self.new ≡ self.old) }

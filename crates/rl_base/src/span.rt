@@ -1,6 +1,8 @@
-/// A place in the tree text: bytes from `start` up to and without `end`, counted from 0.
+/// A half-open byte range of the unit's text. Offsets count bytes from 0.
 #[derive(Clone, Copy, Debug, PartialEq, Eq)]
 pub struct Span {
+    /// The offset of the first byte.
     pub start: u32,
+    /// The offset after the last byte.
     pub end: u32,
 }

@@ -1,10 +1,10 @@
 ghost use Rattle.std.specs.Prelude.{◌≡◌, IfOk, ◌↔◌, IsTrue, string_bytes};
 
-use crate::failure::OutOfMemory;
+use crate::error::OutOfMemory;
 use std::alloc::Global;
 use std::marker::Model;
 
-/// Owned text, in UTF-8. Contracts see its bytes.
+/// Text in UTF-8 that owns its memory. Contracts see the list of its bytes.
 #[derive(Debug, Drop)]
 pub struct Text {
     inner: String,
@@ -19,14 +19,14 @@ impl Model for Text {
 }
 
 impl Text {
-    /// The text of a `String`.
+    /// The text of `inner`, in its memory.
     pub fn new(inner: String) -> Self
         ensures { result ≡ string_bytes inner }
     {
         Text { inner }
     }
 
-    /// A copy of a `str`.
+    /// A copy of `text`. On `OutOfMemory` an allocation failed.
     pub fn from_str(alloc: Global, text: &str) -> Result<Text, OutOfMemory>
         ensures { IfOk result (λ copy. copy ≡ text.now) }
     {
@@ -35,19 +35,21 @@ impl Text {
         })
     }
 
+    /// The text as a `str`.
     pub fn as_str(&self) -> &str
         ensures { result.now ≡ self.now }
     {
         self.inner.as_str()
     }
 
+    /// The UTF-8 bytes of the text.
     pub fn as_bytes(&self) -> &[u8]
         ensures { result.now ≡ self.now }
     {
         self.inner.as_bytes()
     }
 
-    /// The same bytes, in memory of their own.
+    /// A copy in memory of its own. On `OutOfMemory` an allocation failed.
     pub fn copy(&self, alloc: Global) -> Result<Text, OutOfMemory>
         ensures { IfOk result (λ copy. copy ≡ self.now) }
     {

@@ -1,5 +1,5 @@
--- `Boxed` as a former: what a recursive type needs to know of a `Boxed` of itself. It is laid out as the `Box` in it,
--- and holds its one value.
+-- `Boxed` as a former, for recursive types that hold boxes of themselves. Its layout is that of the `Box` in it, and its
+-- shape that of its value.
 use mathlib.Core.Path.{refl}
 use mathlib.Core.Former.{Former, this, const, pair, via}
 use base.Stored.{gnil}
@@ -29,19 +29,19 @@ the_former value = value
 abbrev pub the_weighed : {value : Former {0}} → Weighed value → Weighed (the_former value)
 the_weighed weighed = weighed
 
--- the one field is a `Box`
+-- The one field, a `Box`.
 abbrev fields : Former {0}
 fields = via (pair (const (Ptr × Global)) this) Inside (λ X a. ((a.inner.ptr, a.inner.alloc), a.inner.value))
     (λ X v. record { inner = record { ptr = v.0.0; alloc = v.0.1; value = v.1 } }) (λ X a. refl) (λ X v. refl)
 
--- the box with another value in it
+-- The box `b` with the value `y`.
 abbrev with_value : {X Y : Type 0} → Box X Global → Y → Box Y Global
 with_value b y = record { ptr = b.ptr; alloc = b.alloc; value = y }
 
 abbrev box_of : RattleType → RattleType
 box_of R = box.the_row R heap.the_row ghosts
 
--- a map of the value keeps the layout and the codes
+-- A map of the value preserves the layout and the codes.
 module _ (R S : RattleType) (h : R.Denot → S.Denot) where
   box_places : Alike R S h → Alike (box_of R) (box_of S) (λ b. with_value b (h b.value))
   unfolding part_of

@@ -1,5 +1,5 @@
--- `List` as a former: what a recursive type needs to know of a `List` of itself. It is laid out as the `Vec` in it,
--- and holds its items in order.
+-- `List` as a former, for recursive types that hold lists of themselves. Its layout is that of the `Vec` in it, and its
+-- shape the list of its items.
 use mathlib.Core.Path.{◌≡◌, refl, sym}
 use mathlib.Core.List.{List, []}
 use mathlib.Core.Former.{Former, this, list, via, children}
@@ -20,7 +20,7 @@ use Rattle.rl_base.specs.declared.list.List.TheView.{view, invariant}
 use Rattle.rl_base.specs.contracts.list.List as C
 use Rattle.rl_base.specs.contracts.list.List.TheInside as I
 
--- the shape: a list of whatever it is a list of
+-- The shape: a list of items of the shape `item`.
 abbrev pub the_former : Former {0} → Former {0}
 the_former item = list item
 
@@ -30,18 +30,18 @@ the_weighed weighed = w_list weighed
 pub the_empty : List ⊥
 the_empty = []
 
--- the items as a plain list
+-- The items as a plain list.
 abbrev pub the_items : (X : Type 0) → List X → List X
 the_items X items = items
 
 pub the_items_listed : (X : Type 0) (items : List X) → listed _ (children (the_former this) X items) ≡ the_items X items
 the_items_listed X items = list-listed X items
 
--- the one field is a `Vec`
+-- The one field, a `Vec`.
 abbrev fields : Former {0}
 fields = via (vec.the_former this Global) Inside (λ X inside. inside.items) (λ X items. record { items = items }) (λ X inside. refl) (λ X items. refl)
 
--- a map of items keeps the layout and the codes
+-- A map of the items preserves the layout and the codes.
 module _ (R S : RattleType) (h : R.Denot → S.Denot) where
   pub the_places : Alike R S h → Alike (C.the_row R) (C.the_row S) ((the_former this).map R.Denot S.Denot h)
   the_places alike = view_places fields (list this) view (λ X Y k u. refl) (λ X u. refl) R.Denot S.Denot h (C.the_row R).coded (C.the_row S).coded
