@@ -1,6 +1,6 @@
 -- What the grammar says of a tree whose kind is known in part.
 use Rattle.std.proofs.Common.{◌≡◌, ℕ, List, false, refl}
-use Rattle.rl_text.proofs.Operators.{is_operator-text, operator-unknown}
+use Rattle.rl_base.proofs.Operators.{is_operator-text, operator-unknown}
 use Rattle.rl_ast.specs.Syntax.{Syntax, Node, Listed, Said, Count, Flag, Absent, Pieces, End, Then}
 use Rattle.rl_ast.specs.Grammar.{is_expression, is_statement, is_body, are_texts}
 use Rattle.rl_ast.specs.declared.word.Word.TheVariants as word

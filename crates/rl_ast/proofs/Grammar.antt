@@ -1,8 +1,8 @@
 -- What the grammar says of a function's parts, and of an expression's.
 use Rattle.std.proofs.Common.{◌≡◌, Bool, true, false, ◌&&◌, List, [], ◌∷◌, map, ap, sym, ◌∙◌, refl, true≢false}
 use Rattle.std.proofs.lemmas.Bool.{and_parts}
-use Rattle.rl_text.specs.Operators.{operator_text, is_operator}
-use Rattle.rl_text.specs.declared.operator.BinaryOperator.{BinaryOperator}
+use Rattle.rl_base.specs.Operators.{operator_text, is_operator}
+use Rattle.rl_base.specs.declared.operator.BinaryOperator.{BinaryOperator}
 use Rattle.rl_ast.specs.Syntax.{Syntax, Flag, Listed, pieces_of}
 use Rattle.rl_ast.specs.Grammar.{is_expression, are_expressions, is_function, is_body, are_params, is_params, is_marked, is_unit}
 use Rattle.rl_ast.specs.Units.{node, param, params, arrow_body, expression, function, statement, unit}

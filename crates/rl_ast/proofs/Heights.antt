@@ -3,7 +3,7 @@ use Rattle.std.proofs.Common.{◌≡◌, ◌*◌, ◌≤◌, true, false, ◌&&�
 use Rattle.std.proofs.lemmas.Bool.{and_parts}
 use Rattle.rl_text.specs.Notation.{height, height_of}
 use Rattle.rl_text.specs.Nodes.{depth, depth_of}
-use Rattle.rl_text.specs.Operators.{is_operator}
+use Rattle.rl_base.specs.Operators.{is_operator}
 use Rattle.rl_ast.specs.Syntax.{Syntax, Node, Listed, Said, Flag, Absent, Pieces, End, Then, plain, plain_parts}
 use Rattle.rl_ast.specs.Grammar.{is_expression, are_expressions, is_statement, are_statements, are_texts, is_body, is_binding, is_param, are_params, is_params, is_function, is_marked, is_program, is_unit}
 use Rattle.rl_ast.specs.declared.word.Word.TheVariants as word

@@ -5,6 +5,7 @@ pub mod Heights
 pub mod Layers
 pub mod Numbering
 pub mod Placement
+pub mod ReadBack
 pub mod Reading
 pub mod Shapes
 pub mod Spelled

@@ -1,7 +1,7 @@
 -- How many bytes a tree takes, and trees in a row as one more is put behind them.
 use Rattle.std.proofs.Common.{◌≡◌, ℕ, ◌+◌, ◌≤◌, Bool, List, [], ◌∷◌, ◌++◌, length, map, ap, ◌∙◌, refl, subst, arith, length-append, drop, append_assoc, zero, suc}
 use Rattle.std.proofs.lemmas.List.{map-append}
-use Rattle.std.specs.Fmt.{decimal}
+use Rattle.rl_text.specs.Number.{numeral}
 use Rattle.rl_text.specs.Notation as notation
 use Rattle.rl_text.specs.Notation.{spelling, spelled_on}
 use Rattle.rl_text.specs.Quoted.{quoted}
@@ -55,7 +55,7 @@ length_list r (part ∷ parts) e some = rw (e, tree_list (part ∷ parts)) (simp
 pub length_text : (r : Raw) (text : List ℕ) → r ≡ raw.Text text → length (spelling (tree r)) ≡ length (quoted text)
 length_text r text e = rw (e, tree_text text) refl
 
-pub length_number : (r : Raw) (number : ℕ) → r ≡ raw.Number number → length (spelling (tree r)) ≡ length (decimal number)
+pub length_number : (r : Raw) (number : ℕ) → r ≡ raw.Number number → length (spelling (tree r)) ≡ length (numeral number)
 length_number r number e = rw (e, tree_number number) refl
 
 pub length_flag : (r : Raw) (flag : Bool) → r ≡ raw.Flag flag → length (spelling (tree r)) ≡ 1

@@ -1,7 +1,7 @@
 -- The plain tree of each expression, statement, function and body.
 use Rattle.std.proofs.Common.{◌≡◌, ℕ, Bool, false, Some, None, List, map, sym, ap, ◌∙◌}
-use Rattle.rl_text.specs.Operators.{operator_text}
-use Rattle.rl_text.specs.declared.operator.BinaryOperator.{BinaryOperator}
+use Rattle.rl_base.specs.Operators.{operator_text}
+use Rattle.rl_base.specs.declared.operator.BinaryOperator.{BinaryOperator}
 use Rattle.rl_ast.specs.Syntax.{Syntax, Node, Listed, Said, Flag, Absent, End, Then, pieces_of}
 use Rattle.rl_ast.specs.Units.{said, params, of_body, of_expression, of_statement, of_function, arrow_body, expression, statement, function}
 use Rattle.rl_ast.specs.declared.word.Word.TheVariants as word

@@ -1,6 +1,6 @@
 -- The grammar of units, as far as it goes.
 use Rattle.std.specs.Prelude.{Bool, true, false, ◌&&◌}
-use Rattle.rl_text.specs.Operators.{is_operator}
+use Rattle.rl_base.specs.Operators.{is_operator}
 use Rattle.rl_ast.specs.declared.word.Word.TheVariants as word
 use Rattle.rl_ast.specs.Syntax.{Syntax, Node, Listed, Said, Flag, Absent, Pieces, End, Then}
 

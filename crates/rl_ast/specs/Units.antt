@@ -1,7 +1,7 @@
 -- A unit as a plain tree, and the bytes that spell it.
 use Rattle.std.specs.Prelude.{◌≡◌, ℕ, true, false, Option, Some, None, List, [], ◌∷◌, map}
 use Rattle.rl_text.specs.Notation as notation
-use Rattle.rl_text.specs.Operators.{operator_text}
+use Rattle.rl_base.specs.Operators.{operator_text}
 use Rattle.rl_ast.specs.Syntax.{Syntax, Node, Listed, Said, Flag, Absent, pieces_of, plain, IsPlaced}
 use Rattle.rl_ast.specs.Grammar.{is_unit}
 use Rattle.rl_ast.specs.declared.numbered.At.{At}

@@ -1,10 +1,12 @@
+//! Numbered trees: trees of the notation with known words, and an id and a span for each node.
+
 ghost use Rattle.std.specs.Prelude.{◌≡◌, ◌+◌, ◌<◌, ◌≤◌, ◌^◌, length, map, IfOk, IfSome, IfNone};
 ghost use Rattle.rl_text.specs.Notation.{spelling, spelled_on};
 ghost use Rattle.rl_text.specs.Raw.{tree, parts_of};
 ghost use Rattle.rl_ast.specs.Syntax.{Syntax, Pieces, pieces_of, syntax, plain, plain_parts, nodes, nodes_of, IsPlaced, ArePlaced};
 
 use crate::word::Word;
-use rl_base::failure::OutOfMemory;
+use rl_base::error::OutOfMemory;
 use rl_base::ids::NodeId;
 use rl_base::list::List;
 use rl_base::span::Span;
@@ -14,17 +16,18 @@ use rl_text::quoted::quoted_len;
 use rl_text::raw::Raw;
 use std::alloc::Global;
 
-/// The number and the place of a node: nodes are numbered from 0 in the order in which they open, and a place goes from
-/// a node's opening parenthesis to behind its closing one.
+/// Id and span of a node.
 #[derive(Clone, Copy, Debug, PartialEq, Eq)]
 pub struct At {
+    /// Index of the node in the order in which nodes open, from 0.
     pub id: NodeId,
+    /// Half-open byte range in the unit's text, from the node's `(` to behind its `)`.
     pub span: Span,
 }
 
-/// A tree of the notation whose nodes have known words, and their numbers and places.
+/// A tree of the notation whose nodes have known words, ids and spans.
 #[derive(Drop)]
-pub enum Numbered {
+pub(crate) enum Numbered {
     Node(At, Word, List<Numbered>),
     List(List<Numbered>),
     Text(Text),
@@ -33,7 +36,7 @@ pub enum Numbered {
     Absent,
 }
 
-/// How far the numbering is: the number of the next node to open, and the byte at which the next part of the text begins.
+/// State of the numbering: the id of the next node to open, and the byte offset at which the next tree begins.
 #[derive(Clone, Copy)]
 struct Place {
     node: u32,
@@ -41,7 +44,7 @@ struct Place {
 }
 
 impl Place {
-    /// So many bytes further, with no node between.
+    /// `self` advanced by `bytes`; no node opens in them.
     fn behind(self, bytes: u32) -> Place
         requires { self.byte + bytes < 2 ^ 32 }
         ensures node { result.node ≡ self.node }
@@ -53,7 +56,7 @@ impl Place {
         }
     }
 
-    /// The node that opens here and closes before the end.
+    /// Id and span of the node that opens at `self` and closes before `end`.
     fn up_to(self, end: Place) -> At
         ensures { result ≡ record { id = record { 0 = self.node }; span = record { start = self.byte; end = end.byte } } }
     {
@@ -66,8 +69,8 @@ impl Place {
     }
 }
 
-/// The tree with the numbers and places of its nodes, the first of which opens at this place, and the place behind it.
-/// `None` where the word of a node is not known.
+/// Numbers a tree whose text begins at `place`. Returns it with the place behind it, or `None` if the word of a node is
+/// not known.
 #[cycle(numbering)]
 #[tactic(auto, using(crate::proofs::Numbering::numbering))]
 fn number_at(
@@ -121,7 +124,7 @@ fn number_at(
     }
 }
 
-/// The same of parts, each of which stands one byte behind what is before it.
+/// As `number_at`, for parts in a row, each of which stands one byte behind what is before it.
 #[cycle(numbering)]
 #[tactic(auto, using(crate::proofs::Numbering::numbering))]
 fn number_parts(
@@ -154,8 +157,8 @@ fn number_parts(
     Ok(Some((items, next)))
 }
 
-/// The tree with the numbers and places of its nodes. `None` where the word of a node is not known.
-pub fn number_tree(alloc: Global, raw: &Raw) -> Result<Option<Numbered>, OutOfMemory>
+/// Numbers a tree from id 0 and byte offset 0. `None` if the word of a node is not known.
+pub(crate) fn number_tree(alloc: Global, raw: &Raw) -> Result<Option<Numbered>, OutOfMemory>
     requires { length (spelling (tree raw.now)) < 2 ^ 32 }
     ensures found { IfOk result (λ r. IfSome r (λ n. (plain (syntax n) ≡ tree raw.now) × IsPlaced 0 0 (syntax n))) }
     ensures none { IfOk result (λ r. IfNone r ((s : Syntax) → plain s ≡ tree raw.now → ⊥)) }

@@ -1,15 +1,15 @@
-//! What the parts of a node are.
+//! Views of a numbered tree, and of the parts of a node.
 
 ghost use Rattle.std.specs.Prelude.{◌≡◌, ℕ, Bool, true, false, List as Items, map, MatchOption, IfSome, IfNone, IsTrue, ◌↔◌};
-ghost use Rattle.rl_text.specs.Operators.{operator_text, is_operator};
+ghost use Rattle.rl_base.specs.Operators.{operator_text, is_operator};
 ghost use Rattle.rl_ast.specs.Syntax.{Syntax, Node, Listed, Said, Flag, Absent, Pieces, End, Then, pieces_of, syntax};
 
 use crate::numbered::{At, Numbered};
 use crate::word::Word;
+use rl_base::operator::BinaryOperator;
 use rl_base::text::Text;
-use rl_text::operator::BinaryOperator;
 
-/// The number, the place and the parts of a node with this word. `None` at anything else.
+/// Id and span, and the parts, of a node with the word `word`. `None` at any other tree.
 #[tactic(auto, using(crate::proofs::Layers::by_layer))]
 pub(crate) fn as_node(tree: &Numbered, word: Word) -> Option<(At, &[Numbered])>
     ensures { MatchOption result ((at : At) (pieces : Pieces) → syntax tree.now ≡ Node at word pieces → ⊥) (λ n. syntax tree.now ≡ Node n.0 word (pieces_of (map syntax n.1.now))) }
@@ -26,7 +26,7 @@ pub(crate) fn as_node(tree: &Numbered, word: Word) -> Option<(At, &[Numbered])>
     }
 }
 
-/// The items of a list. `None` at anything else.
+/// The items of a list. `None` at any other tree.
 #[tactic(auto, using(crate::proofs::Layers::by_layer))]
 pub(crate) fn as_list(tree: &Numbered) -> Option<&[Numbered]>
     ensures { MatchOption result ((pieces : Pieces) → syntax tree.now ≡ Listed pieces → ⊥) (λ items. syntax tree.now ≡ Listed (pieces_of (map syntax items.now))) }
@@ -37,7 +37,7 @@ pub(crate) fn as_list(tree: &Numbered) -> Option<&[Numbered]>
     }
 }
 
-/// The text of a text. `None` at anything else.
+/// The text of a text. `None` at any other tree.
 #[tactic(auto, using(crate::proofs::Layers::by_layer))]
 pub(crate) fn as_text(tree: &Numbered) -> Option<&Text>
     ensures { MatchOption result ((text : Items ℕ) → syntax tree.now ≡ Said text → ⊥) (λ text. syntax tree.now ≡ Said text.now) }
@@ -48,7 +48,7 @@ pub(crate) fn as_text(tree: &Numbered) -> Option<&Text>
     }
 }
 
-/// The operator that a text writes. `None` at anything else.
+/// The operator that a text writes. `None` at any other tree.
 #[tactic(auto, using(crate::proofs::ByKind::operators))]
 pub(crate) fn as_operator(tree: &Numbered) -> Option<BinaryOperator>
     ensures found { IfSome result (λ operator. (syntax tree.now ≡ Said (operator_text operator)) × (is_operator (operator_text operator) ≡ true)) }
@@ -58,7 +58,7 @@ pub(crate) fn as_operator(tree: &Numbered) -> Option<BinaryOperator>
     BinaryOperator::from_text(text.as_str())
 }
 
-/// Whether a flag is set. `None` at anything else.
+/// The value of a flag. `None` at any other tree.
 #[tactic(auto, using(crate::proofs::Layers::by_layer))]
 pub(crate) fn as_flag(tree: &Numbered) -> Option<bool>
     ensures { MatchOption result ((flag : Bool) → syntax tree.now ≡ Flag flag → ⊥) (λ flag. syntax tree.now ≡ Flag flag) }
@@ -69,7 +69,7 @@ pub(crate) fn as_flag(tree: &Numbered) -> Option<bool>
     }
 }
 
-/// Whether it is the sign of what is absent.
+/// True of `-`.
 #[tactic(auto, using(crate::proofs::Layers::by_layer))]
 pub(crate) fn is_absent(tree: &Numbered) -> bool
     ensures { IsTrue result ↔ (syntax tree.now ≡ Absent) }
@@ -80,7 +80,7 @@ pub(crate) fn is_absent(tree: &Numbered) -> bool
     }
 }
 
-/// Whether there are no parts.
+/// True of no parts.
 #[tactic(auto, using(crate::proofs::Shapes::none_inside, crate::proofs::Shapes::nothing_inside))]
 pub(crate) fn no_parts(parts: &[Numbered]) -> bool
     ensures { IsTrue result ↔ (pieces_of (map syntax parts.now) ≡ End) }
@@ -88,7 +88,7 @@ pub(crate) fn no_parts(parts: &[Numbered]) -> bool
     parts.is_empty()
 }
 
-/// Whether it is the empty list.
+/// True of `[]`.
 pub(crate) fn is_empty_list(tree: &Numbered) -> bool
     ensures { IsTrue result ↔ (syntax tree.now ≡ Listed End) }
 {

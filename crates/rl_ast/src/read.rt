@@ -1,4 +1,4 @@
-//! Reads a unit from its numbered tree.
+//! The reader of units: the notation's reader, the numbering and the grammar, in this order.
 
 ghost use Rattle.std.specs.Prelude.{◌≡◌, ◌↔◌, true, false, map, IfOk, IfSome, IfNone, IsErrOf, IsTrue};
 ghost use Rattle.rl_ast.specs.Syntax.{Node, pieces_of, syntax};
@@ -17,7 +17,7 @@ use crate::tree::{
 };
 use crate::word::Word;
 use rl_base::boxed::Boxed;
-use rl_base::failure::OutOfMemory;
+use rl_base::error::OutOfMemory;
 use rl_base::list::List;
 use rl_base::text::Text;
 use rl_text::measure::measure;
@@ -25,26 +25,25 @@ use rl_text::read::{TextError, read_raw_within};
 use std::alloc::Global;
 use thiserror::Error;
 
-/// The most bytes that are read as a tree.
+/// Number of bytes of the longest unit that is accepted: `most_bytes`.
 pub const LARGEST_INPUT: usize = 16_777_216;
 
-/// The most nodes that a tree that is read has.
+/// Number of nodes of the largest unit that is accepted: `most_nodes`.
 pub const MOST_NODES: usize = 65_536;
 
-/// The most nodes that are open at once in a tree that is read.
+/// Number of nodes that may be open at once: `most_open`.
 pub const MOST_OPEN: usize = 256;
 
-/// Why bytes were not read as a unit.
+/// An error of `read_tree`. It leaves nothing behind.
 #[derive(Debug, Drop, Clone, Copy, PartialEq, Eq, Error)]
 pub enum TreeError {
-    /// There are more bytes than `LARGEST_INPUT`, more nodes than `MOST_NODES`, or more of them open at once than
-    /// `MOST_OPEN`.
+    /// The bytes exceed a limit: `LARGEST_INPUT`, `MOST_NODES` or `MOST_OPEN`.
     #[error("TooLarge")]
     TooLarge,
-    /// The bytes spell no unit of the grammar.
+    /// The bytes are within the limits and spell no unit of the grammar.
     #[error("Malformed")]
     Malformed,
-    /// Memory was wanted and not given.
+    /// An allocation failed.
     #[error("OutOfMemory")]
     OutOfMemory,
 }
@@ -237,7 +236,7 @@ fn read_call(alloc: Global, at: At, parts: &[Numbered]) -> Result<Option<Express
 
 /// An expression. `None` where the tree is no expression of the grammar.
 #[cycle(expressions)]
-pub fn read_expression(alloc: Global, tree: &Numbered) -> Result<Option<Expression>, OutOfMemory>
+fn read_expression(alloc: Global, tree: &Numbered) -> Result<Option<Expression>, OutOfMemory>
     ensures found { IfOk result (λ r. IfSome r (λ e. (expression e ≡ syntax tree.now) × (is_expression (syntax tree.now) ≡ true))) }
     ensures none { IfOk result (λ r. IfNone r (is_expression (syntax tree.now) ≡ false)) }
 {
@@ -308,7 +307,7 @@ fn read_return(alloc: Global, at: At, parts: &[Numbered]) -> Result<Option<State
 }
 
 /// A statement. `None` where the tree is no statement of the grammar.
-pub fn read_statement(alloc: Global, tree: &Numbered) -> Result<Option<Statement>, OutOfMemory>
+fn read_statement(alloc: Global, tree: &Numbered) -> Result<Option<Statement>, OutOfMemory>
     ensures found { IfOk result (λ r. IfSome r (λ s. (statement s ≡ syntax tree.now) × (is_statement (syntax tree.now) ≡ true))) }
     ensures none { IfOk result (λ r. IfNone r (is_statement (syntax tree.now) ≡ false)) }
 {
@@ -394,9 +393,9 @@ fn read_statement_body(
     }))
 }
 
-/// What an arrow function does. `None` where the tree is no body of the grammar.
+/// The body of an arrow function. `None` where the tree is no body of the grammar.
 #[tactic(auto, using(crate::proofs::Spelled::spelled, crate::proofs::ByKind::other_body))]
-pub fn read_body(alloc: Global, tree: &Numbered) -> Result<Option<ArrowBody>, OutOfMemory>
+fn read_body(alloc: Global, tree: &Numbered) -> Result<Option<ArrowBody>, OutOfMemory>
     ensures found { IfOk result (λ r. IfSome r (λ b. (arrow_body b ≡ syntax tree.now) × (is_body (syntax tree.now) ≡ true))) }
     ensures none { IfOk result (λ r. IfNone r (is_body (syntax tree.now) ≡ false)) }
 {
@@ -472,7 +471,7 @@ fn read_param_list(
 }
 
 /// The parameters of a function, and no rest: `(params [PARAM ..] -)`. `None` at any other tree.
-pub fn read_params(alloc: Global, tree: &Numbered) -> Result<Option<Params>, OutOfMemory>
+fn read_params(alloc: Global, tree: &Numbered) -> Result<Option<Params>, OutOfMemory>
     ensures found { IfOk result (λ r. IfSome r (λ p. (params p ≡ syntax tree.now) × (is_params (syntax tree.now) ≡ true))) }
     ensures none { IfOk result (λ r. IfNone r (is_params (syntax tree.now) ≡ false)) }
 {
@@ -496,7 +495,7 @@ pub fn read_params(alloc: Global, tree: &Numbered) -> Result<Option<Params>, Out
 
 /// The marked function. `None` where the tree is no function of the grammar.
 #[tactic(auto, using(crate::proofs::Spelled::spelled))]
-pub fn read_function(alloc: Global, tree: &Numbered) -> Result<Option<ArrowFunction>, OutOfMemory>
+fn read_function(alloc: Global, tree: &Numbered) -> Result<Option<ArrowFunction>, OutOfMemory>
     ensures found { IfOk result (λ r. IfSome r (λ f. (function f ≡ syntax tree.now) × (is_function (syntax tree.now) ≡ true))) }
     ensures none { IfOk result (λ r. IfNone r (is_function (syntax tree.now) ≡ false)) }
 {
@@ -529,7 +528,7 @@ pub fn read_function(alloc: Global, tree: &Numbered) -> Result<Option<ArrowFunct
 
 /// The statement of a program, whose expression is the marked function. `None` where the tree is none of the grammar.
 #[tactic(auto, using(crate::proofs::Spelled::spelled))]
-pub fn read_marked(alloc: Global, tree: &Numbered) -> Result<Option<Statement>, OutOfMemory>
+fn read_marked(alloc: Global, tree: &Numbered) -> Result<Option<Statement>, OutOfMemory>
     ensures found { IfOk result (λ r. IfSome r (λ s. (statement s ≡ syntax tree.now) × (is_marked (syntax tree.now) ≡ true))) }
     ensures none { IfOk result (λ r. IfNone r (is_marked (syntax tree.now) ≡ false)) }
 {
@@ -550,7 +549,7 @@ pub fn read_marked(alloc: Global, tree: &Numbered) -> Result<Option<Statement>, 
 }
 
 /// A program of one statement. `None` where the tree is no program of the grammar.
-pub fn read_program(alloc: Global, tree: &Numbered) -> Result<Option<Program>, OutOfMemory>
+fn read_program(alloc: Global, tree: &Numbered) -> Result<Option<Program>, OutOfMemory>
     ensures found { IfOk result (λ r. IfSome r (λ p. (program p ≡ syntax tree.now) × (is_program (syntax tree.now) ≡ true))) }
     ensures none { IfOk result (λ r. IfNone r (is_program (syntax tree.now) ≡ false)) }
 {
@@ -575,7 +574,7 @@ pub fn read_program(alloc: Global, tree: &Numbered) -> Result<Option<Program>, O
 }
 
 /// A unit: a program with one marked function. `None` where the tree is no unit of the grammar.
-pub fn read_unit(alloc: Global, tree: &Numbered) -> Result<Option<Unit>, OutOfMemory>
+fn read_unit(alloc: Global, tree: &Numbered) -> Result<Option<Unit>, OutOfMemory>
     ensures found { IfOk result (λ r. IfSome r (λ u. (unit u ≡ syntax tree.now) × (is_unit (syntax tree.now) ≡ true))) }
     ensures none { IfOk result (λ r. IfNone r (is_unit (syntax tree.now) ≡ false)) }
 {
@@ -594,7 +593,7 @@ pub fn read_unit(alloc: Global, tree: &Numbered) -> Result<Option<Unit>, OutOfMe
     Ok(Some(Unit { at, program }))
 }
 
-/// Whether there are too many bytes, too many nodes, or too many of them open at once.
+/// True of bytes that exceed a limit.
 fn is_too_large(bytes: &[u8]) -> bool
     ensures { IsTrue result ↔ IsTooLarge bytes.now }
 {
@@ -602,12 +601,13 @@ fn is_too_large(bytes: &[u8]) -> bool
     size.bytes > LARGEST_INPUT || size.nodes > MOST_NODES || size.deepest > MOST_OPEN
 }
 
-/// The unit that the bytes spell, all of them, with the numbers and places of its nodes. `TooLarge` where there are more
-/// bytes than `LARGEST_INPUT`, more nodes than `MOST_NODES` or more of them open at once than `MOST_OPEN`, and
-/// `Malformed` where the bytes are none of that and spell no unit of the grammar.
+/// Reads the unit that the whole of `bytes` spells, with the ids and spans that the text gives to its nodes. No other
+/// unit is spelled by them. On `TooLarge`, the bytes exceed a limit, and may spell a unit or none; on `Malformed`, they are
+/// within the limits and spell no unit of the grammar; on `OutOfMemory`, an allocation failed.
 #[tactic(auto, using(crate::proofs::Reading::spells_unit, crate::proofs::Reading::spelled_short))]
 pub fn read_tree(alloc: Global, bytes: &[u8]) -> Result<Unit, TreeError>
     ensures found { IfOk result (λ u. Spells bytes.now u) }
+    ensures unique { IfOk result (λ u. (v : Unit) → Spells bytes.now v → v ≡ u) }
     ensures too_large { IsErrOf result TreeError.TooLarge ↔ IsTooLarge bytes.now }
     ensures malformed { IsErrOf result TreeError.Malformed → (IsTooLarge bytes.now → ⊥) × ((u : Unit) → Spells bytes.now u → ⊥) }
 {

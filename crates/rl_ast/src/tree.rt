@@ -7,9 +7,9 @@ ghost use Rattle.rl_ast.specs.Units.{expression};
 use crate::numbered::At;
 use rl_base::boxed::Boxed;
 use rl_base::list::List;
+use rl_base::operator::BinaryOperator;
 use rl_base::span::Span;
 use rl_base::text::Text;
-use rl_text::operator::BinaryOperator;
 
 /// A program with one marked function: `(unit [] PROGRAM)`.
 #[derive(Drop)]
@@ -54,12 +54,12 @@ pub enum Expression {
         at: At,
         value: bool,
     },
-    /// `(num TEXT)`: a numeric literal by its text.
+    /// `(num TEXT)`: a numeric literal by its source text.
     Number {
         at: At,
         text: Text,
     },
-    /// `(str TEXT)`: a string literal by its value.
+    /// `(str TEXT)`: a string literal by its value, in UTF-8.
     String {
         at: At,
         text: Text,
@@ -91,19 +91,20 @@ pub enum Expression {
     ArrowFunction(Boxed<ArrowFunction>),
 }
 
-/// An arrow function.
+/// An arrow function: `(arrow MARK ASYNC PARAMS BODY)` (ECMA-262, 15.3).
 #[cycle(ast)]
 #[derive(Drop)]
 pub struct ArrowFunction {
     pub at: At,
-    /// Whether this is the function to lower.
+    /// True of the function to lower. A unit of the grammar has one.
     pub marked: bool,
+    /// True of an `async` arrow function (ECMA-262, 15.9).
     pub is_async: bool,
     pub params: Params,
     pub body: ArrowBody,
 }
 
-/// What an arrow function does.
+/// The body of an arrow function.
 #[cycle(ast)]
 #[derive(Drop)]
 pub enum ArrowBody {
@@ -139,7 +140,7 @@ pub struct BindingIdentifier {
 }
 
 impl Expression {
-    /// Where it stands.
+    /// The span of the expression's node, as a byte range in the unit's text.
     #[tactic(auto, using(crate::proofs::Spelled::spelled, crate::proofs::Spelled::function_by_layer))]
     pub fn span(&self) -> Span
         ensures { result ≡ span_of (expression self.now) }

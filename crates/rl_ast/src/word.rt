@@ -1,7 +1,9 @@
+//! Words of nodes.
+
 ghost use Rattle.std.specs.Prelude.{◌≡◌, MatchOption};
 ghost use Rattle.rl_ast.specs.Words.{word_text};
 
-/// The word of a node.
+/// The word of a node, one for each kind of node of the grammar.
 #[derive(Clone, Copy, Debug, PartialEq, Eq)]
 pub enum Word {
     Unit,
@@ -23,7 +25,7 @@ pub enum Word {
     Return,
 }
 
-/// Each word, in the order in which they are declared.
+/// All words, in the order of their declaration.
 const WORDS: [Word; 17] = [
     Word::Unit,
     Word::Program,
@@ -45,7 +47,7 @@ const WORDS: [Word; 17] = [
 ];
 
 impl Word {
-    /// The word that the bytes spell. `None` where they spell no word.
+    /// The word that `text` spells. `None` if it spells none.
     pub fn from_text(text: &[u8]) -> Option<Word>
         ensures { MatchOption result ((w : Word) → word_text w ≡ text.now → ⊥) (λ w. word_text w ≡ text.now) }
     {
@@ -57,7 +59,7 @@ impl Word {
         None
     }
 
-    /// How the word is spelled.
+    /// The spelling of the word, in letters a to z.
     pub fn text(self) -> &'static str
         ensures { result.now ≡ word_text self }
     {

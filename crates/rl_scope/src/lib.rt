@@ -1,7 +1,5 @@
-//! What names of a unit stand for.
+//! Scope analysis of a unit: its symbols, and the look-up of names.
 #![tactic(auto)]
 
 pub mod semantic;
 pub mod symbols;
-#[cfg(test)]
-mod tests;

@@ -1,4 +1,4 @@
-//! The symbols of a unit.
+//! The symbols of a unit, after `oxc_semantic`.
 
 ghost use Rattle.std.specs.Prelude.{◌≡◌, ◌<◌, ◌^◌, ℕ, true, false, length, map, slice_get, Some, IfOk, IfErr, IfSome};
 ghost use Rattle.std.specs.Option.{option_map};
@@ -8,34 +8,38 @@ ghost use Rattle.rl_scope.specs.Symbols.{are_distinct, declared_in, symbol_named
 
 use crate::symbols::Symbols;
 use rl_ast::tree::{ArrowFunction, FormalParameter};
-use rl_base::failure::OutOfMemory;
+use rl_base::error::OutOfMemory;
 use rl_base::ids::SymbolId;
 use rl_base::span::Span;
 use rl_base::text::Text;
 use std::alloc::Global;
 use thiserror::Error;
 
-/// What a name of the unit is declared as.
+/// A name that the unit declares.
 #[derive(Drop)]
 pub struct Symbol {
+    /// The name's value, in UTF-8.
     pub name: Text,
-    /// The place of its declaration identifier.
+    /// The span of the `bind` node that declares it, a half-open byte range in the unit's text.
     pub declaration: Span,
 }
 
-/// The symbols of a unit, by number. (The unit has one function, whose parameters are all that it declares.)
+/// The symbols of a unit. Its function's parameters are all that a unit declares.
 #[derive(Drop)]
 pub struct Semantic {
+    /// The symbols in the order of their declarations. The index of a symbol is its `SymbolId`.
     pub symbols: Symbols,
 }
 
-/// Why a unit has no symbols.
+/// An error of `Semantic::of`. It leaves nothing behind.
 #[derive(Debug, Drop, Clone, Copy, PartialEq, Eq, Error)]
 pub enum RuleError {
-    /// The unit breaks the binding rule of this number, B1 to B9, and none of a lower one.
+    /// The unit breaks a binding rule. The value is the rule's number in B1 to B9, the lowest of those that are broken. B4, no
+    /// two parameters of an arrow function have one name (ECMA-262, 15.1.1), is the only one that a unit of the grammar can
+    /// break.
     #[error("B{0}")]
     Malformed(u8),
-    /// Memory was wanted and not given.
+    /// An allocation failed.
     #[error("OutOfMemory")]
     OutOfMemory,
 }
@@ -51,7 +55,7 @@ impl From<OutOfMemory> for RuleError {
     }
 }
 
-/// The symbol that a parameter declares.
+/// The symbol that a parameter declares. On `OutOfMemory`, an allocation failed.
 fn declared_by(alloc: Global, param: &FormalParameter) -> Result<Symbol, OutOfMemory>
     ensures { IfOk result (λ symbol. symbol ≡ record { name = param.now.pattern.name; declaration = param.now.pattern.at.span }) }
 {
@@ -61,7 +65,7 @@ fn declared_by(alloc: Global, param: &FormalParameter) -> Result<Symbol, OutOfMe
     })
 }
 
-/// The symbols that parameters declare. `Malformed(4)` at the first of a name that an earlier one has.
+/// The symbols that parameters declare, in order. On `Malformed(4)`, two of them have one name.
 fn declare_all(alloc: Global, params: &[FormalParameter]) -> Result<Symbols, RuleError>
     ensures symbols { IfOk result (λ symbols. symbols ≡ declared_in (pieces_of (map spec.param params.now))) }
     ensures distinct { IfOk result (λ symbols. are_distinct symbols ≡ true) }
@@ -77,7 +81,8 @@ fn declare_all(alloc: Global, params: &[FormalParameter]) -> Result<Symbols, Rul
 }
 
 impl Semantic {
-    /// The symbols of a unit's function. `Malformed(4)` where two parameters have one name.
+    /// The symbols of a unit's function. On `Malformed(4)`, two of its parameters have one name; on `OutOfMemory`, an
+    /// allocation failed.
     pub fn of(alloc: Global, function: &ArrowFunction) -> Result<Semantic, RuleError>
         ensures symbols { IfOk result (λ semantic. semantic.symbols ≡ symbols_of (spec.function function.now)) }
         ensures distinct { IfOk result (λ semantic. are_distinct (symbols_of (spec.function function.now)) ≡ true) }
@@ -87,7 +92,8 @@ impl Semantic {
         Ok(Semantic { symbols })
     }
 
-    /// The symbol that a name stands for, if it is declared.
+    /// The id of the symbol that `name` resolves to. `None` if the unit does not declare it, so that it is a global
+    /// (`find_binding` of `oxc_semantic`).
     pub fn find_binding(&self, name: &str) -> Option<SymbolId>
         requires { length self.now.symbols < 2 ^ 32 }
         ensures found { option_map (λ symbol. symbol.0) result ≡ symbol_named self.now.symbols name.now }
@@ -99,7 +105,7 @@ impl Semantic {
         }
     }
 
-    /// Where a symbol is declared.
+    /// The span of the `bind` node that declares a symbol, a half-open byte range in the unit's text.
     pub fn declaration(&self, symbol: SymbolId) -> Span
         requires { symbol.0 < length self.now.symbols }
         ensures { option_map (λ s. s.declaration) (slice_get self.now.symbols symbol.0) ≡ Some result }

@@ -1,16 +1,17 @@
-//! Symbols that are found by name.
+//! A list of symbols with an index by name.
 
 ghost use Rattle.std.specs.Prelude.{◌≡◌, ◌<◌, [], ◌∷◌, ◌++◌, length, not, is_some, if◌then◌else◌, IfOk, IfSome, OnErr};
 ghost use Rattle.rl_scope.specs.Symbols.{symbol_named};
 
 use crate::semantic::Symbol;
 use indexmap::IndexMap;
-use rl_base::failure::OutOfMemory;
+use rl_base::error::OutOfMemory;
 use rl_base::list::List;
 use std::alloc::Global;
 use std::marker::Model;
 
-/// Symbols by number, and the number of each name. Contracts see the symbols.
+/// Symbols in the order of their declarations, with an index by name. Contracts see the list of symbols. The index of a
+/// symbol in it is its `SymbolId`.
 #[derive(Drop)]
 pub struct Symbols {
     symbols: List<Symbol>,
@@ -30,7 +31,7 @@ impl Model for Symbols {
 }
 
 impl Symbols {
-    /// There is no symbol. It takes no memory.
+    /// No symbols. Allocates nothing.
     pub fn new(alloc: Global) -> Symbols
         ensures { result ≡ [] }
     {
@@ -40,21 +41,21 @@ impl Symbols {
         }
     }
 
-    /// The symbols, by number.
+    /// The symbols, by `SymbolId`.
     pub fn as_slice(&self) -> &[Symbol]
         ensures { result.now ≡ self.now }
     {
         self.symbols.as_slice()
     }
 
-    /// How many symbols there are.
+    /// Number of symbols.
     pub fn len(&self) -> usize
         ensures { result ≡ length self.now }
     {
         self.symbols.len()
     }
 
-    /// The number of the symbol of this name, if there is one.
+    /// The index of the symbol named `name`. `None` if there is none.
     pub fn find(&self, name: &str) -> Option<usize>
         ensures found { result ≡ symbol_named self.now name.now }
         ensures within { IfSome result (λ number. number < length self.now) }
@@ -62,8 +63,8 @@ impl Symbols {
         self.numbers.get(name).copied()
     }
 
-    /// Adds a symbol if none has its name, and tells whether it did. Where memory is wanted and not given, the symbols
-    /// stay as they are.
+    /// Appends a symbol and returns true, or returns false if its name is taken, and changes nothing. On `OutOfMemory`, an
+    /// allocation failed, and nothing has changed.
     pub fn declare(&mut self, alloc: Global, symbol: Symbol) -> Result<bool, OutOfMemory>
         ensures is_new { IfOk result (λ is_new. is_new ≡ not (is_some (symbol_named self.old symbol.name))) }
         ensures symbols { IfOk result (λ is_new. self.new ≡ (if is_new then self.old ++ symbol ∷ [] else self.old)) }

@@ -16,8 +16,10 @@ use Rattle.rl_text.specs.Places.{is_letter, StopsAt, NoDigit, IsRun, Begins, Non
 use Rattle.rl_text.specs.declared.raw.Raw.{Raw}
 use Rattle.rl_text.specs.declared.raw.Raw.TheVariants as V
 use Rattle.rl_text.proofs.Runs.{heads, both, runs-apart, run-there}
-use Rattle.rl_text.proofs.Spellings.{form_of_byte, first, form-of_digit, form-from_byte, no-form, spellings-apart, no_digit-on, no_letter-on, ends-from_no_digit}
-use Rattle.rl_text.proofs.Numbers.{decimal-digits}
+use Rattle.rl_text.proofs.Digits.{numeral-decimal}
+use Rattle.rl_text.proofs.Spellings.{form-from_byte, no-form, spellings-apart}
+use Rattle.rl_text.proofs.Worded.{begun, form_of_byte, form-of_digit, no_digit-on, no_letter-on, ends-from_no_digit}
+use Rattle.rl_text.proofs.Numbers.{decimal-digits, largest-small}
 use Rattle.rl_text.proofs.Trees.{tree-Node, tree-List, tree-Text, tree-Number, tree-Flag, tree-Absent, spelling-Listed}
 
 -- what stands behind each first byte
@@ -34,7 +36,7 @@ text-inside depth (Said text) bytes rest u o b = (text, b.writable, (heads 34 34
 text-inside depth t bytes rest u o b = let wrong = form-from_byte t 34 rest u b.writable (sym o ∙ b.spelled) in absurd (omega arith)
 
 pub number-inside : (depth : ℕ) (t : Tree) (bytes rest u : List ℕ) (digit : ℕ) → is_ascii_digit digit ≡ true → bytes ≡ digit ∷ rest → Begins depth t bytes u → (number : ℕ) × (number ≤ largest) × NoDigit u × (bytes ≡ decimal number ++ u)
-number-inside depth (Count number) bytes rest u digit d o b = (number, b.writable, b.ends, b.spelled)
+number-inside depth (Count number) bytes rest u digit d o b = (number, b.writable, b.ends, b.spelled ∙ ap (λ l. l ++ u) (numeral-decimal number (largest-small number b.writable)))
 number-inside depth t bytes rest u digit d o b = let wrong = form-from_byte t digit rest u b.writable (sym o ∙ b.spelled) in absurd (omega (arith, form-of_digit digit d))
 
 pub other-none : (depth : ℕ) (bytes rest : List ℕ) (byte : ℕ) → form_of_byte byte ≡ 6 → bytes ≡ byte ∷ rest → NoneBegins depth bytes
@@ -42,7 +44,7 @@ other-none depth bytes rest byte six o t u b = no-form t byte rest u b.writable 
 
 pub nothing-none : (depth : ℕ) (bytes : List ℕ) → bytes ≡ [] → NoneBegins depth bytes
 nothing-none depth bytes o t u b =
-    let f = first t u b.writable in
+    let f = begun t u in
     let wrong : [] ≡ f.0 ∷ f.1 = sym o ∙ b.spelled ∙ f.2 in
     cc
 
@@ -168,7 +170,7 @@ module _ (bytes : List ℕ) (at after : ℕ) (run : IsRun is_ascii_digit bytes a
     writable = numeral.bounded;
     low = omega arith;
     ends = run.stopped;
-    spelled = run-there bytes at after run.forward ∙ ap (λ l. l ++ drop after bytes) numeral.written;
+    spelled = run-there bytes at after run.forward ∙ ap (λ l. l ++ drop after bytes) (numeral.written ∙ sym (numeral-decimal n (largest-small n numeral.bounded)));
   })
 
   pub number-none : (depth digit : ℕ) (rest : List ℕ) → is_ascii_digit digit ≡ true → drop at bytes ≡ digit ∷ rest → ((n : ℕ) → IsNumeral (take (after - at) (drop at bytes)) n → ⊥) → NoneBegins depth (drop at bytes)

@@ -1,11 +1,12 @@
+pub mod Digits
 pub mod Forms
 pub mod Measures
 pub mod Measuring
 pub mod Numbers
 pub mod Numerals
-pub mod Operators
 pub mod Quotes
 pub mod Reading
 pub mod Runs
 pub mod Spellings
 pub mod Trees
+pub mod Worded

@@ -5,14 +5,14 @@ use Rattle.std.proofs.lemmas.List.Sums.{sum_by-append}
 use Rattle.std.proofs.lemmas.Bool.Decides.{nat_tests}
 use Rattle.std.specs.List.{count_by, list_all}
 use Rattle.std.specs.Char.{is_ascii_digit}
-use Rattle.std.specs.Fmt.{decimal}
 use Rattle.rl_text.specs.Measure.{outside, nodes_in, deepest_from, deepest_in}
 use Rattle.rl_text.specs.Nodes.{count, count_of, depth, depth_of}
+use Rattle.rl_text.specs.Number.{numeral}
 use Rattle.rl_text.specs.Notation.{Tree, Node, Listed, Said, Count, Flag, Absent, Parts, End, Then, spelling, spelled_on, IsWritable, AreWritable}
 use Rattle.rl_text.specs.Places.{is_letter}
 use Rattle.rl_text.specs.Quoted.{hexadecimal, is_escaped, escape, quoted_rest, quoted}
 use Rattle.rl_text.proofs.Measuring.{outside-other, outside-within, opens-cons, opens-other, open_after-other, deepest_from-low}
-use Rattle.rl_text.proofs.Numbers.{decimal-digits}
+use Rattle.rl_text.proofs.Digits.{numeral-digits}
 use Rattle.rl_text.proofs.Quotes.{tested, escape-escaped, escape-plain}
 use Rattle.rl_text.proofs.Runs.{both}
 
@@ -159,7 +159,7 @@ mutual
       let closed = balanced-before (spaced parts) (93 ∷ []) (count_of parts) (depth_of parts) (balanced-spaced parts h.1) (balanced-plain (93 ∷ []) refl) in
       rw (spaced-closed 93 parts) (balanced-behind (91 ∷ []) (spelling part ++ (spaced parts ++ 93 ∷ [])) (count part + count_of parts) (max (depth part) (depth_of parts)) (balanced-plain (91 ∷ []) refl) (balanced-append (spelling part) (spaced parts ++ 93 ∷ []) (count part) (count_of parts) (depth part) (depth_of parts) (balanced-spelling part h.0) closed))
   balanced-spelling (Said text) h = balanced-quoted text
-  balanced-spelling (Count number) h = balanced-digits (decimal number) (decimal-digits number h)
+  balanced-spelling (Count number) h = balanced-digits (numeral number) (numeral-digits number)
   balanced-spelling (Flag true) h = balanced-plain (121 ∷ []) refl
   balanced-spelling (Flag false) h = balanced-plain (110 ∷ []) refl
   balanced-spelling Absent h = balanced-plain (45 ∷ []) refl

@@ -1,13 +1,11 @@
 -- Laws of decimal numbers.
-use Rattle.std.proofs.Common.{◌≡◌, ℕ, ◌+◌, ◌-◌, ◌*◌, ◌/◌, ◌%◌, ◌^◌, ◌<◌, ◌≤◌, true, List, [], ◌∷◌, ◌++◌, length, get_or, ap, sym, ◌∙◌, refl, suc, zero, rules, arith, length-append}
+use Rattle.std.proofs.Common.{◌≡◌, ℕ, ◌+◌, ◌-◌, ◌*◌, ◌/◌, ◌%◌, ◌^◌, ◌<◌, ◌≤◌, true, List, [], ◌∷◌, length, get_or, ap, sym, ◌∙◌, suc, zero, rules, arith, length-append}
 use Rattle.std.specs.List.{list_all}
 use Rattle.std.specs.Char.{is_ascii_digit}
 use Rattle.std.specs.Fmt.{decimal}
 use Rattle.std.proofs.lemmas.Str.Parse.{IsNumeralModel, numerals_by_fold}
-use Rattle.std.proofs.lemmas.Fmt.{decimal-digits_value, digits_decimal, digits_value-decimal, decimal_nonempty, first_decimal, decimal_digit, decimal_step, decimal_injective, length-decimal-le}
+use Rattle.std.proofs.lemmas.Fmt.{decimal-digits_value, digits_decimal, digits_value-decimal, decimal_nonempty, first_decimal, decimal_digit, decimal_step, length-decimal-le}
 use Rattle.rl_text.specs.Number.{largest, IsNumeral}
-use Rattle.rl_text.specs.Places.{NoDigit}
-use Rattle.rl_text.proofs.Runs.{both, runs-apart}
 
 -- the number that digits write behind those of another number
 abbrev pub read_on : ℕ → List ℕ → ℕ
@@ -54,20 +52,6 @@ numeral-some s n h = omega (arith, ap length h.written, decimal_nonempty n (larg
 
 pub numeral-no_zero : (s : List ℕ) (n : ℕ) → IsNumeral s n → get_or s 0 0 ≡ 48 → length s ≡ 1
 numeral-no_zero s n h z = ap length h.written ∙ decimal-no_zero n h.bounded (sym (ap (λ (l : List ℕ). get_or l 0 0) h.written) ∙ z)
-
--- no numeral begins another where no digit follows
-pub numbers-apart : (m n : ℕ) (u v : List ℕ) → m ≤ largest → n ≤ largest → NoDigit u → NoDigit v → decimal m ++ u ≡ decimal n ++ v → (m ≡ n) × (u ≡ v)
-numbers-apart m n u v p q a b h =
-    let same = runs-apart is_ascii_digit (decimal m) (decimal n) u v (decimal-digits m p) (decimal-digits n q) a b h in
-    (decimal_injective m n (largest-small m p) (largest-small n q) same.0, same.1)
-
-first_of_digits : (s : List ℕ) → 0 < length s → list_all is_ascii_digit s ≡ true → (d : ℕ) × (ds : List ℕ) × (s ≡ d ∷ ds) × (is_ascii_digit d ≡ true)
-first_of_digits [] some h = absurd (omega arith)
-first_of_digits (d ∷ ds) some h = (d, ds, refl, (both (is_ascii_digit d) _ h).0)
-
--- a numeral begins with a digit
-pub decimal-first : (n : ℕ) → n ≤ largest → (d : ℕ) × (ds : List ℕ) × (decimal n ≡ d ∷ ds) × (is_ascii_digit d ≡ true)
-decimal-first n h = first_of_digits (decimal n) (decimal_nonempty n (largest-small n h)) (decimal-digits n h)
 
 pub length-decimal-digit : (n : ℕ) → n < 10 → length (decimal n) ≡ 1
 length-decimal-digit n h = ap length (decimal_digit n h)

@@ -6,7 +6,8 @@ use Rattle.rl_text.specs.Places.{Begins, NoneBegins, GoesOn, NoneGoesOn, IsBrack
 use Rattle.rl_text.specs.declared.raw.Raw.{Raw}
 use Rattle.std.proofs.lemmas.List.{append-nil, map-append}
 use Rattle.rl_text.proofs.Runs.{heads}
-use Rattle.rl_text.proofs.Spellings.{spellings-apart, bracket-no_space, no_digit-on, ends-from_no_digit}
+use Rattle.rl_text.proofs.Spellings.{spellings-apart}
+use Rattle.rl_text.proofs.Worded.{bracket-no_space, no_digit-on, ends-from_no_digit}
 
 -- trees in front of parts
 abbrev pub joined : List Tree → Parts → Parts

@@ -1,133 +1,25 @@
--- Different trees are spelled differently, and no spelling begins another's.
-use Rattle.std.proofs.Common.{◌≡◌, ℕ, ◌<◌, true, false, if◌then◌else◌, ◌==◌, ◌||◌, List, [], ◌∷◌, ◌++◌, ap, sym, ◌∙◌, refl, arith, append_assoc}
+-- Trees of the notation: different ones are spelled differently, and no spelling is a prefix of another's with what follows.
+use Rattle.std.proofs.Common.{◌≡◌, ℕ, false, List, ◌∷◌, ◌++◌, sym, ◌∙◌, arith}
 use Rattle.std.proofs.lemmas.Bool.Decides.{nat_tests}
-use Rattle.std.proofs.lemmas.List.{append-nil}
 use Rattle.std.specs.Char.{is_ascii_digit}
-use Rattle.rl_text.specs.Notation.{Tree, Node, Listed, Said, Count, Flag, Absent, Parts, End, Then, spelling, spelled_on, IsWritable, AreWritable, Spells}
-use Rattle.rl_text.specs.Quoted.{quoted_rest}
-use Rattle.rl_text.specs.Places.{is_letter, StopsAt, NoDigit, Ends, IsBracket}
-use Rattle.rl_text.proofs.Runs.{heads, runs-apart}
-use Rattle.rl_text.proofs.Numbers.{numbers-apart, decimal-first}
-use Rattle.rl_text.proofs.Quotes.{quotes-apart}
-
--- the form of the trees that begin with a byte
-abbrev pub form_of_byte : ℕ → ℕ
-form_of_byte byte = if byte == 40 then 0 else if byte == 91 then 1 else if byte == 34 then 2 else if is_ascii_digit byte then 3 else if byte == 121 || byte == 110 then 4 else if byte == 45 then 5 else 6
-
-abbrev pub form : Tree → ℕ
-form (Node word parts) = 0
-form (Listed parts) = 1
-form (Said text) = 2
-form (Count number) = 3
-form (Flag flag) = 4
-form Absent = 5
-
-pub form-of_digit : (byte : ℕ) → is_ascii_digit byte ≡ true → form_of_byte byte ≡ 3
-form-of_digit byte h = grind (arith, nat_tests)
-
--- the first byte tells the form
-pub first : (t : Tree) (u : List ℕ) → IsWritable t → (byte : ℕ) × (rest : List ℕ) × (spelling t ++ u ≡ byte ∷ rest) × (form_of_byte byte ≡ form t)
-first (Node word parts) u h = (40, (word ++ spelled_on 41 parts) ++ u, refl, refl)
-first (Listed End) u h = (91, 93 ∷ u, refl, refl)
-first (Listed (Then part parts)) u h = (91, (spelling part ++ spelled_on 93 parts) ++ u, refl, refl)
-first (Said text) u h = (34, quoted_rest text ++ u, refl, refl)
-first (Count number) u h = let d = decimal-first number h in (d.0, d.1 ++ u, ap (λ l. l ++ u) d.2, form-of_digit d.0 d.3)
-first (Flag true) u h = (121, u, refl, refl)
-first (Flag false) u h = (110, u, refl, refl)
-first Absent u h = (45, u, refl, refl)
+use Rattle.rl_text.specs.Notation.{Tree, spelling, IsWritable, Spells}
+use Rattle.rl_text.specs.Places.{Ends}
+use Rattle.rl_text.proofs.Worded.{form, form_of_byte, form_at_byte, formless, worded, worded-apart, Worded-one}
 
 pub form-from_byte : (t : Tree) (byte : ℕ) (rest u : List ℕ) → IsWritable t → byte ∷ rest ≡ spelling t ++ u → form_of_byte byte ≡ form t
-form-from_byte t byte rest u p h =
-    let f = first t u p in ap form_of_byte (heads byte f.0 rest f.1 (h ∙ f.2)).0 ∙ f.3
+form-from_byte t byte rest u p h = form_at_byte t byte rest u h
 
-pub forms-same : (s t : Tree) (u v : List ℕ) → IsWritable s → IsWritable t → spelling s ++ u ≡ spelling t ++ v → form s ≡ form t
-forms-same s t u v p q h =
-    let f = first s u p in
-    sym f.3 ∙ form-from_byte t f.0 f.1 v q (sym f.2 ∙ h)
-
-pub form-small : (t : Tree) → form t < 6
-form-small (Node word parts) = omega arith
-form-small (Listed parts) = omega arith
-form-small (Said text) = omega arith
-form-small (Count number) = omega arith
-form-small (Flag flag) = omega arith
-form-small Absent = omega arith
-
--- no tree begins with a byte of no form
+-- No tree begins with a byte of no form.
 pub no-form : (t : Tree) (byte : ℕ) (rest u : List ℕ) → IsWritable t → form_of_byte byte ≡ 6 → byte ∷ rest ≡ spelling t ++ u → ⊥
-no-form t byte rest u p six h = omega (arith, form-small t, form-from_byte t byte rest u p h)
+no-form t byte rest u p six h = formless t byte rest u six h
 
-pub bracket-no_space : (close : ℕ) → IsBracket close → close ≡ 32 → ⊥
-bracket-no_space close h e = grind (arith, nat_tests)
+pub spellings-apart : (s t : Tree) (u v : List ℕ) → IsWritable s → IsWritable t → Ends s u → Ends t v → spelling s ++ u ≡ spelling t ++ v → (s ≡ t) × (u ≡ v)
+spellings-apart s t u v p q m n h = worded-apart s t u v (worded s p) (worded t q) m n h
 
-pub bracket-no_digit : (close : ℕ) → IsBracket close → is_ascii_digit close ≡ false
-bracket-no_digit close h = grind (arith, nat_tests)
-
-pub bracket-no_letter : (close : ℕ) → IsBracket close → is_letter close ≡ false
-bracket-no_letter close h = grind (arith, nat_tests)
-
-pub no_digit-on : (close : ℕ) (parts : Parts) (u : List ℕ) → IsBracket close → NoDigit (spelled_on close parts ++ u)
-no_digit-on close End u h = bracket-no_digit close h
-no_digit-on close (Then part parts) u h = refl
-
-pub no_letter-on : (close : ℕ) (parts : Parts) (u : List ℕ) → IsBracket close → StopsAt is_letter (spelled_on close parts ++ u)
-no_letter-on close End u h = bracket-no_letter close h
-no_letter-on close (Then part parts) u h = refl
-
-pub ends-from_no_digit : (t : Tree) (u : List ℕ) → NoDigit u → Ends t u
-ends-from_no_digit (Node word parts) u h = tt
-ends-from_no_digit (Listed parts) u h = tt
-ends-from_no_digit (Said text) u h = tt
-ends-from_no_digit (Count number) u h = h
-ends-from_no_digit (Flag flag) u h = tt
-ends-from_no_digit Absent u h = tt
-
-mutual
-  pub spellings-apart : (s t : Tree) (u v : List ℕ) → IsWritable s → IsWritable t → Ends s u → Ends t v → spelling s ++ u ≡ spelling t ++ v → (s ≡ t) × (u ≡ v)
-  spellings-apart (Node w ps) (Node x qs) u v p q m n h =
-      let tails = (heads 40 40 _ _ h).1 in
-      let e = runs-apart is_letter w x (spelled_on 41 ps ++ u) (spelled_on 41 qs ++ v) p.0.1 q.0.1 (no_letter-on 41 ps u refl) (no_letter-on 41 qs v refl) (sym (append_assoc w (spelled_on 41 ps) u) ∙ tails ∙ append_assoc x (spelled_on 41 qs) v) in
-      let r = on-apart 41 ps qs u v refl p.1 q.1 e.1 in
-      ((λ i. Node (e.0 i) (r.0 i)), r.1)
-  spellings-apart (Listed ps) (Listed qs) u v p q m n h = let r = lists-apart ps qs u v p q h in (ap Listed r.0, r.1)
-  spellings-apart (Said s) (Said t) u v p q m n h = let r = quotes-apart s t u v (heads 34 34 _ _ h).1 in (ap Said r.0, r.1)
-  spellings-apart (Count a) (Count b) u v p q m n h = let r = numbers-apart a b u v p q m n h in (ap Count r.0, r.1)
-  spellings-apart (Flag true) (Flag true) u v p q m n h = (refl, (heads 121 121 u v h).1)
-  spellings-apart (Flag false) (Flag false) u v p q m n h = (refl, (heads 110 110 u v h).1)
-  spellings-apart (Flag true) (Flag false) u v p q m n h = let wrong : ◌≡◌ {A = ℕ} 121 110 = (heads 121 110 u v h).0 in absurd (omega arith)
-  spellings-apart (Flag false) (Flag true) u v p q m n h = let wrong : ◌≡◌ {A = ℕ} 110 121 = (heads 110 121 u v h).0 in absurd (omega arith)
-  spellings-apart Absent Absent u v p q m n h = (refl, (heads 45 45 u v h).1)
-  spellings-apart s t u v p q m n h = let wrong = forms-same s t u v p q h in absurd (omega arith)
-
-  lists-apart : (ps qs : Parts) (u v : List ℕ) → AreWritable ps → AreWritable qs → spelling (Listed ps) ++ u ≡ spelling (Listed qs) ++ v → (ps ≡ qs) × (u ≡ v)
-  lists-apart End End u v p q h = (refl, (heads 93 93 _ _ (heads 91 91 _ _ h).1).1)
-  lists-apart End (Then b qs) u v p q h =
-      absurd (no-form b 93 u (spelled_on 93 qs ++ v) q.0 refl ((heads 91 91 _ _ h).1 ∙ append_assoc (spelling b) (spelled_on 93 qs) v))
-  lists-apart (Then a ps) End u v p q h =
-      absurd (no-form a 93 v (spelled_on 93 ps ++ u) p.0 refl (sym (heads 91 91 _ _ h).1 ∙ append_assoc (spelling a) (spelled_on 93 ps) u))
-  lists-apart (Then a ps) (Then b qs) u v p q h =
-      let e = spellings-apart a b (spelled_on 93 ps ++ u) (spelled_on 93 qs ++ v) p.0 q.0 (ends-from_no_digit a _ (no_digit-on 93 ps u refl)) (ends-from_no_digit b _ (no_digit-on 93 qs v refl)) (sym (append_assoc (spelling a) (spelled_on 93 ps) u) ∙ (heads 91 91 _ _ h).1 ∙ append_assoc (spelling b) (spelled_on 93 qs) v) in
-      let r = on-apart 93 ps qs u v refl p.1 q.1 e.1 in
-      ((λ i. Then (e.0 i) (r.0 i)), r.1)
-
-  pub on-apart : (close : ℕ) (ps qs : Parts) (u v : List ℕ) → IsBracket close → AreWritable ps → AreWritable qs → spelled_on close ps ++ u ≡ spelled_on close qs ++ v → (ps ≡ qs) × (u ≡ v)
-  on-apart close End End u v c p q h = (refl, (heads close close u v h).1)
-  on-apart close End (Then b qs) u v c p q h = absurd (bracket-no_space close c (heads close 32 _ _ h).0)
-  on-apart close (Then a ps) End u v c p q h = absurd (bracket-no_space close c (sym (heads 32 close _ _ h).0))
-  on-apart close (Then a ps) (Then b qs) u v c p q h =
-      let e = spellings-apart a b (spelled_on close ps ++ u) (spelled_on close qs ++ v) p.0 q.0 (ends-from_no_digit a _ (no_digit-on close ps u c)) (ends-from_no_digit b _ (no_digit-on close qs v c)) (sym (append_assoc (spelling a) (spelled_on close ps) u) ∙ (heads 32 32 _ _ h).1 ∙ append_assoc (spelling b) (spelled_on close qs) v) in
-      let r = on-apart close ps qs u v c p.1 q.1 e.1 in
-      ((λ i. Then (e.0 i) (r.0 i)), r.1)
-
--- where no digit follows, the tree and what follows it are determined
-pub spelling-apart : (s t : Tree) (u v : List ℕ) → IsWritable s → IsWritable t → NoDigit u → NoDigit v → spelling s ++ u ≡ spelling t ++ v → (s ≡ t) × (u ≡ v)
-spelling-apart s t u v p q m n h = spellings-apart s t u v p q (ends-from_no_digit s u m) (ends-from_no_digit t v n) h
-
--- bytes spell one tree at most
+-- Bytes spell one tree at most.
 pub Spells-one : (bytes : List ℕ) (s t : Tree) → Spells bytes s → Spells bytes t → s ≡ t
-Spells-one bytes s t p q =
-    (spelling-apart s t [] [] p.writable q.writable tt tt (append-nil (spelling s) ∙ sym p.spelled ∙ q.spelled ∙ sym (append-nil (spelling t)))).0
+Spells-one bytes s t p q = Worded-one s t (worded s p.writable) (worded t q.writable) (sym p.spelled ∙ q.spelled)
 
--- a byte of no form
+-- A byte of no form.
 pub form-other : (byte : ℕ) → (byte ≡ 40 → ⊥) → (byte ≡ 91 → ⊥) → (byte ≡ 34 → ⊥) → (byte ≡ 121 → ⊥) → (byte ≡ 110 → ⊥) → (byte ≡ 45 → ⊥) → is_ascii_digit byte ≡ false → form_of_byte byte ≡ 6
 form-other byte a b c d e f g = grind (arith, nat_tests)

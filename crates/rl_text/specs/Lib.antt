@@ -3,7 +3,6 @@ pub mod Nodes
 pub mod Notation
 pub mod Number
 pub mod Numeral
-pub mod Operators
 pub mod Places
 pub mod Quoted
 pub mod Raw

@@ -2,9 +2,8 @@
 use Rattle.std.specs.Prelude.{◌≡◌, ℕ, ◌+◌, ◌<◌, ◌≤◌, max, Bool, nat_le, ◌&&◌, true, if◌then◌else◌, List, [], ◌∷◌, ◌++◌, length}
 use Rattle.std.specs.List.{list_all}
 use Rattle.std.specs.Str.{IsUtf8}
-use Rattle.std.specs.Fmt.{decimal}
 use Rattle.rl_text.specs.Quoted.{quoted}
-use Rattle.rl_text.specs.Number.{largest}
+use Rattle.rl_text.specs.Number.{largest, numeral}
 
 mutual
   -- a node with its word and parts, a list, a text, a number, a flag, or the sign of what is absent
@@ -27,7 +26,7 @@ abbrev mutual
   spelling (Listed End) = 91 ∷ 93 ∷ []
   spelling (Listed (Then part parts)) = 91 ∷ (spelling part ++ spelled_on 93 parts)
   spelling (Said text) = quoted text
-  spelling (Count number) = decimal number
+  spelling (Count number) = numeral number
   spelling (Flag flag) = (if flag then 121 else 110) ∷ []
   spelling Absent = 45 ∷ []
 

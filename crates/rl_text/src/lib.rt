@@ -2,12 +2,10 @@
 #![tactic(auto)]
 
 pub mod measure;
+pub mod measurement;
 pub mod number;
-pub mod operator;
 pub mod quoted;
 pub mod raw;
 pub mod read;
 mod scan;
-#[cfg(test)]
-mod tests;
 pub mod write;

@@ -1,22 +1,14 @@
-//! Measures bytes in one pass, before they are read.
+//! The measure of bytes, in one pass and with no allocation.
 
 ghost use Rattle.std.specs.Prelude.{◌≡◌, length};
 ghost use Rattle.rl_text.specs.Measure.{nodes_in, deepest_in};
 
-/// How large bytes of the notation are.
-#[derive(Clone, Copy, Debug, PartialEq, Eq)]
-pub struct Size {
-    /// Their number.
-    pub bytes: usize,
-    /// The opening parentheses outside texts.
-    pub nodes: usize,
-    /// The greatest number of parentheses open at once outside texts, where a stray `)` closes nothing.
-    pub deepest: usize,
-}
+use crate::measurement::Measure;
 
-/// Measures bytes of any form. Each `"` opens or closes a text, and parentheses count outside texts only: `nodes` are
-/// the opening ones, and `deepest` is the greatest number open at once, where a stray `)` closes nothing.
-pub fn measure(bytes: &[u8]) -> Size
+/// Measures bytes of any form, also those that spell no tree. Each `"` opens or closes a text, and parentheses count
+/// outside texts alone: `nodes` is the number of `(`, and `deepest` the greatest number of them that are open at once,
+/// where a stray `)` closes nothing.
+pub fn measure(bytes: &[u8]) -> Measure
     ensures bytes { result.bytes ≡ length bytes.now }
     ensures nodes { result.nodes ≡ nodes_in bytes.now }
     ensures deepest { result.deepest ≡ deepest_in bytes.now }
@@ -38,7 +30,7 @@ pub fn measure(bytes: &[u8]) -> Size
             }
         }
     }
-    Size {
+    Measure {
         bytes: bytes.len(),
         nodes,
         deepest,

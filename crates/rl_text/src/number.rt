@@ -1,19 +1,21 @@
+//! Numbers of the notation: decimal digits, with no leading zero, up to 2^53.
+
 ghost use Rattle.std.specs.Prelude.{◌≡◌, ℕ, IfSome, IfNone, Some, None, if◌then◌else◌, length};
-ghost use Rattle.std.specs.Fmt.{decimal};
-ghost use Rattle.rl_text.specs.Number.{IsNumeral};
+ghost use Rattle.rl_text.specs.Number.{IsNumeral, numeral};
 ghost use Rattle.rl_text.specs.Numeral.{is_numeral, number_of};
 
-/// The largest number of the notation, 2^53.
+/// The largest number of the notation, 2^53. Each integer up to it is a value of the Number type (ECMA-262, 6.1.6.1).
 pub const LARGEST: u64 = 9007199254740992;
 
-/// The number that a text of decimal digits writes. `None` where there is no digit, a byte is no digit, a zero leads
-/// other digits, or the number is above `LARGEST`.
+/// The value of a decimal numeral. `None` if `text` is empty, holds a byte that is no ASCII digit, has a leading zero
+/// before another digit, or stands for a number above `LARGEST`.
 pub fn parse_number(text: &[u8]) -> Option<u64>
     ensures { result ≡ (if is_numeral text.now then Some (number_of text.now) else None) }
 {
     read_digits(text)
 }
 
+/// The value of a decimal numeral, by one pass over its digits.
 fn read_digits(text: &[u8]) -> Option<u64>
     ensures some { IfSome result (λ n. IsNumeral text.now n) }
     ensures none { IfNone result ((n : ℕ) → IsNumeral text.now n → ⊥) }
@@ -37,9 +39,9 @@ fn read_digits(text: &[u8]) -> Option<u64>
     Some(value)
 }
 
-/// How many digits a number has, at least one.
+/// Number of decimal digits of `number`, at least one.
 pub fn number_len(number: u64) -> usize
-    ensures { result ≡ length (decimal number) }
+    ensures { result ≡ length (numeral number) }
 {
     let mut count = 1;
     let mut front = number;

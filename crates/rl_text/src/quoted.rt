@@ -1,17 +1,20 @@
+//! Texts in quotes, with their escapes: a backslash and two hexadecimal digits in lower case.
+
 ghost use Rattle.std.specs.Prelude.{◌≡◌, ℕ, ◌+◌, ◌^◌, ◌<◌, ◌≤◌, List, ◌∷◌, ◌++◌, drop, length, IfSome, IfNone, IfOk, OnOk};
 ghost use Rattle.rl_text.specs.Quoted.{hexadecimal, is_escaped, escape, quoted_rest, quoted};
 
 use crate::scan::has_byte;
-use rl_base::failure::OutOfMemory;
+use rl_base::error::OutOfMemory;
 use std::alloc::Global;
 
-/// Whether a byte stands in a quoted text as a backslash and two digits.
+/// True of a byte that is escaped in a quoted text: one below 32, a quote or a backslash.
 fn needs_escape(byte: u8) -> bool
     ensures { result ≡ is_escaped byte }
 {
     byte < 32 || byte == b'"' || byte == b'\\'
 }
 
+/// The ASCII byte of a digit below 16, in lower case.
 fn hexadecimal_digit(digit: u8) -> u8
     requires { digit < 16 }
     ensures { result ≡ hexadecimal digit }
@@ -23,6 +26,7 @@ fn hexadecimal_digit(digit: u8) -> u8
     }
 }
 
+/// The value of an ASCII hexadecimal digit in lower case. `None` at any other byte.
 fn hexadecimal_value(byte: u8) -> Option<u8>
     ensures some { IfSome result (λ digit. (digit < 16) × (hexadecimal digit ≡ byte)) }
     ensures none { IfNone result ((digit : ℕ) → digit < 16 → hexadecimal digit ≡ byte → ⊥) }
@@ -34,13 +38,14 @@ fn hexadecimal_value(byte: u8) -> Option<u8>
     }
 }
 
+/// Number of bytes that spell `byte` in a quoted text, 1 or 3.
 fn escape_len(byte: u8) -> usize
     ensures { result ≡ length (escape byte) }
 {
     if needs_escape(byte) { 3 } else { 1 }
 }
 
-/// The number of bytes that a text takes in quotes.
+/// Number of bytes that spell `text` in quotes, with its escapes and both quotes.
 pub fn quoted_len(text: &[u8]) -> usize
     requires { length (quoted text.now) < 2 ^ 64 }
     ensures { result ≡ length (quoted text.now) }
@@ -52,7 +57,8 @@ pub fn quoted_len(text: &[u8]) -> usize
     count
 }
 
-/// The byte that is spelled first, and how many bytes spell it.
+/// Decodes the first byte of a text behind its opening quote: its value, and the number of bytes that spell it. `None` if
+/// `bytes` is empty, or begins with a byte that needs an escape or with an escape that is none of the notation.
 fn first_byte(bytes: &[u8]) -> Option<(u8, usize)>
     ensures some { IfSome result (λ r. (bytes.now ≡ escape r.0 ++ drop r.1 bytes.now) × (0 < r.1) × (r.1 ≤ length bytes.now)) }
     ensures none { IfNone result ((byte : ℕ) (rest : List ℕ) → bytes.now ≡ escape byte ++ rest → ⊥) }
@@ -70,6 +76,7 @@ fn first_byte(bytes: &[u8]) -> Option<(u8, usize)>
     Some((first, 1))
 }
 
+/// Decodes the escape at the start of `bytes`, which begins with a backslash. `None` if it is none of the notation.
 fn first_escape(bytes: &[u8]) -> Option<(u8, usize)>
     requires { bytes.now ≡ 92 ∷ drop 1 bytes.now }
     ensures some { IfSome result (λ r. (bytes.now ≡ escape r.0 ++ drop r.1 bytes.now) × (0 < r.1) × (r.1 ≤ length bytes.now)) }
@@ -88,7 +95,8 @@ fn first_escape(bytes: &[u8]) -> Option<(u8, usize)>
     }
 }
 
-/// Reads what follows an opening quote, with the closing one. Answers the bytes of the text, and the place after it.
+/// Reads the text behind an opening quote, from the byte offset `at` on. Returns the decoded bytes and the offset behind
+/// the closing quote. `None` if no text of the notation closes. On `OutOfMemory`, an allocation failed.
 pub(crate) fn read_quoted(
     alloc: Global,
     bytes: &[u8],
@@ -110,6 +118,7 @@ pub(crate) fn read_quoted(
     Ok(Some((text, place + 1)))
 }
 
+/// Appends the spelling of `byte` to `out`.
 fn push_escaped(byte: u8, out: &mut Vec<u8>) -> Result<(), OutOfMemory>
     ensures { OnOk result (out.new.items ≡ out.old.items ++ escape byte) }
 {
@@ -123,7 +132,7 @@ fn push_escaped(byte: u8, out: &mut Vec<u8>) -> Result<(), OutOfMemory>
     Ok(())
 }
 
-/// Writes a text in quotes at the end.
+/// Appends `text` in quotes to `out`. On `OutOfMemory`, an allocation failed, and `out` may hold a part of it.
 pub(crate) fn write_quoted(text: &[u8], out: &mut Vec<u8>) -> Result<(), OutOfMemory>
     ensures { OnOk result (out.new.items ≡ out.old.items ++ quoted text.now) }
 {

@@ -1,3 +1,5 @@
+//! The reader of trees. It is exact: bytes are read as the one tree that they spell.
+
 ghost use Rattle.std.specs.Prelude.{◌≡◌, ℕ, ◌+◌, ◌<◌, ◌≤◌, ◌∷◌, length, drop, slice_index, true, IfOk, IfSome, IfNone, IsErrOf};
 ghost use Rattle.std.specs.Char.{is_ascii_digit};
 ghost use Rattle.std.specs.Str.{IsUtf8};
@@ -9,19 +11,19 @@ use crate::number::parse_number;
 use crate::quoted::read_quoted;
 use crate::raw::Raw;
 use crate::scan::{digits_end, has_byte, word_end};
-use rl_base::failure::OutOfMemory;
+use rl_base::error::OutOfMemory;
 use rl_base::list::List;
 use rl_base::text::Text;
 use std::alloc::{AllocError, Global};
 use thiserror::Error;
 
-/// Why bytes were not read as a tree.
+/// An error of the reader. It leaves nothing behind.
 #[derive(Debug, Drop, Clone, Copy, PartialEq, Eq, Error)]
 pub enum TextError {
-    /// The bytes spell no tree, or none of the height that was allowed.
+    /// The bytes spell no tree, or none within the depth that was allowed.
     #[error("Malformed")]
     Malformed,
-    /// Memory was wanted and not given.
+    /// An allocation failed.
     #[error("OutOfMemory")]
     OutOfMemory,
 }
@@ -48,11 +50,11 @@ impl From<AllocError> for TextError {
     }
 }
 
-/// A tree, and the place after its text.
+/// A tree, and the byte offset behind its text.
 type Found = Option<(Raw, usize)>;
 
-/// The tree that the bytes spell, all of them. `Malformed` where they spell none. It takes as much stack as the bytes
-/// open nodes and lists at once: where they come from outside, `read_raw_within` bounds that.
+/// Reads the tree that the whole of `bytes` spells. On `Malformed`, they spell none. The recursion is as deep as nodes and
+/// lists are open at once: `read_raw_within` bounds that for bytes from outside.
 pub fn read_raw(alloc: Global, bytes: &[u8]) -> Result<Raw, TextError>
     ensures found { IfOk result (λ r. Spells bytes.now (tree r)) }
     ensures malformed { IsErrOf result TextError.Malformed → (t : Tree) → Spells bytes.now t → ⊥ }
@@ -61,8 +63,8 @@ pub fn read_raw(alloc: Global, bytes: &[u8]) -> Result<Raw, TextError>
     read_raw_within(alloc, bytes.len(), bytes)
 }
 
-/// The tree that the bytes spell, all of them, with at most `depth` nodes and lists open at once. `Malformed` where
-/// they spell none such.
+/// Reads the tree that the whole of `bytes` spells, if at most `depth` nodes and lists are open at once in it. On
+/// `Malformed`, they spell none such. The recursion is at most `depth` deep.
 pub fn read_raw_within(alloc: Global, depth: usize, bytes: &[u8]) -> Result<Raw, TextError>
     ensures found { IfOk result (λ r. Spells bytes.now (tree r)) }
     ensures low { IfOk result (λ r. height (tree r) ≤ depth) }
@@ -78,7 +80,7 @@ pub fn read_raw_within(alloc: Global, depth: usize, bytes: &[u8]) -> Result<Raw,
     Ok(raw)
 }
 
-/// Reads a tree at a place.
+/// Reads a tree at the byte offset `at`, with at most `depth` nodes and lists open at once. `None` if none begins there.
 #[cycle(reading)]
 pub(crate) fn read_part(
     alloc: Global,
@@ -108,7 +110,7 @@ pub(crate) fn read_part(
     }
 }
 
-/// Reads a node at its bracket.
+/// Reads a node whose `(` stands at the byte offset `at`.
 #[cycle(reading)]
 fn read_node(alloc: Global, depth: usize, bytes: &[u8], at: usize) -> Result<Found, OutOfMemory>
     requires within { at < length bytes.now }
@@ -134,7 +136,7 @@ fn read_node(alloc: Global, depth: usize, bytes: &[u8], at: usize) -> Result<Fou
     Ok(Some((Raw::Node(word, parts), next)))
 }
 
-/// Reads a list at its bracket.
+/// Reads a list whose `[` stands at the byte offset `at`.
 #[cycle(reading)]
 fn read_list(alloc: Global, depth: usize, bytes: &[u8], at: usize) -> Result<Found, OutOfMemory>
     requires within { at < length bytes.now }
@@ -159,8 +161,8 @@ fn read_list(alloc: Global, depth: usize, bytes: &[u8], at: usize) -> Result<Fou
     Ok(Some((Raw::List(parts), next)))
 }
 
-/// Reads parts, each behind a space, and the bracket. Adds the parts to the list, and answers the place after the
-/// bracket.
+/// Reads parts from the byte offset `at` on, each behind a space, up to the bracket `close`. Appends them to `parts`, and
+/// returns the offset behind the bracket.
 #[cycle(reading)]
 fn read_parts(
     alloc: Global,
@@ -190,7 +192,8 @@ fn read_parts(
     }
 }
 
-/// Reads a text at its quote.
+/// Reads a text whose opening quote stands at the byte offset `at`. `None` if no text of the
+/// notation closes, or its bytes are not UTF-8.
 fn read_text(alloc: Global, bytes: &[u8], at: usize) -> Result<Found, OutOfMemory>
     requires within { at < length bytes.now }
     requires opened { drop at bytes.now ≡ 34 ∷ drop (at + 1) bytes.now }
@@ -206,7 +209,7 @@ fn read_text(alloc: Global, bytes: &[u8], at: usize) -> Result<Found, OutOfMemor
     }
 }
 
-/// Reads a number at its first digit.
+/// Reads a number whose first digit stands at the byte offset `at`.
 fn read_number(bytes: &[u8], at: usize) -> Found
     requires within { at < length bytes.now }
     requires digit { is_ascii_digit (slice_index bytes.now at) ≡ true }
@@ -218,7 +221,7 @@ fn read_number(bytes: &[u8], at: usize) -> Found
     Some((Raw::Number(number), end))
 }
 
-/// Owned text of the bytes, if they are UTF-8.
+/// An owned copy of `bytes` as a text. `None` if they are not UTF-8.
 fn text_of(alloc: Global, bytes: &[u8]) -> Result<Option<Text>, OutOfMemory>
     ensures some { IfOk result (λ r. IfSome r (λ text. text ≡ bytes.now)) }
     ensures none { IfOk result (λ r. IfNone r (IsUtf8 bytes.now → ⊥)) }

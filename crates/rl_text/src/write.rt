@@ -1,16 +1,18 @@
+//! The writer of trees.
+
 ghost use Rattle.std.specs.Prelude.{◌≡◌, [], ◌∷◌, ◌++◌, map, IfOk, OnOk};
-ghost use Rattle.std.specs.Fmt.{decimal};
 ghost use Rattle.rl_text.specs.Notation.{spelling};
+ghost use Rattle.rl_text.specs.Number.{numeral};
 ghost use Rattle.rl_text.specs.Raw.{tree, parts_of};
 ghost use Rattle.rl_text.specs.Places.{spelled_parts};
 
 use crate::quoted::write_quoted;
 use crate::raw::Raw;
-use rl_base::failure::OutOfMemory;
+use rl_base::error::OutOfMemory;
 use std::alloc::Global;
 
-/// The text of a tree. A tree that the notation does not have gets a text too, which `read_raw` refuses or reads as
-/// another tree.
+/// The spelling of a tree. A tree that the notation does not have gets bytes too, which `read_raw` refuses or reads as
+/// another tree. On `OutOfMemory`, an allocation failed.
 pub fn write_raw(alloc: Global, raw: &Raw) -> Result<Vec<u8>, OutOfMemory>
     ensures { IfOk result (λ bytes. bytes.items ≡ spelling (tree raw.now)) }
 {
@@ -19,7 +21,7 @@ pub fn write_raw(alloc: Global, raw: &Raw) -> Result<Vec<u8>, OutOfMemory>
     Ok(out)
 }
 
-/// Writes the text of a tree at the end.
+/// Appends the spelling of a tree to `out`. On `OutOfMemory`, an allocation failed, and `out` may hold a part of it.
 #[cycle(writing)]
 #[tactic(auto, using(crate::proofs::Trees::tree_forms))]
 pub(crate) fn write_part(raw: &Raw, out: &mut Vec<u8>) -> Result<(), OutOfMemory>
@@ -42,7 +44,7 @@ pub(crate) fn write_part(raw: &Raw, out: &mut Vec<u8>) -> Result<(), OutOfMemory
     }
 }
 
-/// Writes parts with a space between them, and one in front where `apart`, and then the bracket.
+/// Appends parts with a space between them, and a space before the first if `apart`, and then the bracket `close`.
 #[cycle(writing)]
 fn write_parts(parts: &[Raw], apart: bool, close: u8, out: &mut Vec<u8>) -> Result<(), OutOfMemory>
     ensures { OnOk result (out.new.items ≡ out.old.items ++ spelled_parts apart close (parts_of (map tree parts.now))) }
@@ -58,14 +60,17 @@ fn write_parts(parts: &[Raw], apart: bool, close: u8, out: &mut Vec<u8>) -> Resu
     write_byte(close, out)
 }
 
+/// Appends the decimal digits of `number`.
+#[tactic(auto, using(crate::proofs::Digits::numerals))]
 fn write_number(number: u64, out: &mut Vec<u8>) -> Result<(), OutOfMemory>
-    ensures { OnOk result (out.new.items ≡ out.old.items ++ decimal number) }
+    ensures { OnOk result (out.new.items ≡ out.old.items ++ numeral number) }
 {
     let digits = number.to_string(*out.allocator())?;
     out.extend_from_slice(digits.as_bytes())?;
     Ok(())
 }
 
+/// Appends one byte.
 fn write_byte(byte: u8, out: &mut Vec<u8>) -> Result<(), OutOfMemory>
     ensures { OnOk result (out.new.items ≡ out.old.items ++ byte ∷ []) }
 {

@@ -1,4 +1,5 @@
-use Rattle.std.proofs.Common.{◌<◌, ◌^◌, arith}
+use Rattle.std.proofs.Common.{◌<◌, ◌^◌, length, ap, arith}
+use Rattle.rl_text.proofs.Digits.{numeral-decimal}
 use Rattle.rl_text.proofs.Numbers.{length-decimal-step, length-decimal-digit, length-decimal-most}
 use Rattle.rl_text.proofs.number.number_len.Goals as goal
 
@@ -14,4 +15,6 @@ digits-preserved c = record {
 }
 
 pub returns : goal.returns
-returns c = omega (arith, length-decimal-digit c.digits.front c.digits-test.false)
+returns c =
+    let fits : c.args.number < 2 ^ 64 = omega arith in
+    omega (arith, length-decimal-digit c.digits.front c.digits-test.false, ap length (numeral-decimal c.args.number fits))
