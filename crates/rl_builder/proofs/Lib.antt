@@ -1,4 +1,6 @@
 pub mod Candidates
+pub mod DistinctLists
 pub mod NameEntries
 pub mod NameLaws
+pub mod NumberedOrders
 pub mod OrderLaws

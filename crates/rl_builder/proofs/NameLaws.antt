@@ -24,7 +24,9 @@ use Rattle.rl_hir.specs.declared.function.IdentifierName.TheVariants as names
 use Rattle.rl_hir.specs.declared.function.Pair.{Pair}
 use Rattle.rl_builder.proofs.Candidates.{chosen-free}
 use Rattle.rl_builder.specs.Builder.{State, started, with_temporary}
-use Rattle.rl_builder.specs.Names.{user_of, with_user, IsFree, chosen, name_of, fbt, refused_name, with_refused, with_binding, resolved_by, resolved, resolved_identifier, pair, named_identifier, env_resolved, IsNamedFor, AreNamed, NamesAgree}
+use Rattle.rl_builder.specs.Names.{user_of, with_user, IsFree, chosen, name_of, fbt, refused_name, with_refused, with_binding, resolved_by, resolved, resolved_identifier, env_resolved, IsNamedFor, AreNamed, NamesAgree}
+use Rattle.rl_hir.specs.Identifiers.{named_identifier}
+use Rattle.rl_hir.specs.Pairs.{pair}
 use Rattle.rl_builder.specs.UsedName.{UsedName}
 
 -- pairs that come later change no identifier

@@ -14,6 +14,7 @@ use Rattle.rl_hir.specs.declared.instruction.Instruction.{Instruction}
 use Rattle.rl_hir.specs.declared.terminal.Terminal.{Terminal}
 use Rattle.rl_builder.specs.UsedName.{UsedName}
 
+-- `env` is shared by the builders of a unit; `table` is the instruction table, indexed by instruction id.
 pub record State : Type 0 where
   pub env : Environment
   pub completed : List NumberedBlock
@@ -23,6 +24,7 @@ pub record State : Type 0 where
   pub bindings : List Pair
   pub used_names : List UsedName
 
+-- The state of a builder, from its environment and its own parts.
 abbrev pub state_of : Environment → Work → State
 state_of env work = record {
   env = env;
@@ -34,18 +36,19 @@ state_of env work = record {
   used_names = work.used_names;
 }
 
--- an empty block
+-- An empty block.
 abbrev pub new_block : ℕ → BlockKind → WipBlock
 new_block id kind = record { id = record { 0 = id }; instructions = []; kind = kind }
 
--- a block that is in no graph
+-- The empty block that stands for the current one after the last; it is in no graph.
 abbrev pub placeholder : WipBlock
 placeholder = new_block (2 ^ 32 - 1) kinds.Block
 
+-- The environment after a block id was handed out.
 abbrev pub one_block_more : Environment → Environment
 one_block_more env = record env { next_block = env.next_block + 1 }
 
--- before anything is lowered: the entry block
+-- The first state: the current block is the entry, of a fresh id.
 abbrev pub started : Environment → BlockKind → State
 started env kind = record {
   env = one_block_more env;
@@ -57,33 +60,36 @@ started env kind = record {
   used_names = [];
 }
 
+-- The state after a block was reserved.
 abbrev pub reserved : State → State
 reserved s = record s { env = one_block_more s.env }
 
+-- The environment with one more identifier: without a name, with the span if there is one, of a type variable of its own.
 abbrev pub one_identifier_more : Environment → Option Span → Environment
 one_identifier_more env span = record env {
   next_type = env.next_type + 1;
   identifiers = env.identifiers ++ record { name = None; span = span; type_id = record { 0 = env.next_type } } ∷ [];
 }
 
+-- The state with one more identifier without a name.
 abbrev pub with_temporary : State → Option Span → State
 with_temporary s span = record s { env = one_identifier_more s.env span }
 
--- the instruction goes into the table, and the current block lists it
+-- Appends an instruction to the table, and its id to the current block.
 abbrev pub pushed : State → Instruction → State
 pushed s i = record s {
   current = record s.current { instructions = s.current.instructions ++ record { 0 = length s.table } ∷ [] };
   table = s.table ++ i ∷ [];
 }
 
--- the block with its terminal
+-- The block completed with its terminal.
 abbrev pub ended_by : WipBlock → Terminal → NumberedBlock
 ended_by wip terminal = record { id = wip.id; block = record { kind = wip.kind; instructions = wip.instructions; terminal = terminal; preds = [] } }
 
--- the current block is complete, and another is the current one
+-- Completes the current block, and makes `next` the current one.
 abbrev pub completed_by : State → Terminal → WipBlock → State
 completed_by s terminal next = record s { completed = s.completed ++ ended_by s.current terminal ∷ []; current = next }
 
--- the unit is refused for this too
+-- Appends a diagnostic to those of the unit.
 abbrev pub recorded : State → Diagnostic → State
 recorded s d = record s { env = record s.env { diagnostics = s.env.diagnostics ++ d ∷ [] } }

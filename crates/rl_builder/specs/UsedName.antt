@@ -1,4 +1,4 @@
--- What the maps of a builder hold.
+-- Entries of the maps of a builder.
 use Rattle.std.specs.Prelude.{ℕ, List, string_bytes}
 use Rattle.std.specs.declared.alloc.Global.{Global}
 use Rattle.std.specs.declared.string.String.{String}
@@ -6,15 +6,15 @@ use Rattle.rl_base.specs.declared.ids.IdentifierId.{IdentifierId}
 use Rattle.rl_base.specs.declared.ids.SymbolId.{SymbolId}
 use Rattle.rl_hir.specs.declared.function.Pair.{Pair}
 
--- a name, and the symbol that has it
+-- A name, and the id of the symbol that has it.
 pub record UsedName : Type 0 where
   pub name : List ℕ
   pub symbol : ℕ
 
--- an entry of the map from symbols to identifiers
+-- An entry of the map from symbols to identifiers, as a pair.
 abbrev pub pair_of : SymbolId × IdentifierId → Pair
 pair_of entry = record { symbol = entry.0; identifier = entry.1 }
 
--- an entry of the map from names to symbols
+-- An entry of the map from names to symbols.
 abbrev pub used_name_of : String Global × SymbolId → UsedName
 used_name_of entry = record { name = string_bytes entry.0; symbol = entry.1.0 }

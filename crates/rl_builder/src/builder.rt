@@ -1,24 +1,26 @@
-//! A function's graph under construction.
+//! Graphs of functions under construction (`HIRBuilder` of the compiler).
 
-ghost use Rattle.std.specs.Prelude.{◌≡◌, ◌+◌, ◌<◌, ◌^◌, true, false, None, Some, All, OnOk, IfOk, IfErr, length};
+ghost use Rattle.std.specs.Prelude.{◌≡◌, ◌≢◌, ◌+◌, ◌<◌, ◌^◌, true, false, None, Some, Err, All, OnOk, OnErr, IfOk, IfErr, length};
 ghost use Rattle.std.specs.Option.{option_map};
 ghost use Rattle.rl_base.specs.Reserved.{is_reserved};
+ghost use Rattle.rl_base.specs.Rows.{category_of};
+ghost use Rattle.rl_base.specs.declared.row.Category.TheVariants as category;
 ghost use Rattle.rl_base.specs.declared.diagnostic.Diagnostic.{Diagnostic};
 ghost use Rattle.rl_hir.specs.Pairs.{identifier_of};
 ghost use Rattle.rl_builder.specs.Names.{with_refused, with_binding, resolved, IsStopped, NamesAgree};
-ghost use Rattle.rl_builder.specs.Builder.{state_of, started, new_block, reserved, with_temporary, pushed, completed_by, placeholder, recorded};
+ghost use Rattle.rl_builder.specs.Builder.{state_of, started, new_block, reserved, one_identifier_more, with_temporary, pushed, completed_by, placeholder, recorded};
 ghost use Rattle.rl_builder.specs.Order.{reached_blocks, orders_of};
 ghost use Rattle.rl_builder.specs.Build.{built_of};
 
 use crate::names::{Bindings, UsedNames, fbt_diagnostic, is_fbt, reserved_identifier_diagnostic};
 use crate::order::{mark_instruction_ids, reached_blocks};
-use crate::stop::Stop;
+use crate::reserved::is_always_reserved_word;
 use rl_base::diagnostic::Diagnostic;
-use rl_base::failure::OutOfMemory;
+use rl_base::error::OutOfMemory;
 use rl_base::ids::{BlockId, IdentifierId, InstructionId, SymbolId};
 use rl_base::list::List;
-use rl_base::reserved::is_always_reserved_word;
 use rl_base::span::Span;
+use rl_base::stop::Stop;
 use rl_base::text::Text;
 use rl_hir::environment::Environment;
 use rl_hir::function::{BasicBlock, BlockKind, Hir, IdentifierName, NumberedBlock};
@@ -30,18 +32,24 @@ use std::mem;
 /// A block that has no terminal yet.
 #[derive(Drop)]
 pub struct WipBlock {
+    /// An id that no other block of the unit has.
     pub id: BlockId,
+    /// Indices into the builder's instruction table, in the order of evaluation.
     pub instructions: List<InstructionId>,
+    /// The construct that it belongs to.
     pub kind: BlockKind,
 }
 
-/// What a builder owns.
+/// The parts that a builder owns.
 #[derive(Drop)]
 pub struct Work {
     alloc: Global,
+    /// The blocks that have a terminal, in the order in which they got it.
     completed: Vec<NumberedBlock>,
+    /// The block that takes the next instruction.
     current: WipBlock,
     entry: BlockId,
+    /// The instruction table, indexed by instruction id.
     instructions: Vec<Instruction>,
     /// The identifiers of symbols.
     bindings: Bindings,
@@ -49,7 +57,8 @@ pub struct Work {
     used_names: UsedNames,
 }
 
-/// A builder's own parts, and the environment that it shares with others.
+/// The parts `work` of a builder, over the environment that its unit's builders share. It is generic so that `Drop`, written
+/// by hand, tells the lender of the environment what is left in it.
 pub struct Over<'e, W> {
     env: &'e mut Environment,
     work: W,
@@ -63,16 +72,20 @@ impl<W: Drop> Drop for Over<'_, W> {
     }
 }
 
-/// A function's graph under construction, over the environment of its unit.
+/// A function's graph under construction. Its calls are moves on a state (`State` of specs/Builder.antt). After an error
+/// that a call does not speak of, the state is unspecified: the caller drops the builder.
 pub type HirBuilder<'e> = Over<'e, Work>;
 
 /// A finished graph and its instruction table.
 #[derive(Drop)]
 pub struct Built {
+    /// The blocks that the entry reaches.
     pub hir: Hir,
+    /// The instruction table, indexed by instruction id.
     pub instructions: List<Instruction>,
 }
 
+/// An empty block.
 fn new_block(alloc: Global, id: BlockId, kind: BlockKind) -> WipBlock
     ensures { result ≡ new_block id.0 kind }
 {
@@ -83,8 +96,46 @@ fn new_block(alloc: Global, id: BlockId, kind: BlockKind) -> WipBlock
     }
 }
 
+/// Adds an identifier without a name, with the span if there is one. On `OutOfMemory` an allocation failed, and nothing
+/// changed.
+fn new_temporary(env: &mut Environment, span: Option<Span>) -> Result<IdentifierId, OutOfMemory>
+    requires identifiers { length env.old.identifiers < 2 ^ 32 }
+    requires types { env.old.next_type + 1 < 2 ^ 32 }
+    ensures ok { OnOk result (env.new ≡ one_identifier_more env.old span) }
+    ensures id { IfOk result (λ id. id.0 ≡ length env.old.identifiers) }
+    ensures err { OnErr result (env.new ≡ env.old) }
+{
+    let identifier = env.next_identifier_id()?;
+    match span {
+        Some(span) => {
+            env.set_span(identifier, span);
+            Ok(identifier)
+        }
+        None => Ok(identifier),
+    }
+}
+
+/// A place of a fresh identifier, which has the span; the place itself has none (`createTemporaryPlace`). On
+/// `OutOfMemory` an allocation failed, and nothing changed.
+pub fn create_temporary_place(
+    env: &mut Environment,
+    span: Option<Span>,
+) -> Result<Place, OutOfMemory>
+    requires identifiers { length env.old.identifiers < 2 ^ 32 }
+    requires types { env.old.next_type + 1 < 2 ^ 32 }
+    ensures ok { OnOk result (env.new ≡ one_identifier_more env.old span) }
+    ensures place { IfOk result (λ p. p ≡ record { identifier = record { 0 = length env.old.identifiers }; span = None }) }
+    ensures err { OnErr result (env.new ≡ env.old) }
+{
+    let identifier = new_temporary(env, span)?;
+    Ok(Place {
+        identifier,
+        span: None,
+    })
+}
+
 impl<'e> Over<'e, Work> {
-    /// A builder whose first block is the entry, of a fresh number.
+    /// A builder whose current block is the entry, of a fresh id and of `kind`.
     pub fn new(alloc: Global, env: &'e mut Environment, kind: BlockKind) -> HirBuilder<'e>
         requires { env.old.next_block + 1 < 2 ^ 32 }
         ensures same_reference { result.env.ghost_name ≡ env.entry.ghost_name }
@@ -103,7 +154,7 @@ impl<'e> Over<'e, Work> {
         Over { env, work }
     }
 
-    /// A fresh number and an empty block of it, to be named before it is built.
+    /// An empty block of a fresh id, so that terminals can name it before it is built (`reserve`).
     pub fn reserve(&mut self, kind: BlockKind) -> WipBlock
         requires { self.old.env.now.next_block + 1 < 2 ^ 32 }
         ensures same_reference { self.new.env.ghost_name ≡ self.old.env.ghost_name }
@@ -114,29 +165,60 @@ impl<'e> Over<'e, Work> {
         new_block(self.work.alloc, id, kind)
     }
 
-    /// A fresh identifier without a name, as a place.
+    /// Adds an identifier without a name, with the span if there is one, and answers its id (`makeTemporary`). On
+    /// `OutOfMemory` an allocation failed, and nothing changed.
+    pub fn make_temporary(&mut self, span: Option<Span>) -> Result<IdentifierId, OutOfMemory>
+        requires identifiers { length self.old.env.now.identifiers < 2 ^ 32 }
+        requires types { self.old.env.now.next_type + 1 < 2 ^ 32 }
+        ensures same_reference { self.new.env.ghost_name ≡ self.old.env.ghost_name }
+        ensures state { OnOk result (state_of self.new.env.now self.new.work ≡ with_temporary (state_of self.old.env.now self.old.work) span) }
+        ensures id { IfOk result (λ id. id.0 ≡ length self.old.env.now.identifiers) }
+        ensures unchanged { OnErr result (state_of self.new.env.now self.new.work ≡ state_of self.old.env.now self.old.work) }
+    {
+        new_temporary(self.env, span)
+    }
+
+    /// A place of a fresh identifier without a name; both have the span (`buildTemporaryPlace`). On `OutOfMemory` an
+    /// allocation failed, and nothing changed.
     pub fn create_temporary_place(&mut self, span: Option<Span>) -> Result<Place, OutOfMemory>
         requires identifiers { length self.old.env.now.identifiers < 2 ^ 32 }
         requires types { self.old.env.now.next_type + 1 < 2 ^ 32 }
         ensures same_reference { self.new.env.ghost_name ≡ self.old.env.ghost_name }
         ensures state { OnOk result (state_of self.new.env.now self.new.work ≡ with_temporary (state_of self.old.env.now self.old.work) span) }
         ensures place { IfOk result (λ p. p ≡ record { identifier = record { 0 = length self.old.env.now.identifiers }; span = span }) }
+        ensures unchanged { OnErr result (state_of self.new.env.now self.new.work ≡ state_of self.old.env.now self.old.work) }
     {
-        let identifier = self.env.next_identifier_id(span)?;
+        let identifier = self.make_temporary(span)?;
         Ok(Place { identifier, span })
     }
 
-    /// Notes what the unit is refused for.
-    pub fn record_error(&mut self, diagnostic: Diagnostic) -> Result<(), OutOfMemory>
+    /// Appends a diagnostic to those of the unit, of whatever category (`recordDiagnostic`). On `OutOfMemory` an
+    /// allocation failed, and nothing changed.
+    pub fn record_diagnostic(&mut self, diagnostic: Diagnostic) -> Result<(), OutOfMemory>
         ensures same_reference { self.new.env.ghost_name ≡ self.old.env.ghost_name }
         ensures state { OnOk result (state_of self.new.env.now self.new.work ≡ recorded (state_of self.old.env.now self.old.work) diagnostic) }
+        ensures unchanged { OnErr result (state_of self.new.env.now self.new.work ≡ state_of self.old.env.now self.old.work) }
+    {
+        self.env.record_diagnostic(diagnostic)
+    }
+
+    /// Appends a diagnostic to those of the unit, or stops with it where its category is `Invariant` (`recordError`). On
+    /// `Stop::Diagnostic` and on `Stop::OutOfMemory`, where an allocation failed, nothing changed.
+    pub fn record_error(&mut self, diagnostic: Diagnostic) -> Result<(), Stop>
+        ensures same_reference { self.new.env.ghost_name ≡ self.old.env.ghost_name }
+        ensures state { OnOk result (state_of self.new.env.now self.new.work ≡ recorded (state_of self.old.env.now self.old.work) diagnostic) }
+        ensures unchanged { OnErr result (state_of self.new.env.now self.new.work ≡ state_of self.old.env.now self.old.work) }
+        ensures invariant { category_of diagnostic.row ≡ category.Invariant → result ≡ Err (Stop.Diagnostic diagnostic) }
+        ensures other { category_of diagnostic.row ≢ category.Invariant → IfErr result (λ e. e ≡ Stop.OutOfMemory) }
     {
         self.env.record_error(diagnostic)
     }
 
-    /// The identifier of a symbol that is declared at a place. A symbol that has none gets a fresh one, under the first
-    /// that is free of its name and the name with `_0`, `_1` and so on. A name that is reserved stops the unit, and the
-    /// name `fbt` is refused as long as the symbol has no identifier of another name.
+    /// The identifier of `symbol`, whose name is `name` and whose declaration has the span `declaration`
+    /// (`resolveBinding`). A symbol without an identifier gets a fresh one, under the first name of `name`, `name_0`,
+    /// `name_1` .. that no other symbol of this builder has. Row F40 is recorded where the name is `fbt` and the symbol has
+    /// no identifier of another name. On `Stop::Diagnostic` the symbol has no identifier and its name is reserved (row S1):
+    /// nothing changed. On `Stop::OutOfMemory` an allocation failed, and the state is unspecified.
     pub fn resolve_binding(
         &mut self,
         name: &Text,
@@ -150,8 +232,8 @@ impl<'e> Over<'e, Work> {
         ensures identifier { IfOk result (λ i. identifier_of self.new.work.bindings symbol.0 ≡ Some i.0) }
         ensures names { OnOk result (NamesAgree (state_of self.old.env.now self.old.work) → NamesAgree (state_of self.new.env.now self.new.work)) }
         ensures allowed { OnOk result (identifier_of self.old.work.bindings symbol.0 ≡ None → is_reserved name.now ≡ false) }
-        ensures stopped { IfErr result (λ e. (d : Diagnostic) → e ≡ Stop.Stopped d → IsStopped (state_of self.old.env.now self.old.work) name.now symbol.0 declaration d) }
-        ensures unchanged { IfErr result (λ e. (d : Diagnostic) → e ≡ Stop.Stopped d → state_of self.new.env.now self.new.work ≡ state_of self.old.env.now self.old.work) }
+        ensures stopped { IfErr result (λ e. (d : Diagnostic) → e ≡ Stop.Diagnostic d → IsStopped (state_of self.old.env.now self.old.work) name.now symbol.0 declaration d) }
+        ensures unchanged { IfErr result (λ e. (d : Diagnostic) → e ≡ Stop.Diagnostic d → state_of self.new.env.now self.new.work ≡ state_of self.old.env.now self.old.work) }
     {
         let known = self.work.bindings.get(symbol);
         self.refuse_fbt(name, known, declaration)?;
@@ -161,12 +243,12 @@ impl<'e> Over<'e, Work> {
         if is_always_reserved_word(name.as_str()) {
             let alloc = self.work.alloc;
             let diagnostic = reserved_identifier_diagnostic(alloc, name, declaration)?;
-            return Err(Stop::Stopped(diagnostic));
+            return Err(Stop::Diagnostic(diagnostic));
         }
         Ok(self.add_binding(name, symbol, declaration)?)
     }
 
-    /// Refuses a local named `fbt` where its symbol, which has this identifier, has no identifier of another name.
+    /// Records row F40 where the name is `fbt` and `known`, the symbol's identifier, is none or still has that name.
     fn refuse_fbt(
         &mut self,
         name: &Text,
@@ -178,12 +260,13 @@ impl<'e> Over<'e, Work> {
     {
         if name.as_str() == "fbt" && is_fbt(&self.env.identifiers, known) {
             let diagnostic = fbt_diagnostic(self.work.alloc, declaration)?;
-            return self.record_error(diagnostic);
+            return self.record_diagnostic(diagnostic);
         }
         Ok(())
     }
 
-    /// Gives a symbol a fresh identifier, under the first candidate that is free.
+    /// Gives a symbol a fresh identifier, under the first candidate that is free. On `OutOfMemory` the state is
+    /// unspecified.
     fn add_binding(
         &mut self,
         name: &Text,
@@ -203,7 +286,7 @@ impl<'e> Over<'e, Work> {
             .work
             .used_names
             .free_name(alloc, name.as_str(), symbol)?;
-        let identifier = self.env.next_identifier_id(Some(declaration))?;
+        let identifier = new_temporary(self.env, Some(declaration))?;
         self.work.used_names.insert(alloc, free.as_str(), symbol)?;
         self.work.bindings.insert(symbol, identifier)?;
         self.env.add_pair(symbol, identifier)?;
@@ -211,7 +294,8 @@ impl<'e> Over<'e, Work> {
         Ok(identifier)
     }
 
-    /// Adds an instruction to the table and to the current block.
+    /// Appends an instruction to the table, and its id to the current block (`push`). On `OutOfMemory` an allocation failed,
+    /// and the state is unspecified.
     pub fn push(&mut self, instruction: Instruction) -> Result<(), OutOfMemory>
         requires { length self.old.work.instructions.items < 2 ^ 32 }
         ensures same_reference { self.new.env.ghost_name ≡ self.old.env.ghost_name }
@@ -222,7 +306,8 @@ impl<'e> Over<'e, Work> {
         self.work.current.instructions.push(id)
     }
 
-    /// Ends the current block, and goes on with another.
+    /// Completes the current block with `terminal`, and makes `next` the current one (`terminateWithContinuation`). On
+    /// `OutOfMemory` an allocation failed, and the state is unspecified.
     pub fn terminate_with_continuation(
         &mut self,
         terminal: Terminal,
@@ -244,7 +329,8 @@ impl<'e> Over<'e, Work> {
         Ok(())
     }
 
-    /// Ends the current block as the last one. A block that is in no graph stands in its place.
+    /// Completes the current block with `terminal` as the last one (`terminate`): an empty block that is in no graph becomes
+    /// the current one. On `OutOfMemory` an allocation failed, and the state is unspecified.
     pub fn terminate(&mut self, terminal: Terminal) -> Result<(), OutOfMemory>
         ensures same_reference { self.new.env.ghost_name ≡ self.old.env.ghost_name }
         ensures state { OnOk result (state_of self.new.env.now self.new.work ≡ completed_by (state_of self.old.env.now self.old.work) terminal placeholder) }
@@ -253,7 +339,9 @@ impl<'e> Over<'e, Work> {
         self.terminate_with_continuation(terminal, placeholder)
     }
 
-    /// The graph of the blocks that the entry reaches, with instructions and terminals numbered.
+    /// The graph of the blocks that the entry reaches, with evaluation orders from 1 in block order, and the whole
+    /// instruction table (`build`). The current block is dropped. On `OutOfMemory` an allocation failed, and nothing is
+    /// kept.
     pub fn build(self) -> Result<Built, OutOfMemory>
         requires listed { All (λ b. All (λ id. id.0 < length self.work.instructions.items) b.block.instructions)
             (reached_blocks self.work.entry self.work.completed.items) }
@@ -282,6 +370,3 @@ impl<'e> Over<'e, Work> {
         })
     }
 }
-
-#[cfg(test)]
-mod tests;

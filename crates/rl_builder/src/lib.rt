@@ -1,7 +1,7 @@
-//! Graphs under construction.
+//! Graphs of functions under construction: the builder, the names of identifiers, and the order of blocks.
 #![tactic(auto)]
 
 pub mod builder;
 pub mod names;
 pub mod order;
-pub mod stop;
+pub mod reserved;

@@ -1,4 +1,4 @@
-//! The identifiers that stand for symbols, and their names.
+//! Identifiers of symbols, and their names (the maps `bindings` and `usedNames` of `HIRBuilder`).
 
 ghost use Rattle.std.specs.Prelude.{◌≡◌, ◌∷◌, ◌++◌, [], None, OnOk, IfOk};
 ghost use Rattle.std.specs.Option.{option_map};
@@ -7,7 +7,7 @@ ghost use Rattle.rl_builder.specs.Names.{with_user, is_free, chosen, IsFree, nam
 
 use indexmap::IndexMap;
 use rl_base::diagnostic::Diagnostic;
-use rl_base::failure::OutOfMemory;
+use rl_base::error::OutOfMemory;
 use rl_base::ids::{IdentifierId, SymbolId};
 use rl_base::list::List;
 use rl_base::row::Row;
@@ -17,7 +17,7 @@ use rl_hir::function::{Identifier, IdentifierName};
 use std::alloc::Global;
 use std::marker::Model;
 
-/// The identifiers of symbols, in the order in which symbols got them. Contracts see the pairs.
+/// A map from symbols to their identifiers. Contracts see its pairs, in the order in which symbols got their identifiers.
 #[derive(Drop)]
 pub struct Bindings {
     identifiers: IndexMap<SymbolId, IdentifierId>,
@@ -34,7 +34,7 @@ impl Model for Bindings {
 }
 
 impl Bindings {
-    /// No symbol has an identifier. It takes no memory.
+    /// The empty map. It allocates nothing.
     pub fn new(alloc: Global) -> Bindings
         ensures { result ≡ [] }
     {
@@ -43,14 +43,14 @@ impl Bindings {
         }
     }
 
-    /// The identifier of a symbol, if it has one.
+    /// The identifier of a symbol, or `None` where it has none.
     pub fn get(&self, symbol: SymbolId) -> Option<IdentifierId>
         ensures { option_map (λ identifier. identifier.0) result ≡ identifier_of self.now symbol.0 }
     {
         self.identifiers.get(&symbol).copied()
     }
 
-    /// Gives a symbol its identifier.
+    /// Gives a symbol that has no identifier its own. On `OutOfMemory` an allocation failed, and the entries are unspecified.
     pub fn insert(&mut self, symbol: SymbolId, identifier: IdentifierId) -> Result<(), OutOfMemory>
         requires { identifier_of self.old symbol.0 ≡ None }
         ensures { OnOk result (self.new ≡ self.old ++ record { symbol = symbol; identifier = identifier } ∷ []) }
@@ -60,7 +60,7 @@ impl Bindings {
     }
 }
 
-/// The names that identifiers have, each with its symbol. Contracts see the names and symbols.
+/// A map from the names of identifiers to the symbols that have them. Contracts see its entries.
 #[derive(Drop)]
 pub struct UsedNames {
     symbols: IndexMap<String, SymbolId>,
@@ -76,7 +76,7 @@ impl Model for UsedNames {
 }
 
 impl UsedNames {
-    /// No name is used. It takes no memory.
+    /// The empty map. It allocates nothing.
     pub fn new(alloc: Global) -> UsedNames
         ensures { result ≡ [] }
     {
@@ -85,7 +85,7 @@ impl UsedNames {
         }
     }
 
-    /// Whether nobody has the name, or this symbol has it.
+    /// True if no symbol but this one has the name.
     fn is_free(&self, name: &str, symbol: SymbolId) -> bool
         ensures { result ≡ is_free self.now symbol.0 name.now }
     {
@@ -95,7 +95,8 @@ impl UsedNames {
         }
     }
 
-    /// The first that is free of `name`, `name_0`, `name_1` and so on. Of one more than there are used names, one is.
+    /// The first of `name`, `name_0`, `name_1` .. that no other symbol has. (Of one candidate more than there are used
+    /// names one is free.) On `OutOfMemory` an allocation failed.
     pub fn free_name(
         &self,
         alloc: Global,
@@ -115,7 +116,8 @@ impl UsedNames {
         Ok(candidate)
     }
 
-    /// Gives a name to a symbol.
+    /// Gives a name to a symbol, in place of the symbol that had it. On `OutOfMemory` an allocation failed, and the entries are
+    /// unspecified.
     pub fn insert(&mut self, alloc: Global, name: &str, symbol: SymbolId) -> Result<(), OutOfMemory>
         ensures { OnOk result (self.new ≡ with_user self.old name.now symbol.0) }
     {
@@ -124,7 +126,7 @@ impl UsedNames {
     }
 }
 
-/// Whether an identifier has this name of the source.
+/// True if an identifier is named `word` by the source; false past the end of the table.
 fn is_named(identifiers: &List<Identifier>, identifier: IdentifierId, word: &str) -> bool
     ensures { result ≡ is_named (name_of identifiers.now identifier.0) word.now }
 {
@@ -138,7 +140,7 @@ fn is_named(identifiers: &List<Identifier>, identifier: IdentifierId, word: &str
     }
 }
 
-/// Whether a symbol has no identifier yet, or one that is still named `fbt`.
+/// True if `known`, the identifier of a symbol, is none or still named `fbt`.
 pub(crate) fn is_fbt(identifiers: &List<Identifier>, known: Option<IdentifierId>) -> bool
     ensures { result ≡ is_fbt (option_map (λ identifier. identifier.0) known) identifiers.now }
 {
@@ -148,32 +150,22 @@ pub(crate) fn is_fbt(identifiers: &List<Identifier>, known: Option<IdentifierId>
     }
 }
 
-/// What a unit is refused for, at the declaration of a local named `fbt`.
+/// The diagnostic of row F40, with the span of the declaration of a local named `fbt` as its label. On `OutOfMemory` an
+/// allocation failed.
 pub(crate) fn fbt_diagnostic(alloc: Global, declaration: Span) -> Result<Diagnostic, OutOfMemory>
     ensures { IfOk result (λ d. d ≡ fbt_diagnostic declaration) }
 {
-    let mut labels = List::new(alloc);
-    labels.push(declaration)?;
-    Ok(Diagnostic {
-        row: Row::F40,
-        word: Text::from_str(alloc, "")?,
-        labels,
-    })
+    Diagnostic::at(alloc, Row::F40, "", declaration)
 }
 
-/// What a unit is stopped for, at the declaration of a local whose name is reserved.
+/// The diagnostic of row S1, with a reserved name as its word and a span, that of the name's declaration, as its label
+/// (`reserved_identifier_diagnostic`). On `OutOfMemory` an allocation failed.
 pub fn reserved_identifier_diagnostic(
     alloc: Global,
     name: &Text,
-    declaration: Span,
+    span: Span,
 ) -> Result<Diagnostic, OutOfMemory>
-    ensures { IfOk result (λ d. d ≡ reserved_diagnostic name.now declaration) }
+    ensures { IfOk result (λ d. d ≡ reserved_diagnostic name.now span) }
 {
-    let mut labels = List::new(alloc);
-    labels.push(declaration)?;
-    Ok(Diagnostic {
-        row: Row::S1,
-        word: name.copy(alloc)?,
-        labels,
-    })
+    Diagnostic::at(alloc, Row::S1, name.as_str(), span)
 }

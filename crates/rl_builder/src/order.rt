@@ -1,15 +1,18 @@
-//! The order of blocks, and of the instructions in them.
+//! The order of blocks, and the evaluation orders of instructions and terminals.
 
 ghost use Rattle.std.specs.Prelude.{◌≡◌, ◌+◌, ◌<◌, ◌≤◌, ◌^◌, All, IfOk, length};
+ghost use Rattle.rl_base.specs.Distinct.{AreDistinct};
 ghost use Rattle.rl_builder.specs.Order.{reached_blocks, ordered_list, order_after, ordered_block, ordered_blocks, ordered_table, orders_of};
+ghost use Rattle.rl_hir.specs.Numbered.{IsNumbered, listed_in};
 
-use rl_base::failure::OutOfMemory;
+use rl_base::error::OutOfMemory;
 use rl_base::ids::{BlockId, EvaluationOrder, InstructionId};
 use rl_hir::function::NumberedBlock;
 use rl_hir::instruction::Instruction;
 use std::alloc::Global;
 
-/// The blocks that successors reach from the entry, each once. No terminal leads on yet, so it is the entry alone.
+/// The blocks that the entry reaches, each once (`getReversePostorderedBlocks`). No terminal has a successor yet, so they
+/// are the entry alone. On `OutOfMemory` an allocation failed, and nothing is kept.
 pub fn reached_blocks(
     alloc: Global,
     blocks: Vec<NumberedBlock>,
@@ -24,7 +27,7 @@ pub fn reached_blocks(
     Ok(reached)
 }
 
-/// Gives the listed instructions orders from `first` on.
+/// Gives the instructions that are listed consecutive orders from `first` on, and answers the next order.
 fn mark_listed(listed: &[InstructionId], table: &mut [Instruction], first: u32) -> u32
     requires within { All (λ id. id.0 < length table.old) listed.now }
     requires room { first + length listed.now < 2 ^ 32 }
@@ -39,7 +42,7 @@ fn mark_listed(listed: &[InstructionId], table: &mut [Instruction], first: u32) 
     next
 }
 
-/// Gives a block's instructions and then its terminal orders from `first` on, and answers the order after them.
+/// Gives a block's instructions and then its terminal consecutive orders from `first` on, and answers the next order.
 fn mark_block(block: &mut NumberedBlock, table: &mut [Instruction], first: u32) -> u32
     requires within { All (λ id. id.0 < length table.old) block.old.block.instructions }
     requires room { order_after first block.old < 2 ^ 32 }
@@ -52,12 +55,14 @@ fn mark_block(block: &mut NumberedBlock, table: &mut [Instruction], first: u32) 
     order + 1
 }
 
-/// Numbers instructions and terminals from 1 in block order. Instructions that no block lists keep their order.
+/// Sets the evaluation orders of instructions and terminals, from 1 in block order (`markInstructionIds`). An instruction
+/// that no block lists keeps its order.
 pub fn mark_instruction_ids(blocks: &mut [NumberedBlock], table: &mut [Instruction])
     requires within { All (λ b. All (λ id. id.0 < length table.old) b.block.instructions) blocks.old }
     requires room { 1 + orders_of blocks.old < 2 ^ 32 }
     ensures blocks { blocks.new ≡ ordered_blocks 1 blocks.old }
     ensures table { table.new ≡ ordered_table 1 blocks.old table.old }
+    ensures numbered { AreDistinct (listed_in blocks.old) → All (λ i. i.order.0 ≡ 0) table.old → IsNumbered table.new blocks.new }
 {
     let mut next = 1;
     for place in 0..blocks.len() {

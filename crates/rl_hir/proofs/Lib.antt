@@ -1,2 +1,3 @@
 pub mod Identifiers
 pub mod ReadBack
+pub mod Words

@@ -6,10 +6,11 @@ use Rattle.rl_base.specs.declared.span.Span.{Span}
 use Rattle.rl_base.specs.declared.ids.BlockId.{BlockId}
 use Rattle.rl_base.specs.declared.ids.EvaluationOrder.{EvaluationOrder}
 use Rattle.rl_base.specs.declared.ids.InstructionId.{InstructionId}
-use Rattle.rl_text.proofs.Operators.{operator_of, operator-back}
-use Rattle.rl_text.proofs.Spellings.{Spells-one}
-use Rattle.rl_text.specs.Notation.{Tree, spelling, Node, Listed, Said, Count, Flag, Absent, Parts, End, Then}
+use Rattle.rl_base.proofs.Operators.{operator_of, operator-back}
+use Rattle.rl_text.proofs.Worded.{Worded-one}
+use Rattle.rl_text.specs.Notation.{Tree, Node, Listed, Said, Count, Flag, Absent, Parts, End, Then}
 use Rattle.rl_text.specs.Raw.{parts_of}
+use Rattle.rl_hir.proofs.Words.{lowered_worded}
 use Rattle.rl_hir.specs.Listing as spec
 use Rattle.rl_hir.specs.declared.instruction.Place.{Place}
 use Rattle.rl_hir.specs.declared.instruction.Instruction.{Instruction}
@@ -449,12 +450,10 @@ lowered-back l = rw (
   list-back spec.pair pair_of pair-back l.pairs,
 ) refl
 
--- no two results have one tree
+-- No two results have one tree.
 pub lowered-apart : (a b : Lowered) → spec.lowered a ≡ spec.lowered b → a ≡ b
 lowered-apart a b same = sym (lowered-back a) ∙ (ap lowered_of same ∙ lowered-back b)
 
--- no two results that the notation has have one text
+-- No two results have one listing, byte for byte.
 pub only_result : (l : Lowered) → spec.IsOnlyResult l
-only_result l other there here same =
-    lowered-apart other l (Spells-one (spelling (spec.lowered other)) (spec.lowered other) (spec.lowered l)
-    (record { writable = there; spelled = refl }) (record { writable = here; spelled = same }))
+only_result l other same = lowered-apart other l (Worded-one (spec.lowered other) (spec.lowered l) (lowered_worded other) (lowered_worded l) same)

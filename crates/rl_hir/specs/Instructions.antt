@@ -1,4 +1,4 @@
--- What instructions name and take, as texts and places.
+-- The bindings and arguments of instructions, as texts and places.
 use Rattle.std.specs.Prelude.{ℕ, List, [], ◌∷◌, codes}
 use Rattle.rl_hir.specs.declared.instruction.Place.{Place}
 use Rattle.rl_hir.specs.declared.instruction.NonLocalBinding.{NonLocalBinding}
@@ -6,7 +6,8 @@ use Rattle.rl_hir.specs.declared.instruction.NonLocalBinding.TheVariants as bind
 use Rattle.rl_hir.specs.declared.instruction.PlaceOrSpread.{PlaceOrSpread}
 use Rattle.rl_hir.specs.declared.instruction.PlaceOrSpread.TheVariants as arguments
 
--- what tells one such name from all others: the name, and where it comes from
+-- The texts that tell a binding from all others: the name, the word of its kind (none for a global), and for an import the
+-- module, and the name there where that is imported.
 abbrev pub binding_texts : NonLocalBinding → List (List ℕ)
 binding_texts (bindings.Global name) = name ∷ []
 binding_texts (bindings.ModuleLocal name) = name ∷ codes "module" ∷ []
@@ -14,10 +15,12 @@ binding_texts (bindings.ImportDefault name source) = name ∷ codes "default" �
 binding_texts (bindings.ImportNamespace name source) = name ∷ codes "namespace" ∷ source ∷ []
 binding_texts (bindings.ImportSpecifier name source imported) = name ∷ codes "named" ∷ source ∷ imported ∷ []
 
+-- The text that stands for an argument's shape.
 abbrev pub argument_shape : PlaceOrSpread → List ℕ
 argument_shape (arguments.Place p) = codes "place"
 argument_shape (arguments.Spread p) = codes "spread"
 
+-- The place of the value, or of the value that is spread.
 abbrev pub argument_place : PlaceOrSpread → Place
 argument_place (arguments.Place p) = p
 argument_place (arguments.Spread p) = p

@@ -1,11 +1,11 @@
--- A result as a tree of the notation.
+-- Listings: results as trees of the notation. `[X]` stands for a list of such trees, SPAN and NAME may be absent (`-`).
 use Rattle.std.specs.Prelude.{◌≡◌, ℕ, Option, Some, None, List, [], ◌∷◌, map, codes}
-use Rattle.rl_text.specs.Notation.{Tree, Node, Listed, Said, Count, Flag, Absent, spelling, IsWritable}
+use Rattle.rl_text.specs.Notation.{Tree, Node, Listed, Said, Count, Flag, Absent, spelling}
 use Rattle.rl_text.specs.Raw.{parts_of}
 use Rattle.rl_base.specs.declared.span.Span.{Span}
 use Rattle.rl_base.specs.declared.ids.BlockId.{BlockId}
 use Rattle.rl_base.specs.declared.ids.InstructionId.{InstructionId}
-use Rattle.rl_text.specs.Operators.{operator_text}
+use Rattle.rl_base.specs.Operators.{operator_text}
 use Rattle.rl_hir.specs.declared.instruction.Place.{Place}
 use Rattle.rl_hir.specs.declared.instruction.Instruction.{Instruction}
 use Rattle.rl_hir.specs.declared.instruction.InstructionValue.{InstructionValue}
@@ -34,15 +34,18 @@ use Rattle.rl_hir.specs.declared.function.InnerFunction.{InnerFunction}
 use Rattle.rl_hir.specs.declared.function.Pair.{Pair}
 use Rattle.rl_hir.specs.declared.function.Lowered.{Lowered}
 
+-- A node with its word and parts.
 abbrev pub node : List ℕ → List Tree → Tree
 node word parts = Node word (parts_of parts)
 
 abbrev pub listed : List Tree → Tree
 listed parts = Listed (parts_of parts)
 
+-- A list with a tree for each item.
 abbrev pub list : {X : Type 0} → (X → Tree) → List X → Tree
 list tree items = listed (map tree items)
 
+-- The tree of an optional item; the sign of absence for `None`.
 abbrev pub optional : {X : Type 0} → (X → Tree) → Option X → Tree
 optional tree None = Absent
 optional tree (Some item) = tree item
@@ -80,8 +83,8 @@ operand_of argument = place (argument_place argument)
 abbrev pub operands : Place → List PlaceOrSpread → Tree
 operands callee arguments = listed (place callee ∷ map operand_of arguments)
 
--- a word, and then the value, the place, or the texts of an event and its operands: those of `loadglobal` are the name's,
--- that of `binary` is the operator's, those of `call` are the shapes of the arguments
+-- A word, and then the constant, the place, or the texts of an event and its operands. The texts of `loadglobal` are those
+-- of the binding, that of `binary` is the operator's, and those of `call` are the shapes of the arguments.
 abbrev pub value : InstructionValue → Tree
 value (values.Primitive v) = node (codes "primitive") (primitive v ∷ [])
 value (values.LoadLocal p) = node (codes "loadlocal") (place p ∷ [])
@@ -98,7 +101,7 @@ return_variant returns.Implicit = codes "implicit"
 return_variant returns.Explicit = codes "explicit"
 return_variant returns.Void = codes "void"
 
--- the fields after the order and the span
+-- `(return ORDER SPAN VARIANT PLACE)`, `(unreachable ORDER SPAN)`
 abbrev pub terminal : Terminal → Tree
 terminal (terminals.Return order at variant p) = node (codes "return") (Count order.0 ∷ optional span at ∷ Said (return_variant variant) ∷ place p ∷ [])
 terminal (terminals.Unreachable order at) = node (codes "unreachable") (Count order.0 ∷ optional span at ∷ [])
@@ -157,6 +160,6 @@ pair p = node (codes "pair") (Count p.symbol.0 ∷ Count p.identifier.0 ∷ [])
 unfoldable pub lowered : Lowered → Tree
 lowered l = node (codes "lowered") (function l.function ∷ list inner l.inner ∷ list identifier l.identifiers ∷ list pair l.pairs ∷ [])
 
--- no other result has this one's text, where the notation has both
+-- A result whose listing no other result has, byte for byte.
 abbrev pub IsOnlyResult : Lowered → Type 0
-IsOnlyResult l = (other : Lowered) → IsWritable (lowered other) → IsWritable (lowered l) → spelling (lowered other) ≡ spelling (lowered l) → other ≡ l
+IsOnlyResult l = (other : Lowered) → spelling (lowered other) ≡ spelling (lowered l) → other ≡ l

@@ -1,37 +1,41 @@
-ghost use Rattle.std.specs.Prelude.{◌≡◌, ◌+◌, ◌<◌, ◌^◌, ◌∷◌, ◌++◌, [], OnOk, OnErr, IfOk, length, None};
+ghost use Rattle.std.specs.Prelude.{◌≡◌, ◌≢◌, ◌+◌, ◌<◌, ◌^◌, ◌∷◌, ◌++◌, [], OnOk, OnErr, IfOk, IfErr, length, None, Err};
+ghost use Rattle.rl_base.specs.Rows.{category_of};
 ghost use Rattle.rl_hir.specs.Identifiers.{with_name, with_span, changed_at};
 
 use crate::function::{
     HirFunction, Identifier, IdentifierName, InnerFunction, Lowered, Pair, ReactFunctionType,
 };
 use rl_base::diagnostic::Diagnostic;
-use rl_base::failure::OutOfMemory;
+use rl_base::error::OutOfMemory;
 use rl_base::ids::{BlockId, IdentifierId, SymbolId, TypeId};
 use rl_base::list::List;
+use rl_base::row::Category;
 use rl_base::span::Span;
+use rl_base::stop::Stop;
 use std::alloc::Global;
 
-/// What the functions of a unit share while they are lowered: the counters, and all that was made so far.
+/// The counters and tables that all functions of a unit share while they are lowered (`Environment` of the compiler).
+/// A call that answers `OutOfMemory` leaves it unchanged.
 #[derive(Drop)]
 pub struct Environment {
     /// The type of the marked function.
     pub fn_type: ReactFunctionType,
-    /// The number of the next block.
+    /// The id of the next block; ids count from 0 over all functions of the unit.
     pub next_block: u32,
-    /// The number of the next type variable.
+    /// The id of the next type variable; ids count from 0 over all functions of the unit.
     pub next_type: u32,
-    /// All identifiers, by number.
+    /// The identifiers of all functions, indexed by identifier id.
     pub identifiers: List<Identifier>,
-    /// The inner functions, by number.
+    /// The inner functions that were lowered, indexed by function id.
     pub functions: List<InnerFunction>,
-    /// Symbols in the order in which they got their identifiers.
+    /// Symbols and their identifiers, in the order in which the symbols got them.
     pub pairs: List<Pair>,
-    /// What the unit is refused for, in the order in which it was met.
+    /// The diagnostics that were recorded, in the order of the walk.
     pub diagnostics: List<Diagnostic>,
 }
 
 impl Environment {
-    /// Nothing was made yet. It takes no memory.
+    /// An environment with all tables empty and both counters at 0. It allocates nothing.
     pub fn new(alloc: Global, fn_type: ReactFunctionType) -> Environment
         ensures { result ≡ record { fn_type = fn_type; next_block = 0; next_type = 0; identifiers = []; functions = []; pairs = []; diagnostics = [] } }
     {
@@ -46,7 +50,7 @@ impl Environment {
         }
     }
 
-    /// A fresh number for a block.
+    /// Hands out the next block id (`nextBlockId`).
     pub fn next_block_id(&mut self) -> BlockId
         requires { self.old.next_block + 1 < 2 ^ 32 }
         ensures id { result.0 ≡ self.old.next_block }
@@ -57,7 +61,7 @@ impl Environment {
         id
     }
 
-    /// A fresh type variable.
+    /// Hands out the next type variable (`makeType`).
     pub fn make_type(&mut self) -> TypeId
         requires { self.old.next_type + 1 < 2 ^ 32 }
         ensures id { result.0 ≡ self.old.next_type }
@@ -68,29 +72,29 @@ impl Environment {
         id
     }
 
-    /// A fresh identifier without a name, of a type of its own. Where memory is wanted and not given, no identifier was
-    /// made.
-    pub fn next_identifier_id(&mut self, span: Option<Span>) -> Result<IdentifierId, OutOfMemory>
+    /// Adds an identifier without a name and without a span, of a fresh type variable, and answers its id
+    /// (`nextIdentifierId`). On `OutOfMemory` an allocation failed, and nothing changed.
+    pub fn next_identifier_id(&mut self) -> Result<IdentifierId, OutOfMemory>
         requires identifiers { length self.old.identifiers < 2 ^ 32 }
         requires types { self.old.next_type + 1 < 2 ^ 32 }
         ensures id { IfOk result (λ id. id.0 ≡ length self.old.identifiers) }
         ensures ok { OnOk result (self.new ≡ record self.old {
           next_type = self.old.next_type + 1;
-          identifiers = self.old.identifiers ++ record { name = None; span = span; type_id = record { 0 = self.old.next_type } } ∷ [];
+          identifiers = self.old.identifiers ++ record { name = None; span = None; type_id = record { 0 = self.old.next_type } } ∷ [];
         }) }
-        ensures err { OnErr result (self.new.identifiers ≡ self.old.identifiers) }
+        ensures err { OnErr result (self.new ≡ self.old) }
     {
         let id = IdentifierId(self.identifiers.len() as u32);
-        let type_id = self.make_type();
         self.identifiers.push(Identifier {
             name: None,
-            span,
-            type_id,
+            span: None,
+            type_id: TypeId(self.next_type),
         })?;
+        self.next_type += 1;
         Ok(id)
     }
 
-    /// Gives an identifier this name.
+    /// Gives an identifier its name, in place of the one that it had.
     pub fn set_name(&mut self, identifier: IdentifierId, name: IdentifierName)
         requires { identifier.0 < length self.old.identifiers }
         ensures { self.new ≡ record self.old { identifiers = changed_at (with_name name) identifier.0 self.old.identifiers } }
@@ -98,15 +102,15 @@ impl Environment {
         self.identifiers.item_mut(identifier.0 as usize).name = Some(name);
     }
 
-    /// Gives an identifier this place of its own, or none.
-    pub fn set_span(&mut self, identifier: IdentifierId, span: Option<Span>)
+    /// Gives an identifier its span, in place of the one that it had.
+    pub fn set_span(&mut self, identifier: IdentifierId, span: Span)
         requires { identifier.0 < length self.old.identifiers }
         ensures { self.new ≡ record self.old { identifiers = changed_at (with_span span) identifier.0 self.old.identifiers } }
     {
-        self.identifiers.item_mut(identifier.0 as usize).span = span;
+        self.identifiers.item_mut(identifier.0 as usize).span = Some(span);
     }
 
-    /// Notes which identifier stands for a symbol. Where memory is wanted and not given, nothing was noted.
+    /// Appends the pair of a symbol and its identifier. On `OutOfMemory` an allocation failed, and nothing changed.
     pub fn add_pair(
         &mut self,
         symbol: SymbolId,
@@ -120,14 +124,32 @@ impl Environment {
         self.pairs.push(Pair { symbol, identifier })
     }
 
-    /// Notes what the unit is refused for.
-    pub fn record_error(&mut self, diagnostic: Diagnostic) -> Result<(), OutOfMemory>
-        ensures { OnOk result (self.new ≡ record self.old { diagnostics = self.old.diagnostics ++ diagnostic ∷ [] }) }
+    /// Appends a diagnostic, of whatever category (`recordDiagnostic`). On `OutOfMemory` an allocation failed, and
+    /// nothing changed.
+    pub fn record_diagnostic(&mut self, diagnostic: Diagnostic) -> Result<(), OutOfMemory>
+        ensures ok { OnOk result (self.new ≡ record self.old { diagnostics = self.old.diagnostics ++ diagnostic ∷ [] }) }
+        ensures err { OnErr result (self.new ≡ self.old) }
     {
         self.diagnostics.push(diagnostic)
     }
 
-    /// The marked function with all that was made beside it.
+    /// Appends a diagnostic, or stops with it where its category is `Invariant` (`recordError`, which throws there). On
+    /// `Stop::Diagnostic` and on `Stop::OutOfMemory`, where an allocation failed, nothing changed.
+    pub fn record_error(&mut self, diagnostic: Diagnostic) -> Result<(), Stop>
+        ensures ok { OnOk result (self.new ≡ record self.old { diagnostics = self.old.diagnostics ++ diagnostic ∷ [] }) }
+        ensures err { OnErr result (self.new ≡ self.old) }
+        ensures invariant { category_of diagnostic.row ≡ Category.Invariant → result ≡ Err (Stop.Diagnostic diagnostic) }
+        ensures other { category_of diagnostic.row ≢ Category.Invariant → IfErr result (λ e. e ≡ Stop.OutOfMemory) }
+    {
+        if diagnostic.row.category() == Category::Invariant {
+            return Err(Stop::Diagnostic(diagnostic));
+        }
+        self.record_diagnostic(diagnostic)?;
+        Ok(())
+    }
+
+    /// The marked function with the inner functions, identifiers and pairs that were kept beside it. Diagnostics are
+    /// dropped.
     pub fn into_lowered(self, function: HirFunction) -> Lowered
         ensures { result ≡ record { function = function; inner = self.functions; identifiers = self.identifiers; pairs = self.pairs } }
     {
@@ -137,36 +159,5 @@ impl Environment {
             identifiers: self.identifiers,
             pairs: self.pairs,
         }
-    }
-}
-
-#[cfg(test)]
-mod tests {
-    use super::*;
-    use rl_base::text::Text;
-    use std::test::Fail;
-
-    #[test]
-    fn changes_one_identifier(rt: HostRuntime) -> Result<(), Fail> {
-        let mut environment = Environment::new(rt.alloc(), ReactFunctionType::Other);
-        let span = Span { start: 3, end: 4 };
-        let first = environment.next_identifier_id(None)?;
-        let second = environment.next_identifier_id(Some(span))?;
-        let name = Text::from_str(rt.alloc(), "a")?;
-        environment.set_name(second, IdentifierName::Named(name));
-        environment.set_span(first, Some(span));
-        environment.set_span(second, None);
-        environment.add_pair(SymbolId(7), second)?;
-        let identifiers = environment.identifiers.as_slice();
-        assert_eq!(rt; identifiers[0].span, Some(span));
-        assert!(rt; identifiers[0].name.is_none());
-        assert_eq!(rt; identifiers[1].span, None);
-        assert!(rt; identifiers[1].name.is_some());
-        let pair = Pair {
-            symbol: SymbolId(7),
-            identifier: second,
-        };
-        assert_eq!(rt; environment.pairs.as_slice(), [pair].as_slice());
-        Ok(())
     }
 }

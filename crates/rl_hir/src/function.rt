@@ -5,114 +5,148 @@ use rl_base::list::List;
 use rl_base::span::Span;
 use rl_base::text::Text;
 
-/// What a block is part of.
+/// The construct that a block belongs to.
 #[derive(Clone, Copy, Debug, PartialEq, Eq)]
 pub enum BlockKind {
+    /// Statements in a row.
     Block,
+    /// A part of an expression that branches, such as a logical or a conditional one.
     Value,
+    /// The test, initialiser or update of a loop.
     Loop,
+    /// An operand of a sequence expression, or of an optional chain.
     Sequence,
+    /// The handler of a `try`.
     Catch,
 }
 
-/// Instructions in a row, and what comes after them. Its number is that of its pair in the block table.
+/// Instructions that run one after the other, and the terminal that runs after them. A block holds no id of its own;
+/// that of its `NumberedBlock` counts.
 #[derive(Drop)]
 pub struct BasicBlock {
+    /// The construct that it belongs to.
     pub kind: BlockKind,
-    /// Places in the instruction table.
+    /// Indices into the function's instruction table, in the order of evaluation.
     pub instructions: List<InstructionId>,
+    /// The end of the block, which runs after the instructions.
     pub terminal: Terminal,
-    /// The blocks that lead here.
+    /// The ids of the blocks that have this one as a successor, each once.
     pub preds: List<BlockId>,
 }
 
-/// A block with its number.
+/// A block and its id.
 #[derive(Drop)]
 pub struct NumberedBlock {
+    /// An id that no other block of the unit has.
     pub id: BlockId,
+    /// The block that has the id.
     pub block: BasicBlock,
 }
 
-/// The blocks of a function, in order, and the one that is run first.
+/// The control-flow graph of a function (`HIR` of the compiler).
 #[derive(Drop)]
 pub struct Hir {
+    /// The id of the block that runs first.
     pub entry: BlockId,
+    /// The blocks that the entry reaches, in the order in which they are listed.
     pub blocks: List<NumberedBlock>,
 }
 
-/// What React takes a function for.
+/// The role that React gives a function.
 #[derive(Clone, Copy, Debug, PartialEq, Eq)]
 pub enum ReactFunctionType {
+    /// A function that React renders.
     Component,
+    /// A function that components and hooks call, under the rules of hooks.
     Hook,
+    /// Neither a component nor a hook.
     Other,
 }
 
 /// A parameter of a function.
 #[derive(Clone, Copy, Debug, PartialEq, Eq)]
 pub enum Param {
+    /// Takes one argument.
     Place(Place),
+    /// Takes all arguments from its position on, as an array: a rest parameter.
     Spread(Place),
 }
 
 /// A function as a graph.
 #[derive(Drop)]
 pub struct HirFunction {
+    /// The span of the function's node; `None` where no node stands for it.
     pub span: Option<Span>,
+    /// The name that the source gives the function.
     pub name: Option<Text>,
+    /// The role that React gives the function.
     pub fn_type: ReactFunctionType,
+    /// True for a generator.
     pub generator: bool,
+    /// True for an async function.
     pub is_async: bool,
+    /// The directives of the body, without their quotes, in order.
     pub directives: List<Text>,
+    /// The parameters, from left to right.
     pub params: List<Param>,
-    /// What the function captures.
+    /// The variables of enclosing functions that this one captures.
     pub context: List<Place>,
+    /// The place that takes the value that the function returns.
     pub returns: Place,
+    /// The control-flow graph.
     pub body: Hir,
-    /// The table that blocks list places of.
+    /// The instruction table, indexed by instruction id. It may hold instructions that no block lists.
     pub instructions: List<Instruction>,
 }
 
 /// The name of an identifier.
 #[derive(Drop)]
 pub enum IdentifierName {
-    /// A name of the source.
+    /// A name that comes from the source: the symbol's own, or that with a suffix.
     Named(Text),
     /// A name that was made for a temporary.
     Promoted(Text),
 }
 
-/// What is known of an identifier.
+/// An entry of the table of identifiers.
 #[derive(Drop)]
 pub struct Identifier {
+    /// `None` for a temporary.
     pub name: Option<IdentifierName>,
+    /// The span of the symbol's declaration, or of the node whose value a temporary takes; `None` where no node stands
+    /// for it.
     pub span: Option<Span>,
+    /// The type variable of the identifier, of its own.
     pub type_id: TypeId,
 }
 
-/// An inner function, with the number of its node.
+/// An inner function as a graph.
 #[derive(Drop)]
 pub struct InnerFunction {
+    /// The node of the unit that was lowered.
     pub node: NodeId,
+    /// The graph of the node.
     pub function: HirFunction,
 }
 
-/// A symbol of the source, and the identifier that stands for it.
+/// A symbol of the source, and the identifier that stands for it in every graph of the unit.
 #[derive(Clone, Copy, Debug, PartialEq, Eq)]
 pub struct Pair {
+    /// The symbol, which is in one pair at most.
     pub symbol: SymbolId,
+    /// The identifier, which is in one pair at most.
     pub identifier: IdentifierId,
 }
 
-/// What a unit is lowered to.
+/// The graphs of a unit, with the tables that they share.
 #[derive(Drop)]
 pub struct Lowered {
     /// The marked function.
     pub function: HirFunction,
-    /// Its inner functions, by number.
+    /// The inner functions of the marked one, indexed by function id.
     pub inner: List<InnerFunction>,
-    /// All identifiers, by number.
+    /// The identifiers of all functions, indexed by identifier id.
     pub identifiers: List<Identifier>,
-    /// Symbols in the order in which they got their identifiers.
+    /// Symbols and their identifiers, in the order in which the symbols got them.
     pub pairs: List<Pair>,
 }

@@ -3,73 +3,76 @@ ghost use Rattle.rl_hir.specs.Instructions.{argument_shape, argument_place};
 
 use rl_base::ids::{EvaluationOrder, IdentifierId};
 use rl_base::list::List;
+use rl_base::operator::BinaryOperator;
 use rl_base::span::Span;
 use rl_base::text::Text;
-use rl_text::operator::BinaryOperator;
 
-/// An identifier as it is used at a place of the source.
+/// A use of an identifier.
 #[derive(Clone, Copy, Debug, PartialEq, Eq)]
 pub struct Place {
+    /// The variable or temporary that is used; an index into the unit's table of identifiers.
     pub identifier: IdentifierId,
-    /// None where no node of the source stands for it.
+    /// The span of the node that uses it; `None` where no node stands for the use.
     pub span: Option<Span>,
 }
 
-/// One entry of a function's instruction table.
+/// An entry of a function's instruction table.
 #[derive(Drop)]
 pub struct Instruction {
-    /// Its place in the order of the blocks, or 0 where no block lists it.
+    /// Its evaluation order, from 1 in block order; 0 where no block lists it.
     pub order: EvaluationOrder,
-    /// What takes its value.
+    /// The place that takes its value.
     pub lvalue: Place,
+    /// The operation, whose value `lvalue` takes.
     pub value: InstructionValue,
+    /// The span of the node that it evaluates; `None` where no node stands for it.
     pub span: Option<Span>,
 }
 
-/// What an instruction computes.
+/// The operation of an instruction.
 #[derive(Drop)]
 pub enum InstructionValue {
-    /// The value itself.
+    /// A constant.
     Primitive(PrimitiveValue),
-    /// The value that a local holds.
+    /// Reads a local variable.
     LoadLocal(Place),
-    /// The value that a name stands for which no local has.
+    /// Reads a name that no local variable has.
     LoadGlobal(NonLocalBinding),
-    /// What an operator makes of two values.
+    /// Applies an operator to two values.
     Binary {
         operator: BinaryOperator,
         left: Place,
         right: Place,
     },
-    /// What a function answers to these arguments.
+    /// Calls a function, with `arguments` from left to right.
     Call {
         callee: Place,
         arguments: List<PlaceOrSpread>,
     },
 }
 
-/// What a name stands for that no local has.
+/// The binding of a name that no local variable has (`NonLocalBinding` of the compiler).
 #[derive(Drop)]
 pub enum NonLocalBinding {
-    /// Nothing in the module declares the name.
+    /// A name that nothing in the module declares.
     Global {
         name: Text,
     },
-    /// The module declares it.
+    /// A declaration of the module, at its top level, that is no import.
     ModuleLocal {
         name: Text,
     },
-    /// The default export of a module.
+    /// An import of the default export of `module`.
     ImportDefault {
         name: Text,
         module: Text,
     },
-    /// All exports of a module.
+    /// An import of all exports of `module`, as one object.
     ImportNamespace {
         name: Text,
         module: Text,
     },
-    /// The export of a module that has the name `imported`.
+    /// An import of the export of `module` whose name is `imported`.
     ImportSpecifier {
         name: Text,
         module: Text,
@@ -80,14 +83,14 @@ pub enum NonLocalBinding {
 /// An argument of a call.
 #[derive(Clone, Copy, Debug, PartialEq, Eq)]
 pub enum PlaceOrSpread {
-    /// One value.
+    /// An argument that is one value.
     Place(Place),
-    /// Each value that this one yields.
+    /// A spread argument: the values that this one yields.
     Spread(Place),
 }
 
 impl PlaceOrSpread {
-    /// The word of its shape.
+    /// The text that stands for the argument's shape in a listing: `place` or `spread`.
     pub fn shape(self) -> &'static str
         ensures { result.now ≡ argument_shape self }
     {
@@ -97,7 +100,7 @@ impl PlaceOrSpread {
         }
     }
 
-    /// The place of the value, or of what is spread.
+    /// The place of the value, or of the value that is spread.
     pub fn place(self) -> Place
         ensures { result ≡ argument_place self }
     {
@@ -108,13 +111,17 @@ impl PlaceOrSpread {
     }
 }
 
-/// A value that a literal writes, or the undefined value.
+/// The value of a literal, or undefined.
 #[derive(Drop)]
 pub enum PrimitiveValue {
+    /// The undefined value, which no literal writes.
     Undefined,
+    /// The value of `null`.
     Null,
+    /// The value of `true` or `false`.
     Boolean(bool),
-    /// A whole number, at most 2^53.
+    /// A whole number; those that come from a unit are at most 2^53.
     Number(u64),
+    /// A text, in UTF-8.
     String(Text),
 }

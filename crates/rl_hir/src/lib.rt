@@ -1,5 +1,5 @@
-//! The graph: tables of instructions, blocks that list them, terminals that lead from block to block, and how results
-//! are listed.
+//! Control-flow graphs: tables of instructions, blocks that list them, terminals that lead from block to block, the tables
+//! that the functions of a unit share, and the listing of results.
 #![tactic(auto)]
 
 pub mod environment;

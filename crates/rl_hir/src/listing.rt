@@ -1,4 +1,4 @@
-//! A result as a tree of the notation.
+//! Listings: results as trees of the notation.
 
 ghost use Rattle.std.specs.Prelude.{◌≡◌, IfOk, map};
 ghost use Rattle.rl_text.specs.Notation.{Tree, Said, Count, Flag};
@@ -13,7 +13,7 @@ use crate::instruction::{
     Instruction, InstructionValue, NonLocalBinding, Place, PlaceOrSpread, PrimitiveValue,
 };
 use crate::terminal::{ReturnVariant, Terminal};
-use rl_base::failure::OutOfMemory;
+use rl_base::error::OutOfMemory;
 use rl_base::ids::{BlockId, InstructionId};
 use rl_base::list::List;
 use rl_base::span::Span;
@@ -21,15 +21,16 @@ use rl_base::text::Text;
 use rl_text::raw::Raw;
 use std::alloc::Global;
 
-/// Has a tree of the notation.
+/// A part of a result that is listed as one tree.
 trait ToRaw {
     ghost shown: { Self → Tree };
 
+    /// The tree of the part. On `OutOfMemory` an allocation failed, and nothing is kept.
     fn to_raw(&self, alloc: Global) -> Result<Raw, OutOfMemory>
         ensures { IfOk result (λ raw. tree raw ≡ shown self.now) };
 }
 
-/// A node with a word and parts.
+/// A node with its word and parts.
 #[tactic(auto, using(rl_text::proofs::Trees::tree_forms))]
 fn node<const N: usize>(alloc: Global, word: &str, parts: [Raw; N]) -> Result<Raw, OutOfMemory>
     ensures { IfOk result (λ raw. tree raw ≡ spec.node word.now (map tree parts.entry)) }
@@ -38,7 +39,7 @@ fn node<const N: usize>(alloc: Global, word: &str, parts: [Raw; N]) -> Result<Ra
     Ok(Raw::Node(Text::from_str(alloc, word)?, List::from_vec(parts)))
 }
 
-/// A list of these trees.
+/// A list of trees.
 #[tactic(auto, using(rl_text::proofs::Trees::tree_forms))]
 fn listed(parts: List<Raw>) -> Raw
     ensures { tree result ≡ spec.listed (map tree parts) }
@@ -46,14 +47,14 @@ fn listed(parts: List<Raw>) -> Raw
     Raw::List(parts)
 }
 
-/// A list of so many trees.
+/// As `listed`, for an array.
 fn list_of<const N: usize>(alloc: Global, parts: [Raw; N]) -> Result<Raw, OutOfMemory>
     ensures { IfOk result (λ raw. tree raw ≡ spec.listed (map tree parts.entry)) }
 {
     Ok(listed(List::from_vec(Vec::from_array(alloc, parts)?)))
 }
 
-/// A text of the program's own.
+/// A text: a quoted leaf of the notation.
 #[tactic(auto, using(rl_text::proofs::Trees::tree_forms))]
 fn said(alloc: Global, text: &str) -> Result<Raw, OutOfMemory>
     ensures { IfOk result (λ raw. tree raw ≡ Said text.now) }
@@ -61,7 +62,7 @@ fn said(alloc: Global, text: &str) -> Result<Raw, OutOfMemory>
     Ok(Raw::Text(Text::from_str(alloc, text)?))
 }
 
-/// A number.
+/// A number of the notation.
 #[tactic(auto, using(rl_text::proofs::Trees::tree_forms))]
 fn number(value: u64) -> Raw
     ensures { tree result ≡ Count value }
@@ -69,14 +70,14 @@ fn number(value: u64) -> Raw
     Raw::Number(value)
 }
 
-/// The number of a thing.
+/// As `number`, for an id, an index or an offset.
 fn count(value: u32) -> Raw
     ensures { tree result ≡ Count value }
 {
     number(u64::from(value))
 }
 
-/// A flag.
+/// A flag of the notation.
 #[tactic(auto, using(rl_text::proofs::Trees::tree_forms))]
 fn flag(value: bool) -> Raw
     ensures { tree result ≡ Flag value }
@@ -208,7 +209,7 @@ fn shapes(alloc: Global, arguments: &[PlaceOrSpread]) -> Result<Raw, OutOfMemory
     Ok(listed(texts))
 }
 
-/// The places of what is called and of each argument.
+/// The places of the callee and of each argument, as a list.
 fn operands(alloc: Global, callee: Place, arguments: &[PlaceOrSpread]) -> Result<Raw, OutOfMemory>
     ensures { IfOk result (λ raw. tree raw ≡ spec.operands callee arguments.now) }
 {
@@ -432,11 +433,11 @@ impl ToRaw for Pair {
     }
 }
 
-/// The tree of a result.
+/// The listing of a result: the tree that is written for it. On `OutOfMemory` an allocation failed, and nothing is kept.
 #[tactic(auto, using(crate::proofs::ReadBack::only_result), unfolding(crate::specs::Listing::lowered))]
 pub fn listing(alloc: Global, lowered: &Lowered) -> Result<Raw, OutOfMemory>
     ensures listed { IfOk result (λ raw. tree raw ≡ spec.lowered lowered.now) }
-    ensures only { spec.IsOnlyResult lowered.now }
+    ensures unique { spec.IsOnlyResult lowered.now }
 {
     let parts = [
         lowered.function.to_raw(alloc)?,
@@ -445,210 +446,4 @@ pub fn listing(alloc: Global, lowered: &Lowered) -> Result<Raw, OutOfMemory>
         lowered.pairs.to_raw(alloc)?,
     ];
     node(alloc, "lowered", parts)
-}
-
-#[cfg(test)]
-mod tests {
-    use super::*;
-    use crate::function::{BasicBlock, Hir};
-    use rl_base::ids::{EvaluationOrder, IdentifierId, TypeId};
-    use rl_text::operator::BinaryOperator;
-    use rl_text::write::write_raw;
-    use std::test::Fail;
-
-    const LISTED: &str =
-        "(lowered (fn (at 25 60) - \"other\" n n [] [] [] (p 2 -) 0 [(block 0 \"block\" [0] (return 2 - \"implicit\" (p 0 (at 50 59))) [])] [(i 1 (p 0 (at 50 59)) (at 50 59) (primitive (number 1))) (i 0 (p 1 -) - (primitive (undefined)))]) [] [(ident - (at 50 59) 0) (ident - - 1) (ident - (at 25 60) 2)] [])";
-
-    fn place(identifier: u32, span: Option<Span>) -> Place {
-        Place {
-            identifier: IdentifierId(identifier),
-            span,
-        }
-    }
-
-    fn instruction(order: u32, lvalue: Place, value: PrimitiveValue) -> Instruction {
-        Instruction {
-            order: EvaluationOrder(order),
-            lvalue,
-            value: InstructionValue::Primitive(value),
-            span: lvalue.span,
-        }
-    }
-
-    fn identifier(type_id: u32, span: Option<Span>) -> Identifier {
-        Identifier {
-            name: None,
-            span,
-            type_id: TypeId(type_id),
-        }
-    }
-
-    fn block(alloc: Global, returned: Place) -> Result<NumberedBlock, OutOfMemory> {
-        Ok(NumberedBlock {
-            id: BlockId(0),
-            block: BasicBlock {
-                kind: BlockKind::Block,
-                instructions: List::from_vec(vec![in alloc; InstructionId(0)]?),
-                terminal: Terminal::Return {
-                    order: EvaluationOrder(2),
-                    span: None,
-                    variant: ReturnVariant::Implicit,
-                    value: returned,
-                },
-                preds: List::new(alloc),
-            },
-        })
-    }
-
-    /// A function that returns 1.
-    fn one(alloc: Global, whole: Span, literal: Span) -> Result<HirFunction, OutOfMemory> {
-        let returned = place(0, Some(literal));
-        let entry = block(alloc, returned)?;
-        Ok(HirFunction {
-            span: Some(whole),
-            name: None,
-            fn_type: ReactFunctionType::Other,
-            generator: false,
-            is_async: false,
-            directives: List::new(alloc),
-            params: List::new(alloc),
-            context: List::new(alloc),
-            returns: place(2, None),
-            body: Hir {
-                entry: BlockId(0),
-                blocks: List::from_vec(vec![in alloc; entry]?),
-            },
-            instructions: List::from_vec(vec![in alloc;
-                instruction(1, returned, PrimitiveValue::Number(1)),
-                instruction(0, place(1, None), PrimitiveValue::Undefined),
-            ]?),
-        })
-    }
-
-    fn text(alloc: Global) -> Result<Vec<u8>, OutOfMemory> {
-        let whole = Span { start: 25, end: 60 };
-        let literal = Span { start: 50, end: 59 };
-        let lowered = Lowered {
-            function: one(alloc, whole, literal)?,
-            inner: List::new(alloc),
-            identifiers: List::from_vec(vec![in alloc;
-                identifier(0, Some(literal)),
-                identifier(1, None),
-                identifier(2, Some(whole)),
-            ]?),
-            pairs: List::new(alloc),
-        };
-        write_raw(alloc, &listing(alloc, &lowered)?)
-    }
-
-    /// The listing of an instruction value.
-    fn value_text(alloc: Global, value: &InstructionValue) -> Result<Vec<u8>, OutOfMemory> {
-        write_raw(alloc, &value.to_raw(alloc)?)
-    }
-
-    #[test]
-    fn lists_a_load(rt: HostRuntime) -> Result<(), Fail> {
-        let name = Some(Span {
-            start: 95,
-            end: 103,
-        });
-        let load = Instruction {
-            order: EvaluationOrder(1),
-            lvalue: place(2, name),
-            value: InstructionValue::LoadLocal(place(0, name)),
-            span: name,
-        };
-        let written = write_raw(rt.alloc(), &load.to_raw(rt.alloc())?)?;
-        assert_eq!(rt;
-            written.as_slice(),
-            b"(i 1 (p 2 (at 95 103)) (at 95 103) (loadlocal (p 0 (at 95 103))))".as_slice()
-        );
-        Ok(())
-    }
-
-    #[test]
-    fn lists_an_operator(rt: HostRuntime) -> Result<(), Fail> {
-        let binary = InstructionValue::Binary {
-            operator: BinaryOperator::ShiftRightZeroFill,
-            left: place(4, Some(Span { start: 9, end: 17 })),
-            right: place(5, None),
-        };
-        let written = value_text(rt.alloc(), &binary)?;
-        assert_eq!(rt;
-            written.as_slice(),
-            b"(binary [\">>>\"] [(p 4 (at 9 17)) (p 5 -)])".as_slice()
-        );
-        Ok(())
-    }
-
-    #[test]
-    fn lists_a_call(rt: HostRuntime) -> Result<(), Fail> {
-        let mut arguments = List::new(rt.alloc());
-        arguments.push(PlaceOrSpread::Place(place(2, None)))?;
-        arguments.push(PlaceOrSpread::Spread(place(3, None)))?;
-        let callee = place(1, Some(Span { start: 9, end: 17 }));
-        let call = InstructionValue::Call { callee, arguments };
-        let written = value_text(rt.alloc(), &call)?;
-        assert_eq!(rt;
-            written.as_slice(),
-            b"(call [\"place\" \"spread\"] [(p 1 (at 9 17)) (p 2 -) (p 3 -)])".as_slice()
-        );
-        Ok(())
-    }
-
-    fn global_text(alloc: Global, binding: NonLocalBinding) -> Result<Vec<u8>, OutOfMemory> {
-        value_text(alloc, &InstructionValue::LoadGlobal(binding))
-    }
-
-    #[test]
-    fn lists_names_that_are_no_locals(rt: HostRuntime) -> Result<(), Fail> {
-        let alloc = rt.alloc();
-        let name = Text::from_str(alloc, "f")?;
-        let global = global_text(alloc, NonLocalBinding::Global { name })?;
-        assert_eq!(rt; global.as_slice(), b"(loadglobal [\"f\"] [])".as_slice());
-        let name = Text::from_str(alloc, "f")?;
-        let local = global_text(alloc, NonLocalBinding::ModuleLocal { name })?;
-        assert_eq!(rt;
-            local.as_slice(),
-            b"(loadglobal [\"f\" \"module\"] [])".as_slice()
-        );
-        Ok(())
-    }
-
-    #[test]
-    fn lists_imports(rt: HostRuntime) -> Result<(), Fail> {
-        let alloc = rt.alloc();
-        let name = Text::from_str(alloc, "f")?;
-        let module = Text::from_str(alloc, "m")?;
-        let default = global_text(alloc, NonLocalBinding::ImportDefault { name, module })?;
-        assert_eq!(rt;
-            default.as_slice(),
-            b"(loadglobal [\"f\" \"default\" \"m\"] [])".as_slice()
-        );
-        let name = Text::from_str(alloc, "f")?;
-        let module = Text::from_str(alloc, "m")?;
-        let namespace = global_text(alloc, NonLocalBinding::ImportNamespace { name, module })?;
-        assert_eq!(rt;
-            namespace.as_slice(),
-            b"(loadglobal [\"f\" \"namespace\" \"m\"] [])".as_slice()
-        );
-        let specifier = NonLocalBinding::ImportSpecifier {
-            name: Text::from_str(alloc, "f")?,
-            module: Text::from_str(alloc, "m")?,
-            imported: Text::from_str(alloc, "g")?,
-        };
-        let named = global_text(alloc, specifier)?;
-        assert_eq!(rt;
-            named.as_slice(),
-            b"(loadglobal [\"f\" \"named\" \"m\" \"g\"] [])".as_slice()
-        );
-        Ok(())
-    }
-
-    #[test]
-    fn lists_a_result(rt: HostRuntime) -> Result<(), Fail> {
-        let bytes = text(rt.alloc())?;
-        assert_eq!(rt; bytes.as_slice(), LISTED.as_bytes());
-        Ok(())
-    }
 }

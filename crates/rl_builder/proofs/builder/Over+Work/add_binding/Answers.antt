@@ -2,7 +2,8 @@ use Rattle.std.proofs.Common.{◌≡◌, ◌++◌, [], ◌∷◌, None, length, 
 use Rattle.rl_hir.specs.Pairs.{identifier_of}
 use Rattle.rl_builder.proofs.NameLaws.{identifier_of-last, env_resolved-fresh, NamesAgree-with_binding}
 use Rattle.rl_builder.specs.Builder.{state_of}
-use Rattle.rl_builder.specs.Names.{chosen, env_resolved, pair, with_user, IsFree, NamesAgree}
+use Rattle.rl_builder.specs.Names.{chosen, env_resolved, with_user, IsFree, NamesAgree}
+use Rattle.rl_hir.specs.Pairs.{pair}
 use Rattle.rl_builder.proofs.builder.Over+Work.add_binding.Goals as goal
 
 pub returns-clause-state : goal.returns-clause-state
@@ -14,7 +15,7 @@ returns-clause-state c =
     let free = chosen work.used_names symbol.0 c.args.name.now in
     let text : c.in_ok-free.free ≡ free = c.in_ok-free.ensures.chosen ∙ ap (chosen work.used_names symbol.0) c.as_str.ensures in
     let env : c.set_name.new.self ≡ env_resolved None old free symbol.0 c.args.declaration =
-    env_resolved-fresh old c.next_identifier_id.new.self c.add_pair.new.self c.set_name.new.self symbol identifier c.in_ok-free.free c.args.declaration c.in_ok-identifier.ensures.ok c.in_ok-identifier.ensures.id c.in_ok-add_pair.ensures.ok c.set_name.ensures
+    env_resolved-fresh old c.new_temporary.new.env c.add_pair.new.self c.set_name.new.self symbol identifier c.in_ok-free.free c.args.declaration c.in_ok-identifier.ensures.ok c.in_ok-identifier.ensures.id c.in_ok-add_pair.ensures.ok c.set_name.ensures
     ∙ ap (λ name. env_resolved None old name symbol.0 c.args.declaration) text in
     let bindings : c.insert-2.new.self ≡ work.bindings ++ pair symbol.0 (length old.identifiers) ∷ [] =
     c.in_ok-insert-2.ensures ∙ ap (λ place. work.bindings ++ pair symbol.0 place ∷ []) c.in_ok-identifier.ensures.id in

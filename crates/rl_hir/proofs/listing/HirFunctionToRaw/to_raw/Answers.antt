@@ -1,5 +1,5 @@
 use Rattle.std.proofs.Common.{◌≡◌, Result, Ok, Err, IfOk, refl, ◌∙◌}
-use Rattle.rl_base.specs.declared.failure.OutOfMemory.{OutOfMemory}
+use Rattle.rl_base.specs.declared.error.OutOfMemory.{OutOfMemory}
 use Rattle.rl_text.specs.Notation.{Tree}
 use Rattle.rl_text.specs.Raw.{tree}
 use Rattle.rl_text.specs.declared.raw.Raw.{Raw}
