@@ -1,4 +1,4 @@
--- What lowering a body promises, and a function whose body was lowered.
+-- `LowersBody` of a body that is an expression, and of one that is a list of statements.
 use Rattle.std.proofs.Common.{◌≡◌, ℕ, ◌+◌, ◌*◌, ◌++◌, true, false, List, [], ◌∷◌, map, Option, refl, sym, ap, ◌∙◌, subst, arith, append-nil}
 use Rattle.rl_base.specs.declared.diagnostic.Diagnostic.{Diagnostic}
 use Rattle.rl_base.specs.declared.span.Span.{Span}
@@ -15,19 +15,23 @@ use Rattle.rl_ast.specs.Units.{said}
 use Rattle.rl_model.specs.declared.trace.Answer.{Answer}
 use Rattle.rl_scope.specs.declared.semantic.Symbol.{Symbol}
 use Rattle.rl_model.specs.Held.{calls_in, calls_among, calls_of, live_in_body}
-use Rattle.rl_lower.specs.Live.{can_body_fall}
-use Rattle.rl_lower.proofs.Live.{lives_same, lives_value_returned}
+use Rattle.rl_lower.specs.Reachable.{can_body_complete}
+use Rattle.rl_lower.proofs.Reachable.{adds_same, adds_value_returned}
 use Rattle.rl_model.specs.Rows.{refusals, refusals_in}
 use Rattle.rl_model.specs.Traces.{Store, Exits, returned}
-use Rattle.rl_model.specs.Source.{gives}
-use Rattle.rl_lower.specs.Lowering.{LowersExpression, LowersStatements, LowersBody, body_runs}
+use Rattle.rl_model.specs.Source.{eval_expr}
+use Rattle.rl_lower.specs.Lowering.{LowersExpression, LowersStatements, LowersBody, exec_before_end}
+use Rattle.rl_lower.proofs.Blocks.{blocks_value_returned}
 use Rattle.rl_lower.proofs.Keeping.{keeps_then, keeps_more, keeps_reserved, keeps_completed}
 use Rattle.rl_lower.specs.Endings.{return_of}
 use Rattle.rl_lower.proofs.Functions.{value_returned}
 use Rattle.rl_lower.proofs.Parts.{means_same}
 
--- a body that is an expression is no list of statements
-returns_value : (symbols : List Symbol) (e : Syntax) → is_expression e ≡ true → (source : Store) (answers : List Answer) (exits : Exits) → gives symbols e source answers (λ v after rest. returned returns.Implicit v) exits.throws ≡ body_runs symbols e source answers exits
+-- The meaning of a body that is an expression.
+returns_value : (symbols : List Symbol) (e : Syntax) → is_expression e ≡ true
+    → (source : Store) (answers : List Answer) (exits : Exits)
+    → eval_expr symbols e source answers
+    (λ v after rest. returned returns.Implicit v) exits.throws ≡ exec_before_end symbols e source answers exits
 returns_value symbols (Node at word.Unit parts) is source answers exits = refl
 returns_value symbols (Node at word.Program parts) is source answers exits = refl
 returns_value symbols (Node at word.Expr parts) is source answers exits = refl
@@ -51,41 +55,45 @@ returns_value symbols (Count number) is source answers exits = refl
 returns_value symbols (Flag flag) is source answers exits = refl
 returns_value symbols Absent is source answers exits = refl
 
--- what is alive of it is all of it, and nothing comes behind it
-expression_alive : (e : Syntax) → is_expression e ≡ true → (calls_in e ≡ live_in_body e) × (false ≡ can_body_fall e)
-expression_alive (Node at word.Unit parts) is = (refl, refl)
-expression_alive (Node at word.Program parts) is = (refl, refl)
-expression_alive (Node at word.Expr parts) is = (refl, refl)
-expression_alive (Node at word.Arrow parts) is = (refl, refl)
-expression_alive (Node at word.Params parts) is = (refl, refl)
-expression_alive (Node at word.Null parts) is = (refl, refl)
-expression_alive (Node at word.Bool parts) is = (refl, refl)
-expression_alive (Node at word.Num parts) is = (refl, refl)
-expression_alive (Node at word.Str parts) is = (refl, refl)
-expression_alive (Node at word.Paren parts) is = (refl, refl)
-expression_alive (Node at word.Body parts) is = absurd (cc)
-expression_alive (Node at word.Return parts) is = (refl, refl)
-expression_alive (Node at word.Param parts) is = (refl, refl)
-expression_alive (Node at word.Bind parts) is = (refl, refl)
-expression_alive (Node at word.Id parts) is = (refl, refl)
-expression_alive (Node at word.Binary parts) is = (refl, refl)
-expression_alive (Node at word.Call parts) is = (refl, refl)
-expression_alive (Listed parts) is = (refl, refl)
-expression_alive (Said text) is = (refl, refl)
-expression_alive (Count number) is = (refl, refl)
-expression_alive (Flag flag) is = (refl, refl)
-expression_alive Absent is = (refl, refl)
+-- Its calls are all reachable, and its end is not.
+expression_reachable : (e : Syntax) → is_expression e ≡ true → (calls_in e ≡ live_in_body e) × (false ≡ can_body_complete e)
+expression_reachable (Node at word.Unit parts) is = (refl, refl)
+expression_reachable (Node at word.Program parts) is = (refl, refl)
+expression_reachable (Node at word.Expr parts) is = (refl, refl)
+expression_reachable (Node at word.Arrow parts) is = (refl, refl)
+expression_reachable (Node at word.Params parts) is = (refl, refl)
+expression_reachable (Node at word.Null parts) is = (refl, refl)
+expression_reachable (Node at word.Bool parts) is = (refl, refl)
+expression_reachable (Node at word.Num parts) is = (refl, refl)
+expression_reachable (Node at word.Str parts) is = (refl, refl)
+expression_reachable (Node at word.Paren parts) is = (refl, refl)
+expression_reachable (Node at word.Body parts) is = absurd (cc)
+expression_reachable (Node at word.Return parts) is = (refl, refl)
+expression_reachable (Node at word.Param parts) is = (refl, refl)
+expression_reachable (Node at word.Bind parts) is = (refl, refl)
+expression_reachable (Node at word.Id parts) is = (refl, refl)
+expression_reachable (Node at word.Binary parts) is = (refl, refl)
+expression_reachable (Node at word.Call parts) is = (refl, refl)
+expression_reachable (Listed parts) is = (refl, refl)
+expression_reachable (Said text) is = (refl, refl)
+expression_reachable (Count number) is = (refl, refl)
+expression_reachable (Flag flag) is = (refl, refl)
+expression_reachable Absent is = (refl, refl)
 
-pub expression_body_call : (symbols : List Symbol) (tree e : Syntax) (s later mid new : State) (place : Place) (next : WipBlock) (kind : BlockKind) (span : Option Span) → tree ≡ e → is_expression e ≡ true → later ≡ reserved s → next ≡ new_block s.env.next_block kind → LowersExpression symbols e later mid place.identifier.0 → new ≡ completed_by mid (return_of span returns.Implicit place) next → LowersBody symbols tree s new
+pub expression_body_call : (symbols : List Symbol) (tree e : Syntax) (s later mid new : State) (place : Place)
+    (next : WipBlock) (kind : BlockKind) (span : Option Span) → tree ≡ e → is_expression e ≡ true → later ≡ reserved s
+    → next ≡ new_block s.env.next_block kind → LowersExpression symbols e later mid place.identifier.0
+    → new ≡ completed_by mid (return_of span returns.Implicit place) next → LowersBody symbols tree s new
 expression_body_call symbols tree e s later mid new place next kind span is grammar opened fresh l moved =
     let l2 : LowersExpression symbols e (reserved s) mid place.identifier.0 = subst (λ (o : State). LowersExpression symbols e o mid place.identifier.0) opened l in
     subst (λ (t : Syntax). LowersBody symbols t s new) (sym is)
     (subst (λ (n : State). LowersBody symbols e s n) (sym (moved ∙ ap (λ (w : WipBlock). completed_by mid (return_of span returns.Implicit place) w) fresh)) (record {
       keeps = keeps_more s _ (1 + (4 * nodes e + 1)) _ (omega arith) (keeps_then s (reserved s) _ 1 (4 * nodes e + 1) (keeps_reserved s) (keeps_then (reserved s) mid _ (4 * nodes e) 1 l2.keeps (keeps_completed mid (return_of span returns.Implicit place) (new_block s.env.next_block kind) refl)));
+      blocks = blocks_value_returned s mid span place kind l2.blocks;
       refused = l2.refused;
       calls = l2.calls;
-      live = lives_same (calls_in e) _ false _ s _ (expression_alive e grammar).0 (expression_alive e grammar).1 (lives_value_returned s mid (calls_in e) (return_of span returns.Implicit place) kind l2.live (λ listed. l2.keeps.listed ((keeps_reserved s).listed listed)));
-      runs = λ supported. means_same s _ (returns_value symbols e grammar) (value_returned s mid (gives symbols e) place.identifier.0 span place kind refl (l2.runs supported));
+      reachable = adds_same (calls_in e) _ false _ s _ (expression_reachable e grammar).0 (expression_reachable e grammar).1 (adds_value_returned s mid (calls_in e) (return_of span returns.Implicit place) kind l2.reachable (λ listed. l2.keeps.listed ((keeps_reserved s).listed listed)));
+      runs = λ supported. means_same s _ (returns_value symbols e grammar) (value_returned s mid (eval_expr symbols e) place.identifier.0 span place kind refl (l2.runs supported));
     }))
 
 no_refusals : (symbols : List Symbol) (texts : List (List ℕ)) → refusals_in symbols (pieces_of (map said texts)) ≡ []
@@ -96,12 +104,15 @@ no_calls : (texts : List (List ℕ)) → calls_among (pieces_of (map said texts)
 no_calls [] = refl
 no_calls (t ∷ ts) = no_calls ts
 
-pub statements_body_call : (symbols : List Symbol) (tree : Syntax) (at : At) (directives : List (List ℕ)) (statements : Pieces) (s new : State) → tree ≡ Node at word.Body (Then (Listed (pieces_of (map said directives))) (Then (Listed statements) End)) → LowersStatements symbols statements s new → LowersBody symbols tree s new
+pub statements_body_call : (symbols : List Symbol) (tree : Syntax) (at : At) (directives : List (List ℕ)) (statements : Pieces)
+    (s new : State) → tree ≡ Node at word.Body (Then (Listed (pieces_of (map said directives))) (Then (Listed statements) End))
+    → LowersStatements symbols statements s new → LowersBody symbols tree s new
 statements_body_call symbols tree at directives statements s new is l = subst (λ (t : Syntax). LowersBody symbols t s new) (sym is) (record {
   keeps = keeps_more s new (4 * nodes_of statements) _ (omega arith) l.keeps;
+  blocks = l.blocks;
   refused = l.refused ∙ ap (λ (ds : List Diagnostic). s.env.diagnostics ++ ds) (sym same);
   calls = l.calls ∙ ap (λ (cs : List (Option Span)). calls_of s.table ++ cs) (sym same_calls);
-  live = l.live;
+  reachable = l.reachable;
   runs = λ supported. means_same s new (λ source answers exits. refl) (l.runs (sym same ∙ supported));
 })
   where

@@ -1,8 +1,6 @@
 -- A builder that was closed off can be built.
-use Rattle.std.proofs.Common.{◌≡◌, ◌+◌, ◌*◌, ◌^◌, ◌<◌, ◌≤◌, Bool, true, false, cond, List, [], ◌∷◌, filter, length, All, refl, ap, arith}
+use Rattle.std.proofs.Common.{◌≡◌, ◌+◌, ◌*◌, ◌^◌, ◌<◌, ◌≤◌, Bool, true, false, cond, List, [], ◌∷◌, filter, length, All, refl, arith}
 use Rattle.std.proofs.lemmas.List.Elements.{All-cons, All-head, All-tail}
-use Rattle.rl_base.specs.declared.ids.InstructionId.{InstructionId}
-use Rattle.rl_hir.specs.declared.instruction.Instruction.{Instruction}
 use Rattle.rl_hir.specs.declared.function.NumberedBlock.{NumberedBlock}
 use Rattle.rl_builder.specs.Builder.{State, placeholder}
 use Rattle.rl_builder.specs.Order.{orders_of, reached_blocks}
@@ -10,19 +8,21 @@ use Rattle.rl_builder.specs.Temporaries.{temporary}
 use Rattle.rl_ast.specs.Syntax.{Syntax, nodes}
 use Rattle.rl_scope.specs.declared.semantic.Symbol.{Symbol}
 use Rattle.rl_lower.specs.Listed.{AreBelow, IsListed}
-use Rattle.rl_lower.specs.Lowering.{HasRoom, Keeps, LowersBody}
+use Rattle.rl_lower.specs.Lowering.{HasRoom, Preserves, LowersBody}
 use Rattle.rl_lower.specs.Endings.{return_of, with_undefined, closed_off}
 use Rattle.rl_hir.specs.declared.terminal.ReturnVariant.TheVariants as returns
 use Rattle.rl_hir.specs.declared.instruction.InstructionValue.TheVariants as values
 use Rattle.rl_hir.specs.declared.instruction.PrimitiveValue.TheVariants as primitives
 use Rattle.std.proofs.Common.{None}
 use Rattle.rl_lower.proofs.Keeping.{keeps_then, keeps_value, keeps_completed}
+use Rattle.rl_lower.proofs.Listed.{listed_none}
 
--- the moves that close off a body
-pub keeps_closed : (s : State) → Keeps s (closed_off s) 2
-keeps_closed s = keeps_then s (with_undefined s) (closed_off s) 1 1 (keeps_value s (values.Primitive primitives.Undefined) None) (keeps_completed (with_undefined s) (return_of None returns.Void (temporary s None)) placeholder refl)
+-- The moves that close off a body.
+pub keeps_closed : (s : State) → Preserves s (closed_off s) 2
+keeps_closed s =
+    keeps_then s (with_undefined s) (closed_off s) 1 1 (keeps_value s (values.Primitive primitives.Undefined) None) (keeps_completed (with_undefined s) (return_of None returns.Void (temporary s None)) placeholder refl)
 
--- a builder of a function of which nothing was lowered yet
+-- A builder with no complete block and no instruction.
 pub record IsFresh (s : State) : Type 0 where
   pub completed : s.completed ≡ []
   pub instructions : s.current.instructions ≡ []
@@ -31,18 +31,10 @@ pub record IsFresh (s : State) : Type 0 where
   pub below : s.current.id.0 < s.env.next_block
 
 pub listed_fresh : (s : State) → IsFresh s → IsListed s
-listed_fresh s fresh = record {
-  completed = λ place default within. (let none : length s.completed ≡ 0 = ap (λ (l : List NumberedBlock). length l) fresh.completed in absurd (omega (arith, none, within)));
-  current = λ place default within. (let none : length s.current.instructions ≡ 0 = ap (λ (l : List InstructionId). length l) fresh.instructions in absurd (omega (arith, none, within)));
-  counted =
-      let orders : orders_of s.completed ≡ 0 = ap orders_of fresh.completed in
-      let listed : length s.current.instructions ≡ 0 = ap (λ (l : List InstructionId). length l) fresh.instructions in
-      let table : length s.table ≡ 0 = ap (λ (l : List Instruction). length l) fresh.table in
-      let blocks : length s.completed ≡ 0 = ap (λ (l : List NumberedBlock). length l) fresh.completed in
-      omega (arith, orders, listed, table, blocks);
-}
+listed_fresh s fresh = listed_none s fresh.completed fresh.instructions fresh.table
 
-pub filtered : (P : NumberedBlock → Type 0) (p : NumberedBlock → Bool) (xs : List NumberedBlock) → All P xs → All P (filter p xs)
+pub filtered : (P : NumberedBlock → Type 0) (p : NumberedBlock → Bool) (xs : List NumberedBlock) → All P xs
+    → All P (filter p xs)
 filtered P p [] all = all
 filtered P p (x ∷ xs) all = by_test (filtered P p xs (All-tail P x xs all)) (p x)
   where
@@ -58,15 +50,22 @@ fewer_orders p (x ∷ xs) = let rest : orders_of (filter p xs) ≤ orders_of xs 
     by_test rest true = omega (arith, rest)
     by_test rest false = omega (arith, rest)
 
-closed_listed : (symbols : List Symbol) (begun : State) (body : Syntax) (s : State) → IsFresh begun → LowersBody symbols body begun s → IsListed (closed_off s)
+pub closed_listed : (symbols : List Symbol) (begun : State) (body : Syntax) (s : State) → IsFresh begun
+    → LowersBody symbols body begun s → IsListed (closed_off s)
 closed_listed symbols begun body s fresh l = (keeps_closed s).listed (l.keeps.listed (listed_fresh begun fresh))
 
-pub listed_reached : (symbols : List Symbol) (begun : State) (body : Syntax) (s : State) → IsFresh begun → LowersBody symbols body begun s → All (λ b. AreBelow (length (closed_off s).table) b.block.instructions) (reached_blocks (closed_off s).entry (closed_off s).completed)
-listed_reached symbols begun body s fresh l = filtered (λ b. AreBelow (length (closed_off s).table) b.block.instructions) _ (closed_off s).completed (closed_listed symbols begun body s fresh l).completed
+pub listed_reached : (symbols : List Symbol) (begun : State) (body : Syntax) (s : State) → IsFresh begun
+    → LowersBody symbols body begun s
+    → All (λ b. AreBelow (length (closed_off s).table) b.block.instructions)
+    (reached_blocks (closed_off s).entry (closed_off s).completed)
+listed_reached symbols begun body s fresh l =
+    filtered (λ b. AreBelow (length (closed_off s).table) b.block.instructions) _ (closed_off s).completed (closed_listed symbols begun body s fresh l).completed
 
-pub orders_fit : (symbols : List Symbol) (begun : State) (body : Syntax) (s : State) → IsFresh begun → LowersBody symbols body begun s → HasRoom begun (4 * (nodes body + 2)) → 1 + orders_of (reached_blocks (closed_off s).entry (closed_off s).completed) < 2 ^ 32
+pub orders_fit : (symbols : List Symbol) (begun : State) (body : Syntax) (s : State) → IsFresh begun
+    → LowersBody symbols body begun s → HasRoom begun (4 * (nodes body + 2))
+    → 1 + orders_of (reached_blocks (closed_off s).entry (closed_off s).completed) < 2 ^ 32
 orders_fit symbols begun body s fresh l room =
-    let keeps : Keeps begun (closed_off s) (4 * (nodes body + 1) + 2) = keeps_then begun s (closed_off s) (4 * (nodes body + 1)) 2 l.keeps (keeps_closed s) in
+    let keeps : Preserves begun (closed_off s) (4 * (nodes body + 1) + 2) = keeps_then begun s (closed_off s) (4 * (nodes body + 1)) 2 l.keeps (keeps_closed s) in
     let counted : orders_of (closed_off s).completed + 0 ≡ length (closed_off s).table + length (closed_off s).completed = (closed_listed symbols begun body s fresh l).counted in
     let fewer : orders_of (reached_blocks (closed_off s).entry (closed_off s).completed) ≤ orders_of (closed_off s).completed = fewer_orders _ (closed_off s).completed in
     let table : length (closed_off s).table ≤ length begun.table + (4 * (nodes body + 1) + 2) = keeps.uses.instructions in

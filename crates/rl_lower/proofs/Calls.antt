@@ -8,15 +8,15 @@ pub calls_append : (table more : List Instruction) → calls_of (table ++ more) 
 calls_append [] more = refl
 calls_append (i ∷ table) more = ap (λ (l : List (Option Span)). call_at i ++ l) (calls_append table more) ∙ sym (append_assoc (call_at i) (calls_of table) (calls_of more))
 
--- an instruction more
+-- One more instruction.
 pub calls_more : (table : List Instruction) (i : Instruction) → calls_of (table ++ i ∷ []) ≡ calls_of table ++ call_at i
 calls_more table i = calls_append table (i ∷ []) ∙ ap (λ (l : List (Option Span)). calls_of table ++ l) (append-nil (call_at i))
 
--- an instruction that is no call
+-- One that is no call.
 pub calls_same : (table : List Instruction) (i : Instruction) → call_at i ≡ [] → calls_of (table ++ i ∷ []) ≡ calls_of table
 calls_same table i none = calls_more table i ∙ ap (λ (l : List (Option Span)). calls_of table ++ l) none ∙ append-nil (calls_of table)
 
--- parts one after the other
+-- Two parts, one after the other.
 pub added_then : {X : Type 0} (first second old mid new : List X) → mid ≡ old ++ first → new ≡ mid ++ second → new ≡ old ++ (first ++ second)
 added_then first second old mid new a b = b ∙ ap (λ (l : List _). l ++ second) a ∙ append_assoc old first second
 

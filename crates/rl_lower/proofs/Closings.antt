@@ -1,4 +1,4 @@
--- A builder whose body was lowered and whose end returns undefined is one that was closed off.
+-- A builder whose body was lowered and whose end returns Undefined is closed off.
 use Rattle.std.proofs.Common.{◌≡◌, ◌+◌, ◌*◌, ◌<◌, ◌^◌, None, All, List, length, ap, sym, ◌∙◌, subst}
 use Rattle.rl_ast.specs.Syntax.{Syntax, nodes}
 use Rattle.rl_hir.specs.declared.environment.Environment.{Environment}
@@ -15,10 +15,11 @@ use Rattle.rl_builder.specs.declared.builder.Built.{Built}
 use Rattle.rl_lower.specs.Endings.{return_of, with_undefined, closed_off, IsGraphOf}
 use Rattle.rl_lower.specs.Listed.{AreBelow}
 use Rattle.rl_lower.specs.Lowering.{HasRoom, LowersBody}
-use Rattle.rl_lower.specs.Parameters.{places_from, with_parameters}
+use Rattle.rl_lower.specs.Parameters.{with_parameters}
+use Rattle.rl_model.specs.Fields.{places_from}
 use Rattle.rl_lower.proofs.Building.{IsFresh, listed_reached, orders_fit}
 
-closed_is : (s s1 s2 : State) (place : Place) → s1 ≡ with_undefined s → place ≡ temporary s None → s2 ≡ completed_by s1 (return_of None returns.Void place) placeholder → s2 ≡ closed_off s
+pub closed_is : (s s1 s2 : State) (place : Place) → s1 ≡ with_undefined s → place ≡ temporary s None → s2 ≡ completed_by s1 (return_of None returns.Void place) placeholder → s2 ≡ closed_off s
 closed_is s s1 s2 place given placed ended =
     ended ∙ ap (λ (m : State). completed_by m (return_of None returns.Void place) placeholder) given
     ∙ ap (λ (p : Place). completed_by (with_undefined s) (return_of None returns.Void p) placeholder) placed

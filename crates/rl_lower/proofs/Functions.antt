@@ -1,7 +1,8 @@
--- A function's graph, from its body's.
-use Rattle.std.proofs.Common.{◌≡◌, ℕ, ◌+◌, ◌≤◌, inl, inr, List, [], length, slice_get, Option, Some, None, refl, sym, ap, ◌∙◌, subst, arith}
+-- The traces of a function's graph, from those of its body's.
+use Rattle.std.proofs.Common.{◌≡◌, ℕ, inl, inr, List, [], length, slice_get, Option, Some, None, refl, sym, ap, ◌∙◌, subst, arith}
 use Rattle.rl_base.specs.declared.span.Span.{Span}
 use Rattle.rl_hir.specs.declared.instruction.Place.{Place}
+use Rattle.rl_hir.specs.declared.instruction.InstructionValue.TheVariants as values
 use Rattle.rl_hir.specs.declared.instruction.PrimitiveValue.TheVariants as primitives
 use Rattle.rl_hir.specs.declared.terminal.Terminal.{Terminal}
 use Rattle.rl_hir.specs.declared.terminal.ReturnVariant.{ReturnVariant}
@@ -19,110 +20,128 @@ use Rattle.rl_builder.specs.declared.builder.WipBlock.{WipBlock}
 use Rattle.rl_model.specs.declared.trace.Value.{Value}
 use Rattle.rl_model.specs.declared.trace.Value.TheVariants as value
 use Rattle.rl_model.specs.declared.trace.Answer.{Answer}
-use Rattle.rl_model.specs.declared.trace.Setting.{Setting}
+use Rattle.rl_model.specs.declared.trace.Assignment.{Assignment}
 use Rattle.rl_model.specs.declared.trace.Trace.{Trace}
-use Rattle.rl_model.specs.Traces.{Store, With, Gives, Means, returned, threw, unset}
-use Rattle.rl_model.specs.Machine.{Ends, Code, Notes, no_notes, code_in, positions, set_by, take_arguments, trace_within}
-use Rattle.rl_model.specs.Source.{runs}
+use Rattle.rl_model.specs.Traces.{Store, ValueCont, ExprMeaning, StmtMeaning, returned, threw, unset}
+use Rattle.rl_model.specs.Machine.{Ends, Code, Notes, no_notes, code_in, set_by, take_arguments, trace_by}
+use Rattle.rl_model.specs.Source.{source_trace}
 use Rattle.rl_ast.specs.Syntax.{Syntax}
 use Rattle.rl_hir.specs.declared.function.Hir.{Hir}
 use Rattle.rl_hir.specs.declared.instruction.Instruction.{Instruction}
-use Rattle.rl_lower.specs.Simulation.{Agrees, AreMade, IsCompleted, IsCurrentOrCompleted, Grows, Covers, IsClean, AreEnded, Goes, From, Throws, RunsExpression, RunsStatement}
+use Rattle.rl_lower.specs.Simulation.{Agrees, AreMade, IsCompleted, IsCurrentOrCompleted, Extends, IsContainedIn, UniqueIds, AreEnded, PreservesBlocks, TracesAt, TracesFrom, Throws, RunsExpression, RunsStatement}
 use Rattle.rl_lower.specs.Endings.{return_of, with_undefined, closed_off}
 use Rattle.rl_lower.proofs.Building.{IsFresh}
 use Rattle.rl_lower.proofs.Steps.{agrees_then, made_then, get_seam, comes_at_once, steps_on}
-use Rattle.rl_lower.proofs.Moves.{grows_then, grows_reserved, grows_completed, covers_before, terminal_met}
-use Rattle.rl_lower.proofs.Clean.{apart_ended, tidy_then, tidy_counted, tidy_ended, free_fresh, free_then, ended_more}
+use Rattle.rl_lower.proofs.Moves.{extends_then, extends_value, extends_completed, contained_before, terminal_met}
+use Rattle.rl_base.specs.Distinct.{AreDistinct}
+use Rattle.rl_builder.proofs.DistinctLists.{distinct_none}
+use Rattle.rl_lower.proofs.BlockIds.{apart_ended, ids_of, ended_more}
 use Rattle.rl_lower.proofs.Parts.{value_runs}
-use Rattle.rl_lower.proofs.Whole.{IsFinished, entry_built, finished_covers, finished_runs, limited, total_runs}
+use Rattle.rl_lower.proofs.Finished.{IsFinished, entry_built, finished_contained, finished_runs, limited, total_runs}
 
--- where the block ends by a return, the run does, with the value
-pub block_returns : (s : State) (span : Option Span) (variant : ReturnVariant) (place : Place) (next : WipBlock) (c : Code) → Covers (completed_by s (return_of span variant place) next) c → (v : Value) (store : Store) (notes : Notes) (answers : List Answer) → store place.identifier.0 ≡ v → From c s store notes answers (returned variant v)
+-- A block that ends by a return ends the run with the value.
+pub block_returns : (s : State) (span : Option Span) (variant : ReturnVariant) (place : Place) (next : WipBlock) (c : Code)
+    → IsContainedIn (completed_by s (return_of span variant place) next) c
+    → (v : Value) (store : Store) (notes : Notes) (answers : List Answer) → store place.identifier.0 ≡ v
+    → TracesFrom c s store notes answers (returned variant v)
 block_returns s span variant place next c cover v store notes answers is =
     steps_on c s.current.id.0 (length s.current.instructions) store notes answers (Ends (return_of span variant place)) (returned variant v)
     (terminal_met s (return_of span variant place) next c cover)
-    (comes_at_once c _ _ (λ onward. ap (λ w. returned variant w) is))
+    (comes_at_once c _ _ (λ stuck onward. ap (λ w. returned variant w) is))
 
--- a body that is an expression: its value is returned, and a block that was reserved before goes on
-pub value_returned : (s new : State) (d : Gives) (identifier : ℕ) (span : Option Span) (place : Place) (kind : BlockKind) → place.identifier.0 ≡ identifier → RunsExpression d (reserved s) new identifier → RunsStatement (λ source answers exits. d source answers (λ v after rest. returned returns.Implicit v) exits.throws) s (completed_by new (return_of span returns.Implicit place) (new_block s.env.next_block kind))
+-- A body that is an expression: its value is returned, and a block that was reserved before goes on.
+pub value_returned : (s new : State) (d : ExprMeaning) (identifier : ℕ) (span : Option Span) (place : Place) (kind : BlockKind)
+    → place.identifier.0 ≡ identifier → RunsExpression d (reserved s) new identifier
+    → RunsStatement (λ source answers exits. d source answers (λ v after rest. returned returns.Implicit v) exits.throws) s
+    (completed_by new (return_of span returns.Implicit place) (new_block s.env.next_block kind))
 value_returned s new d identifier span place kind named r = record {
-  grows = grows_then s (reserved s) _ (grows_reserved s) (grows_then (reserved s) new _ r.grows ended);
-  tidy = tidy_ended new (return_of span returns.Implicit place) (new_block s.env.next_block kind)
-      (tidy_then (tidy_counted s.completed s.current.id.0 s.env.next_block (s.env.next_block + 1) (omega arith)) r.tidy)
-      (inr (omega arith))
-      (λ c. free_then s.env.next_block r.tidy (free_fresh s.completed s.current.id.0 s.env.next_block (s.env.next_block + 1) s.env.next_block c (omega arith) (omega arith)));
-  ended = λ e. ended_more new.completed (ended_by new.current (return_of span returns.Implicit place)) (λ h. h) (r.ended e);
   runs = λ c cover m exits source store notes answers a throws onward.
-      r.runs c (covers_before new _ c ended cover) (record { below = m.below }) (λ v after rest. returned returns.Implicit v) exits.throws source store notes answers a throws
+      r.runs c (contained_before new _ c ended cover) (record { below = m.below }) (λ v after rest. returned returns.Implicit v) exits.throws source store notes answers a throws
       (record { goes = λ v after later notes1 answers1 a1 l is. block_returns new span returns.Implicit place (new_block s.env.next_block kind) c cover v later notes1 answers1 (ap later named ∙ is) });
 }
   where
-    ended : Grows new (completed_by new (return_of span returns.Implicit place) (new_block s.env.next_block kind))
-    ended = grows_completed new (return_of span returns.Implicit place) (new_block s.env.next_block kind)
+    ended : Extends new (completed_by new (return_of span returns.Implicit place) (new_block s.env.next_block kind))
+    ended = extends_completed new (return_of span returns.Implicit place) (new_block s.env.next_block kind)
 
-undefined_runs : (s : State) → RunsExpression (λ source answers onward throws. onward value.Undefined source answers) s (with_undefined s) (length s.env.identifiers)
-undefined_runs s = value_runs s (λ source answers onward throws. onward value.Undefined source answers) primitives.Undefined None (λ source answers onward throws. refl)
+undefined_runs : (s : State)
+    → RunsExpression (λ source answers onward throws. onward value.Undefined source answers) s (with_undefined s)
+    (length s.env.identifiers)
+undefined_runs s =
+    value_runs s (λ source answers onward throws. onward value.Undefined source answers) primitives.Undefined None (λ source answers onward throws. refl)
 
--- at the end of a body the function returns Undefined
-falls_off : (s : State) (c : Code) → Covers (closed_off s) c → AreMade s → (throws : With) (source store : Store) (notes : Notes) (answers : List Answer) → Agrees s.bindings source store → Throws throws → From c s store notes answers (returned returns.Void value.Undefined)
+extends_undefined : (s : State) → Extends s (with_undefined s)
+extends_undefined s = extends_value s (values.Primitive primitives.Undefined) None
+
+-- At the end of a body the function returns Undefined.
+falls_off : (s : State) (c : Code) → IsContainedIn (closed_off s) c → AreMade s
+    → (throws : ValueCont) (source store : Store) (notes : Notes) (answers : List Answer) → Agrees s.bindings source store
+    → Throws throws → TracesFrom c s store notes answers (returned returns.Void value.Undefined)
 falls_off s c cover m throws source store notes answers a none =
-    (undefined_runs s).runs c (covers_before (with_undefined s) (closed_off s) c (grows_completed (with_undefined s) _ placeholder) cover) m
+    (undefined_runs s).runs c (contained_before (with_undefined s) (closed_off s) c (extends_completed (with_undefined s) _ placeholder) cover) m
     (λ v after rest. returned returns.Void v) throws source store notes answers a none
     (record { goes = λ v after later notes1 answers1 a1 l is. block_returns (with_undefined s) None returns.Void (temporary s None) placeholder c cover v later notes1 answers1 is })
 
 nothing_completed : (completed : List NumberedBlock) → completed ≡ [] → (id : ℕ) → IsCompleted completed id → ⊥
-nothing_completed completed none id k = (let never : slice_get {X = NumberedBlock} [] k.place ≡ Some k.block = ap (λ (l : List NumberedBlock). slice_get l k.place) (sym none) ∙ k.found in cc)
+nothing_completed completed none id k =
+    (let never : slice_get {X = NumberedBlock} [] k.place ≡ Some k.block = ap (λ (l : List NumberedBlock). slice_get l k.place) (sym none) ∙ k.found in cc)
 
-clean_fresh : (s : State) → IsFresh s → IsClean s.completed s.current.id.0 s.env.next_block
-clean_fresh s fresh = record {
-  apart = λ i j a b ea eb same. absurd (nothing_completed s.completed fresh.completed a.id.0 (record { place = i; block = a; found = ea; named = refl }));
+distinct_fresh : (s : State) → IsFresh s → UniqueIds s.completed s.current.id.0 s.env.next_block
+distinct_fresh s fresh = record {
+  apart = subst (λ (blocks : List NumberedBlock). AreDistinct (ids_of blocks)) (sym fresh.completed) distinct_none;
   open_block = λ k. nothing_completed s.completed fresh.completed s.current.id.0 k;
   below = λ id k. absurd (nothing_completed s.completed fresh.completed id k);
   current_below = fresh.below;
 }
 
-entry_completed : (s : State) (t : Terminal) (next : WipBlock) (id : ℕ) → IsCurrentOrCompleted s id → IsCompleted (completed_by s t next).completed id
+entry_completed : (s : State) (t : Terminal) (next : WipBlock) (id : ℕ) → IsCurrentOrCompleted s id
+    → IsCompleted (completed_by s t next).completed id
 entry_completed s t next id h = elim h [
   | inl is ↦ record { place = length s.completed; block = ended_by s.current t; found = get_seam s.completed (ended_by s.current t) []; named = is }
-  | inr k ↦ (grows_completed s t next).completed id k
+  | inr k ↦ (extends_completed s t next).completed id k
 ]
 
 none_ended : AreEnded []
 none_ended k d below = absurd (omega arith)
 
--- the builder of a function is finished
-pub function_finished : (begun s : State) (m : Means) → IsFresh begun → RunsStatement m begun s → IsFinished (closed_off s)
-function_finished begun s m fresh r = record {
-  apart = apart_ended s.completed s.current.id.0 s.env.next_block (ended_by (with_undefined s).current (return_of None returns.Void (temporary s None))) refl (r.tidy.clean (clean_fresh begun fresh));
-  ended = ended_more s.completed (ended_by (with_undefined s).current (return_of None returns.Void (temporary s None))) (λ h. h) (r.ended (subst AreEnded (sym fresh.completed) none_ended));
+-- The builder of a function is finished behind the end of the body.
+pub function_finished : (begun s : State) → IsFresh begun → PreservesBlocks begun s → IsFinished (closed_off s)
+function_finished begun s fresh b = record {
+  apart = apart_ended s.completed s.current.id.0 s.env.next_block (ended_by (with_undefined s).current (return_of None returns.Void (temporary s None))) refl (b.ids.distinct (distinct_fresh begun fresh));
+  ended = ended_more s.completed (ended_by (with_undefined s).current (return_of None returns.Void (temporary s None))) (λ h. h) (b.ended (subst AreEnded (sym fresh.completed) none_ended));
   empty = refl;
-  entry = subst (λ (id : ℕ). IsCompleted (closed_off s).completed id) (sym (ap (λ (b : BlockId). b.0) r.grows.entry ∙ fresh.entry))
+  entry = subst (λ (id : ℕ). IsCompleted (closed_off s).completed id) (sym (ap (λ (id : BlockId). id.0) b.extends.entry ∙ fresh.entry))
       (entry_completed (with_undefined s) (return_of None returns.Void (temporary s None)) placeholder begun.current.id.0
-      (grows_then begun s (with_undefined s) r.grows (undefined_runs s).grows).current);
+      (extends_then begun s (with_undefined s) b.extends (extends_undefined s)).current);
 }
 
--- and its blocks run as the body does
-pub function_runs : (begun s : State) (m : Means) → IsFresh begun → AreMade begun → RunsStatement m begun s → (throws : With) (source store : Store) (notes : Notes) (answers : List Answer) → Agrees begun.bindings source store → Throws throws
-    → Goes (code_in (closed_off s).completed (closed_off s).table) (closed_off s).entry.0 0 store notes answers (m source answers (record { falls = λ after rest. returned returns.Void value.Undefined; throws = throws }))
-function_runs begun s m fresh made r throws source store notes answers agrees none =
+-- The finished blocks have the traces of the body.
+pub function_runs : (begun s : State) (m : StmtMeaning) → IsFresh begun → AreMade begun → PreservesBlocks begun s
+    → RunsStatement m begun s → (throws : ValueCont) (source store : Store) (notes : Notes) (answers : List Answer)
+    → Agrees begun.bindings source store → Throws throws
+    → TracesAt (code_in (closed_off s).completed (closed_off s).table) (closed_off s).entry.0 0 store notes answers
+    (m source answers (record { normal = λ after rest. returned returns.Void value.Undefined; throws = throws }))
+function_runs begun s m fresh made b r throws source store notes answers agrees none =
     let c : Code = code_in (closed_off s).completed (closed_off s).table in
-    let trace : Trace = m source answers (record { falls = λ after rest. returned returns.Void value.Undefined; throws = throws }) in
-    let cover : Covers (closed_off s) c = finished_covers (closed_off s) (function_finished begun s m fresh r) in
-    let goes : From c begun store notes answers trace =
-    r.runs c (covers_before s (closed_off s) c (grows_then s (with_undefined s) (closed_off s) (undefined_runs s).grows (grows_completed (with_undefined s) _ placeholder)) cover) made
-    (record { falls = λ after rest. returned returns.Void value.Undefined; throws = throws }) source store notes answers agrees none
-    (record { goes = λ after later notes1 answers1 a1 l. falls_off s c cover (made_then begun s r.grows made) throws after later notes1 answers1 (agrees_then begun s after later r.grows a1) none }) in
-    subst (λ (id : ℕ). Goes c id 0 store notes answers trace) (sym (ap (λ (b : BlockId). b.0) r.grows.entry ∙ fresh.entry))
-    (subst (λ (listed : List InstructionId). Goes c begun.current.id.0 (length listed) store notes answers trace) fresh.instructions goes)
+    let trace : Trace = m source answers (record { normal = λ after rest. returned returns.Void value.Undefined; throws = throws }) in
+    let cover : IsContainedIn (closed_off s) c = finished_contained (closed_off s) (function_finished begun s fresh b) in
+    let goes : TracesFrom c begun store notes answers trace =
+    r.runs c (contained_before s (closed_off s) c (extends_then s (with_undefined s) (closed_off s) (extends_undefined s) (extends_completed (with_undefined s) _ placeholder)) cover) made
+    (record { normal = λ after rest. returned returns.Void value.Undefined; throws = throws }) source store notes answers agrees none
+    (record { goes = λ after later notes1 answers1 a1 l. falls_off s c cover (made_then begun s b.extends made) throws after later notes1 answers1 (agrees_then begun s after later b.extends a1) none }) in
+    subst (λ (id : ℕ). TracesAt c id 0 store notes answers trace) (sym (ap (λ (id : BlockId). id.0) b.extends.entry ∙ fresh.entry))
+    (subst (λ (listed : List InstructionId). TracesAt c begun.current.id.0 (length listed) store notes answers trace) fresh.instructions goes)
 
--- so the function that is built has the runs of its source, whatever limit on silent steps lets be as many as it has positions
-pub function_runs_within : (begun s : State) (m : Means) → IsFresh begun → AreMade begun → RunsStatement m begun s → (f : HirFunction) (pairs : List Pair) (function : Syntax)
+-- The function that is built has the traces of its source, whatever trace a stuck run has.
+pub function_runs_by : (begun s : State) (m : StmtMeaning) → IsFresh begun → AreMade begun → PreservesBlocks begun s
+    → RunsStatement m begun s → (f : HirFunction) (pairs : List Pair) (function : Syntax)
     → f.body ≡ (built_of (closed_off s)).hir → f.instructions ≡ (built_of (closed_off s)).instructions
-    → (source : List Setting → List Value → Store) → ((start : List Setting) (arguments : List Value) → Agrees begun.bindings (source start arguments) (take_arguments f.params arguments (set_by pairs start unset)))
-    → ((start : List Setting) (arguments : List Value) (answers : List Answer) → runs function start arguments answers ≡ m (source start arguments) answers (record { falls = λ after rest. returned returns.Void value.Undefined; throws = λ v after rest. threw v }))
-    → (most : ℕ) → positions f.body.blocks ≤ most → (start : List Setting) (arguments : List Value) (answers : List Answer) → trace_within most f pairs start arguments answers ≡ runs function start arguments answers
-function_runs_within begun s m fresh made r f pairs function body_is instructions_is source agrees means most large start arguments answers =
-    here ∙ total_runs most (built_of last).hir.blocks (built_of last).instructions last.entry.0 store no_notes answers trace (subst (λ (h : Hir). positions h.blocks ≤ most) body_is large) (entry_built last finished) goes ∙ sym (means start arguments answers)
+    → (source : List Assignment → List Value → Store) →
+    ((start : List Assignment) (arguments : List Value) → Agrees begun.bindings (source start arguments) (take_arguments f.params arguments (set_by pairs start unset)))
+    → ((start : List Assignment) (arguments : List Value) (answers : List Answer) → source_trace function start arguments answers ≡ m (source start arguments) answers (record { normal = λ after rest. returned returns.Void value.Undefined; throws = λ v after rest. threw v }))
+    → (stuck : Trace) (start : List Assignment) (arguments : List Value) (answers : List Answer)
+    → trace_by stuck f pairs start arguments answers ≡ source_trace function start arguments answers
+function_runs_by begun s m fresh made b r f pairs function body_is instructions_is source agrees means stuck start arguments answers =
+    here ∙ total_runs stuck (built_of last).hir.blocks (built_of last).instructions last.entry.0 store no_notes answers trace (entry_built last finished) goes ∙ sym (means start arguments answers)
   where
     last : State
     last = closed_off s
@@ -131,16 +150,16 @@ function_runs_within begun s m fresh made r f pairs function body_is instruction
     store = take_arguments f.params arguments (set_by pairs start unset)
 
     trace : Trace
-    trace = m (source start arguments) answers (record { falls = λ after rest. returned returns.Void value.Undefined; throws = λ v after rest. threw v })
+    trace = m (source start arguments) answers (record { normal = λ after rest. returned returns.Void value.Undefined; throws = λ v after rest. threw v })
 
     finished : IsFinished last
-    finished = function_finished begun s m fresh r
+    finished = function_finished begun s fresh b
 
-    goes : Goes (code_in (built_of last).hir.blocks (built_of last).instructions) last.entry.0 0 store no_notes answers trace
+    goes : TracesAt (code_in (built_of last).hir.blocks (built_of last).instructions) last.entry.0 0 store no_notes answers trace
     goes = finished_runs last finished store no_notes answers trace
-        (function_runs begun s m fresh made r (λ v after rest. threw v) (source start arguments) store no_notes answers (agrees start arguments) (record { ends = λ v after rest. refl }))
+        (function_runs begun s m fresh made b r (λ v after rest. threw v) (source start arguments) store no_notes answers (agrees start arguments) (record { ends = λ v after rest. refl }))
 
-    here : trace_within most f pairs start arguments answers ≡ limited most (built_of last).hir.blocks (built_of last).instructions last.entry.0 store no_notes answers
+    here : trace_by stuck f pairs start arguments answers ≡ limited stuck (built_of last).hir.blocks (built_of last).instructions last.entry.0 store no_notes answers
     here =
-        ap (λ (h : Hir). limited most h.blocks f.instructions h.entry.0 store no_notes answers) body_is
-        ∙ ap (λ (l : List Instruction). limited most (built_of last).hir.blocks l last.entry.0 store no_notes answers) instructions_is
+        ap (λ (h : Hir). limited stuck h.blocks f.instructions h.entry.0 store no_notes answers) body_is
+        ∙ ap (λ (l : List Instruction). limited stuck (built_of last).hir.blocks l last.entry.0 store no_notes answers) instructions_is

@@ -2,7 +2,7 @@
 use Rattle.std.proofs.Common.{◌≡◌, ℕ, zero, suc, ◌+◌, ◌<◌, inl, inr, ◌==◌, List, [], ◌∷◌, length, map, slice_get, slice_set, nat_eq, Bool, true, false, cond, if◌then◌else◌, filter, Contains, Option, Some, None, refl, sym, ap, ◌∙◌, subst, arith, eq-eqb}
 use Rattle.std.specs.Option.{option_map}
 use Rattle.std.proofs.lemmas.Bool.Decides.{eqb_tells}
-use Rattle.std.proofs.lemmas.Option.{slice_get_past}
+use Rattle.std.proofs.lemmas.Option.{slice_get-map, slice_get_past}
 use Rattle.rl_base.specs.declared.ids.BlockId.{BlockId}
 use Rattle.rl_base.specs.declared.ids.InstructionId.{InstructionId}
 use Rattle.rl_hir.specs.declared.instruction.Instruction.{Instruction}
@@ -14,28 +14,42 @@ use Rattle.rl_hir.specs.declared.function.NumberedBlock.{NumberedBlock}
 use Rattle.rl_hir.specs.Terminals.{with_order}
 use Rattle.rl_builder.specs.Order.{reached_blocks, ordered_at, ordered_list, order_after, ordered_block, ordered_blocks, ordered_table}
 use Rattle.rl_model.specs.declared.trace.Answer.{Answer}
+use Rattle.rl_model.specs.declared.trace.Trace.{Trace}
 use Rattle.rl_model.specs.Traces.{Store, set, set_open, threw}
 use Rattle.rl_model.specs.Closed.{successors, named, IsUnreachable, IsClosed, Reaches}
 use Rattle.rl_model.specs.Closed as closed
 use Rattle.rl_model.specs.Machine.{Item, Runs, Ends, Code, Notes, Next, Act, Computes, Asks, act, block_of, item_in, code_in, executed, is_open, step}
 use Rattle.rl_lower.specs.Simulation.{InBlock, walk}
 use Rattle.rl_lower.proofs.Asking.{asked_same}
+use Rattle.rl_lower.proofs.BlockIds.{ids_of}
+use Rattle.rl_builder.proofs.DistinctLists.{distinct_head, distinct_tail}
+use Rattle.rl_base.specs.Distinct.{AreDistinct}
 
--- a block is found by its number
+-- The numbers of blocks are distinct.
 abbrev pub Apart : List NumberedBlock → Type 0
-Apart blocks = (i j : ℕ) (a b : NumberedBlock) → slice_get blocks i ≡ Some a → slice_get blocks j ≡ Some b → a.id.0 ≡ b.id.0 → a ≡ b
+Apart blocks = AreDistinct (ids_of blocks)
 
-pub found_by : (blocks : List NumberedBlock) (place : ℕ) (b : NumberedBlock) → Apart blocks → slice_get blocks place ≡ Some b → block_of blocks b.id.0 ≡ Some b.block
+-- A block is found by its number.
+pub found_by : (blocks : List NumberedBlock) (place : ℕ) (b : NumberedBlock) → Apart blocks → slice_get blocks place ≡ Some b
+    → block_of blocks b.id.0 ≡ Some b.block
 found_by [] place b apart e = absurd (cc)
 found_by (x ∷ blocks) zero b apart e =
     let same : x ≡ b = cc in
-    ap (λ (t : Bool). cond t (Some x.block) (block_of blocks b.id.0)) (eq-eqb x.id.0 b.id.0 (ap (λ (z : NumberedBlock). z.id.0) same)) ∙ ap (λ (z : NumberedBlock). Some z.block) same
+    ap (λ (t : Bool). cond t (Some x.block) (block_of blocks b.id.0)) (eq-eqb x.id.0 b.id.0 (ap (λ (z : NumberedBlock). z.id.0) same))
+    ∙ ap (λ (z : NumberedBlock). Some z.block) same
 found_by (x ∷ blocks) (suc place) b apart e = elim (eqb_tells x.id.0 b.id.0) [
-  | inl t ↦ ap (λ (c : Bool). cond c (Some x.block) (block_of blocks b.id.0)) t.0 ∙ ap (λ (z : NumberedBlock). Some z.block) (apart 0 (suc place) x b refl e t.1)
-  | inr t ↦ ap (λ (c : Bool). cond c (Some x.block) (block_of blocks b.id.0)) t.0 ∙ found_by blocks place b (λ i j p q ep eq same. apart (suc i) (suc j) p q ep eq same) e
+  | inl t ↦ absurd (distinct_head x.id.0 (ids_of blocks) apart (record { index = place; found = again t.1 }))
+  | inr t ↦ ap (λ (c : Bool). cond c (Some x.block) (block_of blocks b.id.0)) t.0
+      ∙ found_by blocks place b (distinct_tail x.id.0 (ids_of blocks) apart) e
 ]
+  where
+    again : x.id.0 ≡ b.id.0 → slice_get (ids_of blocks) place ≡ Some x.id.0
+    again same =
+        slice_get-map (λ (z : NumberedBlock). z.id.0) blocks place
+        ∙ ap (λ (o : Option NumberedBlock). option_map (λ z. z.id.0) o) e
+        ∙ ap (λ (n : ℕ). Some n) (sym same)
 
--- what stands at a place of a block
+-- The item at an index of a block.
 pub item_met : (table : List Instruction) (b : NumberedBlock) (place : ℕ) (item : Item) → InBlock table b place item → item_in table b.block place ≡ Some item
 item_met table b place (Runs i) h =
     ap (λ (o : Option InstructionId). elim o [ Some number ↦ option_map (λ i. Runs i) (slice_get table number.0) | None ↦ if place == length b.block.instructions then Some (Ends b.block.terminal) else None ]) h.at
@@ -45,7 +59,7 @@ item_met table b place (Ends t) h =
     ∙ ap (λ (c : Bool). if c then Some (Ends b.block.terminal) else None) (eq-eqb place (length b.block.instructions) (sym h.0))
     ∙ ap (λ t. Some (Ends t)) h.1
 
--- items without their orders
+-- Items without their orders.
 
 abbrev pub without_order : Instruction → Instruction
 without_order i = record i { order = record { 0 = 0 } }
@@ -57,38 +71,36 @@ plain_item (Ends t) = Ends (with_order 0 t)
 abbrev pub plain : Option Item → Option Item
 plain o = option_map plain_item o
 
--- a step does not look at orders
-step_plain : (o : Option Item) (silent loud : Next) (block place : ℕ) (store : Store) (notes : Notes) (answers : List Answer) → step (plain o) silent loud block place store notes answers ≡ step o silent loud block place store notes answers
-step_plain None silent loud block place store notes answers = refl
-step_plain (Some (Runs i)) silent loud block place store notes answers = refl
-step_plain (Some (Ends (terminals.Return order at variant p))) silent loud block place store notes answers = refl
-step_plain (Some (Ends (terminals.Unreachable order at))) silent loud block place store notes answers = refl
+-- A step does not read orders.
+step_plain : (stuck : Trace) (o : Option Item) (silent loud : Next) (block place : ℕ) (store : Store) (notes : Notes) (answers : List Answer) → step stuck (plain o) silent loud block place store notes answers ≡ step stuck o silent loud block place store notes answers
+step_plain stuck None silent loud block place store notes answers = refl
+step_plain stuck (Some (Runs i)) silent loud block place store notes answers = refl
+step_plain stuck (Some (Ends (terminals.Return order at variant p))) silent loud block place store notes answers = refl
+step_plain stuck (Some (Ends (terminals.Unreachable order at))) silent loud block place store notes answers = refl
 
--- a run that stays in one block is the same in two graphs whose items there are the same without their orders
-
--- what follows a step in the block is the same in both
+-- Two continuations agree in the block.
 abbrev SameBehind : Next → Next → ℕ → Notes → Type 0
 SameBehind f g block notes = (place : ℕ) (store : Store) (answers : List Answer) → f block place store notes answers ≡ g block place store notes answers
 
 stays_act : (a : Act) (identifier : ℕ) (f g : Next) (block place : ℕ) (store : Store) (notes : Notes) (answers : List Answer) → SameBehind f g block notes → executed a identifier f f block place store notes answers ≡ executed a identifier g g block place store notes answers
 stays_act (Computes v) identifier f g block place store notes answers same = same (place + 1) (set store identifier v) answers
-stays_act (Asks event) identifier f g block place store notes answers same = asked_same (λ settings before. set_open is_open settings before) event store answers _ _ (λ v after rest. threw v) (λ v after rest. same (place + 1) (set after identifier v) rest)
+stays_act (Asks event) identifier f g block place store notes answers same = asked_same (λ assignments before. set_open is_open assignments before) event store answers _ _ (λ v after rest. threw v) (λ v after rest. same (place + 1) (set after identifier v) rest)
 
-stays : (o : Option Item) (f g : Next) (block place : ℕ) (store : Store) (notes : Notes) (answers : List Answer) → SameBehind f g block notes → step o f f block place store notes answers ≡ step o g g block place store notes answers
-stays None f g block place store notes answers same = refl
-stays (Some (Runs i)) f g block place store notes answers same = stays_act (act i.value store) i.lvalue.identifier.0 f g block place store notes answers same
-stays (Some (Ends (terminals.Return order at variant p))) f g block place store notes answers same = refl
-stays (Some (Ends (terminals.Unreachable order at))) f g block place store notes answers same = refl
+stays : (stuck : Trace) (o : Option Item) (f g : Next) (block place : ℕ) (store : Store) (notes : Notes) (answers : List Answer) → SameBehind f g block notes → step stuck o f f block place store notes answers ≡ step stuck o g g block place store notes answers
+stays stuck None f g block place store notes answers same = refl
+stays stuck (Some (Runs i)) f g block place store notes answers same = stays_act (act i.value store) i.lvalue.identifier.0 f g block place store notes answers same
+stays stuck (Some (Ends (terminals.Return order at variant p))) f g block place store notes answers same = refl
+stays stuck (Some (Ends (terminals.Unreachable order at))) f g block place store notes answers same = refl
 
-pub same_in_block : (c d : Code) (block : ℕ) → ((place : ℕ) → plain (c block place) ≡ plain (d block place)) → (steps place : ℕ) (store : Store) (notes : Notes) (answers : List Answer) → walk c steps block place store notes answers ≡ walk d steps block place store notes answers
-same_in_block c d block same zero place store notes answers = refl
-same_in_block c d block same (suc steps) place store notes answers =
-    stays (c block place) (walk c steps) (walk d steps) block place store notes answers (λ place1 store1 answers1. same_in_block c d block same steps place1 store1 notes answers1)
-    ∙ sym (step_plain (c block place) (walk d steps) (walk d steps) block place store notes answers)
-    ∙ ap (λ o. step o (walk d steps) (walk d steps) block place store notes answers) (same place)
-    ∙ step_plain (d block place) (walk d steps) (walk d steps) block place store notes answers
+pub same_in_block : (stuck : Trace) (c d : Code) (block : ℕ) → ((place : ℕ) → plain (c block place) ≡ plain (d block place)) → (steps place : ℕ) (store : Store) (notes : Notes) (answers : List Answer) → walk stuck c steps block place store notes answers ≡ walk stuck d steps block place store notes answers
+same_in_block stuck c d block same zero place store notes answers = refl
+same_in_block stuck c d block same (suc steps) place store notes answers =
+    stays stuck (c block place) (walk stuck c steps) (walk stuck d steps) block place store notes answers (λ place1 store1 answers1. same_in_block stuck c d block same steps place1 store1 notes answers1)
+    ∙ sym (step_plain stuck (c block place) (walk stuck d steps) (walk stuck d steps) block place store notes answers)
+    ∙ ap (λ o. step stuck o (walk stuck d steps) (walk stuck d steps) block place store notes answers) (same place)
+    ∙ step_plain stuck (d block place) (walk stuck d steps) (walk stuck d steps) block place store notes answers
 
--- numbering changes orders alone
+-- Numbering changes orders alone.
 
 set_plain : (xs : List Instruction) (k : ℕ) (x y : Instruction) → slice_get xs k ≡ Some x → without_order y ≡ without_order x → map without_order (slice_set xs k y) ≡ map without_order xs
 set_plain [] k x y is e = absurd (cc)
@@ -140,7 +152,7 @@ item_plain table table1 block order place same = by_number (slice_get block.inst
     by_number (Some number) = listed_plain table table1 number.0 same
     by_number None = last_plain (place == length block.instructions) order block.terminal
 
--- the block that is kept
+-- The entry block, numbered, is among the kept blocks.
 
 kept : (order entry : ℕ) (blocks : List NumberedBlock) (block : BasicBlock) → block_of blocks entry ≡ Some block → (n : ℕ) × (block_of (ordered_blocks order (filter (λ b. nat_eq b.id.0 entry) blocks)) entry ≡ Some (record block { terminal = with_order n block.terminal }))
 kept order entry [] block is = absurd (cc)
@@ -156,7 +168,7 @@ kept order entry (b ∷ blocks) block is = elim (eqb_tells b.id.0 entry) [
       (rest.0, ap (λ (c : Bool). block_of (ordered_blocks order (if c then b ∷ filter (λ x. nat_eq x.id.0 entry) blocks else filter (λ x. nat_eq x.id.0 entry) blocks)) entry) t.0 ∙ rest.1))
 ]
 
--- what stands in the entry of the graph that is built is what the builder had there, but for orders
+-- The items of the entry are the builder's, orders apart.
 pub entry_plain : (entry : BlockId) (completed : List NumberedBlock) (table : List Instruction) (block : BasicBlock) → block_of completed entry.0 ≡ Some block → (place : ℕ)
     → plain (code_in completed table entry.0 place) ≡ plain (code_in (ordered_blocks 1 (reached_blocks entry completed)) (ordered_table 1 (reached_blocks entry completed) table) entry.0 place)
 entry_plain entry completed table block is place =
@@ -166,7 +178,7 @@ entry_plain entry completed table block is place =
     ∙ sym (item_plain table table1 block found.0 place (ordered_table_plain 1 (reached_blocks entry completed) table))
     ∙ sym (ap (λ (o : Option BasicBlock). plain (elim o [ Some b ↦ item_in table1 b place | None ↦ None ])) found.1)
 
--- no terminal names a block or leads to one
+-- Terminals have no successors and name no blocks.
 names_nothing : (t : Terminal) (other : ℕ) → Contains (named t) other → ⊥
 names_nothing (terminals.Return order at variant p) other there = let within : there.0 < 0 = there.1 in omega arith
 names_nothing (terminals.Unreachable order at) other there = let within : there.0 < 0 = there.1 in omega arith
@@ -183,7 +195,7 @@ still_ended : (order : ℕ) (t : Terminal) → (IsUnreachable t → ⊥) → IsU
 still_ended order (terminals.Return old at variant p) end u = u
 still_ended order (terminals.Unreachable old at) end u = end u
 
--- the entry is a block of it
+-- The entry is a block of the graph that is built.
 pub built_entry : (entry : BlockId) (completed : List NumberedBlock) (block : BasicBlock) → block_of completed entry.0 ≡ Some block → (b : BasicBlock) × (block_of (ordered_blocks 1 (reached_blocks entry completed)) entry.0 ≡ Some b)
 built_entry entry completed block is = let found = kept 1 entry.0 completed block is in (record block { terminal = with_order found.0 block.terminal }, found.1)
 

@@ -1,27 +1,26 @@
--- What the builder's moves keep: the counters, the lists of places, and what other functions made.
-use Rattle.std.proofs.Common.{◌≡◌, ℕ, zero, suc, ◌+◌, ◌<◌, ◌≤◌, ◌++◌, List, [], ◌∷◌, All, length, length-append, append-nil, append_assoc, Option, None, slice_get, refl, sym, ap, ◌∙◌, subst, arith}
+-- The builder's moves preserve the state (`Preserves`): bounds on counters, lists of ids, names, and the environment's fields.
+use Rattle.std.proofs.Common.{◌≡◌, ℕ, zero, suc, ◌+◌, ◌≤◌, ◌++◌, List, [], ◌∷◌, All, length-append, append-nil, append_assoc, Option, None, slice_get, refl, sym, ap, ◌∙◌, subst, arith}
 use Rattle.std.proofs.lemmas.List.Elements.{All-append}
 use Rattle.rl_base.specs.declared.diagnostic.Diagnostic.{Diagnostic}
-use Rattle.rl_base.specs.declared.ids.InstructionId.{InstructionId}
 use Rattle.rl_base.specs.declared.span.Span.{Span}
 use Rattle.rl_hir.specs.declared.instruction.InstructionValue.{InstructionValue}
-use Rattle.rl_hir.specs.declared.function.NumberedBlock.{NumberedBlock}
 use Rattle.rl_hir.specs.declared.terminal.Terminal.{Terminal}
-use Rattle.rl_builder.specs.Builder.{State, reserved, ended_by, completed_by, recorded}
-use Rattle.rl_builder.specs.Temporaries.{temporary, unordered, with_value}
-use Rattle.rl_builder.specs.Order.{orders_of}
+use Rattle.rl_builder.specs.Builder.{State, reserved, completed_by, recorded}
+use Rattle.rl_builder.specs.Temporaries.{with_value}
 use Rattle.rl_builder.specs.declared.builder.WipBlock.{WipBlock}
 use Rattle.rl_hir.specs.Pairs.{identifier_of}
 use Rattle.rl_hir.specs.declared.function.Identifier.{Identifier}
 use Rattle.rl_hir.specs.declared.function.Pair.{Pair}
 use Rattle.rl_scope.specs.declared.semantic.Symbol.{Symbol}
-use Rattle.rl_lower.specs.Listed.{AreBelow}
-use Rattle.rl_lower.specs.Lowering.{AddsUnnamed, HasRoom, Uses, Keeps}
+use Rattle.rl_lower.specs.Lowering.{HasRoom, CountersGrowBy, Preserves}
+use Rattle.rl_model.specs.Fields.{AddsUnnamed}
 use Rattle.rl_lower.specs.Named.{IsNamed}
+use Rattle.rl_lower.proofs.Listed.{listed_completed, listed_value}
 use Rattle.rl_lower.proofs.Steps.{get_more}
 
--- names that were given stand
-named_same : (symbols : List Symbol) (s new : State) → new.bindings ≡ s.bindings → new.env.identifiers ≡ s.env.identifiers → IsNamed symbols s → IsNamed symbols new
+-- Identifiers of symbols stay.
+named_same : (symbols : List Symbol) (s new : State) → new.bindings ≡ s.bindings → new.env.identifiers ≡ s.env.identifiers
+    → IsNamed symbols s → IsNamed symbols new
 named_same symbols s new bindings identifiers n = record {
   few = n.few;
   each = λ number symbol there.
@@ -34,7 +33,8 @@ named_same symbols s new bindings identifiers n = record {
       };
 }
 
-named_more : (symbols : List Symbol) (s new : State) (more : List Identifier) → new.bindings ≡ s.bindings → new.env.identifiers ≡ s.env.identifiers ++ more → IsNamed symbols s → IsNamed symbols new
+named_more : (symbols : List Symbol) (s new : State) (more : List Identifier) → new.bindings ≡ s.bindings
+    → new.env.identifiers ≡ s.env.identifiers ++ more → IsNamed symbols s → IsNamed symbols new
 named_more symbols s new more bindings identifiers n = record {
   few = n.few;
   each = λ number symbol there.
@@ -47,7 +47,7 @@ named_more symbols s new more bindings identifiers n = record {
       };
 }
 
--- identifiers without a name
+-- Identifiers without a name.
 none_unnamed : All (λ (i : Identifier). i.name ≡ None) []
 none_unnamed place default within = absurd (omega arith)
 
@@ -65,10 +65,11 @@ added_then old mid new a b = record {
   unnamed = All-append (λ (i : Identifier). i.name ≡ None) a.more b.more a.unnamed b.unnamed;
 }
 
-pub keeps_refl : (s : State) → Keeps s s 0
-keeps_refl s = record { uses = record { blocks = omega arith; types = omega arith; identifiers = omega arith; instructions = omega arith; completed = omega arith }; listed = λ l. l; named = λ symbols n. n; identifiers = none_added s.env.identifiers; pairs = refl; functions = refl; fn_type = refl }
+pub keeps_refl : (s : State) → Preserves s s 0
+keeps_refl s =
+    record { uses = record { blocks = omega arith; types = omega arith; identifiers = omega arith; instructions = omega arith; completed = omega arith }; listed = λ l. l; named = λ symbols n. n; identifiers = none_added s.env.identifiers; pairs = refl; functions = refl; fn_type = refl }
 
-pub keeps_then : (a b c : State) (m n : ℕ) → Keeps a b m → Keeps b c n → Keeps a c (m + n)
+pub keeps_then : (a b c : State) (m n : ℕ) → Preserves a b m → Preserves b c n → Preserves a c (m + n)
 keeps_then a b c m n j k = record {
   uses = record {
     blocks = omega (arith, j.uses.blocks, k.uses.blocks);
@@ -85,7 +86,7 @@ keeps_then a b c m n j k = record {
   fn_type = k.fn_type ∙ j.fn_type;
 }
 
-pub keeps_more : (a b : State) (m n : ℕ) → m ≤ n → Keeps a b m → Keeps a b n
+pub keeps_more : (a b : State) (m n : ℕ) → m ≤ n → Preserves a b m → Preserves a b n
 keeps_more a b m n le k = record {
   uses = record {
     blocks = omega (arith, le, k.uses.blocks);
@@ -102,61 +103,30 @@ keeps_more a b m n le k = record {
   fn_type = k.fn_type;
 }
 
-below_more : (bound later : ℕ) (ids : List InstructionId) → bound ≤ later → AreBelow bound ids → AreBelow later ids
-below_more bound later ids le below place default within = omega (arith, le, below place default within)
-
-one_below : (bound : ℕ) → AreBelow (bound + 1) (record { 0 = bound } ∷ [])
-one_below bound zero default within = omega arith
-one_below bound (suc place) default within = absurd (omega arith)
-
-pub keeps_value : (s : State) (v : InstructionValue) (span : Option Span) → Keeps s (with_value s v span) 1
+pub keeps_value : (s : State) (v : InstructionValue) (span : Option Span) → Preserves s (with_value s v span) 1
 keeps_value s v span = record {
   uses = record { blocks = omega arith; types = omega arith; identifiers = simp length-append (omega arith); instructions = simp length-append (omega arith); completed = omega arith };
-  listed = λ l. record {
-    completed = λ place default within. below_more (length s.table) _ _ longer (l.completed place default within);
-    current = All-append (λ (id : InstructionId). id.0 < length (s.table ++ unordered (temporary s span) v span ∷ [])) s.current.instructions (record { 0 = length s.table } ∷ [])
-        (below_more (length s.table) _ s.current.instructions longer l.current)
-        (subst (λ (n : ℕ). AreBelow n (record { 0 = length s.table } ∷ [])) (sym (length-append s.table (unordered (temporary s span) v span ∷ []))) (one_below (length s.table)));
-    counted = simp length-append (omega (arith, l.counted));
-  };
+  listed = listed_value s v span;
   named = λ symbols n. named_more symbols s (with_value s v span) _ refl refl n;
   identifiers = record { more = _; added = refl; unnamed = one_unnamed _ refl };
   pairs = refl;
   functions = refl;
   fn_type = refl;
 }
-  where
-    longer : length s.table ≤ length (s.table ++ unordered (temporary s span) v span ∷ [])
-    longer = simp length-append (omega arith)
 
-pub keeps_reserved : (s : State) → Keeps s (reserved s) 1
-keeps_reserved s = record { uses = record { blocks = omega arith; types = omega arith; identifiers = omega arith; instructions = omega arith; completed = omega arith }; listed = λ l. record { completed = l.completed; current = l.current; counted = l.counted }; named = λ symbols n. named_same symbols s _ refl refl n; identifiers = none_added s.env.identifiers; pairs = refl; functions = refl; fn_type = refl }
+pub keeps_reserved : (s : State) → Preserves s (reserved s) 1
+keeps_reserved s =
+    record { uses = record { blocks = omega arith; types = omega arith; identifiers = omega arith; instructions = omega arith; completed = omega arith }; listed = λ l. record { completed = l.completed; current = l.current; counted = l.counted; once = l.once; unordered = l.unordered; predecessors = l.predecessors }; named = λ symbols n. named_same symbols s _ refl refl n; identifiers = none_added s.env.identifiers; pairs = refl; functions = refl; fn_type = refl }
 
-pub keeps_recorded : (s : State) (d : Diagnostic) → Keeps s (recorded s d) 0
-keeps_recorded s d = record { uses = record { blocks = omega arith; types = omega arith; identifiers = omega arith; instructions = omega arith; completed = omega arith }; listed = λ l. record { completed = l.completed; current = l.current; counted = l.counted }; named = λ symbols n. named_same symbols s _ refl refl n; identifiers = none_added s.env.identifiers; pairs = refl; functions = refl; fn_type = refl }
+pub keeps_recorded : (s : State) (d : Diagnostic) → Preserves s (recorded s d) 0
+keeps_recorded s d =
+    record { uses = record { blocks = omega arith; types = omega arith; identifiers = omega arith; instructions = omega arith; completed = omega arith }; listed = λ l. record { completed = l.completed; current = l.current; counted = l.counted; once = l.once; unordered = l.unordered; predecessors = l.predecessors }; named = λ symbols n. named_same symbols s _ refl refl n; identifiers = none_added s.env.identifiers; pairs = refl; functions = refl; fn_type = refl }
 
-orders_append : (xs ys : List NumberedBlock) → orders_of (xs ++ ys) ≡ orders_of xs + orders_of ys
-orders_append [] ys = omega arith
-orders_append (x ∷ xs) ys = let rest : orders_of (xs ++ ys) ≡ orders_of xs + orders_of ys = orders_append xs ys in omega (arith, rest)
-
-one_listed : (bound : ℕ) (b : NumberedBlock) → AreBelow bound b.block.instructions → All (λ (x : NumberedBlock). AreBelow bound x.block.instructions) (b ∷ [])
-one_listed bound b below zero default within = below
-one_listed bound b below (suc place) default within = absurd (omega arith)
-
-none_below : (bound : ℕ) (ids : List InstructionId) → ids ≡ [] → AreBelow bound ids
-none_below bound ids none place default within = absurd (omega (arith, ap (λ (l : List InstructionId). length l) none))
-
-pub keeps_completed : (s : State) (t : Terminal) (next : WipBlock) → next.instructions ≡ [] → Keeps s (completed_by s t next) 1
+pub keeps_completed : (s : State) (t : Terminal) (next : WipBlock) → next.instructions ≡ []
+    → Preserves s (completed_by s t next) 1
 keeps_completed s t next none = record {
   uses = record { blocks = omega arith; types = omega arith; identifiers = omega arith; instructions = omega arith; completed = simp length-append (omega arith) };
-  listed = λ l. record {
-    completed = All-append (λ (b : NumberedBlock). AreBelow (length s.table) b.block.instructions) s.completed (ended_by s.current t ∷ []) l.completed (one_listed (length s.table) (ended_by s.current t) l.current);
-    current = none_below (length s.table) next.instructions none;
-    counted = let one : orders_of (s.completed ++ ended_by s.current t ∷ []) ≡ orders_of s.completed + orders_of (ended_by s.current t ∷ []) = orders_append s.completed (ended_by s.current t ∷ []) in
-        let empty : length next.instructions ≡ 0 = ap (λ (ids : List InstructionId). length ids) none in
-        let more : length (s.completed ++ ended_by s.current t ∷ []) ≡ length s.completed + 1 = length-append s.completed (ended_by s.current t ∷ []) in
-        omega (arith, one, empty, more, l.counted);
-  };
+  listed = listed_completed s t next none;
   named = λ symbols n. named_same symbols s _ refl refl n;
   identifiers = none_added s.env.identifiers;
   pairs = refl;
@@ -164,7 +134,7 @@ keeps_completed s t next none = record {
   fn_type = refl;
 }
 
--- what has room for more has room for less
+-- Room for more is room for less.
 pub room_less : (s : State) (m n : ℕ) → n ≤ m → HasRoom s m → HasRoom s n
 room_less s m n le r = record {
   blocks = omega (arith, le, r.blocks);
@@ -174,8 +144,8 @@ room_less s m n le r = record {
   completed = omega (arith, le, r.completed);
 }
 
--- what is left of it behind moves
-pub room_behind : (old new : State) (m n k : ℕ) → m + n ≤ k → Uses old new m → HasRoom old k → HasRoom new n
+-- The room that moves leave.
+pub room_behind : (old new : State) (m n k : ℕ) → m + n ≤ k → CountersGrowBy old new m → HasRoom old k → HasRoom new n
 room_behind old new m n k le u r = record {
   blocks = omega (arith, le, u.blocks, r.blocks);
   types = omega (arith, le, u.types, r.types);
@@ -185,4 +155,5 @@ room_behind old new m n k le u r = record {
 }
 
 pub room_reserved : (s later : State) (n k : ℕ) → 1 + n ≤ k → later ≡ reserved s → HasRoom s k → HasRoom later n
-room_reserved s later n k le moved r = room_behind s later 1 n k le (subst (λ (o : State). Uses s o 1) (sym moved) (keeps_reserved s).uses) r
+room_reserved s later n k le moved r =
+    room_behind s later 1 n k le (subst (λ (o : State). CountersGrowBy s o 1) (sym moved) (keeps_reserved s).uses) r

@@ -1,34 +1,40 @@
--- What the builder's moves keep, and how the graph runs through them.
+-- The builder's moves extend the state, and the graph's run through a silent one.
 use Rattle.std.proofs.Common.{◌≡◌, ℕ, ◌+◌, inl, inr, ◌++◌, List, [], ◌∷◌, length, length-append, Option, Some, refl, ◌∙◌, subst, arith}
+use Rattle.rl_base.specs.declared.diagnostic.Diagnostic.{Diagnostic}
 use Rattle.rl_base.specs.declared.ids.InstructionId.{InstructionId}
 use Rattle.rl_base.specs.declared.span.Span.{Span}
 use Rattle.rl_hir.specs.declared.instruction.Instruction.{Instruction}
 use Rattle.rl_hir.specs.declared.instruction.InstructionValue.{InstructionValue}
 use Rattle.rl_hir.specs.declared.terminal.Terminal.{Terminal}
 use Rattle.rl_hir.specs.declared.function.NumberedBlock.{NumberedBlock}
-use Rattle.rl_builder.specs.Builder.{State, reserved, with_temporary, pushed, ended_by, completed_by}
+use Rattle.rl_builder.specs.Builder.{State, reserved, recorded, with_temporary, pushed, ended_by, completed_by}
 use Rattle.rl_builder.specs.Temporaries.{with_value}
 use Rattle.rl_builder.specs.declared.builder.WipBlock.{WipBlock}
 use Rattle.rl_model.specs.declared.trace.Answer.{Answer}
 use Rattle.rl_model.specs.declared.trace.Trace.{Trace}
 use Rattle.rl_model.specs.Traces.{Store}
 use Rattle.rl_model.specs.Machine.{Item, Runs, Ends, Code, Notes, Next, step}
-use Rattle.rl_lower.specs.Simulation.{IsCurrentOrCompleted, InBlock, InWip, Grows, Covers, Goes, From, walk}
+use Rattle.rl_lower.specs.Simulation.{IsCurrentOrCompleted, InBlock, InWip, Extends, IsContainedIn, TracesAt, TracesFrom, walk}
 use Rattle.rl_lower.proofs.Steps.{get_more, get_seam, steps_on}
 
-block_more : (table more : List Instruction) (b : NumberedBlock) (place : ℕ) (item : Item) → InBlock table b place item → InBlock (table ++ more) b place item
-block_more table more b place (Runs i) h = record { number = h.number; at = h.at; kept = get_more table more h.number.0 i h.kept }
+block_more : (table more : List Instruction) (b : NumberedBlock) (place : ℕ) (item : Item) → InBlock table b place item
+    → InBlock (table ++ more) b place item
+block_more table more b place (Runs i) h =
+    record { number = h.number; at = h.at; kept = get_more table more h.number.0 i h.kept }
 block_more table more b place (Ends t) h = h
 
-wip_more : (table more : List Instruction) (listed others : List InstructionId) (place : ℕ) (item : Item) → InWip table listed place item → InWip (table ++ more) (listed ++ others) place item
-wip_more table more listed others place (Runs i) h = record { number = h.number; at = get_more listed others place h.number h.at; kept = get_more table more h.number.0 i h.kept }
+wip_more : (table more : List Instruction) (listed others : List InstructionId) (place : ℕ) (item : Item)
+    → InWip table listed place item → InWip (table ++ more) (listed ++ others) place item
+wip_more table more listed others place (Runs i) h =
+    record { number = h.number; at = get_more listed others place h.number h.at; kept = get_more table more h.number.0 i h.kept }
 wip_more table more listed others place (Ends t) h = absurd h
 
-pub grows_refl : (s : State) → Grows s s
-grows_refl s = record { done = λ f d. d; wip = λ f w. inr w; completed = λ id k. k; current = inl refl; entry = refl; blocks = omega arith; identifiers = omega arith; bindings = refl }
+pub extends_refl : (s : State) → Extends s s
+extends_refl s =
+    record { done = λ f d. d; wip = λ f w. inr w; completed = λ id k. k; current = inl refl; entry = refl; blocks = omega arith; identifiers = omega arith; bindings = refl }
 
-pub grows_then : (a b c : State) → Grows a b → Grows b c → Grows a c
-grows_then a b c g h = record {
+pub extends_then : (a b c : State) → Extends a b → Extends b c → Extends a c
+extends_then a b c g h = record {
   done = λ f d. h.done f (g.done f d);
   wip = λ f w. elim (g.wip f w) [ inl d ↦ inl (h.done f d) | inr v ↦ h.wip f v ];
   completed = λ id k. h.completed id (g.completed id k);
@@ -39,8 +45,8 @@ grows_then a b c g h = record {
   bindings = h.bindings ∙ g.bindings;
 }
 
-pub grows_reserved : (s : State) → Grows s (reserved s)
-grows_reserved s = record {
+pub extends_reserved : (s : State) → Extends s (reserved s)
+extends_reserved s = record {
   done = λ f d. record { place = d.place; block = d.block; found = d.found; named = d.named; holds = d.holds };
   wip = λ f w. inr (record { named = w.named; holds = w.holds });
   completed = λ id k. k;
@@ -51,8 +57,20 @@ grows_reserved s = record {
   bindings = refl;
 }
 
-pub grows_temporary : (s : State) (span : Option Span) → Grows s (with_temporary s span)
-grows_temporary s span = record {
+pub extends_recorded : (s : State) (d : Diagnostic) → Extends s (recorded s d)
+extends_recorded s d = record {
+  done = λ f d1. record { place = d1.place; block = d1.block; found = d1.found; named = d1.named; holds = d1.holds };
+  wip = λ f w. inr (record { named = w.named; holds = w.holds });
+  completed = λ id k. k;
+  current = inl refl;
+  entry = refl;
+  blocks = omega arith;
+  identifiers = omega arith;
+  bindings = refl;
+}
+
+pub extends_temporary : (s : State) (span : Option Span) → Extends s (with_temporary s span)
+extends_temporary s span = record {
   done = λ f d. record { place = d.place; block = d.block; found = d.found; named = d.named; holds = d.holds };
   wip = λ f w. inr (record { named = w.named; holds = w.holds });
   completed = λ id k. k;
@@ -63,8 +81,8 @@ grows_temporary s span = record {
   bindings = refl;
 }
 
-pub grows_pushed : (s : State) (i : Instruction) → Grows s (pushed s i)
-grows_pushed s i = record {
+pub extends_pushed : (s : State) (i : Instruction) → Extends s (pushed s i)
+extends_pushed s i = record {
   done = λ f d. record { place = d.place; block = d.block; found = d.found; named = d.named; holds = block_more s.table (i ∷ []) d.block f.place f.item d.holds };
   wip = λ f w. inr (record { named = w.named; holds = wip_more s.table (i ∷ []) s.current.instructions (record { 0 = length s.table } ∷ []) f.place f.item w.holds });
   completed = λ id k. k;
@@ -75,16 +93,18 @@ grows_pushed s i = record {
   bindings = refl;
 }
 
--- a value goes into a fresh identifier
-pub grows_value : (s : State) (value : InstructionValue) (span : Option Span) → Grows s (with_value s value span)
-grows_value s value span = grows_then s (with_temporary s span) _ (grows_temporary s span) (grows_pushed (with_temporary s span) _)
+-- A value goes into a fresh identifier.
+pub extends_value : (s : State) (value : InstructionValue) (span : Option Span) → Extends s (with_value s value span)
+extends_value s value span =
+    extends_then s (with_temporary s span) _ (extends_temporary s span) (extends_pushed (with_temporary s span) _)
 
-block_from_wip : (table : List Instruction) (wip : WipBlock) (t : Terminal) (place : ℕ) (item : Item) → InWip table wip.instructions place item → InBlock table (ended_by wip t) place item
+block_from_wip : (table : List Instruction) (wip : WipBlock) (t : Terminal) (place : ℕ) (item : Item)
+    → InWip table wip.instructions place item → InBlock table (ended_by wip t) place item
 block_from_wip table wip t place (Runs i) h = record { number = h.number; at = h.at; kept = h.kept }
 block_from_wip table wip t place (Ends u) h = absurd h
 
-pub grows_completed : (s : State) (t : Terminal) (next : WipBlock) → Grows s (completed_by s t next)
-grows_completed s t next = record {
+pub extends_completed : (s : State) (t : Terminal) (next : WipBlock) → Extends s (completed_by s t next)
+extends_completed s t next = record {
   done = λ f d. record { place = d.place; block = d.block; found = get_more s.completed _ d.place d.block d.found; named = d.named; holds = d.holds };
   wip = λ f w. inl (record { place = length s.completed; block = ended_by s.current t; found = get_seam s.completed (ended_by s.current t) []; named = w.named; holds = block_from_wip s.table s.current t f.place f.item w.holds });
   completed = λ id k. record { place = k.place; block = k.block; found = get_more s.completed _ k.place k.block k.found; named = k.named };
@@ -95,25 +115,31 @@ grows_completed s t next = record {
   bindings = refl;
 }
 
--- what a graph covers
+-- Items that a graph has.
 
-pub covers_before : (old new : State) (c : Code) → Grows old new → Covers new c → Covers old c
-covers_before old new c g cover = record { has = λ f h. elim h [ inl d ↦ cover.has f (inl (g.done f d)) | inr w ↦ cover.has f (g.wip f w) ] }
+pub contained_before : (old new : State) (c : Code) → Extends old new → IsContainedIn new c → IsContainedIn old c
+contained_before old new c g cover =
+    record { has = λ f h. elim h [ inl d ↦ cover.has f (inl (g.done f d)) | inr w ↦ cover.has f (g.wip f w) ] }
 
-pub terminal_met : (s : State) (t : Terminal) (next : WipBlock) (c : Code) → Covers (completed_by s t next) c → c s.current.id.0 (length s.current.instructions) ≡ Some (Ends t)
+pub terminal_met : (s : State) (t : Terminal) (next : WipBlock) (c : Code) → IsContainedIn (completed_by s t next) c
+    → c s.current.id.0 (length s.current.instructions) ≡ Some (Ends t)
 terminal_met s t next c cover =
     cover.has (record { block = s.current.id.0; place = length s.current.instructions; item = Ends t })
     (inl (record { place = length s.completed; block = ended_by s.current t; found = get_seam s.completed (ended_by s.current t) []; named = refl; holds = (refl, refl) }))
 
-pub instruction_met : (s : State) (i : Instruction) (c : Code) → Covers (pushed s i) c → c s.current.id.0 (length s.current.instructions) ≡ Some (Runs i)
+pub instruction_met : (s : State) (i : Instruction) (c : Code) → IsContainedIn (pushed s i) c
+    → c s.current.id.0 (length s.current.instructions) ≡ Some (Runs i)
 instruction_met s i c cover =
     cover.has (record { block = s.current.id.0; place = length s.current.instructions; item = Runs i })
     (inr (record { named = refl; holds = record { number = record { 0 = length s.table }; at = get_seam s.current.instructions (record { 0 = length s.table }) []; kept = get_seam s.table i [] } }))
 
--- a silent instruction: the rest runs from where the builder stands behind it
-pub push_runs : (s : State) (i : Instruction) (c : Code) (store later : Store) (notes : Notes) (answers : List Answer) (t : Trace) → ((next : Next) (block place : ℕ) → step (Some (Runs i)) next next block place store notes answers ≡ next block (place + 1) later notes answers) → Covers (pushed s i) c → From c (pushed s i) later notes answers t → From c s store notes answers t
+-- A silent instruction: the run goes on at the program point behind it.
+pub push_runs : (s : State) (i : Instruction) (c : Code) (store later : Store) (notes : Notes) (answers : List Answer)
+    (t : Trace) →
+    ((stuck : Trace) (next : Next) (block place : ℕ) → step stuck (Some (Runs i)) next next block place store notes answers ≡ next block (place + 1) later notes answers)
+    → IsContainedIn (pushed s i) c → TracesFrom c (pushed s i) later notes answers t → TracesFrom c s store notes answers t
 push_runs s i c store later notes answers t acts cover rest =
     let one : length (s.current.instructions ++ record { 0 = length s.table } ∷ []) ≡ length s.current.instructions + 1 = length-append s.current.instructions (record { 0 = length s.table } ∷ []) in
-    let behind : Goes c s.current.id.0 (length s.current.instructions + 1) later notes answers t = subst (λ place. Goes c s.current.id.0 place later notes answers t) one rest in
+    let behind : TracesAt c s.current.id.0 (length s.current.instructions + 1) later notes answers t = subst (λ place. TracesAt c s.current.id.0 place later notes answers t) one rest in
     steps_on c s.current.id.0 (length s.current.instructions) store notes answers (Runs i) t (instruction_met s i c cover)
-    (record { by = (behind.by.0, λ steps enough. acts (walk c steps) s.current.id.0 (length s.current.instructions) ∙ behind.by.1 steps enough) })
+    (record { by = (behind.by.0, λ stuck steps enough. acts stuck (walk stuck c steps) s.current.id.0 (length s.current.instructions) ∙ behind.by.1 stuck steps enough) })

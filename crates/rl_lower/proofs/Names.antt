@@ -1,4 +1,4 @@
--- What a name stands for, and what is said of it.
+-- The symbol of a name, its identifier, and its refusals.
 use Rattle.std.proofs.Common.{◌≡◌, ℕ, suc, ◌+◌, ◌&&◌, ◌++◌, Bool, true, false, if◌then◌else◌, List, [], ◌∷◌, slice_get, Option, Some, None, refl, sym, ap, ◌∙◌, subst, arith, append-nil}
 use Rattle.std.specs.Option.{option_map}
 use Rattle.std.specs.Str.{bytes_eq}
@@ -25,7 +25,7 @@ use Rattle.rl_lower.specs.Lowering.{HasRoom, LowersExpression}
 use Rattle.rl_lower.specs.Named.{HasIdentifier, IsNamed}
 use Rattle.rl_lower.proofs.Lowered.{local_call, refused_local_call}
 
--- the symbol that a name stands for
+-- The symbol of a name.
 record IsFound (symbols : List Symbol) (name : List ℕ) (place : ℕ) : Type 0 where
   symbol : Symbol
   there : slice_get symbols place ≡ Some symbol
@@ -50,7 +50,7 @@ found_symbol symbols name found is =
     let told = found_from 0 symbols name found is in
     subst (λ (n : ℕ). IsFound symbols name n) (omega (arith, told.1)) told.2
 
--- a name that stands for none is declared nowhere
+-- A name without a symbol has no declaration.
 pub undeclared_from : (number : ℕ) (symbols : List Symbol) (name : List ℕ) → symbol_from number symbols name ≡ None → declaration_in symbols name ≡ None
 undeclared_from number [] name is = refl
 undeclared_from number (s ∷ symbols) name is = by_test (undeclared_from (number + 1) symbols name) (bytes_eq s.name name) refl
@@ -59,8 +59,8 @@ undeclared_from number (s ∷ symbols) name is = by_test (undeclared_from (numbe
     by_test rest true e = absurd ((let never : Some number ≡ None = sym (ap (λ (b : Bool). if b then Some number else symbol_from (number + 1) symbols name) e) ∙ is in cc))
     by_test rest false e = ap (λ (b : Bool). if b then Some s.declaration else declaration_in symbols name) e ∙ rest (sym (ap (λ (b : Bool). if b then Some number else symbol_from (number + 1) symbols name) e) ∙ is)
 
--- its identifier
-has_identifier : (symbols : List Symbol) (s : State) (name : List ℕ) (found : ℕ) → IsNamed symbols s → symbol_named symbols name ≡ Some found → HasIdentifier s found name
+-- The identifier of a name's symbol.
+pub has_identifier : (symbols : List Symbol) (s : State) (name : List ℕ) (found : ℕ) → IsNamed symbols s → symbol_named symbols name ≡ Some found → HasIdentifier s found name
 has_identifier symbols s name found n is = let f = found_symbol symbols name found is in subst (λ (x : List ℕ). HasIdentifier s found x) f.named (n.each found f.symbol f.there)
 
 pub never_stopped : (symbols : List Symbol) (s : State) (name : List ℕ) (found : ℕ) (declaration : Span) (d : Diagnostic) → IsNamed symbols s → symbol_named symbols name ≡ Some found → IsStopped s name found declaration d → ⊥
@@ -69,7 +69,7 @@ never_stopped symbols s name found declaration d n is stopped =
     let never : Some h.identifier ≡ None = sym h.bound ∙ stopped.fresh in
     cc
 
--- what is said of a variable's name does not depend on when its symbol is resolved
+-- Resolving a symbol that has an identifier records its refusal, and changes nothing else.
 noted_name : (s : State) (name : List ℕ) (found : ℕ) (declaration : Span) → (h : HasIdentifier s found name) → resolved s name found declaration ≡ record s { env = record s.env { diagnostics = s.env.diagnostics ++ refused_name (Some h.identifier) s.env.identifiers name declaration } }
 noted_name s name found declaration h = ap (λ (o : Option ℕ). resolved_by o s name found declaration) h.bound
 
@@ -81,7 +81,7 @@ refused_is s name found declaration b h is =
     ap (λ (o : Option IdentifierName). if bytes_eq name fbt && is_named o fbt then fbt_diagnostic declaration ∷ [] else []) (name_known s name found h)
     ∙ ap (λ (c : Bool). if c && c then fbt_diagnostic declaration ∷ [] else []) is
 
--- a variable's name
+-- A variable's name.
 pub identifier_call : (symbols : List Symbol) (at : At) (name : List ℕ) (found : ℕ) (declaration : Span) (p : Place) (s mid new : State) (place : Place) → IsNamed symbols s → symbol_named symbols name ≡ Some found → option_map (λ (x : Symbol). x.declaration) (slice_get symbols found) ≡ Some declaration
     → mid ≡ resolved s name found declaration → identifier_of mid.bindings found ≡ Some p.identifier.0 → new ≡ with_value mid (values.LoadLocal p) (Some at.span) → place ≡ temporary mid (Some at.span) → LowersExpression symbols (Node at word.Id (Then (Said name) End)) s new place.identifier.0
 identifier_call symbols at name found declaration p s mid new place n is declared_at moved bound ended placed = by_test (bytes_eq name fbt) refl

@@ -11,7 +11,9 @@ use Rattle.rl_hir.specs.declared.environment.Environment.{Environment}
 use Rattle.rl_hir.specs.declared.function.Identifier.{Identifier}
 use Rattle.rl_hir.specs.declared.function.Pair.{Pair}
 use Rattle.rl_builder.specs.Builder.{State}
-use Rattle.rl_builder.specs.Names.{candidate, chosen, fbt, fbt_diagnostic, is_free, named_identifier, pair, place_from, resolved, resolved_by, user_of, with_user}
+use Rattle.rl_builder.specs.Names.{candidate, chosen, fbt, fbt_diagnostic, is_free, place_from, resolved, resolved_by, user_of, with_user}
+use Rattle.rl_hir.specs.Identifiers.{named_identifier}
+use Rattle.rl_hir.specs.Pairs.{pair}
 use Rattle.rl_builder.specs.UsedName.{UsedName}
 use Rattle.rl_scope.specs.declared.semantic.Symbol.{Symbol}
 use Rattle.rl_scope.specs.Symbols.{are_distinct, symbol_from, symbol_named}
@@ -22,7 +24,10 @@ use Rattle.rl_model.specs.Rows.{is_text, refusal}
 use Rattle.rl_model.specs.Source.{take_from}
 use Rattle.rl_model.specs.Traces.{Store, set}
 use Rattle.rl_lower.specs.Named.{IsNamed}
-use Rattle.rl_lower.specs.Parameters.{known_from, pairs_from, places_from, resolved_from, said_of_symbols, with_parameters}
+use Rattle.rl_lower.specs.Parameters.{resolved_from, said_of_symbols, with_parameters}
+use Rattle.rl_model.specs.Fields.{places_from}
+use Rattle.rl_model.specs.Fields.{pairs_from}
+use Rattle.rl_model.specs.Fields.{known_from}
 use Rattle.rl_lower.specs.Simulation.{Agrees, AreMade}
 use Rattle.rl_lower.proofs.Steps.{set_same, set_other}
 

@@ -1,9 +1,8 @@
--- How expressions and statements run.
+-- The runs of expressions and statements, one lemma a kind.
 use Rattle.std.proofs.Common.{◌≡◌, ℕ, ◌+◌, ◌<◌, ◌++◌, List, [], ◌∷◌, length, length-append, map, Option, Some, refl, sym, ap, ◌∙◌, subst, arith}
-use Rattle.std.proofs.lemmas.List.Elements.{All-cons}
 use Rattle.rl_base.specs.declared.span.Span.{Span}
-use Rattle.rl_text.specs.Operators.{operator_text}
-use Rattle.rl_text.specs.declared.operator.BinaryOperator.{BinaryOperator}
+use Rattle.rl_base.specs.Operators.{operator_text}
+use Rattle.rl_base.specs.declared.operator.BinaryOperator.{BinaryOperator}
 use Rattle.rl_hir.specs.Pairs.{identifier_of}
 use Rattle.rl_hir.specs.declared.instruction.Place.{Place}
 use Rattle.rl_hir.specs.declared.instruction.InstructionValue.{InstructionValue}
@@ -14,57 +13,65 @@ use Rattle.rl_hir.specs.declared.instruction.PrimitiveValue.{PrimitiveValue}
 use Rattle.rl_hir.specs.declared.terminal.Terminal.TheVariants as terminals
 use Rattle.rl_hir.specs.declared.terminal.ReturnVariant.{ReturnVariant}
 use Rattle.rl_hir.specs.declared.function.BlockKind.{BlockKind}
-use Rattle.rl_builder.specs.Builder.{State, reserved, new_block, with_temporary, ended_by}
+use Rattle.rl_builder.specs.Builder.{State, reserved, new_block, with_temporary}
 use Rattle.rl_builder.specs.Temporaries.{temporary, unordered, with_value}
 use Rattle.rl_model.specs.declared.trace.Value.{Value}
-use Rattle.rl_model.specs.declared.trace.Setting.{Setting}
+use Rattle.rl_model.specs.declared.trace.Assignment.{Assignment}
 use Rattle.rl_model.specs.declared.trace.Answer.{Answer}
 use Rattle.rl_model.specs.declared.trace.AnswerKind.{AnswerKind}
 use Rattle.rl_model.specs.declared.trace.AnswerKind.TheVariants.{Yes, No, Throw}
 use Rattle.rl_model.specs.declared.trace.Event.{Event}
 use Rattle.rl_model.specs.declared.trace.Trace.{Trace}
 use Rattle.rl_model.specs.Events.{global, binary, call}
-use Rattle.rl_model.specs.Traces.{Store, set, set_open, With, Gives, GivesAll, Means, Exits, asked, answered, emit, returned, threw}
+use Rattle.rl_model.specs.Traces.{Store, set, set_open, ValueCont, ExprMeaning, ExprsMeaning, StmtMeaning, Exits, asked, answered, emit, returned, threw}
 use Rattle.rl_model.specs.Source.{asks}
 use Rattle.rl_model.specs.Source as source_side
 use Rattle.rl_model.specs.Machine.{Item, Runs, Ends, Code, Notes, Next, Computes, Asks, act, executed, value_of}
 use Rattle.rl_hir.specs.Instructions.{argument_place, argument_shape}
 use Rattle.rl_model.specs.Machine as machine
 use Rattle.rl_lower.specs.Endings.{returned_from}
-use Rattle.rl_lower.specs.Simulation.{Agrees, AreMade, Comes, Continues, Grows, Covers, From, Goes, Later, Throws, RunsAll, RunsExpression, RunsStatement, walk}
+use Rattle.rl_lower.specs.Simulation.{Agrees, AreMade, Eventually, Continues, Extends, IsContainedIn, TracesFrom, TracesAt, Later, Throws, RunsAll, RunsExpression, RunsStatement, walk}
 use Rattle.rl_lower.proofs.Asking.{machine_unchanged, source_unchanged}
 use Rattle.rl_lower.proofs.Steps.{agrees_before, agrees_set, agrees_then, made_then, set_same, comes_at_once, steps_on, later_refl, later_then, later_set}
-use Rattle.rl_lower.proofs.Moves.{grows_refl, grows_then, grows_reserved, grows_value, grows_completed, covers_before, instruction_met, terminal_met, push_runs}
-use Rattle.rl_lower.proofs.Clean.{tidy_refl, tidy_then, tidy_fresh, ended_more}
+use Rattle.rl_lower.proofs.Moves.{extends_refl, extends_then, extends_value, contained_before, instruction_met, terminal_met, push_runs}
+use Rattle.rl_lower.proofs.Blocks.{extends_returned}
 
--- an instruction that computes a value silently
-pub computed_runs : (s : State) (d : Gives) (value : InstructionValue) (span : Option Span) (computed : Store → Value) → ((store : Store) → act value store ≡ Computes (computed store))
-    → ((source store : Store) → Agrees s.bindings source store → (answers : List Answer) (onward throws : With) → d source answers onward throws ≡ onward (computed store) source answers) → RunsExpression d s (with_value s value span) (length s.env.identifiers)
+-- An instruction that computes a value silently.
+pub computed_runs : (s : State) (d : ExprMeaning) (value : InstructionValue) (span : Option Span) (computed : Store → Value)
+    → ((store : Store) → act value store ≡ Computes (computed store))
+    → ((source store : Store) → Agrees s.bindings source store → (answers : List Answer) (onward throws : ValueCont) → d source answers onward throws ≡ onward (computed store) source answers)
+    → RunsExpression d s (with_value s value span) (length s.env.identifiers)
 computed_runs s d value span computed acts silent = record {
-  grows = grows_value s value span;
-  tidy = tidy_refl s.completed s.current.id.0 s.env.next_block;
-  ended = λ e. e;
-  fresh = omega arith;
-  made = simp length-append (omega arith);
   runs = λ c cover m k h source store notes answers a throws onward.
       let after : Store = set store (length s.env.identifiers) (computed store) in
-      subst (λ t. From c s store notes answers t) (sym (silent source store a answers k h))
+      subst (λ t. TracesFrom c s store notes answers t) (sym (silent source store a answers k h))
       (push_runs (with_temporary s span) (unordered (temporary s span) value span) c store after notes answers (k (computed store) source answers)
-      (λ next block place. ap (λ act1. executed act1 (length s.env.identifiers) next next block place store notes answers) (acts store)) cover
+      (λ stuck next block place. ap (λ act1. executed act1 (length s.env.identifiers) next next block place store notes answers) (acts store)) cover
       (onward.goes (computed store) source after notes answers (agrees_set s source store (length s.env.identifiers) (computed store) m (omega arith) a) (later_set s store (length s.env.identifiers) (computed store) (omega arith)) (set_same store (length s.env.identifiers) (computed store))));
 }
 
--- a value that is given silently goes into a fresh identifier
-pub value_runs : (s : State) (d : Gives) (p : PrimitiveValue) (span : Option Span) → ((source : Store) (answers : List Answer) (onward throws : With) → d source answers onward throws ≡ onward (value_of p) source answers) → RunsExpression d s (with_value s (values.Primitive p) span) (length s.env.identifiers)
-value_runs s d p span silent = computed_runs s d (values.Primitive p) span (λ store. value_of p) (λ store. refl) (λ source store a answers onward throws. silent source answers onward throws)
+-- A literal.
+pub value_runs : (s : State) (d : ExprMeaning) (p : PrimitiveValue) (span : Option Span)
+    → ((source : Store) (answers : List Answer) (onward throws : ValueCont) → d source answers onward throws ≡ onward (value_of p) source answers)
+    → RunsExpression d s (with_value s (values.Primitive p) span) (length s.env.identifiers)
+value_runs s d p span silent =
+    computed_runs s d (values.Primitive p) span (λ store. value_of p) (λ store. refl) (λ source store a answers onward throws. silent source answers onward throws)
 
--- a variable gives its value
-pub local_runs : (s : State) (symbol : ℕ) (p : Place) (span : Option Span) → identifier_of s.bindings symbol ≡ Some p.identifier.0 → RunsExpression (λ source answers onward throws. onward (source symbol) source answers) s (with_value s (values.LoadLocal p) span) (length s.env.identifiers)
-local_runs s symbol p span bound = computed_runs s _ (values.LoadLocal p) span (λ store. store p.identifier.0) (λ store. refl) (λ source store a answers onward throws. ap (λ v. onward v source answers) (sym (a.at symbol p.identifier.0 bound)))
+-- A variable that is read.
+pub local_runs : (s : State) (symbol : ℕ) (p : Place) (span : Option Span)
+    → identifier_of s.bindings symbol ≡ Some p.identifier.0
+    → RunsExpression (λ source answers onward throws. onward (source symbol) source answers) s
+    (with_value s (values.LoadLocal p) span) (length s.env.identifiers)
+local_runs s symbol p span bound =
+    computed_runs s _ (values.LoadLocal p) span (λ store. store p.identifier.0) (λ store. refl) (λ source store a answers onward throws. ap (λ v. onward v source answers) (sym (a.at symbol p.identifier.0 bound)))
 
--- what was asked, where what follows a value and a throw is known
-asked_from : (s base : State) (value : InstructionValue) (span : Option Span) (event : Event) (c : Code) (k h : With) (source store first : Store) (notes : Notes) (answers : List Answer) → Grows base s → Covers (with_value s value span) c → AreMade s
-    → act value store ≡ Asks event → Agrees base.bindings source store → Later base first store → Throws h → Continues c base (with_value s value span) first (length s.env.identifiers) k → From c s store notes answers (asks event source answers k h)
+-- An instruction that asks: the traces behind its answer, a value or a throw, are known.
+asked_from : (s base : State) (value : InstructionValue) (span : Option Span) (event : Event) (c : Code) (k h : ValueCont)
+    (source store first : Store) (notes : Notes) (answers : List Answer) → Extends base s
+    → IsContainedIn (with_value s value span) c → AreMade s
+    → act value store ≡ Asks event → Agrees base.bindings source store → Later base first store → Throws h
+    → Continues c base (with_value s value span) first (length s.env.identifiers) k
+    → TracesFrom c s store notes answers (asks event source answers k h)
 asked_from s base value span event c k h source store first notes answers g cover m acts a l throws onward = by_answers answers
   where
     identifier : ℕ
@@ -76,210 +83,189 @@ asked_from s base value span event c k h source store first notes answers g cove
     new : State
     new = with_value s value span
 
-    -- behind the event, with the answer's value
-    behind : (v : Value) (settings : List Setting) (rest : List Answer) → From c new (set (set_open machine.is_open settings store) identifier v) notes rest (k v (set_open source_side.is_open settings source) rest)
-    behind v settings rest =
-        subst (λ (r : Store). From c new (set r identifier v) notes rest (k v (set_open source_side.is_open settings source) rest)) (sym (machine_unchanged settings store))
-        (subst (λ (r : Store). From c new (set store identifier v) notes rest (k v r rest)) (sym (source_unchanged settings source))
+    -- The run behind the event, with the answer's value.
+    behind : (v : Value) (assignments : List Assignment) (rest : List Answer) → TracesFrom c new (set (set_open machine.is_open assignments store) identifier v) notes rest (k v (set_open source_side.is_open assignments source) rest)
+    behind v assignments rest =
+        subst (λ (r : Store). TracesFrom c new (set r identifier v) notes rest (k v (set_open source_side.is_open assignments source) rest)) (sym (machine_unchanged assignments store))
+        (subst (λ (r : Store). TracesFrom c new (set store identifier v) notes rest (k v r rest)) (sym (source_unchanged assignments source))
         (onward.goes v source (set store identifier v) notes rest
         (agrees_before base s source (set store identifier v) g (agrees_set s source store identifier v m (omega arith) (agrees_then base s source store g a)))
         (later_then base s first store (set store identifier v) g.identifiers l (later_set s store identifier v (omega arith)))
         (set_same store identifier v)))
 
-    -- the step that asks, and then what follows
-    stepped : (answers1 : List Answer) (t : Trace) → Comes c (λ next. asked (λ settings before. set_open machine.is_open settings before) event store answers1 (λ v after rest. next s.current.id.0 (length s.current.instructions + 1) (set after identifier v) notes rest) (λ v after rest. threw v)) t → From c s store notes answers1 t
+    -- The step that asks, and the run behind it.
+    stepped : (answers1 : List Answer) (t : Trace) → Eventually c (λ stuck next. asked (λ assignments before. set_open machine.is_open assignments before) event store answers1 (λ v after rest. next s.current.id.0 (length s.current.instructions + 1) (set after identifier v) notes rest) (λ v after rest. threw v)) t → TracesFrom c s store notes answers1 t
     stepped answers1 t comes =
         steps_on c s.current.id.0 (length s.current.instructions) store notes answers1 item t (instruction_met (with_temporary s span) (unordered (temporary s span) value span) c cover)
-        (record { by = (comes.by.0, λ steps enough. ap (λ act1. executed act1 identifier (walk c steps) (walk c steps) s.current.id.0 (length s.current.instructions) store notes answers1) acts ∙ comes.by.1 steps enough) })
+        (record { by = (comes.by.0, λ stuck steps enough. ap (λ act1. executed act1 identifier (walk stuck c steps) (walk stuck c steps) s.current.id.0 (length s.current.instructions) store notes answers1) acts ∙ comes.by.1 stuck steps enough) })
 
     one : length (s.current.instructions ++ record { 0 = length s.table } ∷ []) ≡ length s.current.instructions + 1
     one = length-append s.current.instructions (record { 0 = length s.table } ∷ [])
 
-    given : (kind : AnswerKind) (v : Value) (settings : List Setting) (rest : List Answer)
-        → Comes c (λ next. answered kind (λ w after rest1. next s.current.id.0 (length s.current.instructions + 1) (set after identifier w) notes rest1) (λ w after rest1. threw w) v (set_open machine.is_open settings store) rest) (answered kind k h v (set_open source_side.is_open settings source) rest)
-    given Yes v settings rest = subst (λ place. Goes c s.current.id.0 place (set (set_open machine.is_open settings store) identifier v) notes rest (k v (set_open source_side.is_open settings source) rest)) one (behind v settings rest)
-    given No v settings rest = subst (λ place. Goes c s.current.id.0 place (set (set_open machine.is_open settings store) identifier v) notes rest (k v (set_open source_side.is_open settings source) rest)) one (behind v settings rest)
-    given Throw v settings rest = comes_at_once c _ _ (λ next. sym (throws.ends v (set_open source_side.is_open settings source) rest))
+    given : (kind : AnswerKind) (v : Value) (assignments : List Assignment) (rest : List Answer)
+        → Eventually c (λ stuck next. answered kind (λ w after rest1. next s.current.id.0 (length s.current.instructions + 1) (set after identifier w) notes rest1) (λ w after rest1. threw w) v (set_open machine.is_open assignments store) rest) (answered kind k h v (set_open source_side.is_open assignments source) rest)
+    given Yes v assignments rest = subst (λ place. TracesAt c s.current.id.0 place (set (set_open machine.is_open assignments store) identifier v) notes rest (k v (set_open source_side.is_open assignments source) rest)) one (behind v assignments rest)
+    given No v assignments rest = subst (λ place. TracesAt c s.current.id.0 place (set (set_open machine.is_open assignments store) identifier v) notes rest (k v (set_open source_side.is_open assignments source) rest)) one (behind v assignments rest)
+    given Throw v assignments rest = comes_at_once c _ _ (λ stuck next. sym (throws.ends v (set_open source_side.is_open assignments source) rest))
 
-    emitted : (f : Next → Trace) (t : Trace) → Comes c f t → Comes c (λ next. emit event (f next)) (emit event t)
-    emitted f t comes = record { by = (comes.by.0, λ steps enough. ap (λ u. emit event u) (comes.by.1 steps enough)) }
+    emitted : (f : (stuck : Trace) → Next → Trace) (t : Trace) → Eventually c f t → Eventually c (λ stuck next. emit event (f stuck next)) (emit event t)
+    emitted f t comes = record { by = (comes.by.0, λ stuck steps enough. ap (λ u. emit event u) (comes.by.1 stuck steps enough)) }
 
-    by_answers : (answers1 : List Answer) → From c s store notes answers1 (asks event source answers1 k h)
-    by_answers [] = stepped [] _ (comes_at_once c _ _ (λ next. refl))
-    by_answers (answer ∷ rest) = stepped (answer ∷ rest) _ (emitted _ _ (given answer.kind answer.value answer.settings rest))
+    by_answers : (answers1 : List Answer) → TracesFrom c s store notes answers1 (asks event source answers1 k h)
+    by_answers [] = stepped [] _ (comes_at_once c _ _ (λ stuck next. refl))
+    by_answers (answer ∷ rest) = stepped (answer ∷ rest) _ (emitted _ _ (given answer.kind answer.value answer.assignments rest))
 
--- a name that no declaration explains
-pub global_runs : (s : State) (name : List ℕ) (span : Option Span) → RunsExpression (λ source answers onward throws. asks (global (name ∷ [])) source answers onward throws) s (with_value s (values.LoadGlobal (bindings.Global name)) span) (length s.env.identifiers)
+-- A global that is read.
+pub global_runs : (s : State) (name : List ℕ) (span : Option Span)
+    → RunsExpression (λ source answers onward throws. asks (global (name ∷ [])) source answers onward throws) s
+    (with_value s (values.LoadGlobal (bindings.Global name)) span) (length s.env.identifiers)
 global_runs s name span = record {
-  grows = grows_value s (values.LoadGlobal (bindings.Global name)) span;
-  tidy = tidy_refl s.completed s.current.id.0 s.env.next_block;
-  ended = λ e. e;
-  fresh = omega arith;
-  made = simp length-append (omega arith);
   runs = λ c cover m k h source store notes answers a throws onward.
-      asked_from s s (values.LoadGlobal (bindings.Global name)) span (global (name ∷ [])) c k h source store store notes answers (grows_refl s) cover m refl a (later_refl s store) throws onward;
+      asked_from s s (values.LoadGlobal (bindings.Global name)) span (global (name ∷ [])) c k h source store store notes answers (extends_refl s) cover m refl a (later_refl s store) throws onward;
 }
 
--- two operands, and then the event of the operator
-pub binary_runs : (s mid last : State) (dl dr : Gives) (operator : BinaryOperator) (l r : Place) (span : Option Span) → RunsExpression dl s mid l.identifier.0 → RunsExpression dr mid last r.identifier.0
+-- Two operands from left to right, then the operator's event.
+pub binary_runs : (s mid last : State) (dl dr : ExprMeaning) (operator : BinaryOperator) (l r : Place) (span : Option Span)
+    → Extends s mid → Extends mid last → l.identifier.0 < length mid.env.identifiers → RunsExpression dl s mid l.identifier.0
+    → RunsExpression dr mid last r.identifier.0
     → RunsExpression (λ source answers onward throws. dl source answers (λ v after rest. dr after rest (λ w later left. asks (binary (operator_text operator) v w) later left onward throws) throws) throws) s (with_value last (values.Binary operator l r) span) (length last.env.identifiers)
-binary_runs s mid last dl dr operator l r span rl rr = record {
-  grows = grows_then s last _ both (grows_value last (values.Binary operator l r) span);
-  tidy = tidy_then rl.tidy rr.tidy;
-  ended = λ e. rr.ended (rl.ended e);
-  fresh = omega (arith, both.identifiers);
-  made = simp length-append (omega arith);
+binary_runs s mid last dl dr operator l r span gl gr made rl rr = record {
   runs = λ c cover m k h source store notes answers a throws onward.
-      let covered : Covers last c = covers_before last _ c (grows_value last (values.Binary operator l r) span) cover in
-      rl.runs c (covers_before mid last c rr.grows covered) m (λ v after rest. dr after rest (λ w later left. asks (binary (operator_text operator) v w) later left k h) h) h source store notes answers a throws
+      let covered : IsContainedIn last c = contained_before last _ c (extends_value last (values.Binary operator l r) span) cover in
+      rl.runs c (contained_before mid last c gr covered) m (λ v after rest. dr after rest (λ w later left. asks (binary (operator_text operator) v w) later left k h) h) h source store notes answers a throws
       (record {
         goes = λ v source1 store1 notes1 answers1 a1 l1 is1.
-            rr.runs c covered (made_then s mid rl.grows m) (λ w later left. asks (binary (operator_text operator) v w) later left k h) h source1 store1 notes1 answers1 (agrees_then s mid source1 store1 rl.grows a1) throws
+            rr.runs c covered (made_then s mid gl m) (λ w later left. asks (binary (operator_text operator) v w) later left k h) h source1 store1 notes1 answers1 (agrees_then s mid source1 store1 gl a1) throws
             (record {
               goes = λ w source2 store2 notes2 answers2 a2 l2 is2.
-                  let kept : store2 l.identifier.0 ≡ v = l2.temporaries l.identifier.0 rl.made ∙ is1 in
+                  let kept : store2 l.identifier.0 ≡ v = l2.temporaries l.identifier.0 made ∙ is1 in
                   asked_from last s (values.Binary operator l r) span (binary (operator_text operator) v w) c k h source2 store2 store notes2 answers2 both cover (made_then s last both m)
                   (ap (λ (x : Value). Asks (binary (operator_text operator) x (store2 r.identifier.0))) kept ∙ ap (λ (x : Value). Asks (binary (operator_text operator) v x)) is2)
-                  (agrees_before s mid source2 store2 rl.grows a2) (later_then s mid store store1 store2 rl.grows.identifiers l1 l2) throws onward;
+                  (agrees_before s mid source2 store2 gl a2) (later_then s mid store store1 store2 gl.identifiers l1 l2) throws onward;
             });
       });
 }
   where
-    both : Grows s last
-    both = grows_then s mid last rl.grows rr.grows
+    both : Extends s last
+    both = extends_then s mid last gl gr
 
--- no parts, and a part before others
+-- No expressions, and an expression before others.
 pub none_run : (s : State) → RunsAll (λ source answers onward throws. onward [] source answers) s s []
 none_run s = record {
-  grows = grows_refl s;
-  tidy = tidy_refl s.completed s.current.id.0 s.env.next_block;
-  ended = λ e. e;
-  made = λ k d below. absurd (omega arith);
   runs = λ c cover m k h source store notes answers a throws onward. onward.goes [] source store notes answers a (later_refl s store) refl;
 }
 
-pub next_runs : (s mid last : State) (d : Gives) (ds : GivesAll) (identifier : ℕ) (identifiers : List ℕ) → RunsExpression d s mid identifier → RunsAll ds mid last identifiers
+pub next_runs : (s mid last : State) (d : ExprMeaning) (ds : ExprsMeaning) (identifier : ℕ) (identifiers : List ℕ)
+    → Extends s mid → Extends mid last → identifier < length mid.env.identifiers → RunsExpression d s mid identifier
+    → RunsAll ds mid last identifiers
     → RunsAll (λ source answers onward throws. d source answers (λ v after rest. ds after rest (λ vs later left. onward (v ∷ vs) later left) throws) throws) s last (identifier ∷ identifiers)
-next_runs s mid last d ds identifier identifiers r rs = record {
-  grows = grows_then s mid last r.grows rs.grows;
-  tidy = tidy_then r.tidy rs.tidy;
-  ended = λ e. rs.ended (r.ended e);
-  made = All-cons (λ i. i < length last.env.identifiers) identifier identifiers (omega (arith, r.made, rs.grows.identifiers)) rs.made;
+next_runs s mid last d ds identifier identifiers g gs made r rs = record {
   runs = λ c cover m k h source store notes answers a throws onward.
-      r.runs c (covers_before mid last c rs.grows cover) m (λ v after rest. ds after rest (λ vs later left. k (v ∷ vs) later left) h) h source store notes answers a throws
+      r.runs c (contained_before mid last c gs cover) m (λ v after rest. ds after rest (λ vs later left. k (v ∷ vs) later left) h) h source store notes answers a throws
       (record {
         goes = λ v source1 store1 notes1 answers1 a1 l1 is1.
-            rs.runs c cover (made_then s mid r.grows m) (λ vs later left. k (v ∷ vs) later left) h source1 store1 notes1 answers1 (agrees_then s mid source1 store1 r.grows a1) throws
+            rs.runs c cover (made_then s mid g m) (λ vs later left. k (v ∷ vs) later left) h source1 store1 notes1 answers1 (agrees_then s mid source1 store1 g a1) throws
             (record {
               goes = λ vs source2 store2 notes2 answers2 a2 l2 is2.
-                  onward.goes (v ∷ vs) source2 store2 notes2 answers2 (agrees_before s mid source2 store2 r.grows a2) (later_then s mid store store1 store2 r.grows.identifiers l1 l2)
-                  (ap (λ (x : Value). x ∷ map store2 identifiers) (l2.temporaries identifier r.made ∙ is1) ∙ ap (λ (l : List Value). v ∷ l) is2);
+                  onward.goes (v ∷ vs) source2 store2 notes2 answers2 (agrees_before s mid source2 store2 g a2) (later_then s mid store store1 store2 g.identifiers l1 l2)
+                  (ap (λ (x : Value). x ∷ map store2 identifiers) (l2.temporaries identifier made ∙ is1) ∙ ap (λ (l : List Value). v ∷ l) is2);
             });
       });
 }
 
--- a function, arguments by themselves, and then the event of the call
-pub call_runs : (s mid last : State) (df : Gives) (ds : GivesAll) (callee : Place) (given : List PlaceOrSpread) (identifiers : List ℕ) (shape : List (List ℕ)) (span : Option Span) → RunsExpression df s mid callee.identifier.0 → RunsAll ds mid last identifiers
-    → map argument_shape given ≡ shape → ((store : Store) → map (λ a. store (argument_place a).identifier.0) given ≡ map store identifiers)
+-- A callee, its arguments from left to right, then the event of the call.
+pub call_runs : (s mid last : State) (df : ExprMeaning) (ds : ExprsMeaning) (callee : Place) (given : List PlaceOrSpread)
+    (identifiers : List ℕ) (shape : List (List ℕ)) (span : Option Span) → Extends s mid → Extends mid last
+    → callee.identifier.0 < length mid.env.identifiers → RunsExpression df s mid callee.identifier.0
+    → RunsAll ds mid last identifiers
+    → map argument_shape given ≡ shape →
+    ((store : Store) → map (λ a. store (argument_place a).identifier.0) given ≡ map store identifiers)
     → RunsExpression (λ source answers onward throws. df source answers (λ f after rest. ds after rest (λ vs later left. asks (call shape f vs) later left onward throws) throws) throws) s (with_value last (values.Call callee given) span) (length last.env.identifiers)
-call_runs s mid last df ds callee given identifiers shape span rf rs shaped placed = record {
-  grows = grows_then s last _ both (grows_value last (values.Call callee given) span);
-  tidy = tidy_then rf.tidy rs.tidy;
-  ended = λ e. rs.ended (rf.ended e);
-  fresh = omega (arith, both.identifiers);
-  made = simp length-append (omega arith);
+call_runs s mid last df ds callee given identifiers shape span gf gs made rf rs shaped placed = record {
   runs = λ c cover m k h source store notes answers a throws onward.
-      let covered : Covers last c = covers_before last _ c (grows_value last (values.Call callee given) span) cover in
-      rf.runs c (covers_before mid last c rs.grows covered) m (λ f after rest. ds after rest (λ vs later left. asks (call shape f vs) later left k h) h) h source store notes answers a throws
+      let covered : IsContainedIn last c = contained_before last _ c (extends_value last (values.Call callee given) span) cover in
+      rf.runs c (contained_before mid last c gs covered) m (λ f after rest. ds after rest (λ vs later left. asks (call shape f vs) later left k h) h) h source store notes answers a throws
       (record {
         goes = λ f source1 store1 notes1 answers1 a1 l1 is1.
-            rs.runs c covered (made_then s mid rf.grows m) (λ vs later left. asks (call shape f vs) later left k h) h source1 store1 notes1 answers1 (agrees_then s mid source1 store1 rf.grows a1) throws
+            rs.runs c covered (made_then s mid gf m) (λ vs later left. asks (call shape f vs) later left k h) h source1 store1 notes1 answers1 (agrees_then s mid source1 store1 gf a1) throws
             (record {
               goes = λ vs source2 store2 notes2 answers2 a2 l2 is2.
-                  let kept : store2 callee.identifier.0 ≡ f = l2.temporaries callee.identifier.0 rf.made ∙ is1 in
+                  let kept : store2 callee.identifier.0 ≡ f = l2.temporaries callee.identifier.0 made ∙ is1 in
                   asked_from last s (values.Call callee given) span (call shape f vs) c k h source2 store2 store notes2 answers2 both cover (made_then s last both m)
                   (ap (λ (x : List (List ℕ)). Asks (call x (store2 callee.identifier.0) (map (λ b. store2 (argument_place b).identifier.0) given))) shaped
                   ∙ ap (λ (x : Value). Asks (call shape x (map (λ b. store2 (argument_place b).identifier.0) given))) kept
                   ∙ ap (λ (x : List Value). Asks (call shape f x)) (placed store2 ∙ is2))
-                  (agrees_before s mid source2 store2 rf.grows a2) (later_then s mid store store1 store2 rf.grows.identifiers l1 l2) throws onward;
+                  (agrees_before s mid source2 store2 gf a2) (later_then s mid store store1 store2 gf.identifiers l1 l2) throws onward;
             });
       });
 }
   where
-    both : Grows s last
-    both = grows_then s mid last rf.grows rs.grows
+    both : Extends s last
+    both = extends_then s mid last gf gs
 
--- parentheses change nothing, nor does another name for what an expression does
-pub same_runs : (s new : State) (d e : Gives) (identifier : ℕ) → ((source : Store) (answers : List Answer) (onward throws : With) → d source answers onward throws ≡ e source answers onward throws) → RunsExpression e s new identifier → RunsExpression d s new identifier
+-- An equal meaning of an expression has the same runs.
+pub same_runs : (s new : State) (d e : ExprMeaning) (identifier : ℕ)
+    → ((source : Store) (answers : List Answer) (onward throws : ValueCont) → d source answers onward throws ≡ e source answers onward throws)
+    → RunsExpression e s new identifier → RunsExpression d s new identifier
 same_runs s new d e identifier same r = record {
-  grows = r.grows;
-  tidy = r.tidy;
-  ended = r.ended;
-  fresh = r.fresh;
-  made = r.made;
-  runs = λ c cover m k h source store notes answers a throws onward. subst (λ t. From c s store notes answers t) (sym (same source answers k h)) (r.runs c cover m k h source store notes answers a throws onward);
+  runs = λ c cover m k h source store notes answers a throws onward. subst (λ t. TracesFrom c s store notes answers t) (sym (same source answers k h)) (r.runs c cover m k h source store notes answers a throws onward);
 }
 
--- another name for what a statement does
-pub means_same : (old new : State) {d m : Means} → ((source : Store) (answers : List Answer) (exits : Exits) → m source answers exits ≡ d source answers exits) → RunsStatement m old new → RunsStatement d old new
+-- An equal meaning of a statement has the same runs.
+pub means_same : (old new : State) {d m : StmtMeaning}
+    → ((source : Store) (answers : List Answer) (exits : Exits) → m source answers exits ≡ d source answers exits)
+    → RunsStatement m old new → RunsStatement d old new
 means_same old new {d} {m} same r = record {
-  grows = r.grows;
-  tidy = r.tidy;
-  ended = r.ended;
-  runs = λ c cover made exits source store notes answers a throws onward. subst (λ t. From c old store notes answers t) (same source answers exits) (r.runs c cover made exits source store notes answers a throws onward);
+  runs = λ c cover made exits source store notes answers a throws onward. subst (λ t. TracesFrom c old store notes answers t) (same source answers exits) (r.runs c cover made exits source store notes answers a throws onward);
 }
 
--- an expression whose value goes nowhere
-pub evaluated_runs : (s new : State) (d : Gives) (identifier : ℕ) → RunsExpression d s new identifier → RunsStatement (λ source answers exits. d source answers (λ v after rest. exits.falls after rest) exits.throws) s new
+-- An expression statement drops the value.
+pub evaluated_runs : (s new : State) (d : ExprMeaning) (identifier : ℕ) → RunsExpression d s new identifier
+    → RunsStatement (λ source answers exits. d source answers (λ v after rest. exits.normal after rest) exits.throws) s new
 evaluated_runs s new d identifier r = record {
-  grows = r.grows;
-  tidy = r.tidy;
-  ended = r.ended;
   runs = λ c cover m exits source store notes answers a throws onward.
-      r.runs c cover m (λ v after rest. exits.falls after rest) exits.throws source store notes answers a throws
+      r.runs c cover m (λ v after rest. exits.normal after rest) exits.throws source store notes answers a throws
       (record { goes = λ v after later notes1 answers1 a1 l is. onward.goes after later notes1 answers1 a1 l });
 }
 
-pub grows_returned : (s : State) (span : Option Span) (variant : ReturnVariant) (place : Place) (kind : BlockKind) → Grows s (returned_from s span variant place kind)
-grows_returned s span variant place kind = grows_then s (reserved s) _ (grows_reserved s) (grows_completed (reserved s) _ _)
-
--- where the block ends by a return, the run does, with the value
-pub return_ends : (s : State) (span : Option Span) (variant : ReturnVariant) (place : Place) (kind : BlockKind) (c : Code) → Covers (returned_from s span variant place kind) c → (v : Value) (store : Store) (notes : Notes) (answers : List Answer) → store place.identifier.0 ≡ v → From c s store notes answers (returned variant v)
+-- A block that ends by a return ends the run with the value.
+pub return_ends : (s : State) (span : Option Span) (variant : ReturnVariant) (place : Place) (kind : BlockKind) (c : Code)
+    → IsContainedIn (returned_from s span variant place kind) c
+    → (v : Value) (store : Store) (notes : Notes) (answers : List Answer) → store place.identifier.0 ≡ v
+    → TracesFrom c s store notes answers (returned variant v)
 return_ends s span variant place kind c cover v store notes answers is =
     steps_on c s.current.id.0 (length s.current.instructions) store notes answers (Ends (terminals.Return (record { 0 = 0 }) span variant place)) (returned variant v)
     (terminal_met (reserved s) (terminals.Return (record { 0 = 0 }) span variant place) (new_block s.env.next_block kind) c cover)
-    (comes_at_once c _ _ (λ next. ap (λ w. returned variant w) is))
+    (comes_at_once c _ _ (λ stuck next. ap (λ w. returned variant w) is))
 
--- a return of an expression's value
-pub return_runs : (s new : State) (d : Gives) (identifier : ℕ) (span : Option Span) (variant : ReturnVariant) (place : Place) (kind : BlockKind) → place.identifier.0 ≡ identifier → RunsExpression d s new identifier → RunsStatement (λ source answers exits. d source answers (λ v after rest. returned variant v) exits.throws) s (returned_from new span variant place kind)
+-- A return of an expression's value.
+pub return_runs : (s new : State) (d : ExprMeaning) (identifier : ℕ) (span : Option Span) (variant : ReturnVariant)
+    (place : Place) (kind : BlockKind) → place.identifier.0 ≡ identifier → RunsExpression d s new identifier
+    → RunsStatement (λ source answers exits. d source answers (λ v after rest. returned variant v) exits.throws) s
+    (returned_from new span variant place kind)
 return_runs s new d identifier span variant place kind named r = record {
-  grows = grows_then s new _ r.grows (grows_returned new span variant place kind);
-  tidy = tidy_then r.tidy (tidy_fresh new (terminals.Return (record { 0 = 0 }) span variant place) kind);
-  ended = λ e. ended_more new.completed (ended_by new.current (terminals.Return (record { 0 = 0 }) span variant place)) (λ h. h) (r.ended e);
   runs = λ c cover m exits source store notes answers a throws onward.
-      r.runs c (covers_before new (returned_from new span variant place kind) c (grows_returned new span variant place kind) cover) m (λ v after rest. returned variant v) exits.throws source store notes answers a throws
+      r.runs c (contained_before new (returned_from new span variant place kind) c (extends_returned new span variant place kind) cover) m (λ v after rest. returned variant v) exits.throws source store notes answers a throws
       (record { goes = λ v after later notes1 answers1 a1 l is. return_ends new span variant place kind c cover v later notes1 answers1 (ap later named ∙ is) });
 }
 
--- nothing, and one statement after the other
-pub nothing_runs : (s : State) (d : Means) → ((source : Store) (answers : List Answer) (exits : Exits) → d source answers exits ≡ exits.falls source answers) → RunsStatement d s s
-nothing_runs s d falls = record {
-  grows = grows_refl s;
-  tidy = tidy_refl s.completed s.current.id.0 s.env.next_block;
-  ended = λ e. e;
-  runs = λ c cover m exits source store notes answers a throws onward. subst (λ t. From c s store notes answers t) (sym (falls source answers exits)) (onward.goes source store notes answers a (later_refl s store));
+-- No statement, and one statement after the other.
+pub nothing_runs : (s : State) (d : StmtMeaning)
+    → ((source : Store) (answers : List Answer) (exits : Exits) → d source answers exits ≡ exits.normal source answers)
+    → RunsStatement d s s
+nothing_runs s d normal = record {
+  runs = λ c cover m exits source store notes answers a throws onward. subst (λ t. TracesFrom c s store notes answers t) (sym (normal source answers exits)) (onward.goes source store notes answers a (later_refl s store));
 }
 
-pub sequence_runs : (s new after : State) (a b d : Means) → ((source : Store) (answers : List Answer) (exits : Exits) → d source answers exits ≡ a source answers (record exits { falls = λ e r. b e r exits })) → RunsStatement a s new → RunsStatement b new after → RunsStatement d s after
-sequence_runs s new after a b d is ra rb = record {
-  grows = grows_then s new after ra.grows rb.grows;
-  tidy = tidy_then ra.tidy rb.tidy;
-  ended = λ e. rb.ended (ra.ended e);
+pub sequence_runs : (s new after : State) (a b d : StmtMeaning)
+    → ((source : Store) (answers : List Answer) (exits : Exits) → d source answers exits ≡ a source answers (record exits { normal = λ e r. b e r exits }))
+    → Extends s new → Extends new after → RunsStatement a s new → RunsStatement b new after → RunsStatement d s after
+sequence_runs s new after a b d is ga gb ra rb = record {
   runs = λ c cover m exits source store notes answers agreed throws onward.
-      subst (λ t. From c s store notes answers t) (sym (is source answers exits))
-      (ra.runs c (covers_before new after c rb.grows cover) m (record exits { falls = λ e r. b e r exits }) source store notes answers agreed throws
+      subst (λ t. TracesFrom c s store notes answers t) (sym (is source answers exits))
+      (ra.runs c (contained_before new after c gb cover) m (record exits { normal = λ e r. b e r exits }) source store notes answers agreed throws
       (record {
-        goes = λ env1 store1 notes1 answers1 a1 l1. rb.runs c cover (made_then s new ra.grows m) exits env1 store1 notes1 answers1 (agrees_then s new env1 store1 ra.grows a1) throws
-            (record { goes = λ env2 store2 notes2 answers2 a2 l2. onward.goes env2 store2 notes2 answers2 (agrees_before s new env2 store2 ra.grows a2) (later_then s new store store1 store2 ra.grows.identifiers l1 l2) });
+        goes = λ env1 store1 notes1 answers1 a1 l1. rb.runs c cover (made_then s new ga m) exits env1 store1 notes1 answers1 (agrees_then s new env1 store1 ga a1) throws
+            (record { goes = λ env2 store2 notes2 answers2 a2 l2. onward.goes env2 store2 notes2 answers2 (agrees_before s new env2 store2 ga a2) (later_then s new store store1 store2 ga.identifiers l1 l2) });
       }));
 }

@@ -9,11 +9,12 @@ use Rattle.rl_hir.specs.declared.function.Pair.{Pair}
 use Rattle.rl_hir.specs.declared.function.Param.{Param}
 use Rattle.rl_hir.specs.declared.function.Param.TheVariants as params
 use Rattle.rl_builder.specs.Builder.{State}
-use Rattle.rl_builder.specs.Names.{pair, resolved, resolved_by}
+use Rattle.rl_builder.specs.Names.{resolved, resolved_by}
+use Rattle.rl_hir.specs.Pairs.{pair}
 use Rattle.rl_scope.specs.declared.semantic.Symbol.{Symbol}
 use Rattle.rl_model.specs.Rows.{first_named}
 use Rattle.rl_lower.specs.Lowering.{HasRoom}
-use Rattle.rl_lower.specs.Parameters.{places_from}
+use Rattle.rl_model.specs.Fields.{places_from}
 
 -- look-ups in pairs that got one more
 unbound_more : (bindings : List Pair) (number identifier other : ℕ) → (number ≡ other → ⊥) → identifier_of bindings other ≡ None → identifier_of (bindings ++ pair number identifier ∷ []) other ≡ None

@@ -1,18 +1,19 @@
--- What holds of any graph: lists, stores, steps.
+-- Lemmas of any graph: lists, stores, steps.
 use Rattle.std.proofs.Common.{◌≡◌, ℕ, zero, suc, ◌<◌, ◌≤◌, ◌++◌, List, [], ◌∷◌, length, slice_get, Some, cond, refl, sym, ap, ◌∙◌, subst, arith}
 use Rattle.std.proofs.lemmas.Bool.{ne_eqb}
 use Rattle.std.proofs.Common.{eq-eqb}
 use Rattle.rl_builder.specs.Builder.{State}
 use Rattle.rl_hir.specs.declared.function.Pair.{Pair}
 use Rattle.rl_hir.specs.Pairs.{identifier_of}
-use Rattle.rl_lower.specs.Simulation.{Agrees, AreMade, Comes, Goes, Grows, Later, walk}
+use Rattle.rl_lower.specs.Simulation.{Agrees, AreMade, Eventually, TracesAt, Extends, Later, walk}
 use Rattle.rl_model.specs.declared.trace.Value.{Value}
 use Rattle.rl_model.specs.declared.trace.Answer.{Answer}
 use Rattle.rl_model.specs.declared.trace.Trace.{Trace}
 use Rattle.rl_model.specs.Traces.{Store, set}
 use Rattle.rl_model.specs.Machine.{Item, Code, Notes, Next, step}
 
-pub get_more : {X : Type 0} (xs ys : List X) (place : ℕ) (x : X) → slice_get xs place ≡ Some x → slice_get (xs ++ ys) place ≡ Some x
+pub get_more : {X : Type 0} (xs ys : List X) (place : ℕ) (x : X) → slice_get xs place ≡ Some x
+    → slice_get (xs ++ ys) place ≡ Some x
 get_more [] ys place x e = cc
 get_more (y ∷ xs) ys zero x e = e
 get_more (y ∷ xs) ys (suc place) x e = get_more xs ys place x e
@@ -24,42 +25,51 @@ get_seam (y ∷ xs) x ys = get_seam xs x ys
 pub set_same : (store : Store) (identifier : ℕ) (v : Value) → set store identifier v identifier ≡ v
 set_same store identifier v = ap (λ b. cond b v (store identifier)) (eq-eqb identifier identifier refl)
 
-pub set_other : (store : Store) (identifier other : ℕ) (v : Value) → (other ≡ identifier → ⊥) → set store identifier v other ≡ store other
+pub set_other : (store : Store) (identifier other : ℕ) (v : Value) → (other ≡ identifier → ⊥)
+    → set store identifier v other ≡ store other
 set_other store identifier other v ne = ap (λ b. cond b v (store other)) (ne_eqb other identifier ne)
 
--- the graph has a trace at once
-pub comes_at_once : (c : Code) (f : Next → Trace) (t : Trace) → ((next : Next) → f next ≡ t) → Comes c f t
-comes_at_once c f t is = record { by = (0, λ steps enough. is (walk c steps)) }
+-- A trace that is reached without a step.
+pub comes_at_once : (c : Code) (f : (stuck : Trace) → Next → Trace) (t : Trace)
+    → ((stuck : Trace) (next : Next) → f stuck next ≡ t) → Eventually c f t
+comes_at_once c f t is = record { by = (0, λ stuck steps enough. is stuck (walk stuck c steps)) }
 
--- a step, and then the rest
-pub steps_on : (c : Code) (block place : ℕ) (store : Store) (notes : Notes) (answers : List Answer) (item : Item) (t : Trace) → c block place ≡ Some item → Comes c (λ next. step (Some item) next next block place store notes answers) t → Goes c block place store notes answers t
+-- One step, and the run behind it.
+pub steps_on : (c : Code) (block place : ℕ) (store : Store) (notes : Notes) (answers : List Answer) (item : Item) (t : Trace)
+    → c block place ≡ Some item
+    → Eventually c (λ stuck next. step stuck (Some item) next next block place store notes answers) t
+    → TracesAt c block place store notes answers t
 steps_on c block place store notes answers item t is rest = record { by = (suc rest.by.0, onward) }
   where
-    onward : (steps : ℕ) → suc rest.by.0 ≤ steps → walk c steps block place store notes answers ≡ t
-    onward zero enough = absurd (omega arith)
-    onward (suc steps) enough = ap (λ o. step o (walk c steps) (walk c steps) block place store notes answers) is ∙ rest.by.1 steps (omega arith)
+    onward : (stuck : Trace) (steps : ℕ) → suc rest.by.0 ≤ steps → walk stuck c steps block place store notes answers ≡ t
+    onward stuck zero enough = absurd (omega arith)
+    onward stuck (suc steps) enough = ap (λ o. step stuck o (walk stuck c steps) (walk stuck c steps) block place store notes answers) is ∙ rest.by.1 stuck steps (omega arith)
 
 pub later_refl : (s : State) (store : Store) → Later s store store
 later_refl s store = record { temporaries = λ identifier below. refl }
 
-pub later_then : (s new : State) (store later after : Store) → length s.env.identifiers ≤ length new.env.identifiers → Later s store later → Later new later after → Later s store after
-later_then s new store later after more a b = record { temporaries = λ identifier below. b.temporaries identifier (omega arith) ∙ a.temporaries identifier below }
+pub later_then : (s new : State) (store later after : Store) → length s.env.identifiers ≤ length new.env.identifiers
+    → Later s store later → Later new later after → Later s store after
+later_then s new store later after more a b =
+    record { temporaries = λ identifier below. b.temporaries identifier (omega arith) ∙ a.temporaries identifier below }
 
-pub later_set : (s : State) (store : Store) (identifier : ℕ) (v : Value) → length s.env.identifiers ≤ identifier → Later s store (set store identifier v)
+pub later_set : (s : State) (store : Store) (identifier : ℕ) (v : Value) → length s.env.identifiers ≤ identifier
+    → Later s store (set store identifier v)
 later_set s store identifier v fresh = record {
   temporaries = λ other below. let ne : other ≡ identifier → ⊥ = λ e. omega arith in set_other store identifier other v ne;
 }
 
--- what was made is made still
-pub made_then : (old new : State) → Grows old new → AreMade old → AreMade new
+-- Bound identifiers stay in the environment.
+pub made_then : (old new : State) → Extends old new → AreMade old → AreMade new
 made_then old new g m = record {
   below = λ symbol identifier is.
       let below : identifier < length old.env.identifiers = m.below symbol identifier (ap (λ (b : List Pair). identifier_of b symbol) (sym g.bindings) ∙ is) in
       omega (arith, below, g.identifiers);
 }
 
--- a fresh identifier is no variable's
-pub agrees_set : (s : State) (source store : Store) (identifier : ℕ) (v : Value) → AreMade s → length s.env.identifiers ≤ identifier → Agrees s.bindings source store → Agrees s.bindings source (set store identifier v)
+-- Setting a fresh identifier leaves the bound ones.
+pub agrees_set : (s : State) (source store : Store) (identifier : ℕ) (v : Value) → AreMade s
+    → length s.env.identifiers ≤ identifier → Agrees s.bindings source store → Agrees s.bindings source (set store identifier v)
 agrees_set s source store identifier v m fresh a = record {
   at = λ symbol other is.
       let below : other < length s.env.identifiers = m.below symbol other is in
@@ -67,9 +77,11 @@ agrees_set s source store identifier v m fresh a = record {
       set_other store identifier other v ne ∙ a.at symbol other is;
 }
 
--- the same in a later state
-pub agrees_then : (old new : State) (source store : Store) → Grows old new → Agrees old.bindings source store → Agrees new.bindings source store
+-- `Agrees` reads the bindings alone, which states that extend each other share.
+pub agrees_then : (old new : State) (source store : Store) → Extends old new → Agrees old.bindings source store
+    → Agrees new.bindings source store
 agrees_then old new source store g a = subst (λ (b : List Pair). Agrees b source store) (sym g.bindings) a
 
-pub agrees_before : (old new : State) (source store : Store) → Grows old new → Agrees new.bindings source store → Agrees old.bindings source store
+pub agrees_before : (old new : State) (source store : Store) → Extends old new → Agrees new.bindings source store
+    → Agrees old.bindings source store
 agrees_before old new source store g a = subst (λ (b : List Pair). Agrees b source store) g.bindings a

@@ -1,4 +1,4 @@
--- How blocks and bodies end.
+-- The ends of blocks and bodies.
 use Rattle.std.specs.Prelude.{◌≡◌, Option, None, List, length}
 use Rattle.rl_base.specs.declared.span.Span.{Span}
 use Rattle.rl_hir.specs.declared.environment.Environment.{Environment}
@@ -19,25 +19,28 @@ use Rattle.rl_ast.specs.Syntax.{Syntax}
 use Rattle.rl_hir.specs.declared.function.Param.{Param}
 use Rattle.rl_scope.specs.declared.semantic.Symbol.{Symbol}
 use Rattle.rl_lower.specs.Lowering.{LowersBody}
-use Rattle.rl_lower.specs.Parameters.{places_from, with_parameters}
+use Rattle.rl_lower.specs.Parameters.{with_parameters}
+use Rattle.rl_model.specs.Fields.{places_from}
 
--- a return of a place
+-- A return of a place, not numbered yet.
 abbrev pub return_of : Option Span → ReturnVariant → Place → Terminal
 return_of span variant place = terminals.Return (record { 0 = 0 }) span variant place
 
--- the block ends by a return, and a fresh one that nothing leads to goes on
+-- The current block ends by a return of `place`, and a fresh, unreachable block of kind `kind` goes on.
 abbrev pub returned_from : State → Option Span → ReturnVariant → Place → BlockKind → State
-returned_from s span variant place kind = completed_by (reserved s) (return_of span variant place) (new_block s.env.next_block kind)
+returned_from s span variant place kind =
+    completed_by (reserved s) (return_of span variant place) (new_block s.env.next_block kind)
 
+-- Undefined in a fresh temporary.
 abbrev pub with_undefined : State → State
 with_undefined s = with_value s (values.Primitive primitives.Undefined) None
 
--- the end of a body returns Undefined, and no block goes on
+-- The end of a body: a return of Undefined, behind which no block goes on.
 abbrev pub closed_off : State → State
 closed_off s = completed_by (with_undefined s) (return_of None returns.Void (temporary s None)) placeholder
 
--- what was built over the environment is the graph of a builder that gave the parameters their identifiers, lowered the
--- body, and was closed off
+-- `built` is the graph of a builder that gave the parameters their identifiers, lowered the body, and was closed off. `old`
+-- and `new` are the environment before and after it.
 pub record IsGraphOf (symbols : List Symbol) (body : Syntax) (old new : Environment) (params : List Param) (built : Built) : Type 0 where
   pub state : State
   pub places : params ≡ places_from (length old.identifiers) symbols

@@ -1,7 +1,8 @@
 pub mod Endings
 pub mod Listed
-pub mod Live
 pub mod Lowering
 pub mod Named
 pub mod Parameters
+pub mod Reachable
 pub mod Simulation
+pub mod Sound

@@ -1,25 +1,25 @@
--- What lowering a part promises.
-use Rattle.std.specs.Prelude.{◌≡◌, ℕ, ◌+◌, ◌*◌, ◌<◌, ◌≤◌, ◌^◌, List, [], ◌∷◌, ◌++◌, All, Bool, true, Option, None, length, map}
+-- The promises of lowering a part, as relations of the builder's state before and after it.
+use Rattle.std.specs.Prelude.{◌≡◌, ℕ, ◌+◌, ◌*◌, ◌<◌, ◌≤◌, ◌^◌, List, [], ◌++◌, All, Bool, true, Option, length, map}
 use Rattle.rl_base.specs.declared.diagnostic.Diagnostic.{Diagnostic}
 use Rattle.rl_base.specs.declared.span.Span.{Span}
-use Rattle.rl_hir.specs.declared.function.Identifier.{Identifier}
 use Rattle.rl_hir.specs.declared.terminal.ReturnVariant.TheVariants as returns
 use Rattle.rl_builder.specs.Builder.{State}
 use Rattle.rl_ast.specs.declared.word.Word.TheVariants as word
-use Rattle.rl_ast.specs.Syntax.{Syntax, Node, Listed, Said, Pieces, End, Then, nodes, nodes_of}
+use Rattle.rl_ast.specs.Syntax.{Syntax, Node, Listed, Pieces, End, Then, nodes, nodes_of}
 use Rattle.rl_scope.specs.declared.semantic.Symbol.{Symbol}
-use Rattle.rl_model.specs.Held.{can_fall, calls_in, calls_among, calls_of, live_calls, live_in_body}
+use Rattle.rl_model.specs.Fields.{AddsUnnamed}
+use Rattle.rl_model.specs.Held.{can_complete, calls_in, calls_among, calls_of, live_calls, live_in_body}
 use Rattle.rl_hir.specs.declared.instruction.PlaceOrSpread.{PlaceOrSpread}
 use Rattle.rl_hir.specs.Instructions.{argument_place, argument_shape}
-use Rattle.rl_model.specs.Source.{gives, gives_all, shape_of, does, does_all}
+use Rattle.rl_model.specs.Source.{eval_expr, eval_exprs, shape_of, exec_stmt, exec_stmts}
 use Rattle.rl_model.specs.Rows.{refusals, refusals_in}
-use Rattle.rl_model.specs.Traces.{Means, returned}
+use Rattle.rl_model.specs.Traces.{StmtMeaning, returned}
 use Rattle.rl_lower.specs.Listed.{IsListed}
-use Rattle.rl_lower.specs.Live.{Lives, can_all_fall, can_body_fall}
+use Rattle.rl_lower.specs.Reachable.{AddsCalls, can_all_complete, can_body_complete}
 use Rattle.rl_lower.specs.Named.{IsNamed}
-use Rattle.rl_lower.specs.Simulation.{RunsAll, RunsExpression, RunsStatement}
+use Rattle.rl_lower.specs.Simulation.{PreservesBlocks, RunsAll, RunsExpression, RunsStatement}
 
--- the counters may each go on by this much
+-- Each counter stays below 2^31 when it grows by `more`.
 pub record HasRoom (s : State) (more : ℕ) : Type 0 where
   pub blocks : s.env.next_block + more < 2 ^ 31
   pub types : s.env.next_type + more < 2 ^ 31
@@ -27,23 +27,17 @@ pub record HasRoom (s : State) (more : ℕ) : Type 0 where
   pub instructions : length s.table + more < 2 ^ 31
   pub completed : length s.completed + more < 2 ^ 31
 
--- the counters went on by this much at most
-pub record Uses (old new : State) (more : ℕ) : Type 0 where
+-- No counter grew by more than `more`.
+pub record CountersGrowBy (old new : State) (more : ℕ) : Type 0 where
   pub blocks : new.env.next_block ≤ old.env.next_block + more
   pub types : new.env.next_type ≤ old.env.next_type + more
   pub identifiers : length new.env.identifiers ≤ length old.env.identifiers + more
   pub instructions : length new.table ≤ length old.table + more
   pub completed : length new.completed ≤ length old.completed + more
 
--- identifiers without a name were added
-pub record AddsUnnamed (old new : List Identifier) : Type 0 where
-  pub more : List Identifier
-  pub added : new ≡ old ++ more
-  pub unnamed : All (λ i. i.name ≡ None) more
-
--- what every move keeps
-pub record Keeps (old new : State) (more : ℕ) : Type 0 where
-  pub uses : Uses old new more
+-- The parts of the state that lowering preserves, with at most `more` added to each counter.
+pub record Preserves (old new : State) (more : ℕ) : Type 0 where
+  pub uses : CountersGrowBy old new more
   pub listed : IsListed old → IsListed new
   pub named : (symbols : List Symbol) → IsNamed symbols old → IsNamed symbols new
   pub identifiers : AddsUnnamed old.env.identifiers new.env.identifiers
@@ -51,58 +45,59 @@ pub record Keeps (old new : State) (more : ℕ) : Type 0 where
   pub functions : new.env.functions ≡ old.env.functions
   pub fn_type : new.env.fn_type ≡ old.env.fn_type
 
--- an expression was lowered: its refusals were noted, its calls are in the table and in the entry block, and where there are no refusals, the
--- graph runs as it does
+-- An expression was lowered: its refusals were recorded, its calls are in the table and, where reachable, in the entry block,
+-- and its value goes to `identifier`. Where it has no refusal, the graph has its traces.
 pub record LowersExpression (symbols : List Symbol) (e : Syntax) (old new : State) (identifier : ℕ) : Type 0 where
-  pub keeps : Keeps old new (4 * nodes e)
+  pub keeps : Preserves old new (4 * nodes e)
+  pub blocks : PreservesBlocks old new
+  pub made : identifier < length new.env.identifiers
   pub refused : new.env.diagnostics ≡ old.env.diagnostics ++ refusals symbols e
   pub calls : calls_of new.table ≡ calls_of old.table ++ calls_in e
-  pub live : Lives (calls_in e) true old new
-  pub runs : refusals symbols e ≡ [] → RunsExpression (gives symbols e) old new identifier
+  pub reachable : AddsCalls (calls_in e) true old new
+  pub runs : refusals symbols e ≡ [] → RunsExpression (eval_expr symbols e) old new identifier
 
--- the same of expressions from left to right
+-- As `LowersExpression`, for expressions from left to right.
 pub record LowersExpressions (symbols : List Symbol) (es : Pieces) (old new : State) (identifiers : List ℕ) : Type 0 where
-  pub keeps : Keeps old new (4 * nodes_of es)
+  pub keeps : Preserves old new (4 * nodes_of es)
+  pub blocks : PreservesBlocks old new
+  pub made : All (λ identifier. identifier < length new.env.identifiers) identifiers
   pub refused : new.env.diagnostics ≡ old.env.diagnostics ++ refusals_in symbols es
   pub calls : calls_of new.table ≡ calls_of old.table ++ calls_among es
-  pub live : Lives (calls_among es) true old new
-  pub runs : refusals_in symbols es ≡ [] → RunsAll (gives_all symbols es) old new identifiers
+  pub reachable : AddsCalls (calls_among es) true old new
+  pub runs : refusals_in symbols es ≡ [] → RunsAll (eval_exprs symbols es) old new identifiers
 
--- arguments were lowered: each is given by itself, and its value is in the identifier of its place
+-- Arguments were lowered: each is a place, none a spread, and its value goes to the identifier of that place.
 pub record LowersArguments (symbols : List Symbol) (es : Pieces) (old new : State) (given : List PlaceOrSpread) : Type 0 where
   pub identifiers : List ℕ
   pub lowers : LowersExpressions symbols es old new identifiers
   pub shape : map argument_shape given ≡ shape_of es
   pub places : map (λ a. (argument_place a).identifier.0) given ≡ identifiers
 
--- the same of a part without a value
-pub record Lowers (count : ℕ) (said : List Diagnostic) (called alive : List (Option Span)) (falls : Bool) (d : Means) (old new : State) : Type 0 where
-  pub keeps : Keeps old new (4 * count)
-  pub refused : new.env.diagnostics ≡ old.env.diagnostics ++ said
+-- As `LowersExpression`, for a part of `count` nodes and meaning `d` that has no value. Its refusals are `diagnostics`, its
+-- calls `called`, those of them that are reachable `reached`, and it completes normally where `completes`.
+pub record Lowers (count : ℕ) (diagnostics : List Diagnostic) (called reached : List (Option Span)) (completes : Bool) (d : StmtMeaning) (old new : State) : Type 0 where
+  pub keeps : Preserves old new (4 * count)
+  pub blocks : PreservesBlocks old new
+  pub refused : new.env.diagnostics ≡ old.env.diagnostics ++ diagnostics
   pub calls : calls_of new.table ≡ calls_of old.table ++ called
-  pub live : Lives alive falls old new
-  pub runs : said ≡ [] → RunsStatement d old new
+  pub reachable : AddsCalls reached completes old new
+  pub runs : diagnostics ≡ [] → RunsStatement d old new
 
 abbrev pub LowersStatement : List Symbol → Syntax → State → State → Type 0
-LowersStatement symbols s old new = Lowers (nodes s) (refusals symbols s) (calls_in s) (calls_in s) (can_fall s) (does symbols s) old new
+LowersStatement symbols s old new =
+    Lowers (nodes s) (refusals symbols s) (calls_in s) (calls_in s) (can_complete s) (exec_stmt symbols s) old new
 
 abbrev pub LowersStatements : List Symbol → Pieces → State → State → Type 0
-LowersStatements symbols ss old new = Lowers (nodes_of ss) (refusals_in symbols ss) (calls_among ss) (live_calls ss) (can_all_fall ss) (does_all symbols ss) old new
+LowersStatements symbols ss old new =
+    Lowers (nodes_of ss) (refusals_in symbols ss) (calls_among ss) (live_calls ss) (can_all_complete ss) (exec_stmts symbols ss) old new
 
--- what a body does before its end: an expression returns its value
-abbrev pub body_runs : List Symbol → Syntax → Means
-body_runs symbols (Node at word.Body (Then directives (Then (Listed statements) End))) store answers exits = does_all symbols statements store answers exits
-body_runs symbols body store answers exits = gives symbols body store answers (λ v after rest. returned returns.Implicit v) exits.throws
+-- The meaning of a body before its end, where the function returns undefined: an expression returns its value.
+abbrev pub exec_before_end : List Symbol → Syntax → StmtMeaning
+exec_before_end symbols (Node at word.Body (Then directives (Then (Listed statements) End))) store answers exits =
+    exec_stmts symbols statements store answers exits
+exec_before_end symbols body store answers exits =
+    eval_expr symbols body store answers (λ v after rest. returned returns.Implicit v) exits.throws
 
 abbrev pub LowersBody : List Symbol → Syntax → State → State → Type 0
-LowersBody symbols b old new = Lowers (nodes b + 1) (refusals symbols b) (calls_in b) (live_in_body b) (can_body_fall b) (body_runs symbols b) old new
-
--- the texts of a list
-abbrev pub texts_in : Pieces → List (List ℕ)
-texts_in (Then (Said text) texts) = text ∷ texts_in texts
-texts_in _ = []
-
--- the directives that begin a body
-abbrev pub directives_in : Syntax → List (List ℕ)
-directives_in (Node at word.Body (Then (Listed directives) statements)) = texts_in directives
-directives_in _ = []
+LowersBody symbols b old new =
+    Lowers (nodes b + 1) (refusals symbols b) (calls_in b) (live_in_body b) (can_body_complete b) (exec_before_end symbols b) old new

@@ -1,5 +1,6 @@
--- What it means that the graph built between two states of the builder runs as a part of the source does.
+-- The simulation: the graph that is built between two states of the builder has the traces of a part of the source.
 use Rattle.std.specs.Prelude.{◌≡◌, ℕ, zero, suc, ◌<◌, ◌≤◌, ◌⊎◌, Some, List, All, length, map, slice_get}
+use Rattle.rl_base.specs.Distinct.{AreDistinct}
 use Rattle.rl_base.specs.declared.ids.InstructionId.{InstructionId}
 use Rattle.rl_hir.specs.declared.instruction.Instruction.{Instruction}
 use Rattle.rl_hir.specs.declared.function.NumberedBlock.{NumberedBlock}
@@ -9,63 +10,64 @@ use Rattle.rl_builder.specs.Builder.{State}
 use Rattle.rl_model.specs.declared.trace.Value.{Value}
 use Rattle.rl_model.specs.declared.trace.Answer.{Answer}
 use Rattle.rl_model.specs.declared.trace.Trace.{Trace}
-use Rattle.rl_model.specs.Traces.{Store, With, WithAll, Go, Gives, GivesAll, Means, Exits, threw, waiting}
+use Rattle.rl_model.specs.Traces.{Store, ValueCont, ValuesCont, Cont, ExprMeaning, ExprsMeaning, StmtMeaning, Exits, threw}
 use Rattle.rl_model.specs.Closed.{IsUnreachable}
 use Rattle.rl_model.specs.Machine.{Item, Runs, Ends, Code, Notes, Next, step}
 
--- what stands at a place of a block
+-- An item at an index of a block. The terminal's index is the number of instructions.
 pub record Fact : Type 0 where
   pub block : ℕ
   pub place : ℕ
   pub item : Item
 
--- the instruction that a list of places in the table has at a place of its own
+-- The list has at index `place` the id of an instruction, and the table has that instruction.
 pub record Lists (table : List Instruction) (listed : List InstructionId) (place : ℕ) (i : Instruction) : Type 0 where
   pub number : InstructionId
   pub at : slice_get listed place ≡ Some number
   pub kept : slice_get table number.0 ≡ Some i
 
--- a complete block has this at a place
+-- A complete block has the item at index `place`.
 abbrev pub InBlock : List Instruction → NumberedBlock → ℕ → Item → Type 0
 InBlock table b place (Runs i) = Lists table b.block.instructions place i
 InBlock table b place (Ends t) = (length b.block.instructions ≡ place) × (b.block.terminal ≡ t)
 
--- the block under construction has; it has no terminal yet
+-- The block under construction has the item at index `place`. It has no terminal yet.
 abbrev pub InWip : List Instruction → List InstructionId → ℕ → Item → Type 0
 InWip table listed place (Runs i) = Lists table listed place i
 InWip table listed place (Ends t) = ⊥
 
--- a fact of a complete block
-pub record Done (s : State) (f : Fact) : Type 0 where
+-- The item is one of a complete block of the state.
+pub record InCompleted (s : State) (f : Fact) : Type 0 where
   pub place : ℕ
   pub block : NumberedBlock
   pub found : slice_get s.completed place ≡ Some block
   pub named : block.id.0 ≡ f.block
   pub holds : InBlock s.table block f.place f.item
 
--- a fact of the block under construction
-pub record Wip (s : State) (f : Fact) : Type 0 where
+-- The item is one of the block under construction.
+pub record InCurrent (s : State) (f : Fact) : Type 0 where
   pub named : s.current.id.0 ≡ f.block
   pub holds : InWip s.table s.current.instructions f.place f.item
 
-abbrev pub Has : State → Fact → Type 0
-Has s f = Done s f ⊎ Wip s f
+-- The item is one of the state's blocks.
+abbrev pub HasItem : State → Fact → Type 0
+HasItem s f = InCompleted s f ⊎ InCurrent s f
 
--- a complete block has this number
+-- A complete block has the id `id`.
 pub record IsCompleted (completed : List NumberedBlock) (id : ℕ) : Type 0 where
   pub place : ℕ
   pub block : NumberedBlock
   pub found : slice_get completed place ≡ Some block
   pub named : block.id.0 ≡ id
 
--- a state's current block is that of another, or was completed there
+-- The block `id` is under construction or complete.
 abbrev pub IsCurrentOrCompleted : State → ℕ → Type 0
 IsCurrentOrCompleted s id = (s.current.id.0 ≡ id) ⊎ IsCompleted s.completed id
 
--- the new state has all that the old one had, and its numbers go on
-pub record Grows (old new : State) : Type 0 where
-  pub done : (f : Fact) → Done old f → Done new f
-  pub wip : (f : Fact) → Wip old f → Has new f
+-- The new state has the items and blocks of the old one, its entry and its bindings, and no counter fell.
+pub record Extends (old new : State) : Type 0 where
+  pub done : (f : Fact) → InCompleted old f → InCompleted new f
+  pub wip : (f : Fact) → InCurrent old f → HasItem new f
   pub completed : (id : ℕ) → IsCompleted old.completed id → IsCompleted new.completed id
   pub current : IsCurrentOrCompleted new old.current.id.0
   pub entry : new.entry ≡ old.entry
@@ -73,100 +75,111 @@ pub record Grows (old new : State) : Type 0 where
   pub identifiers : length old.env.identifiers ≤ length new.env.identifiers
   pub bindings : new.bindings ≡ old.bindings
 
--- a graph in which all that the state has is found
-pub record Covers (s : State) (c : Code) : Type 0 where
-  pub has : (f : Fact) → Has s f → c f.block f.place ≡ Some f.item
+-- The graph `c` has every item of the state.
+pub record IsContainedIn (s : State) (c : Code) : Type 0 where
+  pub has : (f : Fact) → HasItem s f → c f.block f.place ≡ Some f.item
 
--- no two blocks have one number, and all numbers come from the counter
-pub record IsClean (completed : List NumberedBlock) (current next : ℕ) : Type 0 where
-  pub apart : (i j : ℕ) (a b : NumberedBlock) → slice_get completed i ≡ Some a → slice_get completed j ≡ Some b → a.id.0 ≡ b.id.0 → a ≡ b
+-- The ids of blocks, the current one included, are distinct and below the counter `next`.
+pub record UniqueIds (completed : List NumberedBlock) (current next : ℕ) : Type 0 where
+  pub apart : AreDistinct (map (λ (b : NumberedBlock). b.id.0) completed)
   pub open_block : IsCompleted completed current → ⊥
   pub below : (id : ℕ) → IsCompleted completed id → id < next
   pub current_below : current < next
 
--- the number of the current block, or one that is given later
+-- The id of the current block, or one that the counter gives later.
 abbrev pub IsOwn : ℕ → ℕ → ℕ → Type 0
 IsOwn current next id = (id ≡ current) ⊎ (next ≤ id)
 
--- between these, the current block and fresh ones alone were completed, and what was clean is clean
-pub record IsTidy (completed0 : List NumberedBlock) (current0 next0 : ℕ) (completed : List NumberedBlock) (current next : ℕ) : Type 0 where
+-- From the old to the new state only the current block and newly numbered blocks were completed, and ids stay distinct.
+pub record PreservesUniqueIds (completed0 : List NumberedBlock) (current0 next0 : ℕ) (completed : List NumberedBlock) (current next : ℕ) : Type 0 where
   pub added : (id : ℕ) → IsCompleted completed id → IsCompleted completed0 id ⊎ IsOwn current0 next0 id
   pub own : IsOwn current0 next0 current
-  pub clean : IsClean completed0 current0 next0 → IsClean completed current next
+  pub distinct : UniqueIds completed0 current0 next0 → UniqueIds completed current next
   pub counted : next0 ≤ next
 
-abbrev pub Tidy : State → State → Type 0
-Tidy old new = IsTidy old.completed old.current.id.0 old.env.next_block new.completed new.current.id.0 new.env.next_block
+abbrev pub PreservesIds : State → State → Type 0
+PreservesIds old new =
+    PreservesUniqueIds old.completed old.current.id.0 old.env.next_block new.completed new.current.id.0 new.env.next_block
 
--- no completed block ends as unreachable
+-- No complete block ends as unreachable.
 abbrev pub AreEnded : List NumberedBlock → Type 0
 AreEnded completed = All (λ b. IsUnreachable b.block.terminal → ⊥) completed
 
--- the graph's run with no limit on silent steps, of at most this many steps
-abbrev pub walk : Code → ℕ → Next
-walk code zero id place store notes answers = waiting
-walk code (suc steps) id place store notes answers = step (code id place) (walk code steps) (walk code steps) id place store notes answers
+-- The new state extends the old one, ids stay distinct, and no block was completed that ends as unreachable.
+pub record PreservesBlocks (old new : State) : Type 0 where
+  pub extends : Extends old new
+  pub ids : PreservesIds old new
+  pub ended : AreEnded old.completed → AreEnded new.completed
 
--- with enough steps, what is led to has this trace
-pub record Comes (c : Code) (f : Next → Trace) (t : Trace) : Type 0 where
-  pub by : (enough : ℕ) × ((steps : ℕ) → enough ≤ steps → f (walk c steps) ≡ t)
+-- The run of at most `steps` steps, with no bound on the silent ones. A run that is stuck or comes to its bound has the
+-- trace `stuck`.
+abbrev pub walk : (stuck : Trace) → Code → (steps : ℕ) → Next
+walk stuck code zero id place store notes answers = stuck
+walk stuck code (suc steps) id place store notes answers =
+    step stuck (code id place) (walk stuck code steps) (walk stuck code steps) id place store notes answers
 
--- the graph has this trace from a place
-abbrev pub Goes : Code → ℕ → ℕ → Store → Notes → List Answer → Trace → Type 0
-Goes c block place store notes answers t = Comes c (λ next. next block place store notes answers) t
+-- From some number of steps on, `f` of the run has the trace `t`, whatever trace a stuck run has: so the run is not stuck.
+pub record Eventually (c : Code) (f : (stuck : Trace) → Next → Trace) (t : Trace) : Type 0 where
+  pub by : (enough : ℕ) × ((stuck : Trace) (steps : ℕ) → enough ≤ steps → f stuck (walk stuck c steps) ≡ t)
 
--- the same from where the builder stands
-abbrev pub From : Code → State → Store → Notes → List Answer → Trace → Type 0
-From c s store notes answers t = Goes c s.current.id.0 (length s.current.instructions) store notes answers t
+-- The run from index `place` of a block has the trace `t`.
+abbrev pub TracesAt : Code → ℕ → ℕ → Store → Notes → List Answer → Trace → Type 0
+TracesAt c block place store notes answers t = Eventually c (λ stuck next. next block place store notes answers) t
 
--- a later store: what had a value before has it still
+-- The run from the program point where the builder stands has the trace `t`.
+abbrev pub TracesFrom : Code → State → Store → Notes → List Answer → Trace → Type 0
+TracesFrom c s store notes answers t = TracesAt c s.current.id.0 (length s.current.instructions) store notes answers t
+
+-- The store `later` has the values of `store` for all identifiers that the state has.
 pub record Later (s : State) (store later : Store) : Type 0 where
   pub temporaries : (identifier : ℕ) → identifier < length s.env.identifiers → later identifier ≡ store identifier
 
--- the stores of source and graph agree on the variables that have an identifier
+-- The stores of source and graph agree on the symbols that are bound to an identifier.
 pub record Agrees (bindings : List Pair) (source store : Store) : Type 0 where
   pub at : (symbol identifier : ℕ) → identifier_of bindings symbol ≡ Some identifier → store identifier ≡ source symbol
 
--- the identifiers of variables were made
+-- The identifiers that symbols are bound to are in the environment.
 pub record AreMade (s : State) : Type 0 where
-  pub below : (symbol identifier : ℕ) → identifier_of s.bindings symbol ≡ Some identifier → identifier < length s.env.identifiers
+  pub below : (symbol identifier : ℕ) → identifier_of s.bindings symbol ≡ Some identifier
+      → identifier < length s.env.identifiers
 
--- what follows at a state
-pub record Follows (c : Code) (s new : State) (store : Store) (k : Go) : Type 0 where
-  pub goes : (source later : Store) (notes : Notes) (answers : List Answer) → Agrees s.bindings source later → Later s store later → From c new later notes answers (k source answers)
+-- The run from the builder's program point at `new` has the traces of the continuation `k`, from stores that agree on the
+-- bindings of `s` and where `store` has changed above the identifiers of `s` alone.
+pub record Follows (c : Code) (s new : State) (store : Store) (k : Cont) : Type 0 where
+  pub goes : (source later : Store) (notes : Notes) (answers : List Answer) → Agrees s.bindings source later
+      → Later s store later → TracesFrom c new later notes answers (k source answers)
 
--- what follows with a value in an identifier
-pub record Continues (c : Code) (s new : State) (store : Store) (identifier : ℕ) (k : With) : Type 0 where
-  pub goes : (v : Value) (source later : Store) (notes : Notes) (answers : List Answer) → Agrees s.bindings source later → Later s store later → later identifier ≡ v → From c new later notes answers (k v source answers)
+-- As `Follows`, where `k` takes the value that the store has for `identifier`.
+pub record Continues (c : Code) (s new : State) (store : Store) (identifier : ℕ) (k : ValueCont) : Type 0 where
+  pub goes : (v : Value) (source later : Store) (notes : Notes) (answers : List Answer) → Agrees s.bindings source later
+      → Later s store later → later identifier ≡ v → TracesFrom c new later notes answers (k v source answers)
 
--- what follows with values in some identifiers
-pub record ContinuesAll (c : Code) (s new : State) (store : Store) (identifiers : List ℕ) (k : WithAll) : Type 0 where
-  pub goes : (vs : List Value) (source later : Store) (notes : Notes) (answers : List Answer) → Agrees s.bindings source later → Later s store later → map later identifiers ≡ vs → From c new later notes answers (k vs source answers)
+-- As `Follows`, where `k` takes the values that the store has for `identifiers`.
+pub record ContinuesAll (c : Code) (s new : State) (store : Store) (identifiers : List ℕ) (k : ValuesCont) : Type 0 where
+  pub goes : (vs : List Value) (source later : Store) (notes : Notes) (answers : List Answer) → Agrees s.bindings source later
+      → Later s store later → map later identifiers ≡ vs → TracesFrom c new later notes answers (k vs source answers)
 
--- no handler is there: a throw ends the run
-pub record Throws (k : With) : Type 0 where
+-- The throw continuation ends the run: no handler encloses the part.
+pub record Throws (k : ValueCont) : Type 0 where
   pub ends : (v : Value) (source : Store) (answers : List Answer) → k v source answers ≡ threw v
 
--- between the states the graph runs as the expression does, and its value is in the identifier
-pub record RunsExpression (d : Gives) (old new : State) (identifier : ℕ) : Type 0 where
-  pub grows : Grows old new
-  pub tidy : Tidy old new
-  pub ended : AreEnded old.completed → AreEnded new.completed
-  pub fresh : length old.env.identifiers ≤ identifier
-  pub made : identifier < length new.env.identifiers
-  pub runs : (c : Code) → Covers new c → AreMade old → (k h : With) (source store : Store) (notes : Notes) (answers : List Answer) → Agrees old.bindings source store → Throws h → Continues c old new store identifier k → From c old store notes answers (d source answers k h)
+-- The graph that is built from `old` to `new` has the traces of an expression of meaning `d`, and leaves the value in
+-- `identifier`.
+pub record RunsExpression (d : ExprMeaning) (old new : State) (identifier : ℕ) : Type 0 where
+  pub runs : (c : Code) → IsContainedIn new c → AreMade old
+      → (k h : ValueCont) (source store : Store) (notes : Notes) (answers : List Answer) → Agrees old.bindings source store
+      → Throws h → Continues c old new store identifier k → TracesFrom c old store notes answers (d source answers k h)
 
--- the same for parts from left to right, whose values are in the identifiers
-pub record RunsAll (d : GivesAll) (old new : State) (identifiers : List ℕ) : Type 0 where
-  pub grows : Grows old new
-  pub tidy : Tidy old new
-  pub ended : AreEnded old.completed → AreEnded new.completed
-  pub made : All (λ identifier. identifier < length new.env.identifiers) identifiers
-  pub runs : (c : Code) → Covers new c → AreMade old → (k : WithAll) (h : With) (source store : Store) (notes : Notes) (answers : List Answer) → Agrees old.bindings source store → Throws h → ContinuesAll c old new store identifiers k → From c old store notes answers (d source answers k h)
+-- As `RunsExpression`, for expressions from left to right.
+pub record RunsAll (d : ExprsMeaning) (old new : State) (identifiers : List ℕ) : Type 0 where
+  pub runs : (c : Code) → IsContainedIn new c → AreMade old
+      → (k : ValuesCont) (h : ValueCont) (source store : Store) (notes : Notes) (answers : List Answer)
+      → Agrees old.bindings source store → Throws h → ContinuesAll c old new store identifiers k
+      → TracesFrom c old store notes answers (d source answers k h)
 
--- between the states the graph runs as the statement does
-pub record RunsStatement (d : Means) (old new : State) : Type 0 where
-  pub grows : Grows old new
-  pub tidy : Tidy old new
-  pub ended : AreEnded old.completed → AreEnded new.completed
-  pub runs : (c : Code) → Covers new c → AreMade old → (exits : Exits) (source store : Store) (notes : Notes) (answers : List Answer) → Agrees old.bindings source store → Throws exits.throws → Follows c old new store exits.falls → From c old store notes answers (d source answers exits)
+-- The graph that is built from `old` to `new` has the traces of a statement of meaning `d`.
+pub record RunsStatement (d : StmtMeaning) (old new : State) : Type 0 where
+  pub runs : (c : Code) → IsContainedIn new c → AreMade old
+      → (exits : Exits) (source store : Store) (notes : Notes) (answers : List Answer) → Agrees old.bindings source store
+      → Throws exits.throws → Follows c old new store exits.normal
+      → TracesFrom c old store notes answers (d source answers exits)

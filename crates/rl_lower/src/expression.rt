@@ -1,4 +1,4 @@
-//! Expressions: each goes into an identifier.
+//! Lowering of expressions: each leaves its value in a temporary.
 
 ghost use Rattle.std.specs.Prelude.{◌≡◌, ◌*◌, true, map, List, None, OnOk, IfOk};
 ghost use Rattle.rl_ast.specs.Grammar.{are_expressions, is_expression};
@@ -8,6 +8,7 @@ ghost use Rattle.rl_builder.specs.Builder.{state_of, recorded};
 ghost use Rattle.rl_builder.specs.Temporaries.{temporary, with_value};
 ghost use Rattle.rl_lower.specs.Lowering.{HasRoom, LowersExpression, LowersArguments};
 ghost use Rattle.rl_lower.specs.Named.{IsNamed};
+ghost use Rattle.rl_lower.specs.Sound.{SoundArguments, SoundExpression};
 ghost use Rattle.rl_model.specs.Rows.{refusal};
 ghost use Rattle.rl_scope.specs.declared.semantic.Symbol.{Symbol};
 ghost use Rattle.rl_scope.specs.Symbols.{symbol_named};
@@ -16,14 +17,14 @@ use rl_ast::numbered::At;
 use rl_ast::tree::Expression;
 use rl_ast::word::Word;
 use rl_base::diagnostic::Diagnostic;
-use rl_base::failure::OutOfMemory;
+use rl_base::error::OutOfMemory;
 use rl_base::ids::EvaluationOrder;
 use rl_base::list::List;
 use rl_base::row::Row;
 use rl_base::span::Span;
+use rl_base::stop::Stop;
 use rl_base::text::Text;
 use rl_builder::builder::HirBuilder;
-use rl_builder::stop::Stop;
 use rl_hir::instruction::{
     Instruction, InstructionValue, NonLocalBinding, Place, PlaceOrSpread, PrimitiveValue,
 };
@@ -31,7 +32,7 @@ use rl_scope::semantic::Semantic;
 use rl_text::number::parse_number;
 use std::alloc::Global;
 
-/// Puts a value into a fresh identifier.
+/// Appends an instruction that puts a value into a fresh temporary (`lowerValueToTemporary`).
 pub(crate) fn lower_value_to_temporary(
     builder: &mut HirBuilder,
     value: InstructionValue,
@@ -52,21 +53,15 @@ pub(crate) fn lower_value_to_temporary(
     Ok(place)
 }
 
-/// Notes that a row refuses a node, which is its label.
+/// Records the diagnostic of a row that refuses a node; its label is the node's span.
 fn refuse(alloc: Global, builder: &mut HirBuilder, row: Row, at: At) -> Result<(), OutOfMemory>
     ensures same_reference { builder.new.env.ghost_name ≡ builder.old.env.ghost_name }
     ensures state { OnOk result (state_of builder.new.env.now builder.new.work ≡ recorded (state_of builder.old.env.now builder.old.work) (refusal row at.span)) }
 {
-    let mut labels = List::new(alloc);
-    labels.push(at.span)?;
-    builder.record_error(Diagnostic {
-        row,
-        word: Text::from_str(alloc, "")?,
-        labels,
-    })
+    builder.record_diagnostic(Diagnostic::at(alloc, row, "", at.span)?)
 }
 
-/// Lowers a name that no symbol has. `eval` is refused.
+/// Lowers a name that no symbol has: a load of a global. `eval` is refused.
 fn lower_global(
     alloc: Global,
     builder: &mut HirBuilder,
@@ -76,6 +71,7 @@ fn lower_global(
     requires room { HasRoom (state_of builder.old.env.now builder.old.work) 1 }
     ensures same_reference { builder.new.env.ghost_name ≡ builder.old.env.ghost_name }
     ensures lowered { IfOk result (λ place. (symbols : List Symbol) → symbol_named symbols name.now ≡ None → LowersExpression symbols (Node at Word.Id (Then (Said name.now) End)) (state_of builder.old.env.now builder.old.work) (state_of builder.new.env.now builder.new.work) place.identifier.0) }
+    ensures sound { IfOk result (λ place. SoundExpression (Node at Word.Id (Then (Said name.now) End)) (state_of builder.old.env.now builder.old.work) (state_of builder.new.env.now builder.new.work) place) }
 {
     let binding = NonLocalBinding::Global {
         name: name.copy(alloc)?,
@@ -88,7 +84,7 @@ fn lower_global(
     lower_value_to_temporary(builder, value, Some(at.span))
 }
 
-/// Lowers a name. A variable has an identifier already.
+/// Lowers a name (`lowerIdentifier`): a load of a local, which has an identifier already, or of a global.
 fn lower_identifier(
     alloc: Global,
     builder: &mut HirBuilder,
@@ -100,6 +96,7 @@ fn lower_identifier(
     requires room { HasRoom (state_of builder.old.env.now builder.old.work) 1 }
     ensures same_reference { builder.new.env.ghost_name ≡ builder.old.env.ghost_name }
     ensures lowered { IfOk result (λ place. LowersExpression semantic.now.symbols (Node at Word.Id (Then (Said name.now) End)) (state_of builder.old.env.now builder.old.work) (state_of builder.new.env.now builder.new.work) place.identifier.0) }
+    ensures sound { IfOk result (λ place. SoundExpression (Node at Word.Id (Then (Said name.now) End)) (state_of builder.old.env.now builder.old.work) (state_of builder.new.env.now builder.new.work) place) }
 {
     let Some(symbol) = semantic.find_binding(name.as_str()) else {
         return lower_global(alloc, builder, at, name);
@@ -107,7 +104,7 @@ fn lower_identifier(
     let identifier = match builder.resolve_binding(name, symbol, semantic.declaration(symbol)) {
         Ok(identifier) => identifier,
         Err(Stop::OutOfMemory) => return Err(OutOfMemory),
-        Err(Stop::Stopped(_)) => unreachable!(),
+        Err(Stop::Diagnostic(_)) => unreachable!(),
     };
     let variable = Place {
         identifier,
@@ -120,7 +117,7 @@ fn lower_identifier(
     )
 }
 
-/// Lowers arguments from left to right.
+/// Lowers arguments from left to right (`lowerArguments`).
 #[cycle(expressions)]
 fn lower_arguments(
     alloc: Global,
@@ -133,6 +130,7 @@ fn lower_arguments(
     requires room { HasRoom (state_of builder.old.env.now builder.old.work) (4 * nodes_of (pieces_of (map spec.expression arguments.now))) }
     ensures same_reference { builder.new.env.ghost_name ≡ builder.old.env.ghost_name }
     ensures lowered { IfOk result (λ given. LowersArguments semantic.now.symbols (pieces_of (map spec.expression arguments.now)) (state_of builder.old.env.now builder.old.work) (state_of builder.new.env.now builder.new.work) given) }
+    ensures sound { IfOk result (λ given. SoundArguments (pieces_of (map spec.expression arguments.now)) (state_of builder.old.env.now builder.old.work) (state_of builder.new.env.now builder.new.work) given) }
 {
     let mut given = List::new(alloc);
     'arguments: for argument in arguments {
@@ -142,7 +140,7 @@ fn lower_arguments(
     Ok(given)
 }
 
-/// Lowers an expression. What is refused stands as something else in a graph that is never handed out.
+/// Lowers an expression (`lowerExpression`). A refused one is lowered to other code, in a graph that no caller is given.
 #[cycle(expressions)]
 pub(crate) fn lower_expression(
     alloc: Global,
@@ -155,6 +153,7 @@ pub(crate) fn lower_expression(
     requires room { HasRoom (state_of builder.old.env.now builder.old.work) (4 * nodes (spec.expression expression.now)) }
     ensures same_reference { builder.new.env.ghost_name ≡ builder.old.env.ghost_name }
     ensures lowered { IfOk result (λ place. LowersExpression semantic.now.symbols (spec.expression expression.now) (state_of builder.old.env.now builder.old.work) (state_of builder.new.env.now builder.new.work) place.identifier.0) }
+    ensures sound { IfOk result (λ place. SoundExpression (spec.expression expression.now) (state_of builder.old.env.now builder.old.work) (state_of builder.new.env.now builder.new.work) place) }
 {
     match expression {
         Expression::Null { at } => {

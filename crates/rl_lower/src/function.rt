@@ -1,36 +1,43 @@
-//! Functions: their parameters, bodies and returns.
+//! Lowering of functions: parameters, bodies and ends.
 
-ghost use Rattle.std.specs.Prelude.{◌≡◌, ◌+◌, ◌*◌, ◌≤◌, true, false, ◌++◌, OnOk, IfOk, IfErr, None, Some, [], codes, length};
+ghost use Rattle.std.specs.Prelude.{◌≡◌, ◌+◌, ◌*◌, ◌≤◌, true, false, ◌++◌, OnOk, IfOk, IfErr, None, Some, [], All, codes, length};
 ghost use Rattle.std.specs.Option.{option_copied};
+ghost use Rattle.std.specs.Str.{IsUtf8};
 ghost use Rattle.rl_ast.specs.Grammar.{is_body, is_function};
 ghost use Rattle.rl_ast.specs.Syntax.{nodes};
 ghost use Rattle.rl_ast.specs.Units as spec;
 ghost use Rattle.rl_base.specs.Reserved.{is_reserved};
 ghost use Rattle.rl_base.specs.declared.diagnostic.Diagnostic.{Diagnostic as Said};
 ghost use Rattle.rl_builder.specs.Builder.{state_of, started};
+ghost use Rattle.rl_hir.specs.Listing.{function as listed_function};
+ghost use Rattle.rl_hir.specs.Numbered.{IsNumbered};
 ghost use Rattle.rl_lower.specs.Endings.{IsGraphOf};
-ghost use Rattle.rl_lower.specs.Lowering.{AddsUnnamed, HasRoom, LowersBody, directives_in};
+ghost use Rattle.rl_lower.specs.Lowering.{HasRoom, LowersBody};
 ghost use Rattle.rl_lower.specs.Named.{IsNamed};
-ghost use Rattle.rl_lower.specs.Parameters.{known_from, pairs_from, places_from, with_parameters};
+ghost use Rattle.rl_lower.specs.Parameters.{with_parameters};
+ghost use Rattle.rl_lower.specs.Sound.{AreWritableIdentifiers, IsSmallTree, IsSoundGraph, StaysSound};
 ghost use Rattle.rl_model.specs.Closed.{IsClosed};
-ghost use Rattle.rl_model.specs.Headline.{IsCalm, SameRuns};
+ghost use Rattle.rl_model.specs.Fields.{AddsUnnamed, directives_in, known_from, pairs_from, places_from};
+ghost use Rattle.rl_model.specs.Headline.{NeverStuck, SameRuns};
 ghost use Rattle.rl_model.specs.Held.{HoldsCalls};
 ghost use Rattle.rl_base.specs.declared.row.Row.TheVariants as row;
-ghost use Rattle.rl_model.specs.Rows.{first_named, is_text, refusals_of, stop, stop_at, stop_of};
+ghost use Rattle.rl_model.specs.Rows.{first_named, is_text, refusals_of, stop_at, stop_of};
 ghost use Rattle.rl_model.specs.Size.{function_size};
+ghost use Rattle.rl_model.specs.WellFormed.{HasKnownPlaces, IsLinked};
 ghost use Rattle.rl_scope.specs.Symbols.{are_distinct, symbols_of};
+ghost use Rattle.rl_text.specs.Notation.{IsWritable};
 
 use crate::expression::{lower_expression, lower_value_to_temporary};
 use crate::statement::lower_statements;
 use rl_ast::tree::{ArrowBody, ArrowFunction};
 use rl_base::diagnostic::Diagnostic;
-use rl_base::failure::OutOfMemory;
+use rl_base::error::OutOfMemory;
 use rl_base::ids::{EvaluationOrder, SymbolId};
 use rl_base::list::List;
 use rl_base::row::Row;
+use rl_base::stop::Stop;
 use rl_base::text::Text;
-use rl_builder::builder::{Built, HirBuilder};
-use rl_builder::stop::Stop;
+use rl_builder::builder::{Built, HirBuilder, create_temporary_place};
 use rl_hir::environment::Environment;
 use rl_hir::function::{BlockKind, HirFunction, Param};
 use rl_hir::instruction::{InstructionValue, Place, PrimitiveValue};
@@ -45,7 +52,7 @@ struct Graph {
     built: Built,
 }
 
-/// Gives each parameter an identifier, in order. `Stopped` at the first whose name is reserved.
+/// Gives each parameter an identifier, in order. On `Stop::Diagnostic` a parameter's name is reserved.
 fn lower_parameters(
     alloc: Global,
     builder: &mut HirBuilder,
@@ -57,7 +64,7 @@ fn lower_parameters(
     ensures state { OnOk result (state_of builder.new.env.now builder.new.work ≡ with_parameters (state_of builder.old.env.now builder.old.work) semantic.now.symbols) }
     ensures places { IfOk result (λ params. params ≡ places_from (length builder.old.env.now.identifiers) semantic.now.symbols) }
     ensures goes_on { OnOk result (first_named (λ name. is_reserved name) semantic.now.symbols ≡ None) }
-    ensures stopped { IfErr result (λ e. (d : Said) → e ≡ Stop.Stopped d → Some d ≡ stop_at row.S1 (first_named (λ name. is_reserved name) semantic.now.symbols) None) }
+    ensures stopped { IfErr result (λ e. (d : Said) → e ≡ Stop.Diagnostic d → Some d ≡ stop_at row.S1 (first_named (λ name. is_reserved name) semantic.now.symbols) None) }
 {
     let mut params = List::new(alloc);
     'parameters: for (place, symbol) in semantic.symbols.as_slice().iter().enumerate() {
@@ -74,8 +81,8 @@ fn lower_parameters(
     Ok(params)
 }
 
-/// Lowers what a function does before its end. An expression's value is returned; the block behind that return is
-/// numbered before the expression is lowered.
+/// Lowers a body up to its end. An expression's value is returned; the block behind that return is numbered before the
+/// expression is lowered.
 fn lower_body(
     alloc: Global,
     builder: &mut HirBuilder,
@@ -87,6 +94,7 @@ fn lower_body(
     requires room { HasRoom (state_of builder.old.env.now builder.old.work) (4 * (nodes (spec.arrow_body body.now) + 1)) }
     ensures same_reference { builder.new.env.ghost_name ≡ builder.old.env.ghost_name }
     ensures lowered { OnOk result (LowersBody semantic.now.symbols (spec.arrow_body body.now) (state_of builder.old.env.now builder.old.work) (state_of builder.new.env.now builder.new.work)) }
+    ensures sound { OnOk result (StaysSound (IsSmallTree (spec.arrow_body body.now)) (state_of builder.old.env.now builder.old.work) (state_of builder.new.env.now builder.new.work)) }
 {
     match body {
         ArrowBody::Expression(expression) => {
@@ -110,7 +118,7 @@ fn lower_body(
     }
 }
 
-/// The graph of a function. Its end returns undefined, also where nothing comes to it.
+/// The graph of a function. The end of its body returns undefined, even if it is unreachable.
 fn lower_graph(
     alloc: Global,
     semantic: &Semantic,
@@ -121,8 +129,9 @@ fn lower_graph(
     requires distinct { are_distinct semantic.now.symbols ≡ true }
     requires room { HasRoom (started env.old BlockKind.Block) (4 * (nodes (spec.arrow_body body.now) + 2) + length semantic.now.symbols) }
     ensures graph { IfOk result (λ graph. IsGraphOf semantic.now.symbols (spec.arrow_body body.now) env.old env.new graph.params graph.built) }
+    ensures sound { IfOk result (λ graph. IsSoundGraph semantic.now.symbols (spec.arrow_body body.now) env.old env.new graph.built) }
     ensures goes_on { OnOk result (first_named (λ name. is_reserved name) semantic.now.symbols ≡ None) }
-    ensures stopped { IfErr result (λ e. (d : Said) → e ≡ Stop.Stopped d → Some d ≡ stop_at row.S1 (first_named (λ name. is_reserved name) semantic.now.symbols) None) }
+    ensures stopped { IfErr result (λ e. (d : Said) → e ≡ Stop.Diagnostic d → Some d ≡ stop_at row.S1 (first_named (λ name. is_reserved name) semantic.now.symbols) None) }
 {
     let mut builder = HirBuilder::new(alloc, &mut *env, BlockKind::Block);
     let params = lower_parameters(alloc, &mut builder, semantic)?;
@@ -151,7 +160,8 @@ fn copy_texts(alloc: Global, texts: &[Text]) -> Result<List<Text>, OutOfMemory>
 
 /// The directives that begin a body.
 fn directives_of(alloc: Global, body: &ArrowBody) -> Result<List<Text>, OutOfMemory>
-    ensures { IfOk result (λ directives. directives ≡ directives_in (spec.arrow_body body.now)) }
+    ensures copied { IfOk result (λ directives. directives ≡ directives_in (spec.arrow_body body.now)) }
+    ensures texts { IfOk result (λ directives. IsSmallTree (spec.arrow_body body.now) → All IsUtf8 directives) }
 {
     match body {
         ArrowBody::Expression(_) => Ok(List::new(alloc)),
@@ -163,7 +173,7 @@ fn directives_of(alloc: Global, body: &ArrowBody) -> Result<List<Text>, OutOfMem
     }
 }
 
-/// The parameter `this`, if there is one.
+/// The first parameter whose name is `this`.
 fn find_this(symbols: &[Symbol]) -> Option<&Symbol>
     ensures { option_copied result ≡ first_named (λ name. is_text (codes "this") name) symbols.now }
 {
@@ -175,21 +185,9 @@ fn find_this(symbols: &[Symbol]) -> Option<&Symbol>
     None
 }
 
-/// What is said of a parameter `this`.
-fn stop_at_this(alloc: Global, symbol: &Symbol) -> Result<Diagnostic, OutOfMemory>
-    ensures { IfOk result (λ d. d ≡ stop row.S2 symbol.now) }
-{
-    let mut labels = List::new(alloc);
-    labels.push(symbol.declaration)?;
-    Ok(Diagnostic {
-        row: Row::S2,
-        word: symbol.name.copy(alloc)?,
-        labels,
-    })
-}
-
-/// Lowers a function. `Stopped` where a stop row applies to it. What it is refused for is noted in the environment; where
-/// that is nothing, the graph runs as the function does.
+/// Lowers a function (`lower`). The diagnostics of refused nodes are appended to the environment's; if there is none, the
+/// graph has the function's traces. On `Stop::Diagnostic` a stop row applies to the function, and on `Stop::OutOfMemory` an
+/// allocation failed; of the environment nothing is promised then.
 pub fn lower(
     alloc: Global,
     function: &ArrowFunction,
@@ -202,16 +200,18 @@ pub fn lower(
     requires fresh { env.old.pairs ≡ [] }
     requires room { HasRoom (started env.old BlockKind.Block) (4 * nodes (spec.function function.now)) }
     ensures goes_on { OnOk result (stop_of (spec.function function.now) ≡ None) }
-    ensures stopped { IfErr result (λ e. (d : Said) → e ≡ Stop.Stopped d → stop_of (spec.function function.now) ≡ Some d) }
+    ensures stopped { IfErr result (λ e. (d : Said) → e ≡ Stop.Diagnostic d → stop_of (spec.function function.now) ≡ Some d) }
     ensures refused { OnOk result (env.new.diagnostics ≡ env.old.diagnostics ++ refusals_of (spec.function function.now)) }
-    ensures closed { IfOk result (λ f. refusals_of (spec.function function.now) ≡ [] → IsClosed f.body) }
+    ensures closed { IfOk result (λ f. IsClosed f.body) }
     ensures same_runs { IfOk result (λ f. refusals_of (spec.function function.now) ≡ [] → SameRuns (spec.function function.now) f env.new.pairs) }
-    ensures calm { IfOk result (λ f. refusals_of (spec.function function.now) ≡ [] → IsCalm f env.new.pairs) }
+    ensures never_stuck { IfOk result (λ f. refusals_of (spec.function function.now) ≡ [] → NeverStuck f env.new.pairs) }
     ensures held { IfOk result (λ f. HoldsCalls (spec.function function.now) f) }
+    ensures numbered { IfOk result (λ f. IsNumbered f.instructions f.body.blocks) }
+    ensures linked { IfOk result (λ f. IsLinked f) }
     ensures functions { OnOk result (env.new.functions ≡ env.old.functions) }
     ensures bounded { IfOk result (λ f. function_size f ≤ 64 * nodes (spec.function function.now)) }
 
-    // The fields that runs do not show.
+    // The fields that traces do not read.
     ensures span { IfOk result (λ f. f.span ≡ Some function.now.at.span) }
     ensures name { IfOk result (λ f. f.name ≡ None) }
     ensures fn_type { IfOk result (λ f. f.fn_type ≡ env.old.fn_type) }
@@ -225,16 +225,20 @@ pub fn lower(
     // The parameters' identifiers come first, and no other that is made has a name.
     ensures pairs { OnOk result (env.new.pairs ≡ env.old.pairs ++ pairs_from 0 (length env.old.identifiers) semantic.now.symbols) }
     ensures identifiers { OnOk result (AddsUnnamed (env.old.identifiers ++ known_from env.old.next_type semantic.now.symbols) env.new.identifiers) }
+
+    // Places name identifiers that were made, and the notation has the listing of what a small function is lowered to.
+    ensures places { IfOk result (λ f. HasKnownPlaces (length env.new.identifiers) f) }
+    ensures writable { IfOk result (λ f. IsSmallTree (spec.function function.now) → IsWritable (listed_function f)) }
+    ensures known { OnOk result (IsSmallTree (spec.function function.now) → AreWritableIdentifiers env.old.identifiers → AreWritableIdentifiers env.new.identifiers) }
 {
     if let Some(symbol) = find_this(semantic.symbols.as_slice()) {
-        return Err(Stop::Stopped(stop_at_this(alloc, symbol)?));
+        let word = symbol.name.as_str();
+        let diagnostic = Diagnostic::at(alloc, Row::S2, word, symbol.declaration)?;
+        return Err(Stop::Diagnostic(diagnostic));
     }
     let span = Some(function.at.span);
     let graph = lower_graph(alloc, semantic, &function.body, env)?;
-    let returns = Place {
-        identifier: env.next_identifier_id(span)?,
-        span: None,
-    };
+    let returns = create_temporary_place(env, span)?;
     Ok(HirFunction {
         span,
         name: None,

@@ -1,4 +1,4 @@
-//! Statements, and lists of them.
+//! Lowering of statements, and of lists of them.
 
 ghost use Rattle.std.specs.Prelude.{◌≡◌, ◌*◌, true, map, OnOk, Some};
 ghost use Rattle.rl_ast.specs.Grammar.{is_statement, are_statements};
@@ -8,10 +8,11 @@ ghost use Rattle.rl_builder.specs.Builder.{state_of};
 ghost use Rattle.rl_lower.specs.Endings.{returned_from};
 ghost use Rattle.rl_lower.specs.Lowering.{HasRoom, LowersStatement, LowersStatements};
 ghost use Rattle.rl_lower.specs.Named.{IsNamed};
+ghost use Rattle.rl_lower.specs.Sound.{AreSmallTrees, IsSmallTree, StaysSound};
 
 use crate::expression::{lower_expression, lower_value_to_temporary};
 use rl_ast::tree::Statement;
-use rl_base::failure::OutOfMemory;
+use rl_base::error::OutOfMemory;
 use rl_base::ids::EvaluationOrder;
 use rl_base::span::Span;
 use rl_builder::builder::HirBuilder;
@@ -21,7 +22,7 @@ use rl_hir::terminal::{ReturnVariant, Terminal};
 use rl_scope::semantic::Semantic;
 use std::alloc::Global;
 
-/// Ends the block by a return of this value, and goes on in a fresh block that nothing leads to.
+/// Ends the block by a return of a value, and goes on in a fresh block, which is unreachable.
 fn lower_return(builder: &mut HirBuilder, span: Span, value: Place) -> Result<(), OutOfMemory>
     requires { HasRoom (state_of builder.old.env.now builder.old.work) 1 }
     ensures same_reference { builder.new.env.ghost_name ≡ builder.old.env.ghost_name }
@@ -39,7 +40,7 @@ fn lower_return(builder: &mut HirBuilder, span: Span, value: Place) -> Result<()
     )
 }
 
-/// Lowers a statement.
+/// Lowers a statement (`lowerStatement`).
 fn lower_statement(
     alloc: Global,
     builder: &mut HirBuilder,
@@ -51,6 +52,7 @@ fn lower_statement(
     requires room { HasRoom (state_of builder.old.env.now builder.old.work) (4 * nodes (spec.statement statement.now)) }
     ensures same_reference { builder.new.env.ghost_name ≡ builder.old.env.ghost_name }
     ensures lowered { OnOk result (LowersStatement semantic.now.symbols (spec.statement statement.now) (state_of builder.old.env.now builder.old.work) (state_of builder.new.env.now builder.new.work)) }
+    ensures sound { OnOk result (StaysSound (IsSmallTree (spec.statement statement.now)) (state_of builder.old.env.now builder.old.work) (state_of builder.new.env.now builder.new.work)) }
 {
     match statement {
         Statement::Expression { at: _, expression } => {
@@ -71,7 +73,7 @@ fn lower_statement(
     }
 }
 
-/// Lowers statements in order. Those behind a return stand in a block that nothing leads to.
+/// Lowers statements in order. Those behind a return stand in an unreachable block.
 pub(crate) fn lower_statements(
     alloc: Global,
     builder: &mut HirBuilder,
@@ -83,6 +85,7 @@ pub(crate) fn lower_statements(
     requires room { HasRoom (state_of builder.old.env.now builder.old.work) (4 * nodes_of (pieces_of (map spec.statement statements.now))) }
     ensures same_reference { builder.new.env.ghost_name ≡ builder.old.env.ghost_name }
     ensures lowered { OnOk result (LowersStatements semantic.now.symbols (pieces_of (map spec.statement statements.now)) (state_of builder.old.env.now builder.old.work) (state_of builder.new.env.now builder.new.work)) }
+    ensures sound { OnOk result (StaysSound (AreSmallTrees (pieces_of (map spec.statement statements.now))) (state_of builder.old.env.now builder.old.work) (state_of builder.new.env.now builder.new.work)) }
 {
     'statements: for statement in statements {
         lower_statement(alloc, builder, semantic, statement)?;

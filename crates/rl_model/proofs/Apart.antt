@@ -12,7 +12,8 @@ use Rattle.rl_ast.specs.declared.tree.Statement.{Statement}
 use Rattle.rl_ast.specs.declared.tree.Unit.{Unit as TreeOfUnit}
 use Rattle.rl_ast.specs.declared.word.Word.{Word}
 use Rattle.rl_ast.specs.declared.word.Word.TheVariants as word
-use Rattle.rl_model.specs.Held.{AreApart, calls_in, calls_among}
+use Rattle.rl_base.specs.Distinct.{AreDistinct}
+use Rattle.rl_model.specs.Held.{calls_in, calls_among}
 use Rattle.rl_model.specs.Source.{function_in, marked}
 
 -- the ends of the places rise, from above the first number to the last one at most
@@ -109,7 +110,7 @@ never_before places span high i place r at same =
     omega (arith, behind, ends)
 
 -- places whose ends rise are apart
-rise_apart : (places : List (Option Span)) (low high : ℕ) → Rise low places high → AreApart places
+rise_apart : (places : List (Option Span)) (low high : ℕ) → Rise low places high → AreDistinct places
 rise_apart [] low high r i j place at there = absurd (cc)
 rise_apart (None ∷ places) low high r i j place at there = absurd r
 rise_apart (Some span ∷ places) low high r zero zero place at there = refl
@@ -123,9 +124,9 @@ marked_calls (Node at word.Expr (Then function End)) is = append-nil (calls_in f
 marked_calls _ is = absurd (cc)
 
 -- the calls of a unit's function are apart
-pub calls_apart : (bytes : List ℕ) (u : TreeOfUnit) → Spells bytes u → AreApart (calls_in (marked (unit u)))
+pub calls_apart : (bytes : List ℕ) (u : TreeOfUnit) → Spells bytes u → AreDistinct (calls_in (marked (unit u)))
 calls_apart bytes u spells =
-    subst AreApart all (rise_apart (calls_in (unit u)) 0 (0 + width (unit u)) (calls_rise (unit u) 0 0 spells.numbers))
+    subst AreDistinct all (rise_apart (calls_in (unit u)) 0 (0 + width (unit u)) (calls_rise (unit u) 0 0 spells.numbers))
   where
     only : (s : Statement) × (u.program.body ≡ s ∷ []) × (is_marked (statement s) ≡ true)
     only = one_statement u spells.grammar

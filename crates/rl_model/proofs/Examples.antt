@@ -1,7 +1,6 @@
 -- The definitions, tried on small functions: what their runs, the runs of their graphs, their calls and their rows come to.
-use Rattle.std.proofs.Common.{◌≡◌, ℕ, ◌+◌, true, false, Option, Some, None, List, [], ◌∷◌, map, codes, refl}
+use Rattle.std.proofs.Common.{◌≡◌, ℕ, ◌+◌, true, false, Some, None, List, [], ◌∷◌, map, codes, refl}
 use Rattle.rl_ast.specs.Syntax.{Syntax, Node, Listed, Said, Flag, Absent, pieces_of}
-use Rattle.rl_ast.specs.declared.numbered.At.{At}
 use Rattle.rl_ast.specs.declared.word.Word.{Word}
 use Rattle.rl_ast.specs.declared.word.Word.TheVariants as word
 use Rattle.rl_base.specs.declared.row.Row.TheVariants as row
@@ -20,16 +19,16 @@ use Rattle.rl_hir.specs.declared.terminal.ReturnVariant.TheVariants as returns
 use Rattle.rl_hir.specs.declared.terminal.Terminal.TheVariants as terminals
 use Rattle.rl_model.specs.Events.{call, global}
 use Rattle.rl_model.specs.Held.{calls_in, live_calls_in}
-use Rattle.rl_model.specs.Machine.{function_trace, trace_within}
+use Rattle.rl_model.specs.Machine.{code_of, exec, function_trace, no_notes, steps_for, take_arguments, trace_by}
+use Rattle.rl_model.specs.Traces.{unset, waiting}
 use Rattle.rl_model.specs.Rows.{refusal, refusals_of, stop_of}
-use Rattle.rl_model.specs.Source.{runs}
+use Rattle.rl_model.specs.Source.{source_trace}
 use Rattle.rl_model.specs.declared.trace.Answer.{Answer}
 use Rattle.rl_model.specs.declared.trace.AnswerKind.{AnswerKind}
 use Rattle.rl_model.specs.declared.trace.AnswerKind.TheVariants.{Yes, Throw}
 use Rattle.rl_model.specs.declared.trace.Ending.TheVariants as ending
 use Rattle.rl_model.specs.declared.trace.Event.{Event}
 use Rattle.rl_model.specs.declared.trace.Trace.{Trace}
-use Rattle.rl_model.specs.declared.trace.Value.{Value}
 use Rattle.rl_model.specs.declared.trace.Value.TheVariants as value
 
 -- functions of the source
@@ -97,7 +96,7 @@ graph = record {
 -- their runs, with the argument 1
 
 abbrev answer : AnswerKind → ℕ → Answer
-answer kind number = record { kind = kind; value = value.Given number; pieces = []; settings = [] }
+answer kind number = record { kind = kind; value = value.Given number; pieces = []; assignments = [] }
 
 abbrev loads : Event
 loads = global (codes "f" ∷ [])
@@ -107,7 +106,7 @@ calls = call (codes "place" ∷ []) (value.Given 2) (value.Given 1 ∷ [])
 
 -- both come to this trace
 record Both (answers : List Answer) (trace : Trace) : Type 0 where
-  of_source : runs source [] (value.Given 1 ∷ []) answers ≡ trace
+  of_source : source_trace source [] (value.Given 1 ∷ []) answers ≡ trace
   of_graph : function_trace graph [] [] (value.Given 1 ∷ []) answers ≡ trace
 
 -- with no answer they wait, and an event that is not answered is not recorded
@@ -127,22 +126,36 @@ load_throws = record { of_source = refl; of_graph = refl }
 call_throws : Both (answer Yes 2 ∷ answer Throw 3 ∷ []) (record { events = loads ∷ calls ∷ []; ending = ending.Threw (value.Given 3) })
 call_throws = record { of_source = refl; of_graph = refl }
 
+-- the run of the graph in which at most `most` silent steps follow one another
+abbrev limited : (most : ℕ) → List Answer → Trace
+limited most answers = exec waiting (code_of graph) most (steps_for answers most) most 0 0 (take_arguments graph.params (value.Given 1 ∷ []) unset) no_notes answers
+
 -- a run that may take two silent steps in a row and no more is at its end: the load of `x` is followed by an event
-two_in_a_row : trace_within 2 graph [] [] (value.Given 1 ∷ []) (answer Yes 2 ∷ answer Yes 3 ∷ []) ≡ function_trace graph [] [] (value.Given 1 ∷ []) (answer Yes 2 ∷ answer Yes 3 ∷ [])
+two_in_a_row : limited 2 (answer Yes 2 ∷ answer Yes 3 ∷ []) ≡ function_trace graph [] [] (value.Given 1 ∷ []) (answer Yes 2 ∷ answer Yes 3 ∷ [])
 two_in_a_row = refl
 
 -- where none may follow another, the load of `x` is the last
-none_in_a_row : trace_within 0 graph [] [] (value.Given 1 ∷ []) (answer Yes 2 ∷ answer Yes 3 ∷ []) ≡ record { events = loads ∷ []; ending = ending.Waiting }
+none_in_a_row : limited 0 (answer Yes 2 ∷ answer Yes 3 ∷ []) ≡ record { events = loads ∷ []; ending = ending.Waiting }
 none_in_a_row = refl
 
+-- a run that finds no answer is not stuck; one that comes to no block is, and so is one that comes to an unreachable end
+waits_for_an_answer : (stuck : Trace) → trace_by stuck graph [] [] (value.Given 1 ∷ []) [] ≡ record { events = []; ending = ending.Waiting }
+waits_for_an_answer stuck = refl
+
+stuck_without_block : (stuck : Trace) → trace_by stuck (record graph { body = record { entry = record { 0 = 0 }; blocks = [] } }) [] [] [] [] ≡ stuck
+stuck_without_block stuck = refl
+
+stuck_at_an_unreachable_end : (stuck : Trace) → trace_by stuck (record graph { body = record { entry = record { 0 = 0 }; blocks = record { id = record { 0 = 0 }; block = record { kind = kinds.Block; instructions = []; terminal = terminals.Unreachable (record { 0 = 1 }) None; preds = [] } } ∷ [] } }) [] [] [] [] ≡ stuck
+stuck_at_an_unreachable_end stuck = refl
+
 -- `(a, b) => { f(g); return b; }`: the callee comes before its arguments, and each parameter takes its own argument
-ordered : runs (function (codes "a" ∷ codes "b" ∷ []) (node 11 word.Expr (called 12 (name 13 (codes "f")) (name 14 (codes "g") ∷ []) ∷ []) ∷ node 15 word.Return (name 16 (codes "b") ∷ []) ∷ []))
+ordered : source_trace (function (codes "a" ∷ codes "b" ∷ []) (node 11 word.Expr (called 12 (name 13 (codes "f")) (name 14 (codes "g") ∷ []) ∷ []) ∷ node 15 word.Return (name 16 (codes "b") ∷ []) ∷ []))
     [] (value.Given 7 ∷ value.Given 8 ∷ []) (answer Yes 2 ∷ answer Yes 3 ∷ answer Yes 4 ∷ [])
     ≡ record { events = loads ∷ global (codes "g" ∷ []) ∷ call (codes "place" ∷ []) (value.Given 2) (value.Given 3 ∷ []) ∷ []; ending = ending.Returned returns.Explicit (value.Given 8) [] }
 ordered = refl
 
 -- `(a) => { return a; }` without an argument, whatever the start store says of `a`
-missing : runs (function (codes "a" ∷ []) (node 11 word.Return (name 12 (codes "a") ∷ []) ∷ [])) (record { symbol = record { 0 = 0 }; value = value.Given 9 } ∷ []) [] []
+missing : source_trace (function (codes "a" ∷ []) (node 11 word.Return (name 12 (codes "a") ∷ []) ∷ [])) (record { symbol = record { 0 = 0 }; value = value.Given 9 } ∷ []) [] []
     ≡ record { events = []; ending = ending.Returned returns.Explicit value.Undefined [] }
 missing = refl
 

@@ -1,17 +1,17 @@
--- Graphs whose reached blocks are all there.
-use Rattle.std.specs.Prelude.{◌≡◌, ℕ, Some, List, [], Contains}
+-- Closed graphs: every block that is reached is there.
+use Rattle.std.specs.Prelude.{◌≡◌, ℕ, Some, List, [], Contains, map}
 use Rattle.rl_model.specs.Machine.{block_of}
+use Rattle.rl_hir.specs.Terminals.{successor_ids}
 use Rattle.rl_hir.specs.declared.terminal.Terminal.{Terminal}
 use Rattle.rl_hir.specs.declared.terminal.Terminal.TheVariants as terminals
 use Rattle.rl_hir.specs.declared.function.BasicBlock.{BasicBlock}
 use Rattle.rl_hir.specs.declared.function.Hir.{Hir}
 
--- the blocks that a terminal leads to
+-- The successors of a terminal, by block number.
 abbrev pub successors : Terminal → List ℕ
-successors (terminals.Return order at variant p) = []
-successors (terminals.Unreachable order at) = []
+successors terminal = map (λ id. id.0) (successor_ids terminal)
 
--- the blocks that a terminal names in any field
+-- The blocks that a terminal names in any field.
 abbrev pub named : Terminal → List ℕ
 named (terminals.Return order at variant p) = []
 named (terminals.Unreachable order at) = []
@@ -23,12 +23,12 @@ IsUnreachable (terminals.Unreachable order at) = Unit {0}
 abbrev pub IsBlock : Hir → ℕ → Type 0
 IsBlock hir id = (block : BasicBlock) × (block_of hir.blocks id ≡ Some block)
 
--- the blocks that successors reach from the entry
+-- The blocks that successors reach from the entry.
 pub data Reaches (hir : Hir) : ℕ → Type 0 where
   entry : Reaches hir hir.entry.0
   next : (id successor : ℕ) (block : BasicBlock) → Reaches hir id → block_of hir.blocks id ≡ Some block → Contains (successors block.terminal) successor → Reaches hir successor
 
--- the entry is a block, and each block that a reached block names is one; no reached block ends as unreachable
+-- The entry is a block of the graph, each block that a reached block names is one, and no reached block ends as unreachable.
 pub record IsClosed (hir : Hir) : Type 0 where
   pub entry_block : IsBlock hir hir.entry.0
   pub names : (id other : ℕ) (block : BasicBlock) → Reaches hir id → block_of hir.blocks id ≡ Some block → Contains (named block.terminal) other → IsBlock hir other

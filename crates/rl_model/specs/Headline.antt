@@ -1,42 +1,58 @@
--- What is promised of a result: no row applied, it is closed, it runs as the source does and never too long in silence, it
--- holds each call once, and its size.
-use Rattle.std.specs.Prelude.{◌≡◌, ℕ, ◌*◌, ◌≤◌, List, All}
+-- The promises of a result: of each graph, and of the result as a whole.
+use Rattle.std.specs.Prelude.{◌≡◌, ℕ, ◌*◌, ◌≤◌, List, [], length}
 use Rattle.rl_ast.specs.Syntax.{Syntax, nodes}
-use Rattle.rl_model.specs.Held.{AreApart, HoldsCalls, calls_in}
-use Rattle.rl_model.specs.Rows.{IsSupported}
-use Rattle.rl_model.specs.Source.{runs, marked}
-use Rattle.rl_model.specs.Machine.{function_trace, positions, trace_within}
-use Rattle.rl_model.specs.Closed.{IsClosed}
-use Rattle.rl_model.specs.Size.{lowered_size}
-use Rattle.rl_model.specs.Units.{IsUnit}
 use Rattle.rl_ast.specs.Units.{unit}
 use Rattle.rl_ast.specs.declared.tree.Unit.{Unit}
+use Rattle.rl_base.specs.Distinct.{AreDistinct}
+use Rattle.rl_hir.specs.Listing.{lowered}
+use Rattle.rl_hir.specs.Numbered.{IsNumbered}
 use Rattle.rl_hir.specs.declared.function.HirFunction.{HirFunction}
-use Rattle.rl_hir.specs.declared.function.Pair.{Pair}
 use Rattle.rl_hir.specs.declared.function.Lowered.{Lowered}
-use Rattle.rl_model.specs.declared.trace.Value.{Value}
-use Rattle.rl_model.specs.declared.trace.Setting.{Setting}
+use Rattle.rl_hir.specs.declared.function.Pair.{Pair}
+use Rattle.rl_text.specs.Notation.{IsWritable}
+use Rattle.rl_model.specs.Closed.{IsClosed}
+use Rattle.rl_model.specs.Fields.{HasFieldsOf, HasIdentifiersOf}
+use Rattle.rl_model.specs.Held.{HoldsCalls, calls_in}
+use Rattle.rl_model.specs.Machine.{function_trace, trace_by}
+use Rattle.rl_model.specs.Rows.{IsSupported}
+use Rattle.rl_model.specs.Size.{lowered_size}
+use Rattle.rl_model.specs.Source.{marked, source_trace}
+use Rattle.rl_model.specs.Units.{IsUnit}
+use Rattle.rl_model.specs.WellFormed.{IsWellFormed}
 use Rattle.rl_model.specs.declared.trace.Answer.{Answer}
+use Rattle.rl_model.specs.declared.trace.Assignment.{Assignment}
+use Rattle.rl_model.specs.declared.trace.Trace.{Trace}
+use Rattle.rl_model.specs.declared.trace.Value.{Value}
 
--- the graph has the trace of the function of the source, for every start, arguments and answers
+-- The graph has the trace of its function, for every start store, arguments and answers.
 abbrev pub SameRuns : Syntax → HirFunction → List Pair → Type 0
-SameRuns function f pairs = (start : List Setting) (arguments : List Value) (answers : List Answer) → function_trace f pairs start arguments answers ≡ runs function start arguments answers
+SameRuns function f pairs = (start : List Assignment) (arguments : List Value) (answers : List Answer) → function_trace f pairs start arguments answers ≡ source_trace function start arguments answers
 
--- the limit on silent steps ends no run: under every higher one the runs are the same
-abbrev pub IsCalm : HirFunction → List Pair → Type 0
-IsCalm f pairs = (most : ℕ) → positions f.body.blocks ≤ most → (start : List Setting) (arguments : List Value) (answers : List Answer) → trace_within most f pairs start arguments answers ≡ function_trace f pairs start arguments answers
+-- A run ends because it returns, throws, or finds no answer left: whatever trace a run had that ends for another cause, the
+-- runs are the same.
+abbrev pub NeverStuck : HirFunction → List Pair → Type 0
+NeverStuck f pairs = (stuck : Trace) (start : List Assignment) (arguments : List Value) (answers : List Answer) → trace_by stuck f pairs start arguments answers ≡ function_trace f pairs start arguments answers
 
--- the result of lowering a unit
+-- The graph of one function of a result.
+pub record IsGraph (function : Syntax) (l : Lowered) (f : HirFunction) : Type 0 where
+  pub closed : IsClosed f.body
+  pub same_runs : SameRuns function f l.pairs
+  pub never_stuck : NeverStuck f l.pairs
+  pub held : HoldsCalls function f
+  pub fields : HasFieldsOf function f
+  pub numbered : IsNumbered f.instructions f.body.blocks
+  pub well_formed : IsWellFormed (length l.identifiers) f
+
+-- The result of lowering a unit to whose marked function no row applies.
 pub record IsLowered (u : Unit) (l : Lowered) : Type 0 where
   pub supported : IsSupported (marked (unit u))
-  pub closed : IsClosed l.function.body
-  pub inner_closed : All (λ i. IsClosed i.function.body) l.inner
-  pub same_runs : SameRuns (marked (unit u)) l.function l.pairs
-  pub calm : IsCalm l.function l.pairs
-  pub held : HoldsCalls (marked (unit u)) l.function
-  pub apart : AreApart (calls_in (marked (unit u)))
+  pub main : IsGraph (marked (unit u)) l l.function
+  pub inner : l.inner ≡ []
+  pub identifiers : HasIdentifiersOf (marked (unit u)) l
+  pub apart : AreDistinct (calls_in (marked (unit u)))
   pub bounded : lowered_size l ≤ 64 * nodes (unit u)
+  pub writable : IsWritable (lowered l)
 
--- the bytes spell a unit, and this is its result
+-- The bytes spell a unit, and this is its result.
 abbrev pub LowersTo : List ℕ → Lowered → Type 0
 LowersTo bytes l = (u : Unit) × IsUnit bytes u × IsLowered u l

@@ -1,5 +1,5 @@
--- That each call of a function is held once.
-use Rattle.std.specs.Prelude.{◌≡◌, ℕ, Bool, true, false, Option, Some, None, List, [], ◌∷◌, ◌++◌, slice_get, if◌then◌else◌}
+-- Each call of a function is held once in its graph.
+use Rattle.std.specs.Prelude.{◌≡◌, Bool, true, false, Option, Some, None, List, [], ◌∷◌, ◌++◌, slice_get, if◌then◌else◌}
 use Rattle.rl_base.specs.declared.span.Span.{Span}
 use Rattle.rl_base.specs.declared.ids.InstructionId.{InstructionId}
 use Rattle.rl_ast.specs.declared.word.Word.TheVariants as word
@@ -10,7 +10,7 @@ use Rattle.rl_hir.specs.declared.instruction.Instruction.{Instruction}
 use Rattle.rl_hir.specs.declared.instruction.InstructionValue.TheVariants as values
 
 abbrev mutual
-  -- the places of the calls in a part, each after those of its parts
+  -- The spans of the calls in a part, each after those of its parts.
   pub calls_in : Syntax → List (Option Span)
   calls_in (Node at word.Call parts) = calls_among parts ++ Some at.span ∷ []
   calls_in (Node at word parts) = calls_among parts
@@ -21,17 +21,17 @@ abbrev mutual
   calls_among End = []
   calls_among (Then piece pieces) = calls_in piece ++ calls_among pieces
 
--- whether what follows a statement in its list can be reached
-abbrev pub can_fall : Syntax → Bool
-can_fall (Node at word.Return parts) = false
-can_fall _ = true
+-- Whether a statement can complete normally, so that what follows it in its list is reachable.
+abbrev pub can_complete : Syntax → Bool
+can_complete (Node at word.Return parts) = false
+can_complete _ = true
 
--- the calls of statements that are not dead: those up to the first statement that does not fall
+-- The calls of reachable statements: those up to the first statement that cannot complete normally.
 abbrev pub live_calls : Pieces → List (Option Span)
 live_calls End = []
-live_calls (Then statement statements) = calls_in statement ++ (if can_fall statement then live_calls statements else [])
+live_calls (Then statement statements) = calls_in statement ++ (if can_complete statement then live_calls statements else [])
 
--- the calls of a body that are not dead
+-- The reachable calls of a body.
 abbrev pub live_in_body : Syntax → List (Option Span)
 live_in_body (Node at word.Body (Then directives (Then (Listed statements) End))) = live_calls statements
 live_in_body body = calls_in body
@@ -40,7 +40,7 @@ abbrev pub live_calls_in : Syntax → List (Option Span)
 live_calls_in (Node at word.Arrow (Then marked (Then is_async (Then params (Then body End))))) = live_in_body body
 live_calls_in _ = []
 
--- the place of an instruction that is a call
+-- The span of an instruction that is a call.
 abbrev pub call_at : Instruction → List (Option Span)
 call_at i = elim i.value [
   | values.Call callee arguments ↦ i.span ∷ []
@@ -51,7 +51,7 @@ abbrev pub calls_of : List Instruction → List (Option Span)
 calls_of [] = []
 calls_of (i ∷ table) = call_at i ++ calls_of table
 
--- the calls that a list of places in the table names
+-- The calls among the instructions at a list of indices into the table.
 abbrev pub listed_calls : List Instruction → List InstructionId → List (Option Span)
 listed_calls table [] = []
 listed_calls table (id ∷ ids) = (elim (slice_get table id.0) [ Some i ↦ call_at i | None ↦ [] ]) ++ listed_calls table ids
@@ -60,12 +60,8 @@ abbrev pub graph_calls : List Instruction → List NumberedBlock → List (Optio
 graph_calls table [] = []
 graph_calls table (b ∷ blocks) = listed_calls table b.block.instructions ++ graph_calls table blocks
 
--- no two calls stand at one place
-abbrev pub AreApart : List (Option Span) → Type 0
-AreApart places = (i j : ℕ) (place : Option Span) → slice_get places i ≡ Some place → slice_get places j ≡ Some place → i ≡ j
-
--- the table has an instruction for each call, in the order of the calls, and no other; the blocks list those that are not
--- dead, each once
+-- The table has one instruction for each call, in the order of the calls, and no other call; the blocks list those that are
+-- reachable, each once.
 pub record HoldsCalls (function : Syntax) (f : HirFunction) : Type 0 where
   pub table : calls_of f.instructions ≡ calls_in function
   pub blocks : graph_calls f.instructions f.body.blocks ≡ live_calls_in function

@@ -1,5 +1,6 @@
 pub mod Closed
 pub mod Events
+pub mod Fields
 pub mod Headline
 pub mod Held
 pub mod Machine
@@ -8,3 +9,4 @@ pub mod Size
 pub mod Source
 pub mod Traces
 pub mod Units
+pub mod WellFormed

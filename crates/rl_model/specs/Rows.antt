@@ -1,6 +1,7 @@
--- Where the rows apply: which nodes of a tree are refused or stop the walk, and what is said of them.
+-- Where the rows of refusals apply: the nodes of a tree that are refused or stop the lowering, and their diagnostics.
 use Rattle.std.specs.Prelude.{◌≡◌, ℕ, Bool, if◌then◌else◌, Option, Some, None, List, [], ◌∷◌, ◌++◌, codes}
 use Rattle.std.specs.Str.{bytes_eq}
+use Rattle.rl_base.specs.Diagnostics.{diagnostic_at}
 use Rattle.rl_base.specs.Reserved.{is_reserved}
 use Rattle.rl_base.specs.declared.diagnostic.Diagnostic.{Diagnostic}
 use Rattle.rl_base.specs.declared.row.Row.{Row}
@@ -12,29 +13,29 @@ use Rattle.rl_ast.specs.Syntax.{Syntax, Node, Listed, Said, Pieces, End, Then}
 use Rattle.rl_scope.specs.declared.semantic.Symbol.{Symbol}
 use Rattle.rl_scope.specs.Symbols.{symbols_of}
 
--- the text is this word
+-- The text is the given word.
 abbrev pub is_text : List ℕ → List ℕ → Bool
 is_text word text = bytes_eq text word
 
--- where a name is declared, if it is a local's
+-- The span of the declaration of a name, where it is a local's.
 abbrev pub declaration_in : List Symbol → List ℕ → Option Span
 declaration_in [] name = None
 declaration_in (s ∷ symbols) name = if bytes_eq s.name name then Some s.declaration else declaration_in symbols name
 
--- what a row says of a node: its label is the node, or another place
+-- The diagnostic of a row without a word.
 abbrev pub refusal : Row → Span → Diagnostic
-refusal r label = record { row = r; word = []; labels = label ∷ [] }
+refusal r label = diagnostic_at r [] label
 
--- the reserved name stops the walk at its declaration
+-- The diagnostic of a stop at the declaration of a name, which is its word.
 abbrev pub stop : Row → Symbol → Diagnostic
-stop r s = record { row = r; word = s.name; labels = s.declaration ∷ [] }
+stop r s = diagnostic_at r s.name s.declaration
 
--- what is said of a name that is read: F2 of the global `eval`, F40 of a local `fbt`, at its declaration
+-- The diagnostics of a name that is read: F2 of the global `eval`, F40 of a local `fbt`, at its declaration.
 abbrev pub said_of_name : Option Span → List ℕ → Span → List Diagnostic
 said_of_name None name at = if is_text (codes "eval") name then refusal row.F2 at ∷ [] else []
 said_of_name (Some declaration) name at = if is_text (codes "fbt") name then refusal row.F40 declaration ∷ [] else []
 
--- what is said of a node by itself
+-- The diagnostics of a node by itself.
 abbrev pub said_of : List Symbol → Syntax → List Diagnostic
 said_of symbols (Node at word.Num (Then (Said text) End)) = if is_numeral text then [] else refusal row.F43 at.span ∷ []
 said_of symbols (Node at word.Id (Then (Said name) End)) = said_of_name (declaration_in symbols name) name at.span
@@ -42,7 +43,7 @@ said_of symbols (Node at word.Bind (Then (Said name) type)) = if is_text (codes 
 said_of symbols _ = []
 
 abbrev mutual
-  -- what is said of the nodes that are refused, in text order; the walk reaches each node of this grammar
+  -- The diagnostics of a tree, in the order in which the lowering meets the nodes; it meets each node of this grammar.
   pub refusals : List Symbol → Syntax → List Diagnostic
   refusals symbols (Node at word parts) = said_of symbols (Node at word parts) ++ refusals_in symbols parts
   refusals symbols (Listed parts) = refusals_in symbols parts
@@ -52,11 +53,11 @@ abbrev mutual
   refusals_in symbols End = []
   refusals_in symbols (Then piece pieces) = refusals symbols piece ++ refusals_in symbols pieces
 
--- what a function is refused for
+-- The refusals of a function.
 abbrev pub refusals_of : Syntax → List Diagnostic
 refusals_of function = refusals (symbols_of function) function
 
--- the first symbol of this name, or the first with a reserved one
+-- The first symbol whose name passes a test.
 abbrev pub first_named : (List ℕ → Bool) → List Symbol → Option Symbol
 first_named test [] = None
 first_named test (s ∷ symbols) = if test s.name then Some s else first_named test symbols
@@ -65,13 +66,13 @@ abbrev pub stop_at : Row → Option Symbol → Option Diagnostic → Option Diag
 stop_at r None other = other
 stop_at r (Some s) other = Some (stop r s)
 
--- what stops the walk of a function: S2 at a parameter `this`, else S1 at the first parameter with a reserved name
+-- The stop of a function: S2 at a parameter `this`, else S1 at the first parameter with a reserved name.
 abbrev pub stop_of : Syntax → Option Diagnostic
 stop_of function =
     stop_at row.S2 (first_named (λ name. is_text (codes "this") name) (symbols_of function))
     (stop_at row.S1 (first_named (λ name. is_reserved name) (symbols_of function)) None)
 
--- no row applies
+-- No row applies to a function.
 pub record IsSupported (function : Syntax) : Type 0 where
   pub goes_on : stop_of function ≡ None
   pub accepted : refusals_of function ≡ []

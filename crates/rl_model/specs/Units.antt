@@ -1,11 +1,11 @@
--- What a unit is: the symbols of its function are distinct.
+-- Well-formed units.
 use Rattle.std.specs.Prelude.{◌≡◌, ℕ, true, List}
 use Rattle.rl_ast.specs.Units.{unit, Spells}
 use Rattle.rl_ast.specs.declared.tree.Unit.{Unit}
 use Rattle.rl_scope.specs.Symbols.{are_distinct, symbols_of}
 use Rattle.rl_model.specs.Source.{marked}
 
--- the bytes spell a well-formed unit, all of them
+-- The bytes, all of them, spell a unit whose function's parameters have distinct names (rule B4).
 pub record IsUnit (bytes : List ℕ) (u : Unit) : Type 0 where
   pub spells : Spells bytes u
   pub distinct : are_distinct (symbols_of (marked (unit u))) ≡ true

@@ -1,4 +1,5 @@
-//! What functions are observed to do. The definitions of runs, of the source and of the graph, stand in specs/.
+//! The model of JavaScript functions and of graphs: values, events and traces. The definitions of runs, of the source and of
+//! the graph, stand in specs/.
 #![tactic(auto)]
 
 pub mod trace;

@@ -2,8 +2,8 @@ use Rattle.std.proofs.Common.{◌≡◌, ◌+◌, ◌*◌, ◌<◌, ◌≤◌, �
 use Rattle.std.proofs.lemmas.Bool.{and_parts}
 use Rattle.std.proofs.lemmas.List.{drop_more}
 use Rattle.std.proofs.Math.ListN.{drop_of_length-le}
-use Rattle.rl_text.specs.Operators.{operator_text}
-use Rattle.rl_text.specs.declared.operator.BinaryOperator.{BinaryOperator}
+use Rattle.rl_base.specs.Operators.{operator_text}
+use Rattle.rl_base.specs.declared.operator.BinaryOperator.{BinaryOperator}
 use Rattle.rl_ast.specs.declared.numbered.At.{At}
 use Rattle.rl_ast.specs.declared.word.Word.TheVariants as word
 use Rattle.rl_ast.specs.declared.tree.Expression.{Expression}
@@ -19,6 +19,9 @@ use Rattle.rl_lower.proofs.Answering.{ok_given, ok_so, parsed_some, parsed_none}
 use Rattle.rl_lower.proofs.Arguments.{identifier_in, identifiers_more, nodes_left, shape_more, values_in}
 use Rattle.rl_lower.proofs.Keeping.{room_behind, room_less}
 use Rattle.rl_lower.proofs.Lowered.{null_call, boolean_call, number_call, string_call, refused_call, parenthesized_call, binary_call, none_given, next_given, call_call}
+use Rattle.rl_lower.specs.Sound.{IsSmallTree, SoundExpression}
+use Rattle.rl_lower.proofs.SoundKinds.{arguments_more, binary_sound, boolean_sound, call_sound, null_sound, number_sound, parenthesized_sound, refused_sound, string_sound}
+use Rattle.rl_lower.proofs.SoundTrees.{item_small}
 use Rattle.rl_lower.proofs.expression.+expressions.Goals as goal
 
 -- how the parts of a node are counted, and that they are of the grammar
@@ -111,6 +114,56 @@ lower_expression-returns-in-Identifier-clause-lowered t c =
     (λ place l. subst (λ (e : Syntax). LowersExpression c.args.semantic.now.symbols e (state_of c.args.builder.now.env.now c.args.builder.now.work) (state_of c.lower_identifier.new.builder.env.now c.lower_identifier.new.builder.work) place.identifier.0)
     (sym (ap expression c.in-Identifier.is ∙ expression_identifier c.in-Identifier.at c.in-Identifier.name)) l)
 
+-- values, their places and their spans
+
+pub lower_expression-returns-in-Null-clause-sound : goal.lower_expression-returns-in-Null-clause-sound
+lower_expression-returns-in-Null-clause-sound t c =
+    ok_given c.lower_value_to_temporary.result c.lower_value_to_temporary.ensures.state c.lower_value_to_temporary.ensures.place
+    (λ place moved placed. null_sound _ c.in-Null.at _ _ place (ap expression c.in-Null.is ∙ expression_null _) moved placed)
+
+pub lower_expression-returns-in-Boolean-clause-sound : goal.lower_expression-returns-in-Boolean-clause-sound
+lower_expression-returns-in-Boolean-clause-sound t c =
+    ok_given c.lower_value_to_temporary-in-Boolean.result c.lower_value_to_temporary-in-Boolean.ensures.state
+    c.lower_value_to_temporary-in-Boolean.ensures.place
+    (λ place moved placed. boolean_sound _ c.in-Boolean.at c.in-Boolean.value _ _ place
+    (ap expression c.in-Boolean.is ∙ expression_boolean _ _) moved placed)
+
+pub lower_expression-returns-in-Some-clause-sound : goal.lower_expression-returns-in-Some-clause-sound
+lower_expression-returns-in-Some-clause-sound t c =
+    let told = parsed_some c.in-Number.text _ _ c.as_bytes.ensures c.in-Some.ensures in
+    ok_given c.lower_value_to_temporary-in-Some.result c.lower_value_to_temporary-in-Some.ensures.state
+    c.lower_value_to_temporary-in-Some.ensures.place
+    (λ place moved placed. number_sound _ c.in-Number.at c.in-Number.text c.in-Some.number _ _ place
+    (ap expression c.in-Number.is ∙ expression_number _ _) told.0 told.1 moved placed)
+
+pub lower_expression-returns-in_ok-refuse-in-None-clause-sound : goal.lower_expression-returns-in_ok-refuse-in-None-clause-sound
+lower_expression-returns-in_ok-refuse-in-None-clause-sound t c =
+    ok_given c.lower_value_to_temporary-in-None.result c.lower_value_to_temporary-in-None.ensures.state
+    c.lower_value_to_temporary-in-None.ensures.place
+    (λ place moved placed. refused_sound _ c.in-Number.at c.in-Number.text _ _ _ _ place
+    (ap expression c.in-Number.is ∙ expression_number _ _) c.in_ok-refuse-in-None.ensures.state moved placed)
+
+pub lower_expression-returns-in_ok-copy-in-String-clause-sound : goal.lower_expression-returns-in_ok-copy-in-String-clause-sound
+lower_expression-returns-in_ok-copy-in-String-clause-sound t c =
+    ok_given c.lower_value_to_temporary-in-String.result c.lower_value_to_temporary-in-String.ensures.state
+    c.lower_value_to_temporary-in-String.ensures.place
+    (λ place moved placed. string_sound _ c.in-String.at c.in-String.text _ _ _ place
+    (ap expression c.in-String.is ∙ expression_string _ _) c.in_ok-copy-in-String.ensures moved placed)
+
+pub lower_expression-returns-in-Parenthesized-clause-sound : goal.lower_expression-returns-in-Parenthesized-clause-sound
+lower_expression-returns-in-Parenthesized-clause-sound t c =
+    ok_so c.lower_expression.result c.lower_expression.ensures.sound
+    (λ place sound. parenthesized_sound _ (expression c.get.result.now) c.in-Parenthesized.at _ _ place
+    (ap expression c.in-Parenthesized.is ∙ expression_parenthesized _ _
+    ∙ ap (λ (e : Expression). Node c.in-Parenthesized.at word.Paren (Then (expression e) End)) (sym c.get.ensures)) sound)
+
+pub lower_expression-returns-in-Identifier-clause-sound : goal.lower_expression-returns-in-Identifier-clause-sound
+lower_expression-returns-in-Identifier-clause-sound t c =
+    ok_so c.lower_identifier.result c.lower_identifier.ensures.sound
+    (λ place sound. subst (λ (e : Syntax). SoundExpression e (state_of c.args.builder.now.env.now c.args.builder.now.work)
+    (state_of c.lower_identifier.new.builder.env.now c.lower_identifier.new.builder.work) place)
+    (sym (ap expression c.in-Identifier.is ∙ expression_identifier c.in-Identifier.at c.in-Identifier.name)) sound)
+
 -- operands
 
 pub lower_expression-lower_expression-requires-in-Binary : goal.lower_expression-lower_expression-requires-in-Binary
@@ -144,6 +197,16 @@ lower_expression-returns-in_ok-right-in-Binary-clause-lowered t c =
     ok_given c.lower_value_to_temporary-in-Binary.result c.lower_value_to_temporary-in-Binary.ensures.state c.lower_value_to_temporary-in-Binary.ensures.place
     (λ place moved placed. binary_call c.args.semantic.now.symbols _ (expression c.get-in-Binary.result.now) (expression c.get-in-Binary-2.result.now) c.in-Binary.at c.in-Binary.operator c.in_ok-left-in-Binary.left c.in_ok-right-in-Binary.right _ _ _ _ (Some c.in-Binary.at.span) place
     (binary_tree c.in-Binary.at c.in-Binary.operator _ _ _ _ _ c.in-Binary.is c.get-in-Binary.ensures c.get-in-Binary-2.ensures) c.in_ok-left-in-Binary.ensures.lowered c.in_ok-right-in-Binary.ensures.lowered moved placed)
+
+pub lower_expression-returns-in_ok-right-in-Binary-clause-sound : goal.lower_expression-returns-in_ok-right-in-Binary-clause-sound
+lower_expression-returns-in_ok-right-in-Binary-clause-sound t c =
+    ok_given c.lower_value_to_temporary-in-Binary.result c.lower_value_to_temporary-in-Binary.ensures.state
+    c.lower_value_to_temporary-in-Binary.ensures.place
+    (λ place moved placed. binary_sound _ (expression c.get-in-Binary.result.now)
+    (expression c.get-in-Binary-2.result.now) c.in-Binary.at c.in-Binary.operator c.in_ok-left-in-Binary.left
+    c.in_ok-right-in-Binary.right _ _ _ _ place
+    (binary_tree c.in-Binary.at c.in-Binary.operator _ _ _ _ _ c.in-Binary.is c.get-in-Binary.ensures c.get-in-Binary-2.ensures)
+    c.in_ok-left-in-Binary.ensures.sound c.in_ok-right-in-Binary.ensures.sound moved placed)
 
 -- calls
 
@@ -180,6 +243,16 @@ lower_expression-returns-in_ok-arguments-in-Call-clause-lowered t c =
     (λ place moved placed. call_call c.args.semantic.now.symbols _ (expression c.get-in-Call.result.now) (pieces_of (map expression c.as_slice.result.now)) c.in-Call.at c.in_ok-callee-in-Call.callee c.in_ok-arguments-in-Call.arguments given.identifiers _ _ _ _ place
     (call_tree c.in-Call.at _ _ _ _ _ c.in-Call.is c.get-in-Call.ensures c.as_slice.ensures) c.in_ok-callee-in-Call.ensures.lowered given.lowers given.shape (λ store. values_in c.in_ok-arguments-in-Call.arguments given.identifiers store given.places) moved placed)
 
+pub lower_expression-returns-in_ok-arguments-in-Call-clause-sound : goal.lower_expression-returns-in_ok-arguments-in-Call-clause-sound
+lower_expression-returns-in_ok-arguments-in-Call-clause-sound t c =
+    ok_given c.lower_value_to_temporary-in-Call.result c.lower_value_to_temporary-in-Call.ensures.state
+    c.lower_value_to_temporary-in-Call.ensures.place
+    (λ place moved placed. call_sound _ (expression c.get-in-Call.result.now)
+    (pieces_of (map expression c.as_slice.result.now)) c.in-Call.at c.in_ok-callee-in-Call.callee
+    c.in_ok-arguments-in-Call.arguments _ _ _ _ place
+    (call_tree c.in-Call.at _ _ _ _ _ c.in-Call.is c.get-in-Call.ensures c.as_slice.ensures)
+    c.in_ok-callee-in-Call.ensures.sound c.in_ok-arguments-in-Call.ensures.sound moved placed)
+
 -- arguments
 
 pub lower_arguments-lower_expression-requires : goal.lower_arguments-lower_expression-requires
@@ -212,6 +285,9 @@ lower_arguments-arguments-preserved t c =
           (c.arguments.invariant.lowers new (c.in_ok-place.place.identifier.0 ∷ more)
           (subst (λ (es : List Expression). LowersExpressions c.args.semantic.now.symbols (pieces_of (map expression es)) (state_of c.arguments.builder.env.now c.arguments.builder.work) new (c.in_ok-place.place.identifier.0 ∷ more)) (sym split)
           (next_given c.args.semantic.now.symbols (expression c.argument-item.result) (pieces_of (map expression rest)) _ _ new c.in_ok-place.place.identifier.0 more lowered l)));
+      sound = arguments_more (pieces_of (map expression c.args.arguments.now)) (expression c.argument-item.result) _ _ _ c.arguments.given _ c.in_ok-place.place
+          (λ small. subst (λ (e : Expression). IsSmallTree (expression e)) (sym c.argument-item.is) (item_small expression c.args.arguments.now c.arguments.argument-index c.argument-item.result c.arguments-test.true small))
+          c.in_ok-push.ensures.ok c.arguments.invariant.sound c.in_ok-place.ensures.sound;
     }
 
 pub lower_arguments-returns-clause-lowered : goal.lower_arguments-returns-clause-lowered

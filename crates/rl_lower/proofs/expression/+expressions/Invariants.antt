@@ -7,6 +7,7 @@ use Rattle.rl_builder.specs.Builder.{State, state_of}
 use Rattle.rl_model.specs.Source.{shape_of}
 use Rattle.rl_lower.specs.Lowering.{HasRoom, LowersExpressions}
 use Rattle.rl_lower.specs.Named.{IsNamed}
+use Rattle.rl_lower.specs.Sound.{SoundArguments}
 use Rattle.rl_lower.proofs.expression.+expressions.Given as goal
 
 -- the nodes that are left; arguments in a row are below the call that they are parts of
@@ -26,4 +27,5 @@ invariant-lower_arguments-arguments l = record {
   shape : map argument_shape l.given ++ shape_of (pieces_of (map expression (drop l.argument-index l.arguments))) ≡ shape_of (pieces_of (map expression l.arguments));
   lowers : (new : State) (more : List ℕ) → LowersExpressions l.semantic.symbols (pieces_of (map expression (drop l.argument-index l.arguments))) (state_of l.builder.env.now l.builder.work) new more
       → LowersExpressions l.semantic.symbols (pieces_of (map expression l.arguments)) (state_of l.initial.builder.env.now l.initial.builder.work) new (map (λ a. (argument_place a).identifier.0) l.given ++ more);
+  sound : SoundArguments (pieces_of (map expression l.arguments)) (state_of l.initial.builder.env.now l.initial.builder.work) (state_of l.builder.env.now l.builder.work) l.given;
 }

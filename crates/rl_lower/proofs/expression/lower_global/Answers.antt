@@ -5,6 +5,7 @@ use Rattle.rl_model.specs.Rows.{refusal}
 use Rattle.rl_lower.proofs.Answering.{ok_given}
 use Rattle.rl_lower.proofs.Lowered.{eval_call, global_call}
 use Rattle.rl_lower.proofs.Names.{undeclared_from}
+use Rattle.rl_lower.proofs.SoundKinds.{eval_sound, global_sound}
 use Rattle.rl_lower.proofs.expression.lower_global.Goals as goal
 
 -- whether the name is `eval`, from what was tested
@@ -24,3 +25,15 @@ returns-clause-lowered c =
     ok_given c.lower_value_to_temporary-2.result c.lower_value_to_temporary-2.ensures.state c.lower_value_to_temporary-2.ensures.place
     (λ place moved placed symbols unknown. global_call symbols _ c.args.at c.args.name.now c.in_ok-copy.field-0 _ _ (Some c.args.at.span) place refl c.in_ok-copy.ensures unknown (undeclared_from 0 symbols c.args.name.now unknown)
     (ap (λ (b : Bool). if b then refusal row.F2 c.args.at.span ∷ [] else []) is_eval) moved placed)
+
+pub returns-then-eq-clause-sound : goal.returns-then-eq-clause-sound
+returns-then-eq-clause-sound c =
+    ok_given c.lower_value_to_temporary.result c.lower_value_to_temporary.ensures.state c.lower_value_to_temporary.ensures.place
+    (λ place moved placed. eval_sound c.args.at c.args.name.now c.in_ok-copy.field-0
+    (refusal row.F2 c.args.at.span) _ _ _ place c.in_ok-copy.ensures c.in_ok-refuse.ensures.state moved placed)
+
+pub returns-clause-sound : goal.returns-clause-sound
+returns-clause-sound c =
+    ok_given c.lower_value_to_temporary-2.result c.lower_value_to_temporary-2.ensures.state
+    c.lower_value_to_temporary-2.ensures.place
+    (λ place moved placed. global_sound c.args.at c.args.name.now c.in_ok-copy.field-0 _ _ place c.in_ok-copy.ensures moved placed)

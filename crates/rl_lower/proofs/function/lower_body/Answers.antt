@@ -13,6 +13,7 @@ use Rattle.rl_lower.proofs.Answering.{done_so}
 use Rattle.rl_lower.proofs.Bodies.{expression_body_call, statements_body_call}
 use Rattle.rl_lower.proofs.Keeping.{room_behind, keeps_reserved, room_less}
 use Rattle.rl_ast.proofs.Expressions.{expression_is_no_body}
+use Rattle.rl_lower.proofs.SoundKinds.{expression_body_sound, statements_body_sound}
 use Rattle.rl_lower.proofs.function.lower_body.Goals as goal
 
 pub lower_expression-requires-clause-grammar : goal.lower_expression-requires-clause-grammar
@@ -58,3 +59,21 @@ returns-in-Statements-clause-lowered c =
     (λ l. statements_body_call c.args.semantic.now.symbols _ c.in-Statements.at c.in-Statements.directives (pieces_of (map statement c.as_slice.result.now)) _ _
     (ap arrow_body c.in-Statements.is ∙ body_statements c.in-Statements.at c.in-Statements.directives c.in-Statements.statements
     ∙ ap (λ (l : List Statement). Node c.in-Statements.at word.Body (Then (Listed (pieces_of (map said c.in-Statements.directives))) (Then (Listed (pieces_of (map statement l))) End))) (sym c.as_slice.ensures)) l)
+
+pub returns-in_ok-value-in-Expression-clause-sound : goal.returns-in_ok-value-in-Expression-clause-sound
+returns-in_ok-value-in-Expression-clause-sound c =
+    done_so c.terminate_with_continuation.result c.terminate_with_continuation.ensures.state
+    (λ moved. expression_body_sound _
+    (expression c.in-Expression.expression) _ _ _ _ c.in_ok-value-in-Expression.value _ kinds.Block
+    (ap arrow_body c.in-Expression.is ∙ body_expression c.in-Expression.expression) c.reserve-fallthrough.ensures.state
+    c.reserve-fallthrough.ensures.block c.in_ok-value-in-Expression.ensures.sound moved)
+
+pub returns-in-Statements-clause-sound : goal.returns-in-Statements-clause-sound
+returns-in-Statements-clause-sound c =
+    done_so c.lower_statements.result c.lower_statements.ensures.sound
+    (λ sound. statements_body_sound _ (Listed (pieces_of (map said c.in-Statements.directives))) c.in-Statements.at
+    (pieces_of (map statement c.as_slice.result.now)) _ _
+    (ap arrow_body c.in-Statements.is ∙ body_statements c.in-Statements.at c.in-Statements.directives c.in-Statements.statements
+    ∙ ap (λ (l : List Statement). Node c.in-Statements.at word.Body
+    (Then (Listed (pieces_of (map said c.in-Statements.directives))) (Then (Listed (pieces_of (map statement l))) End)))
+    (sym c.as_slice.ensures)) sound)

@@ -5,12 +5,14 @@ use Rattle.rl_hir.specs.declared.function.BlockKind.TheVariants as kinds
 use Rattle.rl_builder.specs.Builder.{State, started}
 use Rattle.rl_lower.specs.Named.{IsNamed}
 use Rattle.rl_lower.specs.Lowering.{HasRoom}
-use Rattle.rl_lower.specs.Parameters.{places_from, with_parameters}
+use Rattle.rl_lower.specs.Parameters.{with_parameters}
+use Rattle.rl_model.specs.Fields.{places_from}
 use Rattle.rl_lower.proofs.Closings.{listed_call, orders_call, graph_call}
 use Rattle.rl_lower.proofs.Building.{IsFresh}
 use Rattle.rl_lower.proofs.Keeping.{room_behind, room_less}
 use Rattle.rl_lower.proofs.Parameters.{parameters_named}
-use Rattle.rl_lower.proofs.Promises.{begun_call, begun_fresh, begun_room}
+use Rattle.rl_lower.proofs.FunctionGraphs.{begun_call, begun_fresh, begun_room}
+use Rattle.rl_lower.proofs.SoundGraphs.{graph_sound_call}
 use Rattle.rl_lower.proofs.function.lower_graph.Goals as goal
 
 pub lower_parameters-requires-clause-nothing : goal.lower_parameters-requires-clause-nothing
@@ -55,3 +57,12 @@ returns-clause-graph c =
     (c.in_ok-params.ensures.state ∙ ap (λ (s : State). with_parameters s c.args.semantic.now.symbols) c.new-builder.ensures.state)
     (c.in_ok-params.ensures.places ∙ ap (λ (s : State). places_from (length s.env.identifiers) c.args.semantic.now.symbols) c.new-builder.ensures.state)
     c.in_ok-lower_body.ensures.lowered c.in_ok-value.ensures.state c.in_ok-value.ensures.place c.in_ok-terminate.ensures.state c.in_ok-built.ensures.built (search rules)
+
+pub returns-clause-sound : goal.returns-clause-sound
+returns-clause-sound c =
+    graph_sound_call c.args.semantic.now.symbols (arrow_body c.args.body.now) c.args.env.now _ _ _ _ _ _ c.in_ok-built.built
+    (begun_call c.args.env.now c.args.semantic.now.symbols _ _ c.requires.distinct c.new-builder.ensures.state c.in_ok-params.ensures.state)
+    c.in_ok-lower_body.ensures.lowered c.in_ok-lower_body.ensures.sound
+    (begun_room c.args.env.now c.args.semantic.now.symbols (4 * (nodes (arrow_body c.args.body.now) + 2)) c.requires.room)
+    c.in_ok-value.ensures.state c.in_ok-value.ensures.place c.in_ok-terminate.ensures.state c.in_ok-built.ensures.built
+    (search rules)

@@ -4,7 +4,8 @@ use Rattle.rl_base.specs.Reserved.{is_reserved}
 use Rattle.rl_builder.specs.Builder.{State, state_of}
 use Rattle.rl_scope.specs.declared.semantic.Symbol.{Symbol}
 use Rattle.rl_model.specs.Rows.{first_named}
-use Rattle.rl_lower.specs.Parameters.{places_from, resolved_from}
+use Rattle.rl_lower.specs.Parameters.{resolved_from}
+use Rattle.rl_model.specs.Fields.{places_from}
 use Rattle.rl_lower.proofs.Resolving.{fresh_place, fresh_room, fresh_unbound, resolved_fresh, unreserved_more}
 use Rattle.rl_lower.proofs.function.lower_parameters.Goals as goal
 

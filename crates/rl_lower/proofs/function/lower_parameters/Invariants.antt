@@ -4,7 +4,8 @@ use Rattle.rl_hir.specs.Pairs.{identifier_of}
 use Rattle.rl_builder.specs.Builder.{state_of}
 use Rattle.rl_model.specs.Rows.{first_named}
 use Rattle.rl_lower.specs.Lowering.{HasRoom}
-use Rattle.rl_lower.specs.Parameters.{places_from, resolved_from, with_parameters}
+use Rattle.rl_lower.specs.Parameters.{resolved_from, with_parameters}
+use Rattle.rl_model.specs.Fields.{places_from}
 use Rattle.rl_lower.proofs.function.lower_parameters.Given as goal
 
 -- the symbols that are left may get their identifiers, and with them all have; none of them has one yet

@@ -12,6 +12,7 @@ use Rattle.rl_lower.proofs.Answering.{done_so}
 use Rattle.rl_lower.proofs.Keeping.{room_less, room_behind}
 use Rattle.rl_ast.proofs.Expressions.{expression_is_node}
 use Rattle.rl_lower.proofs.Lowered.{expression_statement_call, return_call, return_nothing_call}
+use Rattle.rl_lower.proofs.SoundKinds.{expression_statement_sound, return_nothing_sound, return_sound}
 use Rattle.rl_lower.proofs.statement.lower_statement.Goals as goal
 
 argument_in : (c : goal.After-get) → statement c.args.statement.now ≡ Node c.in-Return.at word.Return (Then (expression c.get.result.now) End)
@@ -56,4 +57,26 @@ returns-in_ok-value-in-None-clause-lowered c =
     done_so c.lower_return-in-None.result c.lower_return-in-None.ensures.state
     (λ moved. return_nothing_call c.args.semantic.now.symbols _ c.in-Return.at _ _ _ c.in_ok-value-in-None.value kinds.Block (Some c.in-Return.at.span)
     (ap statement c.in-Return.is ∙ ap (λ argument. statement (statements.Return c.in-Return.at argument)) c.in-None.is ∙ statement_return_alone c.in-Return.at)
+    c.in_ok-value-in-None.ensures.state c.in_ok-value-in-None.ensures.place moved)
+
+pub returns-in_ok-lower_expression-in-Expression-clause-sound : goal.returns-in_ok-lower_expression-in-Expression-clause-sound
+returns-in_ok-lower_expression-in-Expression-clause-sound c =
+    expression_statement_sound _ (expression c.in-Expression.expression) c.in-Expression.at _ _ _
+    (ap statement c.in-Expression.is ∙ statement_expression c.in-Expression.at c.in-Expression.expression)
+    c.in_ok-lower_expression-in-Expression.ensures.sound
+
+pub returns-in_ok-value-in-Some-clause-sound : goal.returns-in_ok-value-in-Some-clause-sound
+returns-in_ok-value-in-Some-clause-sound c =
+    done_so c.lower_return.result c.lower_return.ensures.state
+    (λ moved. return_sound _ (expression c.get.result.now) c.in-Return.at _ _ _ c.in_ok-value-in-Some.value kinds.Block
+    (ap statement c.in-Return.is ∙ ap (λ argument. statement (statements.Return c.in-Return.at argument))
+    (c.in-Some.is ∙ ap (λ (e : Expression). Some e) (sym c.get.ensures)) ∙ statement_return c.in-Return.at c.get.result.now)
+    c.in_ok-value-in-Some.ensures.sound moved)
+
+pub returns-in_ok-value-in-None-clause-sound : goal.returns-in_ok-value-in-None-clause-sound
+returns-in_ok-value-in-None-clause-sound c =
+    done_so c.lower_return-in-None.result c.lower_return-in-None.ensures.state
+    (λ moved. return_nothing_sound _ c.in-Return.at _ _ _ c.in_ok-value-in-None.value kinds.Block
+    (ap statement c.in-Return.is ∙ ap (λ argument. statement (statements.Return c.in-Return.at argument)) c.in-None.is
+    ∙ statement_return_alone c.in-Return.at)
     c.in_ok-value-in-None.ensures.state c.in_ok-value-in-None.ensures.place moved)

@@ -10,6 +10,9 @@ use Rattle.rl_builder.specs.Builder.{state_of}
 use Rattle.rl_lower.specs.Lowering.{LowersStatements}
 use Rattle.rl_lower.proofs.Keeping.{room_behind}
 use Rattle.rl_lower.proofs.Lowered.{none_lowered, next_lowered}
+use Rattle.rl_lower.specs.Sound.{AreSmallTrees, IsSmallTree}
+use Rattle.rl_lower.proofs.SoundMoves.{sound_then}
+use Rattle.rl_lower.proofs.SoundTrees.{item_small}
 use Rattle.rl_lower.proofs.statement.lower_statements.Goals as goal
 
 pub lower_statement-requires-clause-grammar : goal.lower_statement-requires-clause-grammar
@@ -36,6 +39,9 @@ statements-preserved c =
       lowers = λ new l. c.statements.invariant.lowers new
           (subst (λ (xs : List Statement). LowersStatements c.args.semantic.now.symbols (pieces_of (map statement xs)) (state_of c.statements.builder.env.now c.statements.builder.work) new) (sym split)
           (next_lowered c.args.semantic.now.symbols (statement c.statement-item.result) (pieces_of (map statement rest)) _ _ new c.in_ok-lower_statement.ensures.lowered l));
+      sound = sound_then (AreSmallTrees (pieces_of (map statement c.args.statements.now))) (IsSmallTree (statement c.statement-item.result)) (AreSmallTrees (pieces_of (map statement c.args.statements.now))) _ _ _ (λ small. small)
+          (λ small. subst (λ (s : Statement). IsSmallTree (statement s)) (sym c.statement-item.is) (item_small statement c.args.statements.now c.statements.statement-index c.statement-item.result c.statements-test.true small))
+          c.statements.invariant.sound c.in_ok-lower_statement.ensures.sound;
     }
   where
     both_hold : (a b : Bool) → a && b ≡ true → b ≡ true

@@ -5,6 +5,7 @@ use Rattle.rl_ast.specs.Units.{statement}
 use Rattle.rl_builder.specs.Builder.{State, state_of}
 use Rattle.rl_lower.specs.Lowering.{HasRoom, LowersStatements}
 use Rattle.rl_lower.specs.Named.{IsNamed}
+use Rattle.rl_lower.specs.Sound.{AreSmallTrees, StaysSound}
 use Rattle.rl_lower.proofs.statement.lower_statements.Given as goal
 
 -- the statements that are left may be lowered, and with them all are
@@ -15,4 +16,5 @@ invariant-statements l = record {
   names : IsNamed l.semantic.symbols (state_of l.builder.env.now l.builder.work);
   room : HasRoom (state_of l.builder.env.now l.builder.work) (4 * nodes_of (pieces_of (map statement (drop l.statement-index l.statements))));
   lowers : (new : State) → LowersStatements l.semantic.symbols (pieces_of (map statement (drop l.statement-index l.statements))) (state_of l.builder.env.now l.builder.work) new → LowersStatements l.semantic.symbols (pieces_of (map statement l.statements)) (state_of l.initial.builder.env.now l.initial.builder.work) new;
+  sound : StaysSound (AreSmallTrees (pieces_of (map statement l.statements))) (state_of l.initial.builder.env.now l.initial.builder.work) (state_of l.builder.env.now l.builder.work);
 }

@@ -1,4 +1,4 @@
--- Whole functions.
+-- A finished builder: its graph, which is closed, and the graph's run within its bounds.
 use Rattle.std.proofs.Common.{◌≡◌, ℕ, zero, suc, ◌<◌, inl, inr, List, [], ◌∷◌, length, slice_get, nat_eq, Bool, true, false, cond, if◌then◌else◌, ◌==◌, ◌≤◌, ◌+◌, Option, Some, None, refl, sym, ap, ◌∙◌, subst, arith}
 use Rattle.std.specs.Option.{option_map}
 use Rattle.std.proofs.lemmas.Bool.Decides.{eqb_tells}
@@ -15,22 +15,22 @@ use Rattle.rl_model.specs.declared.trace.Trace.{Trace}
 use Rattle.rl_model.specs.Traces.{Store}
 use Rattle.rl_model.specs.Closed.{IsUnreachable, IsClosed}
 use Rattle.rl_model.specs.Machine.{Item, Runs, Ends, Code, Notes, block_of, code_in, exec, item_in, positions, steps_for}
-use Rattle.rl_lower.specs.Simulation.{Fact, InBlock, Done, Wip, Has, IsCompleted, IsCurrentOrCompleted, Grows, Covers, IsClean, IsOwn, IsTidy, Tidy, AreEnded, Comes, Goes, From, Later, Follows, Continues, Throws, RunsExpression, RunsStatement}
-use Rattle.rl_lower.proofs.Calm.{IsShort, calm}
+use Rattle.rl_lower.specs.Simulation.{Fact, InBlock, InCompleted, InCurrent, HasItem, IsCompleted, IsCurrentOrCompleted, Extends, IsContainedIn, UniqueIds, IsOwn, PreservesUniqueIds, PreservesIds, AreEnded, Eventually, TracesAt, TracesFrom, Later, Follows, Continues, Throws, RunsExpression, RunsStatement}
+use Rattle.rl_lower.proofs.NeverStuck.{IsShort, exec_walks}
 use Rattle.rl_lower.proofs.Graphs.{Apart, built_entry, found_by, item_met, same_in_block, entry_plain, built_closed}
 
--- a builder with a complete block for each number, whose last block is done
+-- Every block is complete, ids are distinct, and the entry is one of them.
 pub record IsFinished (s : State) : Type 0 where
   pub apart : Apart s.completed
   pub ended : AreEnded s.completed
   pub empty : s.current.instructions ≡ []
   pub entry : IsCompleted s.completed s.entry.0
 
--- all of its facts are found in its graph
-pub finished_covers : (s : State) → IsFinished s → Covers s (code_in s.completed s.table)
-finished_covers s fin = record { has = has }
+-- The graph has all items of the builder.
+pub finished_contained : (s : State) → IsFinished s → IsContainedIn s (code_in s.completed s.table)
+finished_contained s fin = record { has = has }
   where
-    of_block : (f : Fact) (d : Done s f) → code_in s.completed s.table f.block f.place ≡ Some f.item
+    of_block : (f : Fact) (d : InCompleted s f) → code_in s.completed s.table f.block f.place ≡ Some f.item
     of_block f d =
         ap (λ (o : Option BasicBlock). elim o [ Some b ↦ Rattle.rl_model.specs.Machine.item_in s.table b f.place | None ↦ None ]) (subst (λ (id : ℕ). block_of s.completed id ≡ Some d.block.block) d.named (found_by s.completed d.place d.block fin.apart d.found))
         ∙ item_met s.table d.block f.place f.item d.holds
@@ -39,11 +39,12 @@ finished_covers s fin = record { has = has }
     nothing_open place (Runs i) h = let none : slice_get {X = Rattle.rl_base.specs.declared.ids.InstructionId.InstructionId} [] place ≡ Some h.number = subst (λ l. slice_get l place ≡ Some h.number) fin.empty h.at in cc
     nothing_open place (Ends t) h = h
 
-    has : (f : Fact) → Has s f → code_in s.completed s.table f.block f.place ≡ Some f.item
+    has : (f : Fact) → HasItem s f → code_in s.completed s.table f.block f.place ≡ Some f.item
     has f h = elim h [ inl d ↦ of_block f d | inr w ↦ absurd (nothing_open f.place f.item w.holds) ]
 
 entry_block : (s : State) (fin : IsFinished s) → block_of s.completed s.entry.0 ≡ Some fin.entry.block.block
-entry_block s fin = subst (λ (id : ℕ). block_of s.completed id ≡ Some fin.entry.block.block) fin.entry.named (found_by s.completed fin.entry.place fin.entry.block fin.apart fin.entry.found)
+entry_block s fin =
+    subst (λ (id : ℕ). block_of s.completed id ≡ Some fin.entry.block.block) fin.entry.named (found_by s.completed fin.entry.place fin.entry.block fin.apart fin.entry.found)
 
 within : {X : Type 0} (xs : List X) (place : ℕ) (x : X) → slice_get xs place ≡ Some x → place < length xs
 within [] place x e = absurd (cc)
@@ -51,31 +52,36 @@ within (y ∷ xs) zero x e = omega arith
 within (y ∷ xs) (suc place) x e = let rest : place < length xs = within xs place x e in omega arith
 
 entry_ends : (s : State) (fin : IsFinished s) → IsUnreachable fin.entry.block.block.terminal → ⊥
-entry_ends s fin = subst (λ (b : NumberedBlock). IsUnreachable b.block.terminal → ⊥) (get_or_from_slice_get s.completed fin.entry.place fin.entry.block fin.entry.block fin.entry.found) (fin.ended fin.entry.place fin.entry.block (within s.completed fin.entry.place fin.entry.block fin.entry.found))
+entry_ends s fin =
+    subst (λ (b : NumberedBlock). IsUnreachable b.block.terminal → ⊥) (get_or_from_slice_get s.completed fin.entry.place fin.entry.block fin.entry.block fin.entry.found) (fin.ended fin.entry.place fin.entry.block (within s.completed fin.entry.place fin.entry.block fin.entry.found))
 
--- the graph that is built is closed
+-- The graph that is built is closed.
 pub finished_closed : (s : State) → IsFinished s → IsClosed (built_of s).hir
 finished_closed s fin = built_closed s.entry s.completed fin.entry.block.block (entry_block s fin) (entry_ends s fin)
 
--- and runs from its entry as the builder's blocks do
-pub finished_runs : (s : State) → IsFinished s → (store : Store) (notes : Notes) (answers : List Answer) (t : Trace) → Goes (code_in s.completed s.table) s.entry.0 0 store notes answers t → Goes (code_in (built_of s).hir.blocks (built_of s).instructions) s.entry.0 0 store notes answers t
+-- The graph that is built has the traces of the builder's blocks from the entry.
+pub finished_runs : (s : State) → IsFinished s → (store : Store) (notes : Notes) (answers : List Answer) (t : Trace)
+    → TracesAt (code_in s.completed s.table) s.entry.0 0 store notes answers t
+    → TracesAt (code_in (built_of s).hir.blocks (built_of s).instructions) s.entry.0 0 store notes answers t
 finished_runs s fin store notes answers t goes = record {
-  by = (goes.by.0, λ steps enough. sym (same_in_block (code_in s.completed s.table) (code_in (built_of s).hir.blocks (built_of s).instructions) s.entry.0 (entry_plain s.entry s.completed s.table fin.entry.block.block (entry_block s fin)) steps 0 store notes answers) ∙ goes.by.1 steps enough);
+  by = (goes.by.0, λ stuck steps enough. sym (same_in_block stuck (code_in s.completed s.table) (code_in (built_of s).hir.blocks (built_of s).instructions) s.entry.0 (entry_plain s.entry s.completed s.table fin.entry.block.block (entry_block s fin)) steps 0 store notes answers) ∙ goes.by.1 stuck steps enough);
 }
 
--- the entry is a block of the graph that is built
+-- The entry is a block of the graph that is built.
 pub entry_built : (s : State) → IsFinished s → (block : BasicBlock) × (block_of (built_of s).hir.blocks s.entry.0 ≡ Some block)
 entry_built s fin = built_entry s.entry s.completed fin.entry.block.block (entry_block s fin)
 
--- the run of a graph with a limit on silent steps
-abbrev pub limited : ℕ → List NumberedBlock → List Instruction → ℕ → Store → Notes → List Answer → Trace
-limited most blocks table entry store notes answers = exec (code_in blocks table) most (steps_for answers most) most entry 0 store notes answers
+-- The run of a graph within its bounds on steps.
+abbrev pub limited : (stuck : Trace) → List NumberedBlock → List Instruction → (entry : ℕ) → Store → Notes → List Answer → Trace
+limited stuck blocks table entry store notes answers =
+    let most = positions blocks in exec stuck (code_in blocks table) most (steps_for answers most) most entry 0 store notes answers
 
 more_steps : (answers : List Answer) (most : ℕ) → most < steps_for answers most
 more_steps [] most = omega arith
 more_steps (a ∷ rest) most = omega arith
 
-has_place : (blocks : List NumberedBlock) (id : ℕ) (block : BasicBlock) → block_of blocks id ≡ Some block → length block.instructions < positions blocks
+has_place : (blocks : List NumberedBlock) (id : ℕ) (block : BasicBlock) → block_of blocks id ≡ Some block
+    → length block.instructions < positions blocks
 has_place [] id block is = absurd (cc)
 has_place (b ∷ blocks) id block is = by_test (λ there. has_place blocks id block there) (nat_eq b.id.0 id) is
   where
@@ -83,8 +89,10 @@ has_place (b ∷ blocks) id block is = by_test (λ there. has_place blocks id bl
     by_test rest true e = (let same : b.block ≡ block = cc in let long : length b.block.instructions ≡ length block.instructions = ap (λ (x : BasicBlock). length x.instructions) same in omega (arith, long))
     by_test rest false e = (let later : length block.instructions < positions blocks = rest e in omega (arith, later))
 
-short_block : (blocks : List NumberedBlock) (table : List Instruction) (id : ℕ) (block : BasicBlock) → block_of blocks id ≡ Some block → IsShort (code_in blocks table) id (length block.instructions)
-short_block blocks table id block is = record { instructions = λ place i there. runs_before place i (sym (opened place) ∙ there); terminal = λ place t there. ends_at place t (sym (opened place) ∙ there) }
+short_block : (blocks : List NumberedBlock) (table : List Instruction) (id : ℕ) (block : BasicBlock)
+    → block_of blocks id ≡ Some block → IsShort (code_in blocks table) id (length block.instructions)
+short_block blocks table id block is =
+    record { instructions = λ place i there. runs_before place i (sym (opened place) ∙ there); terminal = λ place t there. ends_at place t (sym (opened place) ∙ there) }
   where
     opened : (place : ℕ) → code_in blocks table id place ≡ item_in table block place
     opened place = ap (λ (o : Option BasicBlock). elim o [ Some b ↦ item_in table b place | None ↦ None ]) is
@@ -110,11 +118,14 @@ short_block blocks table id block is = record { instructions = λ place i there.
           | inr u ↦ absurd ((let never : None ≡ Some (Ends t) = sym (ap (λ (b : Bool). cond b (Some (Ends block.terminal)) None) u.0) ∙ is_item in cc))
         ]
 
--- what is led to without limits is led to with them, where as many silent steps in a row are let be as there are positions
-pub total_runs : (most : ℕ) (blocks : List NumberedBlock) (table : List Instruction) (entry : ℕ) (store : Store) (notes : Notes) (answers : List Answer) (t : Trace) → positions blocks ≤ most → (block : BasicBlock) × (block_of blocks entry ≡ Some block) → Goes (code_in blocks table) entry 0 store notes answers t → limited most blocks table entry store notes answers ≡ t
-total_runs most blocks table entry store notes answers t large there goes =
+-- A trace that the unbounded run reaches, the run within the bounds reaches too, whatever trace a stuck run has.
+pub total_runs : (stuck : Trace) (blocks : List NumberedBlock) (table : List Instruction) (entry : ℕ) (store : Store)
+    (notes : Notes) (answers : List Answer) (t : Trace) → (block : BasicBlock) × (block_of blocks entry ≡ Some block)
+    → TracesAt (code_in blocks table) entry 0 store notes answers t → limited stuck blocks table entry store notes answers ≡ t
+total_runs stuck blocks table entry store notes answers t there goes =
+    let most : ℕ = positions blocks in
     let bound : ℕ = length there.0.instructions in
     let few : bound < positions blocks = has_place blocks entry there.0 there.1 in
     let enough : most < steps_for answers most = more_steps answers most in
-    calm (code_in blocks table) entry bound most (short_block blocks table entry there.0 there.1) (omega (arith, few, large)) (steps_for answers most) most (goes.by.0 + bound + 1) 0 store notes answers (omega (arith, few, large)) (omega (arith, few, large, enough)) (omega arith)
-    ∙ goes.by.1 (goes.by.0 + bound + 1) (omega arith)
+    exec_walks stuck (code_in blocks table) entry bound most (short_block blocks table entry there.0 there.1) (omega (arith, few)) (steps_for answers most) most (goes.by.0 + bound + 1) 0 store notes answers (omega (arith, few)) (omega (arith, few, enough)) (omega arith)
+    ∙ goes.by.1 stuck (goes.by.0 + bound + 1) (omega arith)

@@ -1,4 +1,4 @@
--- What a function's graph promises, from what its body's does.
+-- The graph of a function (`IsGraphOf`): its traces, size, calls, identifiers and fields, from the lowering of its body.
 use Rattle.std.proofs.Common.{◌≡◌, ℕ, ◌+◌, ◌*◌, ◌<◌, ◌≤◌, ◌^◌, ◌++◌, Bool, true, false, cond, if◌then◌else◌, codes, List, [], ◌∷◌, map, filter, length, length-append, Option, None, refl, sym, ap, ◌∙◌, subst, arith, append-nil, append_assoc, eq-eqb}
 use Rattle.rl_base.specs.declared.diagnostic.Diagnostic.{Diagnostic}
 use Rattle.rl_base.specs.declared.row.Row.TheVariants as row
@@ -25,34 +25,40 @@ use Rattle.rl_scope.specs.declared.semantic.Symbol.{Symbol}
 use Rattle.rl_scope.specs.Symbols.{are_distinct, declared_in, symbols_of}
 use Rattle.rl_scope.proofs.Declaring.{symbols_declared}
 use Rattle.rl_model.specs.declared.trace.Answer.{Answer}
-use Rattle.rl_model.specs.declared.trace.Setting.{Setting}
+use Rattle.rl_model.specs.declared.trace.Assignment.{Assignment}
+use Rattle.rl_model.specs.declared.trace.Trace.{Trace}
 use Rattle.rl_model.specs.declared.trace.Value.{Value}
 use Rattle.rl_model.specs.declared.trace.Value.TheVariants as value
 use Rattle.rl_model.specs.Closed.{IsClosed}
-use Rattle.rl_model.specs.Headline.{IsCalm, SameRuns}
+use Rattle.rl_model.specs.Headline.{NeverStuck, SameRuns}
 use Rattle.rl_model.specs.Held.{call_at, calls_in, calls_among, calls_of, graph_calls, live_calls_in, live_in_body}
-use Rattle.rl_model.specs.Machine.{positions, set_by, take_arguments, trace_within}
+use Rattle.rl_model.specs.Machine.{set_by, take_arguments, trace_by}
 use Rattle.rl_model.specs.Rows.{is_text, refusal, refusals, refusals_in, refusals_of}
 use Rattle.rl_model.specs.Size.{function_size}
-use Rattle.rl_model.specs.Source.{runs, body_does, take_from}
-use Rattle.rl_model.specs.Traces.{Store, With, returned, threw, unset, set_all}
+use Rattle.rl_model.specs.Source.{source_trace, exec_body, take_from}
+use Rattle.rl_model.specs.Traces.{Store, ValueCont, returned, threw, unset, set_all, waiting}
 use Rattle.rl_base.specs.declared.ids.BlockId.{BlockId}
 use Rattle.rl_hir.specs.declared.function.Hir.{Hir}
 use Rattle.rl_lower.specs.Endings.{closed_off, with_undefined, IsGraphOf}
 use Rattle.rl_lower.specs.Listed.{IsListed}
-use Rattle.rl_lower.specs.Live.{entry_calls, is_alive, where_alive}
-use Rattle.rl_lower.proofs.Live.{completed_calls, graph_plain, lives_value, none_where}
-use Rattle.rl_lower.specs.Lowering.{AddsUnnamed, HasRoom, Keeps, LowersBody, body_runs, texts_in, directives_in}
-use Rattle.rl_lower.specs.Parameters.{known_from, pairs_from, said_of_symbols, with_parameters}
+use Rattle.rl_lower.specs.Reachable.{entry_calls, is_reachable, where_reachable}
+use Rattle.rl_lower.proofs.Reachable.{completed_calls, graph_plain, adds_value, none_where}
+use Rattle.rl_lower.specs.Lowering.{HasRoom, Preserves, LowersBody, exec_before_end}
+use Rattle.rl_model.specs.Fields.{texts_in}
+use Rattle.rl_model.specs.Fields.{directives_in}
+use Rattle.rl_model.specs.Fields.{AddsUnnamed}
+use Rattle.rl_lower.specs.Parameters.{said_of_symbols, with_parameters}
+use Rattle.rl_model.specs.Fields.{pairs_from}
+use Rattle.rl_model.specs.Fields.{known_from}
 use Rattle.rl_lower.proofs.Building.{IsFresh, keeps_closed, listed_fresh}
-use Rattle.rl_lower.proofs.Functions.{function_finished, function_runs_within}
+use Rattle.rl_lower.proofs.Functions.{function_finished, function_runs_by}
 use Rattle.rl_lower.proofs.Graphs.{without_order, ordered_table_plain}
 use Rattle.rl_lower.proofs.Keeping.{added_then, keeps_then, one_unnamed}
 use Rattle.rl_lower.proofs.Parameters.{known_length, parameters_agree, parameters_given, parameters_made, state_with}
 use Rattle.rl_ast.proofs.Expressions.{has_expression_word}
-use Rattle.rl_lower.proofs.Whole.{finished_closed}
+use Rattle.rl_lower.proofs.Finished.{finished_closed}
 
--- a function's parameters, as they are counted, refused and called
+-- Nodes, refusals and calls of a function, by its parameters and its body.
 
 abbrev items : ArrowFunction → List FormalParameter
 items f = (out-ArrowFunction f).params.items
@@ -60,11 +66,13 @@ items f = (out-ArrowFunction f).params.items
 abbrev body_of : ArrowFunction → Syntax
 body_of f = arrow_body (out-ArrowFunction f).body
 
-declared_nodes : (params : List FormalParameter) → 2 * length (declared_in (pieces_of (map param params))) ≤ nodes_of (pieces_of (map param params))
+declared_nodes : (params : List FormalParameter)
+    → 2 * length (declared_in (pieces_of (map param params))) ≤ nodes_of (pieces_of (map param params))
 declared_nodes [] = omega arith
-declared_nodes (p ∷ params) = let rest : 2 * length (declared_in (pieces_of (map param params))) ≤ nodes_of (pieces_of (map param params)) = declared_nodes params in omega (arith, rest)
+declared_nodes (p ∷ params) =
+    let rest : 2 * length (declared_in (pieces_of (map param params))) ≤ nodes_of (pieces_of (map param params)) = declared_nodes params in omega (arith, rest)
 
--- a symbol is a parameter, which has two nodes
+-- Each symbol is a parameter, which has two nodes.
 pub function_nodes : (f : ArrowFunction) → nodes (body_of f) + 2 + 2 * length (symbols_of (function f)) ≤ nodes (function f)
 function_nodes f =
     let counted : nodes (function f) ≡ 0 + (0 + (nodes_of (pieces_of (map param (items f))) + (0 + 0) + 1 + (nodes (body_of f) + 0))) + 1 = ap nodes (function_by_layer f) in
@@ -72,13 +80,15 @@ function_nodes f =
     let same : length (symbols_of (function f)) ≡ length (declared_in (pieces_of (map param (items f)))) = ap (λ (l : List Symbol). length l) (symbols_declared f) in
     omega (arith, counted, few, same)
 
-said_params : (symbols : List Symbol) (params : List FormalParameter) → refusals_in symbols (pieces_of (map param params)) ≡ said_of_symbols (declared_in (pieces_of (map param params)))
+said_params : (symbols : List Symbol) (params : List FormalParameter)
+    → refusals_in symbols (pieces_of (map param params)) ≡ said_of_symbols (declared_in (pieces_of (map param params)))
 said_params symbols [] = refl
 said_params symbols (p ∷ params) =
     let own : List Diagnostic = if is_text (codes "fbt") p.pattern.name then refusal row.F40 p.pattern.at.span ∷ [] else [] in
     ap (λ (l : List Diagnostic). l ++ refusals_in symbols (pieces_of (map param params))) (append-nil (own ++ []) ∙ append-nil own) ∙ ap (λ (l : List Diagnostic). own ++ l) (said_params symbols params)
 
-pub function_refusals : (f : ArrowFunction) → refusals_of (function f) ≡ said_of_symbols (symbols_of (function f)) ++ refusals (symbols_of (function f)) (body_of f)
+pub function_refusals : (f : ArrowFunction)
+    → refusals_of (function f) ≡ said_of_symbols (symbols_of (function f)) ++ refusals (symbols_of (function f)) (body_of f)
 function_refusals f =
     let symbols : List Symbol = symbols_of (function f) in
     ap (λ (t : Syntax). refusals symbols t) (function_by_layer f)
@@ -90,21 +100,26 @@ no_calls_in [] = refl
 no_calls_in (p ∷ params) = no_calls_in params
 
 pub function_calls : (f : ArrowFunction) → calls_in (function f) ≡ calls_in (body_of f)
-function_calls f = ap calls_in (function_by_layer f) ∙ ap (λ (l : List (Option Span)). (l ++ []) ++ (calls_in (body_of f) ++ [])) (no_calls_in (items f)) ∙ append-nil (calls_in (body_of f))
+function_calls f =
+    ap calls_in (function_by_layer f) ∙ ap (λ (l : List (Option Span)). (l ++ []) ++ (calls_in (body_of f) ++ [])) (no_calls_in (items f)) ∙ append-nil (calls_in (body_of f))
 
--- the builder behind the parameters
+-- The builder behind the parameters.
 
 pub begun_fresh : (env : Environment) (symbols : List Symbol) → IsFresh (state_with (started env kinds.Block) symbols)
 begun_fresh env symbols = record { completed = refl; instructions = refl; table = refl; entry = refl; below = omega arith }
 
-pub begun_is : (env : Environment) (symbols : List Symbol) → are_distinct symbols ≡ true → with_parameters (started env kinds.Block) symbols ≡ state_with (started env kinds.Block) symbols
+pub begun_is : (env : Environment) (symbols : List Symbol) → are_distinct symbols ≡ true
+    → with_parameters (started env kinds.Block) symbols ≡ state_with (started env kinds.Block) symbols
 begun_is env symbols distinct = parameters_given (started env kinds.Block) symbols refl refl distinct
 
-pub begun_call : (env : Environment) (symbols : List Symbol) (s0 begun : State) → are_distinct symbols ≡ true → s0 ≡ started env kinds.Block → begun ≡ with_parameters s0 symbols → begun ≡ state_with (started env kinds.Block) symbols
-begun_call env symbols s0 begun distinct is moved = moved ∙ ap (λ (s : State). with_parameters s symbols) is ∙ begun_is env symbols distinct
+pub begun_call : (env : Environment) (symbols : List Symbol) (s0 begun : State) → are_distinct symbols ≡ true
+    → s0 ≡ started env kinds.Block → begun ≡ with_parameters s0 symbols → begun ≡ state_with (started env kinds.Block) symbols
+begun_call env symbols s0 begun distinct is moved =
+    moved ∙ ap (λ (s : State). with_parameters s symbols) is ∙ begun_is env symbols distinct
 
--- what is left of the room
-pub begun_room : (env : Environment) (symbols : List Symbol) (more : ℕ) → HasRoom (started env kinds.Block) (more + length symbols) → HasRoom (state_with (started env kinds.Block) symbols) more
+-- The room that is left behind them.
+pub begun_room : (env : Environment) (symbols : List Symbol) (more : ℕ)
+    → HasRoom (started env kinds.Block) (more + length symbols) → HasRoom (state_with (started env kinds.Block) symbols) more
 begun_room env symbols more room =
     let given : length (env.identifiers ++ known_from env.next_type symbols) ≡ length env.identifiers + length symbols = length-append env.identifiers (known_from env.next_type symbols) ∙ ap (λ (n : ℕ). length env.identifiers + n) (known_length env.next_type symbols) in
     record {
@@ -115,14 +130,22 @@ begun_room env symbols more room =
       completed = omega (arith, room.completed);
     }
 
-lowered_from : (symbols : List Symbol) (body : Syntax) (env new : Environment) (params : List Param) (built : Built) (g : IsGraphOf symbols body env new params built) → are_distinct symbols ≡ true → LowersBody symbols body (state_with (started env kinds.Block) symbols) g.state
-lowered_from symbols body env new params built g distinct = subst (λ (o : State). LowersBody symbols body o g.state) (begun_is env symbols distinct) g.lowers
+pub lowered_from : (symbols : List Symbol) (body : Syntax) (env new : Environment) (params : List Param) (built : Built)
+    (g : IsGraphOf symbols body env new params built) → are_distinct symbols ≡ true
+    → LowersBody symbols body (state_with (started env kinds.Block) symbols) g.state
+lowered_from symbols body env new params built g distinct =
+    subst (λ (o : State). LowersBody symbols body o g.state) (begun_is env symbols distinct) g.lowers
 
--- the counters behind the graph
-graph_keeps : (symbols : List Symbol) (body : Syntax) (env new : Environment) (params : List Param) (built : Built) (g : IsGraphOf symbols body env new params built) → are_distinct symbols ≡ true → Keeps (state_with (started env kinds.Block) symbols) (closed_off g.state) (4 * (nodes body + 1) + 2)
-graph_keeps symbols body env new params built g distinct = keeps_then (state_with (started env kinds.Block) symbols) g.state (closed_off g.state) (4 * (nodes body + 1)) 2 (lowered_from symbols body env new params built g distinct).keeps (keeps_closed g.state)
+-- The state behind the graph.
+graph_keeps : (symbols : List Symbol) (body : Syntax) (env new : Environment) (params : List Param) (built : Built)
+    (g : IsGraphOf symbols body env new params built) → are_distinct symbols ≡ true
+    → Preserves (state_with (started env kinds.Block) symbols) (closed_off g.state) (4 * (nodes body + 1) + 2)
+graph_keeps symbols body env new params built g distinct =
+    keeps_then (state_with (started env kinds.Block) symbols) g.state (closed_off g.state) (4 * (nodes body + 1)) 2 (lowered_from symbols body env new params built g distinct).keeps (keeps_closed g.state)
 
-pub identifiers_fit : (symbols : List Symbol) (body : Syntax) (env new : Environment) (params : List Param) (built : Built) → IsGraphOf symbols body env new params built → are_distinct symbols ≡ true → HasRoom (started env kinds.Block) (4 * (nodes body + 2) + length symbols) → length new.identifiers < 2 ^ 32
+pub identifiers_fit : (symbols : List Symbol) (body : Syntax) (env new : Environment) (params : List Param) (built : Built)
+    → IsGraphOf symbols body env new params built → are_distinct symbols ≡ true
+    → HasRoom (started env kinds.Block) (4 * (nodes body + 2) + length symbols) → length new.identifiers < 2 ^ 32
 identifiers_fit symbols body env new params built g distinct room =
     let keeps = graph_keeps symbols body env new params built g distinct in
     let given : length (env.identifiers ++ known_from env.next_type symbols) ≡ length env.identifiers + length symbols = length-append env.identifiers (known_from env.next_type symbols) ∙ ap (λ (n : ℕ). length env.identifiers + n) (known_length env.next_type symbols) in
@@ -131,7 +154,9 @@ identifiers_fit symbols body env new params built g distinct room =
     let same : length new.identifiers ≡ length (closed_off g.state).env.identifiers = ap (λ (e : Environment). length e.identifiers) g.after in
     omega (arith, given, used, free, same)
 
-pub types_fit : (symbols : List Symbol) (body : Syntax) (env new : Environment) (params : List Param) (built : Built) → IsGraphOf symbols body env new params built → are_distinct symbols ≡ true → HasRoom (started env kinds.Block) (4 * (nodes body + 2) + length symbols) → new.next_type + 1 < 2 ^ 32
+pub types_fit : (symbols : List Symbol) (body : Syntax) (env new : Environment) (params : List Param) (built : Built)
+    → IsGraphOf symbols body env new params built → are_distinct symbols ≡ true
+    → HasRoom (started env kinds.Block) (4 * (nodes body + 2) + length symbols) → new.next_type + 1 < 2 ^ 32
 types_fit symbols body env new params built g distinct room =
     let keeps = graph_keeps symbols body env new params built g distinct in
     let used : (closed_off g.state).env.next_type ≤ env.next_type + length symbols + (4 * (nodes body + 1) + 2) = keeps.uses.types in
@@ -139,17 +164,23 @@ types_fit symbols body env new params built g distinct room =
     let same : new.next_type ≡ (closed_off g.state).env.next_type = ap (λ (e : Environment). e.next_type) g.after in
     omega (arith, used, free, same)
 
-pub graph_refused : (symbols : List Symbol) (body : Syntax) (env new : Environment) (params : List Param) (built : Built) → IsGraphOf symbols body env new params built → are_distinct symbols ≡ true → new.diagnostics ≡ env.diagnostics ++ (said_of_symbols symbols ++ refusals symbols body)
+pub graph_refused : (symbols : List Symbol) (body : Syntax) (env new : Environment) (params : List Param) (built : Built)
+    → IsGraphOf symbols body env new params built → are_distinct symbols ≡ true
+    → new.diagnostics ≡ env.diagnostics ++ (said_of_symbols symbols ++ refusals symbols body)
 graph_refused symbols body env new params built g distinct =
     ap (λ (e : Environment). e.diagnostics) g.after ∙ (lowered_from symbols body env new params built g distinct).refused ∙ append_assoc env.diagnostics (said_of_symbols symbols) (refusals symbols body)
 
-pub graph_closed : (symbols : List Symbol) (body : Syntax) (env new : Environment) (params : List Param) (built : Built) → IsGraphOf symbols body env new params built → are_distinct symbols ≡ true → refusals symbols body ≡ [] → IsClosed built.hir
-graph_closed symbols body env new params built g distinct supported =
+pub graph_closed : (symbols : List Symbol) (body : Syntax) (env new : Environment) (params : List Param) (built : Built)
+    → IsGraphOf symbols body env new params built → are_distinct symbols ≡ true → IsClosed built.hir
+graph_closed symbols body env new params built g distinct =
     subst (λ (b : Built). IsClosed b.hir) (sym g.graph)
-    (finished_closed (closed_off g.state) (function_finished (state_with (started env kinds.Block) symbols) g.state (body_runs symbols body) (begun_fresh env symbols) ((lowered_from symbols body env new params built g distinct).runs supported)))
+    (finished_closed (closed_off g.state) (function_finished (state_with (started env kinds.Block) symbols) g.state (begun_fresh env symbols) (lowered_from symbols body env new params built g distinct).blocks))
 
--- a body does the same whether its value or its end is spoken of
-body_means : (symbols : List Symbol) (b : Syntax) (store : Store) (answers : List Answer) (throws : With) → body_does symbols b store answers (λ v after rest. returned returns.Implicit v) throws ≡ body_runs symbols b store answers (record { falls = λ after rest. returned returns.Void value.Undefined; throws = throws })
+-- `exec_body` is the meaning of the body before its end, continued by a return of Undefined.
+body_means : (symbols : List Symbol) (b : Syntax) (store : Store) (answers : List Answer) (throws : ValueCont)
+    → exec_body symbols b store answers
+    (λ v after rest. returned returns.Implicit v) throws ≡ exec_before_end symbols b store answers
+    (record { normal = λ after rest. returned returns.Void value.Undefined; throws = throws })
 body_means symbols (Node at word.Unit parts) store answers throws = refl
 body_means symbols (Node at word.Program parts) store answers throws = refl
 body_means symbols (Node at word.Expr parts) store answers throws = refl
@@ -169,7 +200,8 @@ body_means symbols (Node at word.Call parts) store answers throws = refl
 body_means symbols (Node at word.Body End) store answers throws = refl
 body_means symbols (Node at word.Body (Then directives End)) store answers throws = refl
 body_means symbols (Node at word.Body (Then directives (Then (Listed statements) End))) store answers throws = refl
-body_means symbols (Node at word.Body (Then directives (Then (Listed statements) (Then more parts)))) store answers throws = refl
+body_means symbols (Node at word.Body (Then directives (Then (Listed statements) (Then more parts)))) store answers throws =
+    refl
 body_means symbols (Node at word.Body (Then directives (Then (Node own said1 inner) parts))) store answers throws = refl
 body_means symbols (Node at word.Body (Then directives (Then (Said text) parts))) store answers throws = refl
 body_means symbols (Node at word.Body (Then directives (Then (Count number) parts))) store answers throws = refl
@@ -181,36 +213,43 @@ body_means symbols (Count number) store answers throws = refl
 body_means symbols (Flag flag) store answers throws = refl
 body_means symbols Absent store answers throws = refl
 
-function_runs : (f : ArrowFunction) (start : List Setting) (arguments : List Value) (answers : List Answer)
-    → runs (function f) start arguments answers ≡ body_does (symbols_of (function f)) (body_of f) (take_from 0 (symbols_of (function f)) arguments (set_all start unset)) answers (λ v store rest. returned returns.Implicit v) (λ v store rest. threw v)
+function_runs : (f : ArrowFunction) (start : List Assignment) (arguments : List Value) (answers : List Answer)
+    → source_trace (function f) start arguments answers ≡ exec_body (symbols_of (function f)) (body_of f)
+    (take_from 0 (symbols_of (function f)) arguments (set_all start unset)) answers
+    (λ v store rest. returned returns.Implicit v) (λ v store rest. threw v)
 function_runs f start arguments answers =
-    ap (λ (t : Syntax). runs t start arguments answers) (function_by_layer f)
-    ∙ ap (λ (symbols : List Symbol). body_does symbols (body_of f) (take_from 0 symbols arguments (set_all start unset)) answers (λ v store rest. returned returns.Implicit v) (λ v store rest. threw v)) (sym (ap symbols_of (function_by_layer f)))
+    ap (λ (t : Syntax). source_trace t start arguments answers) (function_by_layer f)
+    ∙ ap (λ (symbols : List Symbol). exec_body symbols (body_of f) (take_from 0 symbols arguments (set_all start unset)) answers (λ v store rest. returned returns.Implicit v) (λ v store rest. threw v)) (sym (ap symbols_of (function_by_layer f)))
 
-graph_runs_within : (fn : ArrowFunction) (env new : Environment) (params : List Param) (built : Built) → IsGraphOf (symbols_of (function fn)) (body_of fn) env new params built → are_distinct (symbols_of (function fn)) ≡ true → refusals (symbols_of (function fn)) (body_of fn) ≡ []
+graph_runs_by : (fn : ArrowFunction) (env new : Environment) (params : List Param) (built : Built)
+    → IsGraphOf (symbols_of (function fn)) (body_of fn) env new params built → are_distinct (symbols_of (function fn)) ≡ true
+    → refusals (symbols_of (function fn)) (body_of fn) ≡ []
     → (f : HirFunction) (pairs : List Pair) → f.body ≡ built.hir → f.instructions ≡ built.instructions → f.params ≡ params
-    → (most : ℕ) → positions f.body.blocks ≤ most → (start : List Setting) (arguments : List Value) (answers : List Answer) → trace_within most f pairs start arguments answers ≡ runs (function fn) start arguments answers
-graph_runs_within fn env new params built g distinct supported f pairs body_is instructions_is params_is =
+    → (stuck : Trace) (start : List Assignment) (arguments : List Value) (answers : List Answer)
+    → trace_by stuck f pairs start arguments answers ≡ source_trace (function fn) start arguments answers
+graph_runs_by fn env new params built g distinct supported f pairs body_is instructions_is params_is =
     let symbols : List Symbol = symbols_of (function fn) in
     let begun : State = state_with (started env kinds.Block) symbols in
-    function_runs_within begun g.state (body_runs symbols (body_of fn)) (begun_fresh env symbols) (parameters_made (started env kinds.Block) symbols) ((lowered_from symbols (body_of fn) env new params built g distinct).runs supported) f pairs (function fn)
+    function_runs_by begun g.state (exec_before_end symbols (body_of fn)) (begun_fresh env symbols) (parameters_made (started env kinds.Block) symbols) (lowered_from symbols (body_of fn) env new params built g distinct).blocks ((lowered_from symbols (body_of fn) env new params built g distinct).runs supported) f pairs (function fn)
     (body_is ∙ ap (λ (b : Built). b.hir) g.graph) (instructions_is ∙ ap (λ (b : Built). b.instructions) g.graph)
     (λ start arguments. take_from 0 symbols arguments (set_all start unset))
     (λ start arguments. subst (λ (ps : List Param). Rattle.rl_lower.specs.Simulation.Agrees begun.bindings (take_from 0 symbols arguments (set_all start unset)) (take_arguments ps arguments (set_by pairs start unset))) (sym (params_is ∙ g.places)) (parameters_agree (started env kinds.Block) symbols arguments (set_all start unset) (set_by pairs start unset)))
     (λ start arguments answers. function_runs fn start arguments answers ∙ body_means symbols (body_of fn) (take_from 0 symbols arguments (set_all start unset)) answers (λ v after rest. threw v))
 
--- how large it is
+-- Its size.
 
 length_same : (xs : List Instruction) → length (map without_order xs) ≡ length xs
 length_same [] = refl
 length_same (x ∷ xs) = let rest : length (map without_order xs) ≡ length xs = length_same xs in omega (arith, rest)
 
-table_length : (blocks : List NumberedBlock) (table : List Instruction) → length (ordered_table 1 blocks table) ≡ length table
-table_length blocks table = sym (length_same (ordered_table 1 blocks table)) ∙ ap (λ (l : List Instruction). length l) (ordered_table_plain 1 blocks table) ∙ length_same table
+pub table_length : (blocks : List NumberedBlock) (table : List Instruction) → length (ordered_table 1 blocks table) ≡ length table
+table_length blocks table =
+    sym (length_same (ordered_table 1 blocks table)) ∙ ap (λ (l : List Instruction). length l) (ordered_table_plain 1 blocks table) ∙ length_same table
 
 blocks_length : (order : ℕ) (blocks : List NumberedBlock) → length (ordered_blocks order blocks) ≡ length blocks
 blocks_length order [] = refl
-blocks_length order (b ∷ blocks) = let rest : length (ordered_blocks (order_after order b) blocks) ≡ length blocks = blocks_length (order_after order b) blocks in omega (arith, rest)
+blocks_length order (b ∷ blocks) =
+    let rest : length (ordered_blocks (order_after order b) blocks) ≡ length blocks = blocks_length (order_after order b) blocks in omega (arith, rest)
 
 fewer : (p : NumberedBlock → Bool) (xs : List NumberedBlock) → length (filter p xs) ≤ length xs
 fewer p [] = omega arith
@@ -220,7 +259,9 @@ fewer p (x ∷ xs) = by_test (fewer p xs) (p x)
     by_test rest true = omega (arith, rest)
     by_test rest false = omega (arith, rest)
 
-pub graph_bounded : (symbols : List Symbol) (body : Syntax) (env new : Environment) (params : List Param) (built : Built) → IsGraphOf symbols body env new params built → are_distinct symbols ≡ true → (f : HirFunction) (count : ℕ) → f.body ≡ built.hir → f.instructions ≡ built.instructions → nodes body + 2 ≤ count → function_size f ≤ 64 * count
+pub graph_bounded : (symbols : List Symbol) (body : Syntax) (env new : Environment) (params : List Param) (built : Built)
+    → IsGraphOf symbols body env new params built → are_distinct symbols ≡ true → (f : HirFunction) (count : ℕ)
+    → f.body ≡ built.hir → f.instructions ≡ built.instructions → nodes body + 2 ≤ count → function_size f ≤ 64 * count
 graph_bounded symbols body env new params built g distinct f count body_is instructions_is counted =
     let keeps = graph_keeps symbols body env new params built g distinct in
     let s : State = closed_off g.state in
@@ -231,108 +272,141 @@ graph_bounded symbols body env new params built g distinct f count body_is instr
     let kept : length (reached_blocks s.entry s.completed) ≤ length s.completed = fewer _ s.completed in
     omega (arith, table, instructions, blocks, listed, kept, counted)
 
--- its calls
+-- Its calls.
 
 calls_plain : (xs : List Instruction) → calls_of (map without_order xs) ≡ calls_of xs
 calls_plain [] = refl
 calls_plain (x ∷ xs) = ap (λ (l : List (Option Span)). call_at x ++ l) (calls_plain xs)
 
-pub graph_calls_held : (symbols : List Symbol) (body : Syntax) (env new : Environment) (params : List Param) (built : Built) → IsGraphOf symbols body env new params built → are_distinct symbols ≡ true → (f : HirFunction) → f.instructions ≡ built.instructions → calls_of f.instructions ≡ calls_in body
+pub graph_calls_held : (symbols : List Symbol) (body : Syntax) (env new : Environment) (params : List Param) (built : Built)
+    → IsGraphOf symbols body env new params built → are_distinct symbols ≡ true → (f : HirFunction)
+    → f.instructions ≡ built.instructions → calls_of f.instructions ≡ calls_in body
 graph_calls_held symbols body env new params built g distinct f instructions_is =
     let s : State = closed_off g.state in
     ap calls_of (instructions_is ∙ ap (λ (b : Built). b.instructions) g.graph)
     ∙ sym (calls_plain (ordered_table 1 (reached_blocks s.entry s.completed) s.table)) ∙ ap calls_of (ordered_table_plain 1 (reached_blocks s.entry s.completed) s.table) ∙ calls_plain s.table
     ∙ Rattle.rl_lower.proofs.Calls.calls_same g.state.table _ refl ∙ (lowered_from symbols body env new params built g distinct).calls
 
--- the calls that its blocks list
-pub graph_blocks_held : (symbols : List Symbol) (body : Syntax) (env new : Environment) (params : List Param) (built : Built) → IsGraphOf symbols body env new params built → are_distinct symbols ≡ true → (f : HirFunction) → f.body ≡ built.hir → f.instructions ≡ built.instructions → graph_calls f.instructions f.body.blocks ≡ live_in_body body
+-- The calls that its blocks list.
+pub graph_blocks_held : (symbols : List Symbol) (body : Syntax) (env new : Environment) (params : List Param) (built : Built)
+    → IsGraphOf symbols body env new params built → are_distinct symbols ≡ true → (f : HirFunction) → f.body ≡ built.hir
+    → f.instructions ≡ built.instructions → graph_calls f.instructions f.body.blocks ≡ live_in_body body
 graph_blocks_held symbols body env new params built g distinct f body_is instructions_is =
     let s : State = closed_off g.state in
     let begun : State = state_with (started env kinds.Block) symbols in
     let lowered = lowered_from symbols body env new params built g distinct in
     let below : begun.entry.0 < begun.env.next_block = omega arith in
     let listed : IsListed begun = listed_fresh begun (begun_fresh env symbols) in
-    let later : g.state.entry.0 < g.state.env.next_block = (let same : g.state.entry.0 ≡ begun.entry.0 = ap (λ (b : BlockId). b.0) lowered.live.entry in omega (arith, same, lowered.live.counted)) in
-    let alive : is_alive begun ≡ true = eq-eqb env.next_block env.next_block refl in
+    let later : g.state.entry.0 < g.state.env.next_block = (let same : g.state.entry.0 ≡ begun.entry.0 = ap (λ (b : BlockId). b.0) lowered.reachable.entry in omega (arith, same, lowered.reachable.counted)) in
+    let stands : is_reachable begun ≡ true = eq-eqb env.next_block env.next_block refl in
     ap (λ (t : List Instruction). graph_calls t f.body.blocks) (instructions_is ∙ ap (λ (b : Built). b.instructions) g.graph)
     ∙ ap (λ (h : Hir). graph_calls (ordered_table 1 (reached_blocks s.entry s.completed) s.table) h.blocks) (body_is ∙ ap (λ (b : Built). b.hir) g.graph)
     ∙ graph_plain s.table (ordered_table 1 (reached_blocks s.entry s.completed) s.table) (reached_blocks s.entry s.completed) (ordered_table_plain 1 (reached_blocks s.entry s.completed) s.table) 1
     ∙ completed_calls (with_undefined g.state) _
-    ∙ (lives_value g.state _ _).held (lowered.keeps.listed listed) later ∙ ap (λ (l : List (Option Span)). entry_calls g.state ++ l) (none_where (is_alive g.state)) ∙ append-nil (entry_calls g.state)
-    ∙ lowered.live.held listed below
-    ∙ ap (λ (l : List (Option Span)). l ++ where_alive (is_alive begun) (live_in_body body)) (none_where (is_alive begun))
-    ∙ ap (λ (b : Bool). where_alive b (live_in_body body)) alive
+    ∙ (adds_value g.state _ _).held (lowered.keeps.listed listed) later ∙ ap (λ (l : List (Option Span)). entry_calls g.state ++ l) (none_where (is_reachable g.state)) ∙ append-nil (entry_calls g.state)
+    ∙ lowered.reachable.held listed below
+    ∙ ap (λ (l : List (Option Span)). l ++ where_reachable (is_reachable begun) (live_in_body body)) (none_where (is_reachable begun))
+    ∙ ap (λ (b : Bool). where_reachable b (live_in_body body)) stands
 
--- the same of a function whose symbols are known
+-- The clauses of `lower`, whose caller hands it the function's symbols.
 
 nothing_twice : (xs ys : List Diagnostic) → xs ++ ys ≡ [] → ys ≡ []
 nothing_twice [] ys e = e
 nothing_twice (x ∷ xs) ys e = absurd (cc)
 
-body_supported : (f : ArrowFunction) (symbols : List Symbol) → symbols ≡ symbols_of (function f) → refusals_of (function f) ≡ [] → refusals symbols (body_of f) ≡ []
-body_supported f symbols is none = ap (λ (l : List Symbol). refusals l (body_of f)) is ∙ nothing_twice (said_of_symbols (symbols_of (function f))) (refusals (symbols_of (function f)) (body_of f)) (sym (function_refusals f) ∙ none)
+body_supported : (f : ArrowFunction) → refusals_of (function f) ≡ [] → refusals (symbols_of (function f)) (body_of f) ≡ []
+body_supported f none =
+    nothing_twice (said_of_symbols (symbols_of (function f))) (refusals (symbols_of (function f)) (body_of f)) (sym (function_refusals f) ∙ none)
 
-pub lower_room : (f : ArrowFunction) (symbols : List Symbol) (s : State) → symbols ≡ symbols_of (function f) → HasRoom s (4 * nodes (function f)) → HasRoom s (4 * (nodes (body_of f) + 2) + length symbols)
+pub lower_room : (f : ArrowFunction) (symbols : List Symbol) (s : State) → symbols ≡ symbols_of (function f)
+    → HasRoom s (4 * nodes (function f)) → HasRoom s (4 * (nodes (body_of f) + 2) + length symbols)
 lower_room f symbols s is room =
     let same : length symbols ≡ length (symbols_of (function f)) = ap (λ (l : List Symbol). length l) is in
     let counted : nodes (body_of f) + 2 + 2 * length (symbols_of (function f)) ≤ nodes (function f) = function_nodes f in
     Rattle.rl_lower.proofs.Keeping.room_less s (4 * nodes (function f)) (4 * (nodes (body_of f) + 2) + length symbols) (omega (arith, same, counted)) room
 
-pub lower_refused : (f : ArrowFunction) (symbols : List Symbol) (env new : Environment) (params : List Param) (built : Built) → symbols ≡ symbols_of (function f) → are_distinct symbols ≡ true → IsGraphOf symbols (body_of f) env new params built → new.diagnostics ≡ env.diagnostics ++ refusals_of (function f)
+pub lower_refused : (f : ArrowFunction) (symbols : List Symbol) (env new : Environment) (params : List Param) (built : Built)
+    → symbols ≡ symbols_of (function f) → are_distinct symbols ≡ true → IsGraphOf symbols (body_of f) env new params built
+    → new.diagnostics ≡ env.diagnostics ++ refusals_of (function f)
 lower_refused f symbols env new params built is distinct g =
     graph_refused symbols (body_of f) env new params built g distinct
     ∙ ap (λ (l : List Symbol). env.diagnostics ++ (said_of_symbols l ++ refusals l (body_of f))) is
     ∙ ap (λ (l : List Diagnostic). env.diagnostics ++ l) (sym (function_refusals f))
 
-pub lower_closed : (f : ArrowFunction) (symbols : List Symbol) (env new : Environment) (params : List Param) (built : Built) → symbols ≡ symbols_of (function f) → are_distinct symbols ≡ true → IsGraphOf symbols (body_of f) env new params built → refusals_of (function f) ≡ [] → IsClosed built.hir
-lower_closed f symbols env new params built is distinct g supported = graph_closed symbols (body_of f) env new params built g distinct (body_supported f symbols is supported)
-
-lower_runs_within : (f : ArrowFunction) (symbols : List Symbol) (env new : Environment) (params : List Param) (built : Built) → symbols ≡ symbols_of (function f) → are_distinct symbols ≡ true → IsGraphOf symbols (body_of f) env new params built → refusals_of (function f) ≡ []
+lower_runs_by : (f : ArrowFunction) (symbols : List Symbol) (env new : Environment) (params : List Param) (built : Built)
+    → symbols ≡ symbols_of (function f) → are_distinct symbols ≡ true → IsGraphOf symbols (body_of f) env new params built
+    → refusals_of (function f) ≡ []
     → (h : HirFunction) (pairs : List Pair) → h.body ≡ built.hir → h.instructions ≡ built.instructions → h.params ≡ params
-    → (most : ℕ) → positions h.body.blocks ≤ most → (start : List Setting) (arguments : List Value) (answers : List Answer) → trace_within most h pairs start arguments answers ≡ runs (function f) start arguments answers
-lower_runs_within f symbols env new params built is distinct g supported =
-    graph_runs_within f env new params built (subst (λ (l : List Symbol). IsGraphOf l (body_of f) env new params built) is g) (subst (λ (l : List Symbol). are_distinct l ≡ true) is distinct)
-    (body_supported f (symbols_of (function f)) refl supported)
+    → (stuck : Trace) (start : List Assignment) (arguments : List Value) (answers : List Answer)
+    → trace_by stuck h pairs start arguments answers ≡ source_trace (function f) start arguments answers
+lower_runs_by f symbols env new params built is distinct g supported =
+    graph_runs_by f env new params built (subst (λ (l : List Symbol). IsGraphOf l (body_of f) env new params built) is g) (subst (λ (l : List Symbol). are_distinct l ≡ true) is distinct)
+    (body_supported f supported)
 
-pub lower_same_runs : (f : ArrowFunction) (symbols : List Symbol) (env new : Environment) (params : List Param) (built : Built) → symbols ≡ symbols_of (function f) → are_distinct symbols ≡ true → IsGraphOf symbols (body_of f) env new params built → refusals_of (function f) ≡ []
-    → (h : HirFunction) (pairs : List Pair) → h.body ≡ built.hir → h.instructions ≡ built.instructions → h.params ≡ params → SameRuns (function f) h pairs
+pub lower_same_runs : (f : ArrowFunction) (symbols : List Symbol) (env new : Environment) (params : List Param) (built : Built)
+    → symbols ≡ symbols_of (function f) → are_distinct symbols ≡ true → IsGraphOf symbols (body_of f) env new params built
+    → refusals_of (function f) ≡ []
+    → (h : HirFunction) (pairs : List Pair) → h.body ≡ built.hir → h.instructions ≡ built.instructions → h.params ≡ params
+    → SameRuns (function f) h pairs
 lower_same_runs f symbols env new params built is distinct g supported h pairs body_is instructions_is params_is start arguments answers =
-    lower_runs_within f symbols env new params built is distinct g supported h pairs body_is instructions_is params_is (positions h.body.blocks) (omega arith) start arguments answers
+    lower_runs_by f symbols env new params built is distinct g supported h pairs body_is instructions_is params_is waiting start arguments answers
 
-pub lower_calm : (f : ArrowFunction) (symbols : List Symbol) (env new : Environment) (params : List Param) (built : Built) → symbols ≡ symbols_of (function f) → are_distinct symbols ≡ true → IsGraphOf symbols (body_of f) env new params built → refusals_of (function f) ≡ []
-    → (h : HirFunction) (pairs : List Pair) → h.body ≡ built.hir → h.instructions ≡ built.instructions → h.params ≡ params → IsCalm h pairs
-lower_calm f symbols env new params built is distinct g supported h pairs body_is instructions_is params_is most large start arguments answers =
-    lower_runs_within f symbols env new params built is distinct g supported h pairs body_is instructions_is params_is most large start arguments answers
+pub lower_never_stuck : (f : ArrowFunction) (symbols : List Symbol) (env new : Environment) (params : List Param)
+    (built : Built) → symbols ≡ symbols_of (function f) → are_distinct symbols ≡ true
+    → IsGraphOf symbols (body_of f) env new params built → refusals_of (function f) ≡ []
+    → (h : HirFunction) (pairs : List Pair) → h.body ≡ built.hir → h.instructions ≡ built.instructions → h.params ≡ params
+    → NeverStuck h pairs
+lower_never_stuck f symbols env new params built is distinct g supported h pairs body_is instructions_is params_is stuck start arguments answers =
+    lower_runs_by f symbols env new params built is distinct g supported h pairs body_is instructions_is params_is stuck start arguments answers
     ∙ sym (lower_same_runs f symbols env new params built is distinct g supported h pairs body_is instructions_is params_is start arguments answers)
 
-pub lower_bounded : (f : ArrowFunction) (symbols : List Symbol) (env new : Environment) (params : List Param) (built : Built) → are_distinct symbols ≡ true → IsGraphOf symbols (body_of f) env new params built → (h : HirFunction) → h.body ≡ built.hir → h.instructions ≡ built.instructions → function_size h ≤ 64 * nodes (function f)
+pub lower_bounded : (f : ArrowFunction) (symbols : List Symbol) (env new : Environment) (params : List Param) (built : Built)
+    → are_distinct symbols ≡ true → IsGraphOf symbols (body_of f) env new params built → (h : HirFunction) → h.body ≡ built.hir
+    → h.instructions ≡ built.instructions → function_size h ≤ 64 * nodes (function f)
 lower_bounded f symbols env new params built distinct g h body_is instructions_is =
     let counted : nodes (body_of f) + 2 + 2 * length (symbols_of (function f)) ≤ nodes (function f) = function_nodes f in
     graph_bounded symbols (body_of f) env new params built g distinct h (nodes (function f)) body_is instructions_is (omega (arith, counted))
 
-pub lower_functions : (symbols : List Symbol) (body : Syntax) (env new : Environment) (params : List Param) (built : Built) → are_distinct symbols ≡ true → IsGraphOf symbols body env new params built → new.functions ≡ env.functions
-lower_functions symbols body env new params built distinct g = ap (λ (e : Environment). e.functions) g.after ∙ (graph_keeps symbols body env new params built g distinct).functions
+pub lower_functions : (symbols : List Symbol) (body : Syntax) (env new : Environment) (params : List Param) (built : Built)
+    → are_distinct symbols ≡ true → IsGraphOf symbols body env new params built → new.functions ≡ env.functions
+lower_functions symbols body env new params built distinct g =
+    ap (λ (e : Environment). e.functions) g.after ∙ (graph_keeps symbols body env new params built g distinct).functions
 
-pub lower_pairs : (symbols : List Symbol) (body : Syntax) (env new : Environment) (params : List Param) (built : Built) → are_distinct symbols ≡ true → IsGraphOf symbols body env new params built → new.pairs ≡ env.pairs ++ pairs_from 0 (length env.identifiers) symbols
-lower_pairs symbols body env new params built distinct g = ap (λ (e : Environment). e.pairs) g.after ∙ (graph_keeps symbols body env new params built g distinct).pairs
+pub lower_pairs : (symbols : List Symbol) (body : Syntax) (env new : Environment) (params : List Param) (built : Built)
+    → are_distinct symbols ≡ true → IsGraphOf symbols body env new params built
+    → new.pairs ≡ env.pairs ++ pairs_from 0 (length env.identifiers) symbols
+lower_pairs symbols body env new params built distinct g =
+    ap (λ (e : Environment). e.pairs) g.after ∙ (graph_keeps symbols body env new params built g distinct).pairs
 
--- the identifiers behind the graph, and those after one without a name more
-pub lower_identifiers : (symbols : List Symbol) (body : Syntax) (env new last : Environment) (params : List Param) (built : Built) (i : Identifier) → are_distinct symbols ≡ true → IsGraphOf symbols body env new params built → last.identifiers ≡ new.identifiers ++ i ∷ [] → i.name ≡ None → AddsUnnamed (env.identifiers ++ known_from env.next_type symbols) last.identifiers
+-- The identifiers behind the graph and one more without a name, that of the returned place.
+pub lower_identifiers : (symbols : List Symbol) (body : Syntax) (env new last : Environment) (params : List Param)
+    (built : Built) (i : Identifier) → are_distinct symbols ≡ true → IsGraphOf symbols body env new params built
+    → last.identifiers ≡ new.identifiers ++ i ∷ [] → i.name ≡ None
+    → AddsUnnamed (env.identifiers ++ known_from env.next_type symbols) last.identifiers
 lower_identifiers symbols body env new last params built i distinct g more none =
     added_then (env.identifiers ++ known_from env.next_type symbols) new.identifiers last.identifiers
     (subst (λ (e : Environment). AddsUnnamed (env.identifiers ++ known_from env.next_type symbols) e.identifiers) (sym g.after) (graph_keeps symbols body env new params built g distinct).identifiers)
     (record { more = i ∷ []; added = more; unnamed = one_unnamed i none })
 
-pub lower_fn_type : (symbols : List Symbol) (body : Syntax) (env new : Environment) (params : List Param) (built : Built) → are_distinct symbols ≡ true → IsGraphOf symbols body env new params built → new.fn_type ≡ env.fn_type
-lower_fn_type symbols body env new params built distinct g = ap (λ (e : Environment). e.fn_type) g.after ∙ (graph_keeps symbols body env new params built g distinct).fn_type
+pub lower_fn_type : (symbols : List Symbol) (body : Syntax) (env new : Environment) (params : List Param) (built : Built)
+    → are_distinct symbols ≡ true → IsGraphOf symbols body env new params built → new.fn_type ≡ env.fn_type
+lower_fn_type symbols body env new params built distinct g =
+    ap (λ (e : Environment). e.fn_type) g.after ∙ (graph_keeps symbols body env new params built g distinct).fn_type
 
-pub lower_live : (f : ArrowFunction) (symbols : List Symbol) (env new : Environment) (params : List Param) (built : Built) → are_distinct symbols ≡ true → IsGraphOf symbols (body_of f) env new params built → (h : HirFunction) → h.body ≡ built.hir → h.instructions ≡ built.instructions → graph_calls h.instructions h.body.blocks ≡ live_calls_in (function f)
-lower_live f symbols env new params built distinct g h body_is instructions_is = graph_blocks_held symbols (body_of f) env new params built g distinct h body_is instructions_is ∙ sym (ap live_calls_in (function_by_layer f))
+pub lower_block_calls : (f : ArrowFunction) (symbols : List Symbol) (env new : Environment) (params : List Param)
+    (built : Built) → are_distinct symbols ≡ true → IsGraphOf symbols (body_of f) env new params built → (h : HirFunction)
+    → h.body ≡ built.hir → h.instructions ≡ built.instructions
+    → graph_calls h.instructions h.body.blocks ≡ live_calls_in (function f)
+lower_block_calls f symbols env new params built distinct g h body_is instructions_is =
+    graph_blocks_held symbols (body_of f) env new params built g distinct h body_is instructions_is ∙ sym (ap live_calls_in (function_by_layer f))
 
-pub lower_calls : (f : ArrowFunction) (symbols : List Symbol) (env new : Environment) (params : List Param) (built : Built) → are_distinct symbols ≡ true → IsGraphOf symbols (body_of f) env new params built → (h : HirFunction) → h.instructions ≡ built.instructions → calls_of h.instructions ≡ calls_in (function f)
-lower_calls f symbols env new params built distinct g h instructions_is = graph_calls_held symbols (body_of f) env new params built g distinct h instructions_is ∙ sym (function_calls f)
+pub lower_calls : (f : ArrowFunction) (symbols : List Symbol) (env new : Environment) (params : List Param) (built : Built)
+    → are_distinct symbols ≡ true → IsGraphOf symbols (body_of f) env new params built → (h : HirFunction)
+    → h.instructions ≡ built.instructions → calls_of h.instructions ≡ calls_in (function f)
+lower_calls f symbols env new params built distinct g h instructions_is =
+    graph_calls_held symbols (body_of f) env new params built g distinct h instructions_is ∙ sym (function_calls f)
 
--- directives
+-- Directives.
 
 pub texts_back : (texts : List (List ℕ)) → texts_in (pieces_of (map said texts)) ≡ texts
 texts_back [] = refl

@@ -1,0 +1,60 @@
+-- The moves that lowering is made of preserve the blocks.
+use Rattle.std.proofs.Common.{◌+◌, inr, Option, arith}
+use Rattle.rl_base.specs.declared.diagnostic.Diagnostic.{Diagnostic}
+use Rattle.rl_base.specs.declared.span.Span.{Span}
+use Rattle.rl_hir.specs.declared.instruction.InstructionValue.{InstructionValue}
+use Rattle.rl_hir.specs.declared.instruction.Place.{Place}
+use Rattle.rl_hir.specs.declared.terminal.ReturnVariant.{ReturnVariant}
+use Rattle.rl_hir.specs.declared.terminal.ReturnVariant.TheVariants as returns
+use Rattle.rl_hir.specs.declared.function.BlockKind.{BlockKind}
+use Rattle.rl_builder.specs.Builder.{State, reserved, new_block, recorded, ended_by, completed_by}
+use Rattle.rl_builder.specs.Temporaries.{with_value}
+use Rattle.rl_lower.specs.Endings.{return_of, returned_from}
+use Rattle.rl_lower.specs.Simulation.{Extends, PreservesBlocks}
+use Rattle.rl_lower.proofs.Moves.{extends_refl, extends_then, extends_reserved, extends_recorded, extends_value, extends_completed}
+use Rattle.rl_lower.proofs.BlockIds.{ids_refl, ids_then, ids_counted, ids_ended, ids_fresh, free_fresh, free_then, ended_more}
+
+pub blocks_refl : (s : State) → PreservesBlocks s s
+blocks_refl s = record { extends = extends_refl s; ids = ids_refl s.completed s.current.id.0 s.env.next_block; ended = λ e. e }
+
+pub blocks_then : (a b c : State) → PreservesBlocks a b → PreservesBlocks b c → PreservesBlocks a c
+blocks_then a b c first second = record {
+  extends = extends_then a b c first.extends second.extends;
+  ids = ids_then first.ids second.ids;
+  ended = λ e. second.ended (first.ended e);
+}
+
+pub blocks_value : (s : State) (value : InstructionValue) (span : Option Span) → PreservesBlocks s (with_value s value span)
+blocks_value s value span =
+    record { extends = extends_value s value span; ids = ids_refl s.completed s.current.id.0 s.env.next_block; ended = λ e. e }
+
+pub blocks_recorded : (s : State) (d : Diagnostic) → PreservesBlocks s (recorded s d)
+blocks_recorded s d =
+    record { extends = extends_recorded s d; ids = ids_refl s.completed s.current.id.0 s.env.next_block; ended = λ e. e }
+
+pub extends_returned : (s : State) (span : Option Span) (variant : ReturnVariant) (place : Place) (kind : BlockKind)
+    → Extends s (returned_from s span variant place kind)
+extends_returned s span variant place kind =
+    extends_then s (reserved s) _ (extends_reserved s) (extends_completed (reserved s) _ _)
+
+-- A return, behind which a fresh block goes on.
+pub blocks_returned : (s : State) (span : Option Span) (variant : ReturnVariant) (place : Place) (kind : BlockKind)
+    → PreservesBlocks s (returned_from s span variant place kind)
+blocks_returned s span variant place kind = record {
+  extends = extends_returned s span variant place kind;
+  ids = ids_fresh s (return_of span variant place) kind;
+  ended = λ e. ended_more s.completed (ended_by s.current (return_of span variant place)) (λ h. h) e;
+}
+
+-- A value that is returned, behind which a block goes on that was reserved before.
+pub blocks_value_returned : (s new : State) (span : Option Span) (place : Place) (kind : BlockKind)
+    → PreservesBlocks (reserved s) new
+    → PreservesBlocks s (completed_by new (return_of span returns.Implicit place) (new_block s.env.next_block kind))
+blocks_value_returned s new span place kind b = record {
+  extends = extends_then s (reserved s) _ (extends_reserved s) (extends_then (reserved s) new _ b.extends (extends_completed new (return_of span returns.Implicit place) (new_block s.env.next_block kind)));
+  ids = ids_ended new (return_of span returns.Implicit place) (new_block s.env.next_block kind)
+      (ids_then (ids_counted s.completed s.current.id.0 s.env.next_block (s.env.next_block + 1) (omega arith)) b.ids)
+      (inr (omega arith))
+      (λ c. free_then s.env.next_block b.ids (free_fresh s.completed s.current.id.0 s.env.next_block (s.env.next_block + 1) s.env.next_block c (omega arith) (omega arith)));
+  ended = λ e. ended_more new.completed (ended_by new.current (return_of span returns.Implicit place)) (λ h. h) (b.ended e);
+}

@@ -1,0 +1,185 @@
+-- Listings that the notation has, from those of their parts.
+use Rattle.std.proofs.Common.{ℕ, ◌<◌, ◌≤◌, ◌^◌, Bool, List, [], ◌∷◌, map, All, Option, None, codes, lit<, refl, arith}
+use Rattle.std.specs.Str.{IsUtf8}
+use Rattle.std.proofs.lemmas.List.Elements.{All-head, All-tail}
+use Rattle.rl_base.specs.declared.span.Span.{Span}
+use Rattle.rl_base.specs.declared.operator.BinaryOperator.{BinaryOperator}
+use Rattle.rl_base.specs.declared.ids.InstructionId.{InstructionId}
+use Rattle.rl_base.specs.Operators.{operator_text}
+use Rattle.rl_text.specs.Notation.{Tree, IsWritable, AreWritable}
+use Rattle.rl_text.specs.Number.{largest}
+use Rattle.rl_text.specs.Raw.{parts_of}
+use Rattle.rl_hir.specs.Instructions.{argument_shape}
+use Rattle.rl_hir.specs.Listing as listing
+use Rattle.rl_hir.specs.Identifiers.{named_identifier}
+use Rattle.rl_hir.specs.Terminals.{with_order}
+use Rattle.rl_builder.specs.Builder.{ended_by}
+use Rattle.rl_builder.specs.declared.builder.WipBlock.{WipBlock}
+use Rattle.rl_hir.specs.declared.function.BlockKind.{BlockKind}
+use Rattle.rl_hir.specs.declared.function.BlockKind.TheVariants as kinds
+use Rattle.rl_hir.specs.declared.function.HirFunction.{HirFunction}
+use Rattle.rl_hir.specs.declared.function.NumberedBlock.{NumberedBlock}
+use Rattle.rl_hir.specs.declared.function.ReactFunctionType.{ReactFunctionType}
+use Rattle.rl_hir.specs.declared.function.ReactFunctionType.TheVariants as types
+use Rattle.rl_hir.specs.declared.instruction.Instruction.{Instruction}
+use Rattle.rl_hir.specs.declared.instruction.InstructionValue.TheVariants as values
+use Rattle.rl_hir.specs.declared.instruction.NonLocalBinding.TheVariants as bindings
+use Rattle.rl_hir.specs.declared.instruction.PrimitiveValue.TheVariants as primitives
+use Rattle.rl_hir.specs.declared.instruction.Place.{Place}
+use Rattle.rl_hir.specs.declared.instruction.PlaceOrSpread.{PlaceOrSpread}
+use Rattle.rl_hir.specs.declared.instruction.PlaceOrSpread.TheVariants as arguments
+use Rattle.rl_hir.specs.declared.terminal.Terminal.{Terminal}
+use Rattle.rl_hir.specs.declared.terminal.Terminal.TheVariants as terminals
+use Rattle.rl_hir.specs.declared.terminal.ReturnVariant.{ReturnVariant}
+use Rattle.rl_hir.specs.declared.terminal.ReturnVariant.TheVariants as returns
+use Rattle.rl_lower.specs.Sound.{IsSmallSpan}
+
+pub all_writable : {X : Type 0} (tree : X → Tree) (items : List X) → All (λ x. IsWritable (tree x)) items
+    → AreWritable (parts_of (map tree items))
+all_writable tree [] all = tt
+all_writable tree (x ∷ items) all =
+    (All-head (λ y. IsWritable (tree y)) x items all, all_writable tree items (All-tail (λ y. IsWritable (tree y)) x items all))
+
+pub small_fits : (n : ℕ) → n < 2 ^ 32 → n ≤ largest
+small_fits n small = omega arith
+
+-- the texts of variants
+
+shape_utf8 : (a : PlaceOrSpread) → IsUtf8 (argument_shape a)
+unfolding lib.Utf8.encode
+shape_utf8 (arguments.Place p) = (codes "place", (refl, refl))
+shape_utf8 (arguments.Spread p) = (codes "spread", (refl, refl))
+
+variant_utf8 : (variant : ReturnVariant) → IsUtf8 (listing.return_variant variant)
+unfolding lib.Utf8.encode
+variant_utf8 returns.Implicit = (codes "implicit", (refl, refl))
+variant_utf8 returns.Explicit = (codes "explicit", (refl, refl))
+variant_utf8 returns.Void = (codes "void", (refl, refl))
+
+kind_utf8 : (kind : BlockKind) → IsUtf8 (listing.block_kind kind)
+unfolding lib.Utf8.encode
+kind_utf8 kinds.Block = (codes "block", (refl, refl))
+kind_utf8 kinds.Value = (codes "value", (refl, refl))
+kind_utf8 kinds.Loop = (codes "loop", (refl, refl))
+kind_utf8 kinds.Sequence = (codes "sequence", (refl, refl))
+kind_utf8 kinds.Catch = (codes "catch", (refl, refl))
+
+type_utf8 : (type : ReactFunctionType) → IsUtf8 (listing.function_type type)
+unfolding lib.Utf8.encode
+type_utf8 types.Component = (codes "component", (refl, refl))
+type_utf8 types.Hook = (codes "hook", (refl, refl))
+type_utf8 types.Other = (codes "other", (refl, refl))
+
+-- spans and places
+
+pub span_writable : (s : Span) → IsSmallSpan s → IsWritable (listing.span s)
+span_writable s small = ((lit< tt, refl), (small_fits s.start small.0, (small_fits s.end small.1, tt)))
+
+pub place_writable : (p : Place) → p.identifier.0 ≤ largest → IsWritable (listing.optional listing.span p.span)
+    → IsWritable (listing.place p)
+place_writable p count at = ((lit< tt, refl), (count, (at, tt)))
+
+pub place_span : (p : Place) → IsWritable (listing.place p) → IsWritable (listing.optional listing.span p.span)
+place_span p w = w.1.1.0
+
+-- values
+
+pub undefined_writable : IsWritable (listing.value (values.Primitive primitives.Undefined))
+undefined_writable = ((lit< tt, refl), (((lit< tt, refl), tt), tt))
+
+pub null_writable : IsWritable (listing.value (values.Primitive primitives.Null))
+null_writable = ((lit< tt, refl), (((lit< tt, refl), tt), tt))
+
+pub boolean_writable : (flag : Bool) → IsWritable (listing.value (values.Primitive (primitives.Boolean flag)))
+boolean_writable flag = ((lit< tt, refl), (((lit< tt, refl), (tt, tt)), tt))
+
+pub number_writable : (number : ℕ) → number ≤ largest → IsWritable (listing.value (values.Primitive (primitives.Number number)))
+number_writable number fits = ((lit< tt, refl), (((lit< tt, refl), (fits, tt)), tt))
+
+pub string_writable : (text : List ℕ) → IsUtf8 text → IsWritable (listing.value (values.Primitive (primitives.String text)))
+string_writable text utf8 = ((lit< tt, refl), (((lit< tt, refl), (utf8, tt)), tt))
+
+pub local_writable : (p : Place) → IsWritable (listing.place p) → IsWritable (listing.value (values.LoadLocal p))
+local_writable p w = ((lit< tt, refl), (w, tt))
+
+pub global_writable : (name : List ℕ) → IsUtf8 name → IsWritable (listing.value (values.LoadGlobal (bindings.Global name)))
+global_writable name utf8 = ((lit< tt, refl), ((utf8, tt), (tt, tt)))
+
+pub binary_writable : (operator : BinaryOperator) (left right : Place) → IsUtf8 (operator_text operator)
+    → IsWritable (listing.place left) → IsWritable (listing.place right)
+    → IsWritable (listing.value (values.Binary operator left right))
+binary_writable operator left right utf8 l r = ((lit< tt, refl), ((utf8, tt), ((l, (r, tt)), tt)))
+
+shapes_writable : (given : List PlaceOrSpread) → AreWritable (parts_of (map listing.shape_of given))
+shapes_writable [] = tt
+shapes_writable (a ∷ given) = (shape_utf8 a, shapes_writable given)
+
+pub call_writable : (callee : Place) (given : List PlaceOrSpread) → IsWritable (listing.place callee)
+    → All (λ a. IsWritable (listing.operand_of a)) given → IsWritable (listing.value (values.Call callee given))
+call_writable callee given c all = ((lit< tt, refl), (shapes_writable given, ((c, all_writable listing.operand_of given all), tt)))
+
+-- instructions, terminals and blocks
+
+pub instruction_writable : (i : Instruction) → i.order.0 ≤ largest → IsWritable (listing.place i.lvalue)
+    → IsWritable (listing.optional listing.span i.span) → IsWritable (listing.value i.value)
+    → IsWritable (listing.instruction i)
+instruction_writable i order lvalue at value = ((lit< tt, refl), (order, (lvalue, (at, (value, tt)))))
+
+pub instruction_ordered : (order : ℕ) (i : Instruction) → order ≤ largest → IsWritable (listing.instruction i)
+    → IsWritable (listing.instruction (record i { order = record { 0 = order } }))
+instruction_ordered order i fits w = ((lit< tt, refl), (fits, w.1.1))
+
+pub return_writable : (at : Option Span) (variant : ReturnVariant) (p : Place) → IsWritable (listing.optional listing.span at)
+    → IsWritable (listing.place p) → IsWritable (listing.terminal (terminals.Return (record { 0 = 0 }) at variant p))
+return_writable at variant p span place = ((lit< tt, refl), (omega arith, (span, (variant_utf8 variant, (place, tt)))))
+
+terminal_ordered : (order : ℕ) (t : Terminal) → order ≤ largest → IsWritable (listing.terminal t)
+    → IsWritable (listing.terminal (with_order order t))
+terminal_ordered order (terminals.Return old at variant p) fits w = (w.0, (fits, w.1.1))
+terminal_ordered order (terminals.Unreachable old at) fits w = (w.0, (fits, w.1.1))
+
+pub block_ordered : (order : ℕ) (b : NumberedBlock) → order ≤ largest → IsWritable (listing.block b)
+    → IsWritable (listing.block (record b { block = record b.block { terminal = with_order order b.block.terminal } }))
+block_ordered order b fits w =
+    ((lit< tt, refl), (w.1.0, (w.1.1.0, (w.1.1.1.0, (terminal_ordered order b.block.terminal fits w.1.1.1.1.0, w.1.1.1.1.1)))))
+
+pub ended_writable : (wip : WipBlock) (t : Terminal) → wip.id.0 ≤ largest
+    → All (λ (id : InstructionId). id.0 ≤ largest) wip.instructions → IsWritable (listing.terminal t)
+    → IsWritable (listing.block (ended_by wip t))
+ended_writable wip t id listed terminal = (
+  (lit< tt, refl),
+  (
+    id,
+    (
+      kind_utf8 wip.kind,
+      (all_writable listing.listed_instruction wip.instructions listed, (terminal, (tt, tt))),
+    ),
+  ),
+)
+
+-- identifiers and functions
+
+pub unnamed_writable : (at : Option Span) (type : ℕ) → IsWritable (listing.optional listing.span at) → type ≤ largest
+    → IsWritable (listing.identifier (record { name = None; span = at; type_id = record { 0 = type } }))
+unnamed_writable at type span fits = ((lit< tt, refl), (tt, (span, (fits, tt))))
+
+pub named_writable : (name : List ℕ) (declaration : Span) (type : ℕ) → IsUtf8 name → IsSmallSpan declaration → type ≤ largest
+    → IsWritable (listing.identifier (named_identifier name declaration type))
+named_writable name declaration type utf8 small fits =
+    ((lit< tt, refl), (((lit< tt, refl), (utf8, tt)), (span_writable declaration small, (fits, tt))))
+
+pub function_writable : (f : HirFunction) → IsWritable (listing.optional listing.span f.span)
+    → IsWritable (listing.optional listing.said f.name) → All IsUtf8 f.directives
+    → All (λ p. IsWritable (listing.param p)) f.params → All (λ p. IsWritable (listing.place p)) f.context
+    → IsWritable (listing.place f.returns) → f.body.entry.0 ≤ largest → All (λ b. IsWritable (listing.block b)) f.body.blocks
+    → All (λ i. IsWritable (listing.instruction i)) f.instructions → IsWritable (listing.function f)
+function_writable f span name directives params context returned entry blocks table =
+    let graph = both (all_writable listing.block f.body.blocks blocks)
+    (both (all_writable listing.instruction f.instructions table) tt) in
+    let places = both (all_writable listing.param f.params params)
+    (both (all_writable listing.place f.context context) (both returned (both entry graph))) in
+    let texts = both (all_writable listing.said f.directives directives) places in
+    ((lit< tt, refl), (span, (name, (type_utf8 f.fn_type, (tt, (tt, texts))))))
+  where
+    both : {A B : Type 0} → A → B → A × B
+    both a b = (a, b)
