@@ -1,16 +1,22 @@
 //! Runs of the program over memory.
 
+mod base;
 mod limits;
 mod listings;
 mod malformed;
 mod refusals;
+mod reserved;
+mod scope;
 mod statuses;
 mod stops;
 mod streams;
+mod syntax;
+mod text;
 
-use crate::run::{Status, run};
 use rl_base::memory::{MemSink, MemSource};
+use rl_unit::run::{Status, run};
 use std::alloc::{AllocError, Global};
+use std::process::Abort;
 use std::test::Fail;
 
 /// `() => 1`.
@@ -32,6 +38,45 @@ fn answer(alloc: Global, unit: &[u8]) -> Result<(Status, Vec<u8>), Fail> {
     let mut sink = MemSink::new(alloc, 1000, Vec::new(alloc));
     let status = run(alloc, words.as_slice(), &mut source, &mut sink);
     Ok((status, Vec::from_slice(alloc, sink.held())?))
+}
+
+/// Checks the status and what is written of a unit, where nothing fails.
+fn check(
+    rt: &impl Abort,
+    alloc: Global,
+    unit: &[u8],
+    status: Status,
+    text: &str,
+) -> Result<(), Fail> {
+    let (answered, written) = answer(alloc, unit)?;
+    assert_eq!(rt; answered, status, "{unit:?}");
+    assert_eq!(rt; written.as_slice(), text.as_bytes(), "{unit:?}");
+    Ok(())
+}
+
+/// Checks the status and what is written of a function with this body.
+fn check_body(
+    rt: &impl Abort,
+    alloc: Global,
+    body: &str,
+    status: Status,
+    text: &str,
+) -> Result<(), Fail> {
+    let unit = unit_of(alloc, body)?;
+    check(rt, alloc, unit.as_bytes(), status, text)
+}
+
+/// Checks the status and what is written of a function with these parameters and statements.
+fn check_function(
+    rt: &impl Abort,
+    alloc: Global,
+    names: &[&str],
+    statements: &str,
+    status: Status,
+    text: &str,
+) -> Result<(), Fail> {
+    let unit = function_of(alloc, names, statements)?;
+    check(rt, alloc, unit.as_bytes(), status, text)
 }
 
 /// The unit of a function with this body. The body begins at byte 50, and 5 bytes follow it.

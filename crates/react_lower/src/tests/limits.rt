@@ -1,9 +1,18 @@
 //! The limits on bytes, on nodes, and on nodes that are open at once. They are looked at before anything else.
 
 use super::{answer, push_copies, unit_of};
-use crate::run::Status;
+use rl_unit::run::Status;
 use std::alloc::{AllocError, Global};
+use std::process::Abort;
 use std::test::Fail;
+
+/// Checks the status of a unit, and that nothing is written of one that is not lowered.
+fn check_status(rt: &impl Abort, alloc: Global, unit: &[u8], wanted: Status) -> Result<(), Fail> {
+    let (status, text) = answer(alloc, unit)?;
+    assert_eq!(rt; status, wanted, "{} bytes", unit.len());
+    assert_eq!(rt; text.is_empty(), wanted != Status::Done);
+    Ok(())
+}
 
 /// `null` in so many parentheses.
 fn nested(alloc: Global, parentheses: usize) -> Result<String, AllocError> {
@@ -29,13 +38,7 @@ fn limits_what_a_unit_has_open(rt: HostRuntime) -> Result<(), Fail> {
     // Four nodes are around the parentheses, and one is inside.
     for (count, wanted) in [(251, Status::Done), (252, Status::TooLarge)] {
         let unit = unit_of(alloc, nested(alloc, count)?.as_str())?;
-        let (status, text) = answer(alloc, unit.as_bytes())?;
-        assert_eq!(rt; status, wanted, "{count} parentheses");
-        assert_eq!(rt;
-            text.is_empty(),
-            wanted == Status::TooLarge,
-            "{count} parentheses"
-        );
+        check_status(&rt, alloc, unit.as_bytes(), wanted)?;
     }
     Ok(())
 }
@@ -54,9 +57,7 @@ fn limits_what_is_open(rt: HostRuntime) -> Result<(), Fail> {
         let mut unit = String::new(alloc);
         push_copies(&mut unit, ")", closing)?;
         push_copies(&mut unit, "(", opening)?;
-        let (status, text) = answer(alloc, unit.as_bytes())?;
-        assert_eq!(rt; status, wanted, "{closing} closing, {opening} opening");
-        assert!(rt; text.is_empty(), "{closing} closing, {opening} opening");
+        check_status(&rt, alloc, unit.as_bytes(), wanted)?;
     }
     Ok(())
 }
@@ -67,9 +68,7 @@ fn limits_nodes_side_by_side(rt: HostRuntime) -> Result<(), Fail> {
     for (count, wanted) in [(65_536, Status::Malformed), (65_537, Status::TooLarge)] {
         let mut unit = String::new(alloc);
         push_copies(&mut unit, "()", count)?;
-        let (status, text) = answer(alloc, unit.as_bytes())?;
-        assert_eq!(rt; status, wanted, "{count} nodes");
-        assert!(rt; text.is_empty(), "{count} nodes");
+        check_status(&rt, alloc, unit.as_bytes(), wanted)?;
     }
     Ok(())
 }
@@ -83,9 +82,7 @@ fn limits_nodes_of_a_unit(rt: HostRuntime) -> Result<(), Fail> {
         ("(expr (paren (null)))", Status::TooLarge),
     ] {
         let unit = unit_of(alloc, statements(alloc, 32_764, last)?.as_str())?;
-        let (status, text) = answer(alloc, unit.as_bytes())?;
-        assert_eq!(rt; status, wanted, "{last}");
-        assert_eq!(rt; text.is_empty(), wanted == Status::TooLarge, "{last}");
+        check_status(&rt, alloc, unit.as_bytes(), wanted)?;
     }
     Ok(())
 }
@@ -95,19 +92,15 @@ fn counts_no_parentheses_in_texts(rt: HostRuntime) -> Result<(), Fail> {
     let alloc = rt.alloc();
     let mut text = String::from_str(alloc, "\"")?;
     push_copies(&mut text, "(", 257)?;
-    let (status, _) = answer(alloc, text.as_bytes())?;
-    assert_eq!(rt; status, Status::Malformed, "a text that does not end");
+    check_status(&rt, alloc, text.as_bytes(), Status::Malformed)?;
     text.push_str("\"")?;
-    let (status, _) = answer(alloc, text.as_bytes())?;
-    assert_eq!(rt; status, Status::Malformed, "a text alone");
+    check_status(&rt, alloc, text.as_bytes(), Status::Malformed)?;
 
     let mut body = String::from_str(alloc, "(str \"")?;
     push_copies(&mut body, "(", 65_537)?;
     body.push_str("\")")?;
     let unit = unit_of(alloc, body.as_str())?;
-    let (status, _) = answer(alloc, unit.as_bytes())?;
-    assert_eq!(rt; status, Status::Done, "a text in a unit");
-    Ok(())
+    check_status(&rt, alloc, unit.as_bytes(), Status::Done)
 }
 
 #[test]
@@ -118,9 +111,7 @@ fn limits_bytes(rt: HostRuntime) -> Result<(), Fail> {
         (16_777_217, Status::TooLarge),
     ] {
         let bytes = vec![in alloc; b' '; length]?;
-        let (status, text) = answer(alloc, bytes.as_slice())?;
-        assert_eq!(rt; status, wanted, "{length} bytes");
-        assert!(rt; text.is_empty(), "{length} bytes");
+        check_status(&rt, alloc, bytes.as_slice(), wanted)?;
     }
     Ok(())
 }

@@ -1,18 +1,26 @@
 //! Units that are lowered, and their listings. Those that stand whole are outputs of a second implementation, but for the
 //! listings of names, operators and calls: those were read by hand.
 
-use super::{UNIT, answer, async_unit_of, function_of, unit_of};
-use crate::run::Status;
+use super::{UNIT, async_unit_of, check, check_body, check_function};
+use rl_unit::run::Status;
+use std::alloc::{AllocError, Global};
 use std::test::Fail;
 
 #[test]
 fn lowers_a_number(rt: HostRuntime) -> Result<(), Fail> {
     let listing =
         "(lowered (fn (at 25 60) - \"other\" n n [] [] [] (p 2 -) 0 [(block 0 \"block\" [0] (return 2 - \"implicit\" (p 0 (at 50 59))) [])] [(i 1 (p 0 (at 50 59)) (at 50 59) (primitive (number 1))) (i 0 (p 1 -) - (primitive (undefined)))]) [] [(ident - (at 50 59) 0) (ident - - 1) (ident - (at 25 60) 2)] [])\n";
-    let (status, text) = answer(rt.alloc(), UNIT)?;
-    assert_eq!(rt; status, Status::Done);
-    assert_eq!(rt; text.as_slice(), listing.as_bytes());
-    Ok(())
+    check(&rt, rt.alloc(), UNIT, Status::Done, listing)
+}
+
+/// The listing of an async function whose body is a literal.
+fn listing_of_literal(alloc: Global, body: &str, value: &str) -> Result<String, AllocError> {
+    let end = 50 + body.len();
+    let at = format!(in alloc; "(at 50 {end})")?;
+    let whole = end + 1;
+    format!(in alloc;
+        "(lowered (fn (at 25 {whole}) - \"other\" n y [] [] [] (p 2 -) 0 [(block 0 \"block\" [0] (return 2 - \"implicit\" (p 0 {at})) [])] [(i 1 (p 0 {at}) {at} {value}) (i 0 (p 1 -) - (primitive (undefined)))]) [] [(ident - {at} 0) (ident - - 1) (ident - (at 25 {whole}) 2)] [])\n"
+    )
 }
 
 #[test]
@@ -29,16 +37,8 @@ fn lowers_other_literals(rt: HostRuntime) -> Result<(), Fail> {
         ("(str \"x_0\")", "(primitive (text \"x_0\"))"),
     ] {
         let unit = async_unit_of(alloc, body)?;
-        let (status, text) = answer(alloc, unit.as_bytes())?;
-        assert_eq!(rt; status, Status::Done, "{body}");
-        let end = 50 + body.len();
-        let at = format!(in alloc; "(at 50 {end})")?;
-        let wanted = format!(in alloc;
-            "(lowered (fn (at 25 {}) - \"other\" n y [] [] [] (p 2 -) 0 [(block 0 \"block\" [0] (return 2 - \"implicit\" (p 0 {at})) [])] [(i 1 (p 0 {at}) {at} {value}) (i 0 (p 1 -) - (primitive (undefined)))]) [] [(ident - {at} 0) (ident - - 1) (ident - (at 25 {}) 2)] [])\n",
-            end + 1,
-            end + 1
-        )?;
-        assert_eq!(rt; text.as_slice(), wanted.as_bytes(), "{body}");
+        let wanted = listing_of_literal(alloc, body, value)?;
+        check(&rt, alloc, unit.as_bytes(), Status::Done, wanted.as_str())?;
     }
     Ok(())
 }
@@ -60,10 +60,7 @@ fn lowers_expressions(rt: HostRuntime) -> Result<(), Fail> {
             "(lowered (fn (at 25 73) - \"other\" n n [] [] [] (p 2 -) 0 [(block 0 \"block\" [0] (return 2 - \"implicit\" (p 0 (at 64 70))) [])] [(i 1 (p 0 (at 64 70)) (at 64 70) (primitive (null))) (i 0 (p 1 -) - (primitive (undefined)))]) [] [(ident - (at 64 70) 0) (ident - - 1) (ident - (at 25 73) 2)] [])\n",
         ),
     ] {
-        let unit = unit_of(alloc, body)?;
-        let (status, text) = answer(alloc, unit.as_bytes())?;
-        assert_eq!(rt; status, Status::Done, "{body}");
-        assert_eq!(rt; text.as_slice(), listing.as_bytes(), "{body}");
+        check_body(&rt, alloc, body, Status::Done, listing)?;
     }
     Ok(())
 }
@@ -89,10 +86,7 @@ fn lowers_bodies(rt: HostRuntime) -> Result<(), Fail> {
             "(lowered (fn (at 25 141) - \"other\" n n [\"use strict\"] [] [] (p 4 -) 0 [(block 0 \"block\" [0 1 2 3] (return 5 - \"void\" (p 3 -)) [])] [(i 1 (p 0 (at 78 87)) (at 78 87) (primitive (number 0))) (i 2 (p 1 (at 109 119)) (at 109 119) (primitive (number 42))) (i 3 (p 2 (at 129 137)) (at 129 137) (primitive (bool n))) (i 4 (p 3 -) - (primitive (undefined)))]) [] [(ident - (at 78 87) 0) (ident - (at 109 119) 1) (ident - (at 129 137) 2) (ident - - 3) (ident - (at 25 141) 4)] [])\n",
         ),
     ] {
-        let unit = unit_of(alloc, body)?;
-        let (status, text) = answer(alloc, unit.as_bytes())?;
-        assert_eq!(rt; status, Status::Done, "{body}");
-        assert_eq!(rt; text.as_slice(), listing.as_bytes(), "{body}");
+        check_body(&rt, alloc, body, Status::Done, listing)?;
     }
     Ok(())
 }
@@ -111,9 +105,7 @@ fn lowers_bodies_of_async_functions(rt: HostRuntime) -> Result<(), Fail> {
         ),
     ] {
         let unit = async_unit_of(alloc, body)?;
-        let (status, text) = answer(alloc, unit.as_bytes())?;
-        assert_eq!(rt; status, Status::Done, "{body}");
-        assert_eq!(rt; text.as_slice(), listing.as_bytes(), "{body}");
+        check(&rt, alloc, unit.as_bytes(), Status::Done, listing)?;
     }
     Ok(())
 }
@@ -144,10 +136,7 @@ fn lowers_names_operators_and_calls(rt: HostRuntime) -> Result<(), Fail> {
         ),
     ];
     for (names, statements, listing) in rows {
-        let unit = function_of(alloc, names, statements)?;
-        let (status, text) = answer(alloc, unit.as_bytes())?;
-        assert_eq!(rt; status, Status::Done, "{statements}");
-        assert_eq!(rt; text.as_slice(), listing.as_bytes(), "{statements}");
+        check_function(&rt, alloc, names, statements, Status::Done, listing)?;
     }
     Ok(())
 }

@@ -1,16 +1,14 @@
 //! Bytes that spell no unit.
 
-use super::{UNIT, answer, function_of, unit_of};
-use crate::run::Status;
+use super::{UNIT, check, check_body, check_function};
+use rl_unit::run::Status;
 use std::test::Fail;
 
 #[test]
 fn refuses_cuts_of_a_unit(rt: HostRuntime) -> Result<(), Fail> {
     let alloc = rt.alloc();
     for length in 0..UNIT.len() {
-        let (status, text) = answer(alloc, &UNIT[..length])?;
-        assert_eq!(rt; status, Status::Malformed, "cut to {length}");
-        assert!(rt; text.is_empty(), "cut to {length}");
+        check(&rt, alloc, &UNIT[..length], Status::Malformed, "")?;
     }
     Ok(())
 }
@@ -28,19 +26,17 @@ fn refuses_what_is_no_unit(rt: HostRuntime) -> Result<(), Fail> {
     let parameter = b"(unit [] (program [(expr (arrow y n (params [\"a\"] -) (num \"1\")))]))";
     let two_functions =
         b"(unit [] (program [(expr (arrow y n (params [] -) (null))) (expr (arrow y n (params [] -) (null)))]))";
-    for (name, unit) in [
-        ("twice", twice.as_slice()),
-        ("line feed", line_feed.as_slice()),
-        ("two spaces", two_spaces.as_slice()),
-        ("upper case", upper_case.as_slice()),
-        ("no text", no_text.as_slice()),
-        ("not marked", not_marked.as_slice()),
-        ("parameter", parameter.as_slice()),
-        ("two functions", two_functions.as_slice()),
+    for unit in [
+        twice.as_slice(),
+        line_feed.as_slice(),
+        two_spaces.as_slice(),
+        upper_case.as_slice(),
+        no_text.as_slice(),
+        not_marked.as_slice(),
+        parameter.as_slice(),
+        two_functions.as_slice(),
     ] {
-        let (status, text) = answer(alloc, unit)?;
-        assert_eq!(rt; status, Status::Malformed, "{name}");
-        assert!(rt; text.is_empty(), "{name}");
+        check(&rt, alloc, unit, Status::Malformed, "")?;
     }
     Ok(())
 }
@@ -59,10 +55,7 @@ fn refuses_what_is_no_body(rt: HostRuntime) -> Result<(), Fail> {
         "(body [(str \"use strict\")] [])",
         "(body [] [(expr (num \"01\")) (return (null) (null))])",
     ] {
-        let unit = unit_of(alloc, body)?;
-        let (status, text) = answer(alloc, unit.as_bytes())?;
-        assert_eq!(rt; status, Status::Malformed, "{body}");
-        assert!(rt; text.is_empty(), "{body}");
+        check_body(&rt, alloc, body, Status::Malformed, "")?;
     }
     Ok(())
 }
@@ -77,11 +70,9 @@ fn refuses_two_parameters_of_one_name(rt: HostRuntime) -> Result<(), Fail> {
         &["this", "this"],
         &["class", "fbt", "fbt"],
     ];
-    for (row, names) in rows.iter().enumerate() {
-        let unit = function_of(alloc, names, "(return (num \"1.5\"))")?;
-        let (status, text) = answer(alloc, unit.as_bytes())?;
-        assert_eq!(rt; status, Status::Malformed, "row {row}");
-        assert!(rt; text.is_empty(), "row {row}");
+    let statements = "(return (num \"1.5\"))";
+    for names in rows {
+        check_function(&rt, alloc, names, statements, Status::Malformed, "")?;
     }
     Ok(())
 }

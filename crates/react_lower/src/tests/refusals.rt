@@ -1,8 +1,8 @@
 //! Units that are refused, and what is written of them.
 
-use super::{answer, function_of, unit_of, words};
-use crate::run::{Status, run};
+use super::{check_body, check_function, unit_of, words};
 use rl_base::memory::{MemSink, MemSource};
+use rl_unit::run::{Status, run};
 use std::alloc::{AllocError, Global};
 use std::test::Fail;
 
@@ -20,13 +20,13 @@ fn report(alloc: Global, places: &[&str]) -> Result<String, AllocError> {
 #[test]
 fn reports_a_number(rt: HostRuntime) -> Result<(), Fail> {
     let alloc = rt.alloc();
-    let unit = unit_of(alloc, "(num \"9007199254740993\")")?;
-    let (status, text) = answer(alloc, unit.as_bytes())?;
-    assert_eq!(rt; status, Status::Reported);
-    assert_eq!(rt;
-        text.as_slice(),
-        b"F43 Todo 50..74 Only whole numbers up to 2^53 are supported\n".as_slice()
-    );
+    check_body(
+        &rt,
+        alloc,
+        "(num \"9007199254740993\")",
+        Status::Reported,
+        "F43 Todo 50..74 Only whole numbers up to 2^53 are supported\n",
+    )?;
     Ok(())
 }
 
@@ -61,11 +61,8 @@ fn reports_numbers_in_text_order(rt: HostRuntime) -> Result<(), Fail> {
         ),
     ];
     for (body, places) in rows {
-        let unit = unit_of(alloc, body)?;
-        let (status, text) = answer(alloc, unit.as_bytes())?;
-        assert_eq!(rt; status, Status::Reported, "{body}");
         let wanted = report(alloc, places)?;
-        assert_eq!(rt; text.as_slice(), wanted.as_bytes(), "{body}");
+        check_body(&rt, alloc, body, Status::Reported, wanted.as_str())?;
     }
     Ok(())
 }
@@ -83,27 +80,25 @@ fn reports_the_global_eval(rt: HostRuntime) -> Result<(), Fail> {
             "F2 UnsupportedSyntax 66..77 The 'eval' function is not supported; Eval is an anti-pattern in JavaScript, and the code executed cannot be evaluated by React Compiler\nF2 UnsupportedSyntax 95..106 The 'eval' function is not supported; Eval is an anti-pattern in JavaScript, and the code executed cannot be evaluated by React Compiler\n",
         ),
     ] {
-        let unit = unit_of(alloc, body)?;
-        let (status, text) = answer(alloc, unit.as_bytes())?;
-        assert_eq!(rt; status, Status::Reported, "{body}");
-        assert_eq!(rt; text.as_slice(), report.as_bytes(), "{body}");
+        check_body(&rt, alloc, body, Status::Reported, report)?;
     }
     Ok(())
 }
 
 #[test]
 fn reports_a_parameter_fbt_and_its_reads(rt: HostRuntime) -> Result<(), Fail> {
-    let unit = function_of(
-        rt.alloc(),
-        &["fbt"],
-        "(expr (id \"fbt\")) (return (id \"fbt\"))",
-    )?;
+    let names = ["fbt"];
+    let statements = "(expr (id \"fbt\")) (return (id \"fbt\"))";
     let report =
         "F40 Todo 52..66 Support local variables named `fbt`; Local variables named `fbt` may conflict with the fbt plugin and are not yet supported\nF40 Todo 52..66 Support local variables named `fbt`; Local variables named `fbt` may conflict with the fbt plugin and are not yet supported\nF40 Todo 52..66 Support local variables named `fbt`; Local variables named `fbt` may conflict with the fbt plugin and are not yet supported\n";
-    let (status, text) = answer(rt.alloc(), unit.as_bytes())?;
-    assert_eq!(rt; status, Status::Reported);
-    assert_eq!(rt; text.as_slice(), report.as_bytes());
-    Ok(())
+    check_function(
+        &rt,
+        rt.alloc(),
+        &names,
+        statements,
+        Status::Reported,
+        report,
+    )
 }
 
 #[test]

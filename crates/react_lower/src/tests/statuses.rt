@@ -1,7 +1,7 @@
 //! One function with many faults, of which one after the other is mended: the first decides the answer.
 
-use super::{answer, function_of, push_copies};
-use crate::run::Status;
+use super::{check_function, push_copies};
+use rl_unit::run::Status;
 use std::alloc::{AllocError, Global};
 use std::test::Fail;
 
@@ -66,10 +66,7 @@ fn answers_the_first_fault(rt: HostRuntime) -> Result<(), Fail> {
     ];
     for (names, number, parentheses, status, text) in rows {
         let statements = returned(alloc, number, parentheses)?;
-        let unit = function_of(alloc, names, statements.as_str())?;
-        let (answered, written) = answer(alloc, unit.as_bytes())?;
-        assert_eq!(rt; answered, status, "{text}");
-        assert_eq!(rt; written.as_slice(), text.as_bytes(), "{text}");
+        check_function(&rt, alloc, names, statements.as_str(), status, text)?;
     }
     Ok(())
 }

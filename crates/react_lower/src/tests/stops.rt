@@ -1,8 +1,24 @@
 //! Units that are stopped, and the one line that is written of them.
 
-use super::{answer, function_of};
-use crate::run::Status;
+use super::check_function;
+use rl_unit::run::Status;
+use std::alloc::{AllocError, Global};
 use std::test::Fail;
+
+/// The line on a reserved word.
+fn report(alloc: Global, row: &str, place: &str, word: &str) -> Result<String, AllocError> {
+    let mut line = String::from_str(alloc, row)?;
+    for part in [
+        " Syntax ",
+        place,
+        " Expected a non-reserved identifier name; `",
+        word,
+        "` is a reserved word in JavaScript and cannot be used as an identifier name\n",
+    ] {
+        line.push_str(part)?;
+    }
+    Ok(line)
+}
 
 #[test]
 fn stops_at_a_reserved_parameter(rt: HostRuntime) -> Result<(), Fail> {
@@ -25,13 +41,15 @@ fn stops_at_a_reserved_parameter(rt: HostRuntime) -> Result<(), Fail> {
         ),
     ];
     for (names, statements, place, word) in rows {
-        let unit = function_of(alloc, names, statements)?;
-        let (status, text) = answer(alloc, unit.as_bytes())?;
-        assert_eq!(rt; status, Status::Reported, "{place}");
-        let wanted = format!(in alloc;
-            "S1 Syntax {place} Expected a non-reserved identifier name; `{word}` is a reserved word in JavaScript and cannot be used as an identifier name\n"
+        let wanted = report(alloc, "S1", place, word)?;
+        check_function(
+            &rt,
+            alloc,
+            names,
+            statements,
+            Status::Reported,
+            wanted.as_str(),
         )?;
-        assert_eq!(rt; text.as_slice(), wanted.as_bytes(), "{place}");
     }
     Ok(())
 }
@@ -46,13 +64,15 @@ fn stops_at_this_before_other_names(rt: HostRuntime) -> Result<(), Fail> {
         (&["fbt", "this"], "(return (id \"fbt\"))", "77..92"),
     ];
     for (names, statements, place) in rows {
-        let unit = function_of(alloc, names, statements)?;
-        let (status, text) = answer(alloc, unit.as_bytes())?;
-        assert_eq!(rt; status, Status::Reported, "{place}");
-        let wanted = format!(in alloc;
-            "S2 Syntax {place} Expected a non-reserved identifier name; `this` is a reserved word in JavaScript and cannot be used as an identifier name\n"
+        let wanted = report(alloc, "S2", place, "this")?;
+        check_function(
+            &rt,
+            alloc,
+            names,
+            statements,
+            Status::Reported,
+            wanted.as_str(),
         )?;
-        assert_eq!(rt; text.as_slice(), wanted.as_bytes(), "{place}");
     }
     Ok(())
 }

@@ -1,8 +1,8 @@
 //! Sources and sinks that fail, and words that are no command.
 
 use super::{UNIT, words};
-use crate::run::{Status, run};
 use rl_base::memory::{MemSink, MemSource};
+use rl_unit::run::{Status, run};
 use std::test::Fail;
 
 #[test]

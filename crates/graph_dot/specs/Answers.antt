@@ -1,0 +1,35 @@
+-- Statuses of the program, by what was read and written.
+use Rattle.std.specs.Prelude.{◌≡◌, ℕ, List, [], ◌∷◌, ◌++◌, Option, IfSome}
+use Rattle.std.specs.Io.KnownBytes.{Keeps, Appends}
+use Rattle.rl_ast.specs.Limits.{IsTooLarge}
+use Rattle.rl_ast.specs.declared.tree.Unit.{Unit as TreeOfUnit}
+use Rattle.rl_base.specs.Pieces.{AppendsPrefix}
+use Rattle.rl_hir.specs.declared.function.Lowered.{Lowered}
+use Rattle.rl_model.specs.Headline.{IsLowered}
+use Rattle.rl_model.specs.Units.{IsUnit}
+use Rattle.rl_unit.specs.Answers.{RefusesKnown, WritesKnown}
+use Rattle.rl_unit.specs.declared.run.Status.{Status}
+use Rattle.rl_unit.specs.declared.run.Status.TheVariants.{Done, Reported, Malformed, TooLarge, ReadFault, WriteFault, OutOfMemory, Usage}
+
+-- The bytes, where they are known, are within the limits and spell a unit that has a result.
+pub record HasResult (bytes : Option (List ℕ)) : Type 0 where
+  pub source : TreeOfUnit
+  pub spelled : IfSome bytes (λ known. IsUnit known source)
+  pub within : IfSome bytes (λ known. IsTooLarge known → ⊥)
+  pub result : Lowered
+  pub is_lowered : IsLowered source result
+
+-- The text ends with a closing brace and a line feed: in DOT, where a drawing is whole.
+abbrev pub IsWhole : List ℕ → Type 0
+IsWhole text = (body : List ℕ) × (text ≡ body ++ 125 ∷ 10 ∷ [])
+
+-- The fact that a status states of the bytes that the source had left, and of what the sink held before and holds now.
+abbrev pub Explains : Status → Option (List ℕ) → Option (List ℕ) → Option (List ℕ) → Type 0
+Explains Done left old new = (text : List ℕ) × HasResult left × IsWhole text × Appends old new text
+Explains Reported left old new = (text : List ℕ) × WritesKnown left Reported text × Appends old new text
+Explains WriteFault left old new = (text : List ℕ) × AppendsPrefix old new text
+Explains Malformed left old new = RefusesKnown left Malformed × Keeps old new
+Explains TooLarge left old new = RefusesKnown left TooLarge × Keeps old new
+Explains ReadFault left old new = Keeps old new
+Explains OutOfMemory left old new = Keeps old new
+Explains Usage left old new = Keeps old new

@@ -1,7 +1,0 @@
-use Rattle.std.proofs.Common.{◌≡◌, ◌++◌, drop}
-use Rattle.react_lower.specs.Answers.{lines}
-use Rattle.react_lower.proofs.run.report.Given as goal
-
--- the lines so far, and those of the rest, are all
-abbrev pub invariant-loop-diagnostic : goal.invariant-loop-diagnostic
-invariant-loop-diagnostic l = l.text.items ++ lines (drop l.diagnostic-index l.said) ≡ lines l.said

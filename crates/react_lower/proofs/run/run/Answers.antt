@@ -1,5 +1,0 @@
-use Rattle.react_lower.proofs.Answering.{output_complete}
-use Rattle.react_lower.proofs.run.run.Goals as goal
-
-pub returns-in-Ok-write_all-clause-complete : goal.returns-in-Ok-write_all-clause-complete
-returns-in-Ok-write_all-clause-complete g c command = output_complete (g.S.Source.left c.args.source.now) c.in-Ok.output.status c.in-Ok.output.text.items c.in-Ok.ensures.writes

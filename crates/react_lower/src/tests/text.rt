@@ -1,0 +1,80 @@
+//! The reader, the writer and the measure of the notation.
+
+use rl_text::measure::measure;
+use rl_text::read::{TextError, read_raw};
+use rl_text::write::write_raw;
+use std::test::Fail;
+
+#[test]
+fn reads_and_writes_trees(rt: HostRuntime) -> Result<(), Fail> {
+    let texts: [&[u8]; 9] = [
+        b"(a \"x\\0a\" [1 y -] [])",
+        b"[]",
+        b"(abc)",
+        b"9007199254740992",
+        b"0",
+        b"n",
+        b"\"\\22\\5c\\00 \"",
+        b"\"\xc3\xa4\"",
+        b"[[[] \"\"] (z n)]",
+    ];
+    for text in texts {
+        let raw = read_raw(rt.alloc(), text)?;
+        let written = write_raw(rt.alloc(), &raw)?;
+        assert_eq!(rt; written.as_slice(), text);
+    }
+    Ok(())
+}
+
+#[test]
+fn refuses_what_spells_no_tree(rt: HostRuntime) -> Result<(), Fail> {
+    let texts: [&[u8]; 20] = [
+        b"(a  b)",
+        b"[1  2]",
+        b"01",
+        b"\"\\0A\"",
+        b"\"\\41\"",
+        b"\"\xff\"",
+        b"9007199254740993",
+        b"",
+        b"[]\n",
+        b"()",
+        b"(a )",
+        b"[ 1]",
+        b"[1 ]",
+        b"(A)",
+        b"(a",
+        b"[1",
+        b"\"a",
+        b"\"\\2\"",
+        b"(a]",
+        b"1y",
+    ];
+    for text in texts {
+        match read_raw(rt.alloc(), text) {
+            Err(error) => assert_eq!(rt; error, TextError::Malformed),
+            Ok(_) => assert!(rt; false, "read {text:?}"),
+        }
+    }
+    Ok(())
+}
+
+#[test]
+fn measures_bytes_of_any_form(rt: HostRuntime) {
+    let rows: [(&[u8], usize, usize); 8] = [
+        (b"", 0, 0),
+        (b"(a \"(\" [1 y])", 1, 1),
+        (b"))))", 0, 0),
+        (b"))((((", 4, 4),
+        (b"(\"", 1, 1),
+        (b"(\"((", 1, 1),
+        (b"(a (b) (c (d)))", 4, 3),
+        (b"\"\\22)\"((\"))\")", 2, 2),
+    ];
+    for (bytes, nodes, deepest) in rows {
+        let size = measure(bytes);
+        assert_eq!(rt; size.bytes, bytes.len());
+        assert_eq!(rt; size.nodes, nodes);
+        assert_eq!(rt; size.deepest, deepest);
+    }
+}

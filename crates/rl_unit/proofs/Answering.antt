@@ -1,0 +1,135 @@
+-- What was read and answered, where the bytes that were left may not be known.
+use Rattle.std.proofs.Common.{◌≡◌, ◌≢◌, inl, inr, ℕ, ◌++◌, ◌≤◌, ◌<◌, min, List, Option, Some, None, IfSome, length, length-take, take, refl, ap, sym, subst, ◌∙◌, arith}
+use Rattle.std.proofs.lemmas.Bool.{cases_lt}
+use Rattle.std.proofs.lemmas.List.{take_all}
+use Rattle.std.specs.Io.KnownBytes.{Consumes}
+use Rattle.rl_ast.specs.Limits.{IsTooLarge, most_bytes, most_read}
+use Rattle.rl_base.specs.Diagnostics.{line_of}
+use Rattle.rl_base.specs.declared.diagnostic.Diagnostic.{Diagnostic}
+use Rattle.rl_ast.specs.Syntax.{Syntax}
+use Rattle.rl_ast.specs.Units.{Spells, unit}
+use Rattle.rl_ast.proofs.ReadBack.{Spells-unit-one}
+use Rattle.rl_hir.specs.declared.function.Lowered.{Lowered}
+use Rattle.rl_model.specs.Headline.{LowersTo}
+use Rattle.rl_model.specs.Units.{IsUnit}
+use Rattle.rl_model.specs.Rows.{refusals_of, stop_of}
+use Rattle.rl_model.specs.Source.{marked}
+use Rattle.rl_ast.specs.declared.tree.Unit.{Unit as TreeOfUnit}
+use Rattle.rl_unit.specs.Answers.{AnswersSteadily, Explains, IsAnswer, IsOutput, IsComplete, IsMalformed, IsRefused, IsStopped, Writes, WritesKnown, ReadsWhole, Refuses, RefusesKnown, lines, output, report_of}
+use Rattle.rl_unit.specs.declared.run.Status.{Status}
+use Rattle.rl_unit.specs.declared.run.Status.TheVariants.{Done, Reported, Malformed, TooLarge, ReadFault, WriteFault, OutOfMemory, Usage}
+
+-- what was read within the limit is all that was left
+pub all_read : (left : Option (List ℕ)) (bytes : List ℕ) → IfSome left (λ known. bytes ≡ take most_read known) → length bytes ≤ most_bytes → IfSome left (λ known. bytes ≡ known)
+all_read None bytes first within = tt
+all_read (Some known) bytes first within =
+    let count : length bytes ≡ min most_read (length known) = ap length first ∙ length-take most_read known in
+    first ∙ take_all most_read known (omega arith)
+
+-- a part that is past the limit of bytes is past the limits
+more_left : (left : Option (List ℕ)) (bytes : List ℕ) → IfSome left (λ known. bytes ≡ take most_read known) → most_bytes < length bytes → RefusesKnown left TooLarge
+more_left None bytes first past = record { no_output = tt; refuses = tt }
+more_left (Some known) bytes first past =
+    let count : length bytes ≡ min most_read (length known) = ap length first ∙ length-take most_read known in
+    record { no_output = tt; refuses = inl (omega arith) }
+
+-- what was read is past the limits where all that was left is
+too_large_known : (left : Option (List ℕ)) (bytes : List ℕ) → IfSome left (λ known. bytes ≡ take most_read known) → IsTooLarge bytes → RefusesKnown left TooLarge
+too_large_known None bytes first large = record { no_output = tt; refuses = tt }
+too_large_known (Some known) bytes first large = elim (cases_lt most_bytes (length bytes)) [
+  | inl past ↦ more_left (Some known) bytes first past
+  | inr within ↦ record { no_output = tt; refuses = subst IsTooLarge (all_read (Some known) bytes first (omega (arith, within))) large }
+]
+
+-- something is not nothing
+never_both : (o : Option Diagnostic) (d : Diagnostic) → o ≡ Some d → o ≡ None → ⊥
+never_both o d some none = absurd (cc)
+
+-- a result, a stop and a report are outputs
+pub writes_result : (bytes : List ℕ) (l : Lowered) (text : List ℕ) → LowersTo bytes l → text ≡ output l → Writes bytes Done text
+writes_result bytes l text lowers written = record { source = lowers.0; spelled = lowers.1; is_output = record { result = l; is_lowered = lowers.2; written = written } }
+
+pub writes_stop : (bytes : List ℕ) (said : Diagnostic) (text : List ℕ) → IsStopped bytes said → text ≡ line_of said → Writes bytes Reported text
+writes_stop bytes said text stopped written = record {
+  source = stopped.source;
+  spelled = stopped.spelled;
+  is_output = record {
+    unsupported = λ supported. never_both (stop_of (marked (unit stopped.source))) said stopped.stops supported.goes_on;
+    written = written ∙ ap (λ (o : Option Diagnostic). report_of o (refusals_of (marked (unit stopped.source)))) (sym stopped.stops);
+  };
+}
+
+pub writes_report : (bytes : List ℕ) (said : List Diagnostic) (text : List ℕ) → IsRefused bytes said → text ≡ lines said → Writes bytes Reported text
+writes_report bytes said text refused written = record {
+  source = refused.source;
+  spelled = refused.spelled;
+  is_output = record {
+    unsupported = λ supported. refused.some (refused.names ∙ supported.accepted);
+    written = written ∙ ap lines refused.names ∙ ap (λ (o : Option Diagnostic). report_of o (refusals_of (marked (unit refused.source)))) (sym refused.goes_on);
+  };
+}
+
+malformed_known : (left : Option (List ℕ)) (bytes : List ℕ) → IfSome left (λ known. bytes ≡ known) → IsMalformed bytes → RefusesKnown left Malformed
+malformed_known None bytes same m = record { no_output = tt; refuses = tt }
+malformed_known (Some known) bytes same m = record { no_output = tt; refuses = subst IsMalformed same m }
+
+pub within_bytes : (bytes : List ℕ) → (IsTooLarge bytes → ⊥) → length bytes ≤ most_bytes
+within_bytes bytes small = elim (cases_lt most_bytes (length bytes)) [
+  | inl past ↦ absurd (small (inl past))
+  | inr within ↦ within
+]
+
+pub nothing_said : (left : Option (List ℕ)) → IfSome left (λ known. Unit {0})
+nothing_said None = tt
+nothing_said (Some known) = tt
+
+pub refuses_left : (left : Option (List ℕ)) (bytes : List ℕ) (status : Status) → IfSome left (λ known. bytes ≡ take most_read known) → RefusesKnown (Some bytes) status → RefusesKnown left status
+refuses_left left bytes Malformed first r = malformed_known left bytes (all_read left bytes first (within_bytes bytes r.refuses.within)) r.refuses
+refuses_left left bytes TooLarge first r = too_large_known left bytes first r.refuses
+refuses_left left bytes ReadFault first r = record { no_output = tt; refuses = nothing_said left }
+refuses_left left bytes OutOfMemory first r = record { no_output = tt; refuses = nothing_said left }
+refuses_left left bytes Usage first r = absurd r.no_output
+refuses_left left bytes Reported first r = absurd r.no_output
+refuses_left left bytes Done first r = absurd r.no_output
+refuses_left left bytes WriteFault first r = absurd r.no_output
+
+-- bytes spell one unit
+pub same_unit : (bytes : List ℕ) (u v : TreeOfUnit) → Spells bytes u → Spells bytes v → unit u ≡ unit v
+same_unit bytes u v one other = ap unit (Spells-unit-one bytes u v one other)
+
+-- what an output says of the unit that was read, it says of each unit that the bytes spell
+output_answers : (status : Status) (u : TreeOfUnit) (text : List ℕ) → IsOutput status u text → IsAnswer (marked (unit u)) status
+output_answers Done u text is = is.is_lowered.supported
+output_answers Reported u text is = is.unsupported
+output_answers Malformed u text is = absurd is
+output_answers TooLarge u text is = absurd is
+output_answers ReadFault u text is = absurd is
+output_answers WriteFault u text is = absurd is
+output_answers OutOfMemory u text is = absurd is
+output_answers Usage u text is = absurd is
+
+spelled_known : (left : Option (List ℕ)) (bytes : List ℕ) (u : TreeOfUnit) → left ≡ Some bytes → IfSome left (λ known. IsUnit known u) → IsUnit bytes u
+spelled_known left bytes u is spelled = subst (λ o. IfSome o (λ known. IsUnit known u)) is spelled
+
+pub output_complete : (left : Option (List ℕ)) (status : Status) (text : List ℕ) → WritesKnown left status text → IsComplete left status
+output_complete left status text w = record {
+  answers = λ bytes u is within spells.
+      let read : IsUnit bytes w.source = subst (λ o. IfSome o (λ known. IsUnit known w.source)) is w.spelled in
+      subst (λ (s : Syntax). IsAnswer (marked s) status) (same_unit bytes w.source u read.spells spells.spells) (output_answers status w.source text w.is_output);
+}
+
+pub reads_whole : (left new : Option (List ℕ)) (bytes : List ℕ) → Consumes left new bytes → IfSome left (λ known. bytes ≡ take most_read known) → ReadsWhole left new
+reads_whole None new bytes gone first = tt
+reads_whole (Some known) None bytes gone first = absurd gone
+reads_whole (Some known) (Some rest) bytes gone first = gone ∙ ap (λ (b : List ℕ). b ++ rest) first
+
+-- where neither source nor sink fails, a status says what the bytes are
+pub steady_answer : (status : Status) (bytes : List ℕ) (left old new : Option (List ℕ)) → left ≡ Some bytes → Explains status left old new → (status ≢ Usage) → (status ≡ ReadFault → ⊥) → (status ≡ WriteFault → ⊥) → AnswersSteadily bytes status
+steady_answer Done bytes left old new is e command read write = (e.1.source, spelled_known left bytes e.1.source is e.1.spelled, e.1.is_output.is_lowered.supported)
+steady_answer Reported bytes left old new is e command read write = (e.1.source, spelled_known left bytes e.1.source is e.1.spelled, e.1.is_output.unsupported)
+steady_answer Malformed bytes left old new is e command read write = subst (λ o. IfSome o (λ known. Refuses Malformed known)) is e.0.refuses
+steady_answer TooLarge bytes left old new is e command read write = subst (λ o. IfSome o (λ known. Refuses TooLarge known)) is e.0.refuses
+steady_answer ReadFault bytes left old new is e command read write = read refl
+steady_answer WriteFault bytes left old new is e command read write = write refl
+steady_answer OutOfMemory bytes left old new is e command read write = tt
+steady_answer Usage bytes left old new is e command read write = command refl

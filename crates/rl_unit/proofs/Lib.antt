@@ -1,0 +1,6 @@
+pub mod Answering
+pub mod Fields
+pub mod Marked
+pub mod Outcomes
+pub mod Room
+pub mod Small

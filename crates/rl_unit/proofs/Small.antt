@@ -1,0 +1,76 @@
+-- The marked function of a unit within the limits is a small tree, so its result has a listing in the notation.
+use Rattle.std.proofs.Common.{◌≡◌, ℕ, suc, ◌+◌, ◌<◌, ◌≤◌, ◌^◌, ◌++◌, List, [], ◌∷◌, All, length, length-append, map, lit<, refl, ap, subst, sym, arith}
+use Rattle.rl_text.specs.Notation as notation
+use Rattle.rl_text.specs.Notation.{AreWritable, IsWritable, spelled_on, spelling}
+use Rattle.rl_text.specs.Raw.{parts_of}
+use Rattle.rl_ast.specs.Syntax.{Syntax, Node, Listed, Said, Count, Flag, Absent, Pieces, End, Then, IsPlaced, ArePlaced, nodes, plain, plain_parts, width}
+use Rattle.rl_ast.specs.Units.{Spells, unit}
+use Rattle.rl_ast.specs.Words.{word_text}
+use Rattle.rl_ast.specs.declared.tree.Unit.{Unit as TreeOfUnit}
+use Rattle.rl_ast.specs.declared.word.Word.TheVariants as word
+use Rattle.rl_hir.specs.Listing.{lowered, function, identifier, inner, pair}
+use Rattle.rl_hir.specs.declared.function.InnerFunction.{InnerFunction}
+use Rattle.rl_hir.specs.declared.function.Lowered.{Lowered}
+use Rattle.rl_lower.specs.Sound.{HasSmallSpans, HaveSmallSpans, IsSmallTree}
+use Rattle.rl_model.specs.Fields.{pairs_from}
+use Rattle.rl_model.specs.Source.{function_in, marked}
+use Rattle.rl_scope.specs.declared.semantic.Symbol.{Symbol}
+
+some_left : (close : ℕ) (parts : Pieces) → 0 < length (spelled_on close (plain_parts parts))
+some_left close End = omega arith
+some_left close (Then piece pieces) = omega arith
+
+mutual
+  -- a tree that stands in a short text
+  placed_small : (s : Syntax) (node byte : ℕ) → IsPlaced node byte s → byte + width s < 2 ^ 32 → HasSmallSpans s
+  placed_small (Node at w parts) node byte placed short =
+      let long : length (word_text w ++ spelled_on 41 (plain_parts parts)) ≡ length (word_text w) + length (spelled_on 41 (plain_parts parts)) = length-append (word_text w) (spelled_on 41 (plain_parts parts)) in
+      ((omega (arith, placed.0.start, short), omega (arith, placed.0.end, short)), placed_small_parts 41 parts (node + 1) (byte + 1 + length (word_text w)) placed.1 (omega (arith, long, short)))
+  placed_small (Listed End) node byte placed short = tt
+  placed_small (Listed (Then piece pieces)) node byte placed short =
+      placed_small_parts 93 (Then piece pieces) node byte placed
+      (let both : length (spelling (plain piece) ++ spelled_on 93 (plain_parts pieces)) ≡ width piece + length (spelled_on 93 (plain_parts pieces)) = length-append (spelling (plain piece)) (spelled_on 93 (plain_parts pieces)) in omega (arith, both, short))
+  placed_small (Said text) node byte placed short = tt
+  placed_small (Count number) node byte placed short = tt
+  placed_small (Flag flag) node byte placed short = tt
+  placed_small Absent node byte placed short = tt
+
+  placed_small_parts : (close : ℕ) (parts : Pieces) (node byte : ℕ) → ArePlaced node byte parts → byte + length (spelled_on close (plain_parts parts)) < 2 ^ 32 + 1 → HaveSmallSpans parts
+  placed_small_parts close End node byte placed short = tt
+  placed_small_parts close (Then piece pieces) node byte placed short =
+      let both : length (spelling (plain piece) ++ spelled_on close (plain_parts pieces)) ≡ width piece + length (spelled_on close (plain_parts pieces)) = length-append (spelling (plain piece)) (spelled_on close (plain_parts pieces)) in
+      let last : 0 < length (spelled_on close (plain_parts pieces)) = some_left close pieces in
+      (placed_small piece node (byte + 1) placed.0 (omega (arith, both, last, short)), placed_small_parts close pieces (node + nodes piece) (byte + 1 + width piece) placed.1 (omega (arith, both, short)))
+
+function_small : (s : Syntax) → IsSmallTree s → IsSmallTree (function_in s)
+function_small (Node at word.Expr (Then function End)) small = (small.0.1.0, small.1.1.0)
+function_small _ small = (tt, tt)
+
+marked_small : (s : Syntax) → IsSmallTree s → IsSmallTree (marked s)
+marked_small (Node at word.Unit (Then entities (Then (Node at2 word.Program (Then (Listed (Then statement End)) End)) End))) small = function_small statement (small.0.1.1.0.1.0.0, small.1.1.1.0.1.0.0)
+marked_small _ small = (tt, tt)
+
+-- the marked function of a unit within the limits
+pub unit_small : (bytes : List ℕ) (u : TreeOfUnit) → Spells bytes u → length bytes ≤ 2 ^ 24 → IsSmallTree (marked (unit u))
+unit_small bytes u spells short =
+    let long : length bytes ≡ width (unit u) = ap length spells.spelled.spelled in
+    marked_small (unit u) (placed_small (unit u) 0 0 spells.numbers (omega (arith, long, short)), spells.spelled.writable)
+
+-- a list whose items have writable trees
+pub all_writable : {X : Type 0} (tree : X → notation.Tree) (items : List X) → All (λ x. IsWritable (tree x)) items → AreWritable (parts_of (map tree items))
+all_writable tree [] all = tt
+all_writable tree (x ∷ items) all = (all 0 x (omega arith), all_writable tree items (λ i d within. all (suc i) d (omega (arith, within))))
+
+none_writable : (items : List InnerFunction) → items ≡ [] → AreWritable (parts_of (map inner items))
+none_writable items none = subst (λ (l : List InnerFunction). AreWritable (parts_of (map inner l))) (sym none) tt
+
+-- the pairs of symbols that get identifiers one after the other
+pub pairs_writable : (number identifier : ℕ) (symbols : List Symbol) → number + length symbols ≤ 2 ^ 53 → identifier + length symbols ≤ 2 ^ 53 → AreWritable (parts_of (map pair (pairs_from number identifier symbols)))
+pairs_writable number identifier [] few also = tt
+pairs_writable number identifier (symbol ∷ symbols) few also =
+    (((lit< tt, refl), (omega (arith, few), (omega (arith, also), tt))), pairs_writable (number + 1) (identifier + 1) symbols (omega (arith, few)) (omega (arith, also)))
+
+-- a result whose parts are writable
+pub result_writable : (l : Lowered) → IsWritable (function l.function) → l.inner ≡ [] → All (λ i. IsWritable (identifier i)) l.identifiers → AreWritable (parts_of (map pair l.pairs)) → IsWritable (lowered l)
+unfolding lowered
+result_writable l graph none identifiers pairs = ((lit< tt, refl), (graph, (none_writable l.inner none, (all_writable identifier l.identifiers identifiers, (pairs, tt)))))

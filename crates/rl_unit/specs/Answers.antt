@@ -1,0 +1,176 @@
+-- The results of `lower_unit`, and the exit statuses of the program, each with its cause.
+use Rattle.std.specs.Prelude.{◌≡◌, ◌≢◌, ℕ, List, [], ◌∷◌, ◌++◌, take, None, Some, IfSome, ⊤}
+use Rattle.std.specs.declared.option.Option.{Option}
+use Rattle.std.specs.Io.KnownBytes.{Consumes, Keeps, Appends}
+use Rattle.rl_base.specs.Pieces.{AppendsPrefix}
+use Rattle.rl_text.specs.Notation.{spelling}
+use Rattle.rl_hir.specs.Listing.{lowered}
+use Rattle.rl_ast.specs.Limits.{IsTooLarge, most_read}
+use Rattle.rl_ast.specs.Syntax.{Syntax}
+use Rattle.rl_ast.specs.Units.{unit}
+use Rattle.rl_base.specs.Diagnostics.{line_of}
+use Rattle.rl_base.specs.declared.diagnostic.Diagnostic.{Diagnostic}
+use Rattle.rl_model.specs.Rows.{IsSupported, refusals_of, stop_of}
+use Rattle.rl_model.specs.Source.{marked}
+use Rattle.rl_model.specs.Headline.{IsLowered}
+use Rattle.rl_model.specs.Units.{IsUnit}
+use Rattle.rl_unit.specs.declared.run.Status.{Status}
+use Rattle.rl_unit.specs.declared.run.Status.TheVariants.{Done, Reported, Malformed, TooLarge, ReadFault, WriteFault, OutOfMemory, Usage}
+use Rattle.rl_ast.specs.declared.tree.Unit.{Unit as TreeOfUnit}
+use Rattle.rl_hir.specs.declared.function.Lowered.{Lowered}
+
+-- The bytes are within the limits, and spell no well-formed unit.
+pub record IsMalformed (bytes : List ℕ) : Type 0 where
+  pub within : IsTooLarge bytes → ⊥
+  pub no_unit : (u : TreeOfUnit) → IsUnit bytes u → ⊥
+
+-- The output for a result: its text, and a line feed.
+abbrev pub output : Lowered → List ℕ
+output l = spelling (lowered l) ++ 10 ∷ []
+
+-- The bytes spell a unit that is stopped, by the diagnostic `said`.
+pub record IsStopped (bytes : List ℕ) (said : Diagnostic) : Type 0 where
+  pub source : TreeOfUnit
+  pub spelled : IsUnit bytes source
+  pub stops : stop_of (marked (unit source)) ≡ Some said
+
+-- The bytes spell a unit that is not stopped and is refused, by the diagnostics `said`, at least one.
+pub record IsRefused (bytes : List ℕ) (said : List Diagnostic) : Type 0 where
+  pub source : TreeOfUnit
+  pub spelled : IsUnit bytes source
+  pub goes_on : stop_of (marked (unit source)) ≡ None
+  pub names : said ≡ refusals_of (marked (unit source))
+  pub some : said ≢ []
+
+-- The lines of diagnostics, in order.
+abbrev pub lines : List Diagnostic → List ℕ
+lines [] = []
+lines (d ∷ ds) = line_of d ++ lines ds
+
+-- The report on a function: the line of its stop, or else the lines of its refusals.
+abbrev pub report_of : Option Diagnostic → List Diagnostic → List ℕ
+report_of (Some stop) refusals = line_of stop
+report_of None refusals = lines refusals
+
+-- The text is the output for a result of the unit.
+pub record IsResultOf (u : TreeOfUnit) (text : List ℕ) : Type 0 where
+  pub result : Lowered
+  pub is_lowered : IsLowered u result
+  pub written : text ≡ output result
+
+-- A row applies to the unit, and the text is its report.
+pub record IsReportOf (u : TreeOfUnit) (text : List ℕ) : Type 0 where
+  pub unsupported : IsSupported (marked (unit u)) → ⊥
+  pub written : text ≡ report_of (stop_of (marked (unit u))) (refusals_of (marked (unit u)))
+
+-- The text is the output of a status for a unit: of Done a result, of Reported a report.
+abbrev pub IsOutput : Status → TreeOfUnit → List ℕ → Type 0
+IsOutput Done u text = IsResultOf u text
+IsOutput Reported u text = IsReportOf u text
+IsOutput _ u text = ⊥
+
+-- The text is the output of the status for the unit that the bytes spell.
+pub record Writes (bytes : List ℕ) (status : Status) (text : List ℕ) : Type 0 where
+  pub source : TreeOfUnit
+  pub spelled : IsUnit bytes source
+  pub is_output : IsOutput status source text
+
+-- As `Writes`, of bytes that may not be known: of some unit, and within the limits where they are known.
+pub record WritesKnown (bytes : Option (List ℕ)) (status : Status) (text : List ℕ) : Type 0 where
+  pub source : TreeOfUnit
+  pub spelled : IfSome bytes (λ known. IsUnit known source)
+  pub within : IfSome bytes (λ known. IsTooLarge known → ⊥)
+  pub is_output : IsOutput status source text
+
+-- The cause of a status without output, about the bytes that the source had left.
+abbrev pub Refuses : Status → List ℕ → Type 0
+Refuses Malformed left = IsMalformed left
+Refuses TooLarge left = IsTooLarge left
+Refuses ReadFault left = Unit {0}
+Refuses OutOfMemory left = Unit {0}
+Refuses Usage left = ⊥
+Refuses Reported left = ⊥
+Refuses Done left = ⊥
+Refuses WriteFault left = ⊥
+
+-- The statuses of runs that lower no unit and write nothing.
+abbrev pub HasNoOutput : Status → Type 0
+HasNoOutput Malformed = Unit {0}
+HasNoOutput TooLarge = Unit {0}
+HasNoOutput ReadFault = Unit {0}
+HasNoOutput OutOfMemory = Unit {0}
+HasNoOutput Usage = ⊥
+HasNoOutput Reported = ⊥
+HasNoOutput Done = ⊥
+HasNoOutput WriteFault = ⊥
+
+pub record RefusesKnown (left : Option (List ℕ)) (status : Status) : Type 0 where
+  pub no_output : HasNoOutput status
+  pub refuses : IfSome left (λ known. Refuses status known)
+
+-- The meaning of a status: about the bytes `left` that the source had, and the bytes `old` and `new` that the sink held before
+-- and after the run.
+abbrev pub Explains : Status → Option (List ℕ) → Option (List ℕ) → Option (List ℕ) → Type 0
+Explains Done left old new = (text : List ℕ) × WritesKnown left Done text × Appends old new text
+Explains Reported left old new = (text : List ℕ) × WritesKnown left Reported text × Appends old new text
+Explains WriteFault left old new = (status : Status) × (text : List ℕ) × WritesKnown left status text × AppendsPrefix old new text
+Explains Malformed left old new = RefusesKnown left Malformed × Keeps old new
+Explains TooLarge left old new = RefusesKnown left TooLarge × Keeps old new
+Explains ReadFault left old new = Keeps old new
+Explains OutOfMemory left old new = Keeps old new
+Explains Usage left old new = Keeps old new
+
+-- The exit status of the process.
+abbrev pub exit_code : Status → ℕ
+exit_code Done = 0
+exit_code Reported = 1
+exit_code Malformed = 2
+exit_code TooLarge = 3
+exit_code ReadFault = 4
+exit_code WriteFault = 5
+exit_code OutOfMemory = 6
+exit_code Usage = 7
+
+-- The statuses that come after the bytes were read.
+abbrev pub HasRead : Status → Type 0
+HasRead Done = Unit {0}
+HasRead Reported = Unit {0}
+HasRead Malformed = Unit {0}
+HasRead TooLarge = Unit {0}
+HasRead WriteFault = Unit {0}
+HasRead ReadFault = ⊥
+HasRead OutOfMemory = ⊥
+HasRead Usage = ⊥
+
+-- The source was read to its end, or until one byte more than the limit was there.
+abbrev pub ReadsWhole : Option (List ℕ) → Option (List ℕ) → Type 0
+ReadsWhole None new = ⊤
+ReadsWhole (Some left) new = Consumes (Some left) new (take (most_read) left)
+
+-- The statuses of a run on a unit within the limits, by its marked function: Done where no row applies, Reported where one does,
+-- or that an allocation, the source or the sink failed.
+abbrev pub IsAnswer : Syntax → Status → Type 0
+IsAnswer function Done = IsSupported function
+IsAnswer function Reported = IsSupported function → ⊥
+IsAnswer function ReadFault = Unit {0}
+IsAnswer function WriteFault = Unit {0}
+IsAnswer function OutOfMemory = Unit {0}
+IsAnswer function Malformed = ⊥
+IsAnswer function TooLarge = ⊥
+IsAnswer function Usage = ⊥
+
+-- Bytes that were left, are known, are within the limits and spell a unit have the status of that unit.
+pub record IsComplete (left : Option (List ℕ)) (status : Status) : Type 0 where
+  pub answers : (bytes : List ℕ) (u : TreeOfUnit) → left ≡ Some bytes → (IsTooLarge bytes → ⊥) → IsUnit bytes u → IsAnswer (marked (unit u)) status
+
+-- The answer to a unit over a source and a sink that never fail: its result where no row applies, its report where one does,
+-- and neither where the bytes are malformed or pass a limit. Or memory was wanted and not given.
+abbrev pub AnswersSteadily : List ℕ → Status → Type 0
+AnswersSteadily bytes Done = (u : TreeOfUnit) × IsUnit bytes u × IsSupported (marked (unit u))
+AnswersSteadily bytes Reported = (u : TreeOfUnit) × IsUnit bytes u × (IsSupported (marked (unit u)) → ⊥)
+AnswersSteadily bytes Malformed = IsMalformed bytes
+AnswersSteadily bytes TooLarge = IsTooLarge bytes
+AnswersSteadily bytes ReadFault = ⊥
+AnswersSteadily bytes WriteFault = ⊥
+AnswersSteadily bytes OutOfMemory = Unit {0}
+AnswersSteadily bytes Usage = ⊥

@@ -1,0 +1,263 @@
+//! The program `lower` over any source and sink, and the parts that other programs share with it.
+
+ghost use Rattle.std.specs.Prelude.{◌≡◌, ◌≢◌, ◌≤◌, ◌<◌, ◌↔◌, ◌⊎◌, [], ◌∷◌, map, length, IfOk, IfErr, MatchResult, IsTrue, IsErrOf, string_bytes, codes};
+ghost use Rattle.std.specs.Io.KnownBytes.{Keeps};
+ghost use Rattle.rl_base.specs.Faults.{Rose};
+ghost use Rattle.rl_base.specs.Diagnostics.{line_of};
+ghost use Rattle.rl_ast.specs.Limits.{IsTooLarge};
+ghost use Rattle.rl_unit.specs.Outcomes.{ComesTo, ComesToKnown, outcome_status, outcome_text};
+ghost use Rattle.rl_unit.specs.Answers.{AnswersSteadily, Explains, HasRead, IsComplete, ReadsWhole, RefusesKnown, WritesKnown, exit_code, lines, output};
+
+use crate::unit::{LowerError, lower_unit};
+use rl_ast::read::LARGEST_INPUT;
+use rl_base::diagnostic::Diagnostic;
+use rl_base::error::OutOfMemory;
+use rl_base::infallible_io::{SteadySink, SteadySource};
+use rl_base::io::{ReadError, Sink, Source, read_up_to, write_all};
+use rl_hir::function::Lowered;
+use rl_hir::listing::listing;
+use rl_text::write::write_raw;
+use std::alloc::Global;
+use std::{env, io};
+
+/// The end of a program's run.
+#[derive(Clone, Copy, Debug, PartialEq, Eq)]
+pub enum Status {
+    /// The listing of the result was written.
+    Done,
+    /// A row applies to the unit, and the report was written.
+    Reported,
+    /// The bytes are within the limits and spell no unit. Nothing was written.
+    Malformed,
+    /// The bytes pass a limit. Nothing was written.
+    TooLarge,
+    /// The source failed. Nothing was written.
+    ReadFault,
+    /// The sink failed. A prefix of the output was written.
+    WriteFault,
+    /// An allocation failed.
+    OutOfMemory,
+    /// The arguments are no command.
+    Usage,
+}
+
+impl Status {
+    /// The exit status of the process, 0 to 7.
+    pub fn code(self) -> u8
+        ensures { result ≡ exit_code self }
+    {
+        match self {
+            Status::Done => 0,
+            Status::Reported => 1,
+            Status::Malformed => 2,
+            Status::TooLarge => 3,
+            Status::ReadFault => 4,
+            Status::WriteFault => 5,
+            Status::OutOfMemory => 6,
+            Status::Usage => 7,
+        }
+    }
+}
+
+impl From<OutOfMemory> for Status {
+    ghost use Rattle.rl_unit.specs.declared.run.Status.TheVariants.{OutOfMemory};
+    ghost use Rattle.std.specs.Prelude.{◌≡◌};
+
+    ghost from_gives = { λ _ status. status ≡ OutOfMemory };
+
+    fn from(_e: OutOfMemory) -> Status {
+        Status::OutOfMemory
+    }
+}
+
+/// The arguments of the process, without the program's name. An argument that is not UTF-8 is no command of these programs:
+/// on one the error is `Usage`, and on want of memory `OutOfMemory`.
+pub fn arguments(rt: &HostRuntime) -> Result<Vec<String>, Status> {
+    let all = env::args(rt).map_err(|e| {
+        if e.kind() == io::ErrorKind::OutOfMemory {
+            Status::OutOfMemory
+        } else {
+            Status::Usage
+        }
+    })?;
+    let mut words = Vec::new(rt.alloc());
+    for word in all.skip(1) {
+        words.push(word).map_err(|_| Status::OutOfMemory)?;
+    }
+    Ok(words)
+}
+
+/// True if `lower` is the one argument.
+fn is_command(words: &[String]) -> bool
+    ensures { IsTrue result ↔ (map string_bytes words.now ≡ codes "lower" ∷ []) }
+{
+    match words {
+        [word] => word.as_str() == "lower",
+        _ => false,
+    }
+}
+
+/// A unit that was read and lowered.
+#[derive(Drop)]
+pub enum Outcome {
+    /// No row applies to the unit: its result.
+    Lowered(Lowered),
+    /// A row applies to the unit: the lines of its report, as the program writes them.
+    Reported(Vec<u8>),
+}
+
+/// The bytes that the program writes of a unit, with the status that says so.
+#[derive(Drop)]
+struct Output {
+    /// Done or Reported.
+    status: Status,
+    text: Vec<u8>,
+}
+
+/// The lines of diagnostics, in order.
+fn report(alloc: Global, said: &[Diagnostic]) -> Result<Vec<u8>, OutOfMemory>
+    ensures { IfOk result (λ text. text.items ≡ lines said.now) }
+{
+    let mut text = Vec::new(alloc);
+    for diagnostic in said {
+        diagnostic.write_line(alloc, &mut text)?;
+    }
+    Ok(text)
+}
+
+/// The line of a stop.
+fn stop_line(alloc: Global, stop: &Diagnostic) -> Result<Vec<u8>, OutOfMemory>
+    ensures { IfOk result (λ text. text.items ≡ line_of stop.now) }
+{
+    let mut text = Vec::new(alloc);
+    stop.write_line(alloc, &mut text)?;
+    Ok(text)
+}
+
+/// The text of a result, and a line feed.
+fn listed(alloc: Global, lowered: &Lowered) -> Result<Vec<u8>, OutOfMemory>
+    ensures { IfOk result (λ text. text.items ≡ output lowered.now) }
+{
+    let raw = listing(alloc, lowered)?;
+    let mut text = write_raw(alloc, &raw)?;
+    text.push(b'\n')?;
+    Ok(text)
+}
+
+/// Lowers the unit that the bytes spell.
+fn outcome_of(alloc: Global, bytes: &[u8]) -> Result<Outcome, Status>
+    ensures comes { IfOk result (λ outcome. ComesTo bytes.now outcome) }
+    ensures within { IfOk result (λ _. IsTooLarge bytes.now → ⊥) }
+    ensures status { IfErr result (RefusesKnown (Some bytes.now)) }
+    ensures unread { IsErrOf result Status.ReadFault → ⊥ }
+{
+    match lower_unit(alloc, bytes) {
+        Ok(lowered) => Ok(Outcome::Lowered(lowered)),
+        Err(LowerError::Stopped(stop)) => Ok(Outcome::Reported(stop_line(alloc, &stop)?)),
+        Err(LowerError::Refused(said)) => Ok(Outcome::Reported(report(alloc, said.as_slice())?)),
+        Err(LowerError::TooLarge) => Err(Status::TooLarge),
+        Err(LowerError::Malformed) => Err(Status::Malformed),
+        Err(LowerError::OutOfMemory) => Err(Status::OutOfMemory),
+    }
+}
+
+/// Reads the unit that the source has left, and lowers it: the call of a program that writes another form of the result than
+/// the listing. An error is the exit status of a program that has nothing to write: `Malformed`, `TooLarge`, `ReadFault` or
+/// `OutOfMemory`. What was read is gone from the source, on an error too.
+pub fn lower_from<S: Source>(alloc: Global, source: &mut S) -> Result<Outcome, Status>
+    ensures comes { IfOk result (λ outcome. ComesToKnown (S.left source.old) outcome) }
+    ensures status { IfErr result (RefusesKnown (S.left source.old)) }
+    ensures read { MatchResult result (λ _. ReadsWhole (S.left source.old) (S.left source.new)) (λ status. HasRead status → ReadsWhole (S.left source.old) (S.left source.new)) }
+    ensures cause { IsErrOf result Status.ReadFault → Rose (S.faults source.old) (S.faults source.new) }
+{
+    let bytes = match read_up_to(alloc, source, LARGEST_INPUT + 1) {
+        Ok(bytes) => bytes,
+        Err(ReadError::Fault) => return Err(Status::ReadFault),
+        Err(ReadError::OutOfMemory) => return Err(Status::OutOfMemory),
+    };
+    match outcome_of(alloc, bytes.as_slice()) {
+        Ok(outcome) => Ok(outcome),
+        Err(status) => Err(status),
+    }
+}
+
+/// The output for an outcome: the listing of a result, or the report.
+fn output_of(alloc: Global, outcome: Outcome) -> Result<Output, OutOfMemory>
+    ensures status { IfOk result (λ output. output.status ≡ outcome_status outcome) }
+    ensures text { IfOk result (λ output. output.text.items ≡ outcome_text outcome) }
+{
+    match outcome {
+        Outcome::Lowered(lowered) => Ok(Output {
+            status: Status::Done,
+            text: listed(alloc, &lowered)?,
+        }),
+        Outcome::Reported(text) => Ok(Output {
+            status: Status::Reported,
+            text,
+        }),
+    }
+}
+
+/// Reads the unit that the source has left. The result is the output for it, or the status of a run without output.
+fn answer<S: Source>(alloc: Global, source: &mut S) -> Result<Output, Status>
+    ensures writes { IfOk result (λ output. WritesKnown (S.left source.old) output.status output.text.items) }
+    ensures status { IfErr result (RefusesKnown (S.left source.old)) }
+    ensures read { MatchResult result (λ _. ReadsWhole (S.left source.old) (S.left source.new)) (λ status. HasRead status → ReadsWhole (S.left source.old) (S.left source.new)) }
+    ensures cause { IsErrOf result Status.ReadFault → Rose (S.faults source.old) (S.faults source.new) }
+{
+    let outcome = match lower_from(alloc, source) {
+        Ok(outcome) => outcome,
+        Err(status) => return Err(status),
+    };
+    match output_of(alloc, outcome) {
+        Ok(output) => Ok(output),
+        Err(OutOfMemory) => Err(Status::OutOfMemory),
+    }
+}
+
+/// Runs the program: with `lower` as its one argument, lowers the unit that the source has left, and writes the listing or the
+/// report to the sink. All memory is allocated before the first byte is written.
+pub fn run<S: Source, K: Sink>(
+    alloc: Global,
+    words: &[String],
+    source: &mut S,
+    sink: &mut K,
+) -> Status
+    // Each status, by the arguments, the bytes that were left and the bytes that were written.
+    ensures usage { (result ≢ Status.Usage) ↔ (map string_bytes words.now ≡ codes "lower" ∷ []) }
+    ensures explained { Explains result (S.left source.old) (K.held sink.old) (K.held sink.new) }
+
+    // A unit within the limits is lowered or reported, unless a fault or want of memory ends the run.
+    ensures complete { map string_bytes words.now ≡ codes "lower" ∷ [] → IsComplete (S.left source.old) result }
+
+    // The bytes that were read.
+    ensures read { HasRead result → ReadsWhole (S.left source.old) (S.left source.new) }
+    ensures unread { result ≡ Status.Usage → Keeps (S.left source.old) (S.left source.new) }
+
+    // A fault ends the run only where one was counted.
+    ensures read_cause { result ≡ Status.ReadFault → Rose (S.faults source.old) (S.faults source.new) }
+    ensures write_cause { result ≡ Status.WriteFault → Rose (K.faults sink.old) (K.faults sink.new) }
+{
+    if !is_command(words) {
+        return Status::Usage;
+    }
+    let output = match answer(alloc, source) {
+        Ok(output) => output,
+        Err(status) => return status,
+    };
+    match write_all(sink, output.text.as_slice()) {
+        Ok(()) => output.status,
+        Err(_) => Status::WriteFault,
+    }
+}
+
+/// Runs the program over bytes in memory, and drops the output. Only allocations can fail, so each status but `OutOfMemory` says
+/// what the bytes are.
+pub fn run_steady(alloc: Global, words: &[String], bytes: Vec<u8>) -> Status
+    requires { map string_bytes words.now ≡ codes "lower" ∷ [] }
+    ensures { AnswersSteadily bytes.items result }
+{
+    let mut source = SteadySource::new(bytes);
+    let mut sink = SteadySink;
+    run(alloc, words, &mut source, &mut sink)
+}
