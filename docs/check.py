@@ -1,0 +1,47 @@
+#!/usr/bin/env python3
+"""Checks what the documents cite: that each file stands there, and that each name in backquotes is a word of the crates' files.
+Prints what is missing, and ends with status 1 where something is."""
+import pathlib, re, sys
+
+TOP = pathlib.Path(__file__).resolve().parent.parent
+PAGES = [TOP / "README.md", *sorted((TOP / "docs").glob("*.md"))]
+# Names of the original, of the toolchain, of lemmas by pattern, and of crates and files.
+OUTSIDE = set(
+    "ArenaVec BinaryExpression CloneIn FloatValue OxcDiagnostic aliasing_effects effects name_hint phis reactive renames "
+    "expect unwrap retain x0 x1 "
+    "CallExpression antt hyperfine oxc_react_compiler rl_frames rl_order crates txt "
+    "X_call X_counted X_runs X_sound X_tree X_writable read_X Kinds c in-Variant decreases-NAME".split()
+)
+
+
+def missing_files(text):
+    """Files named by a path in backquotes or in a link, and files of specs/ named in a table by their crate and their names."""
+    cited = {it for it in re.findall(r"`((?:\w+/)+[\w+.-]+\.\w+)`", text)}
+    for name in cited | set(re.findall(r"\]\((\w[\w/.]*)\)", text)):
+        places = [TOP / name, TOP / "docs" / name, TOP / "crates" / name]
+        if not any(it.exists() for it in places):
+            yield name
+    for crate, names in re.findall(r"^\| \**(rl_\w+) ([A-Z]\w+(?:, [A-Z]\w+)*)\** \|", text, re.M):
+        for name in names.split(", "):
+            if not (TOP / f"crates/{crate}/specs/{name}.antt").exists():
+                yield f"crates/{crate}/specs/{name}.antt"
+
+
+def missing_names(text, words):
+    for name in re.findall(r"`([A-Za-z_][\w:.-]*)`", text):
+        for part in re.split(r"::|\.", name):
+            if part and part not in words:
+                yield name
+
+
+files = [it for kind in ("rt", "antt") for it in TOP.glob(f"crates/*/*/**/*.{kind}") if "out" not in it.parts]
+words = OUTSIDE | {it.name for it in (TOP / "crates").iterdir()}
+for file in files:
+    words |= set(re.findall(r"[A-Za-z_][\w-]*", file.read_text()))
+found = False
+for page in PAGES:
+    text = page.read_text()
+    for what in sorted({*missing_files(text), *missing_names(text, words)}):
+        found = True
+        print(f"{page.relative_to(TOP)}: {what}")
+sys.exit(found)
