@@ -1,4 +1,4 @@
--- What the grammar says of a tree whose kind is known in part.
+-- The grammar of a tree whose kind is known in part.
 use Rattle.std.proofs.Common.{◌≡◌, ℕ, List, false, refl}
 use Rattle.rl_base.proofs.Operators.{is_operator-text, operator-unknown}
 use Rattle.rl_ast.specs.Syntax.{Syntax, Node, Listed, Said, Count, Flag, Absent, Pieces, End, Then}
@@ -50,5 +50,5 @@ pub first_no_text : (part : Syntax) (rest : Pieces) → ((text : List ℕ) → p
 first_no_text (Said text) rest none = absurd (none text refl)
 first_no_text _ rest none = refl
 
--- what an operator writes, and that a text that none writes is none's
+-- the text of an operator, and that a text of no operator is refused
 pub ruleset operators = (is_operator-text, operator-unknown)

@@ -1,4 +1,4 @@
--- What the grammar says of a function's parts, and of an expression's.
+-- The grammar of the parts of a function, and of an expression.
 use Rattle.std.proofs.Common.{◌≡◌, Bool, true, false, ◌&&◌, List, [], ◌∷◌, map, ap, sym, ◌∙◌, refl, true≢false}
 use Rattle.std.proofs.lemmas.Bool.{and_parts}
 use Rattle.rl_base.specs.Operators.{operator_text, is_operator}

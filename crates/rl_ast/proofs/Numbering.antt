@@ -1,4 +1,4 @@
--- How many bytes a tree takes, and trees in a row as one more is put behind them.
+-- The number of bytes of a tree, and lists of trees to which one more is appended.
 use Rattle.std.proofs.Common.{◌≡◌, ℕ, ◌+◌, ◌≤◌, Bool, List, [], ◌∷◌, ◌++◌, length, map, ap, ◌∙◌, refl, subst, arith, length-append, drop, append_assoc, zero, suc}
 use Rattle.std.proofs.lemmas.List.{map-append}
 use Rattle.rl_text.specs.Number.{numeral}
@@ -41,7 +41,7 @@ placed_behind node byte n b [] s en eb before placed = (subst (λ m. IsPlaced m 
 placed_behind node byte n b (first ∷ ss) s en eb before placed =
     (before.0, placed_behind (node + nodes first) (byte + 1 + width first) n b ss s (omega arith) (eb ∙ simp length-append (omega arith)) before.1 placed)
 
--- how many bytes a tree of the notation takes, by its variant
+-- the number of bytes of a tree of the notation, by its variant
 pub length_node : (r : Raw) (word : List ℕ) (parts : List Raw) → r ≡ raw.Node word parts → length (spelling (tree r)) ≡ length word + length (spelled_on 41 (parts_of (map tree parts))) + 1
 length_node r word parts e = rw (e, tree_node word parts) (simp length-append (omega arith))
 

@@ -1,4 +1,4 @@
--- What the reader of bytes, the numbering and the grammar say together.
+-- Facts about the reader of bytes, the numbering and the grammar together.
 use Rattle.std.proofs.Common.{◌≡◌, ℕ, ◌*◌, ◌^◌, ◌<◌, ◌≤◌, true, false, List, length, sym, ap, ◌∙◌, subst, inl, inr, arith}
 use Rattle.rl_text.specs.Notation as notation
 use Rattle.rl_text.specs.Notation.{spelling, height}

@@ -1,4 +1,4 @@
--- What a numbered tree is, by its plain tree, and how many pieces parts are.
+-- A numbered tree by its plain tree, and the number of pieces of parts.
 use Rattle.std.proofs.Common.{◌≡◌, ℕ, ◌≤◌, Bool, List, [], ◌∷◌, length, get_or, drop, map, sym, ap, ◌∙◌, refl, arith, zero, suc}
 use Rattle.rl_ast.specs.Syntax.{Syntax, Node, Listed, Said, Count, Flag, Absent, Pieces, End, Then, pieces_of, syntax, nodes, nodes_of}
 use Rattle.rl_ast.specs.declared.word.Word.{Word}
@@ -85,7 +85,7 @@ flag_inside n flag e = flag_at n (shape n) flag (sym (plain_is n (shape n)) ∙ 
 pub absent_inside : (n : Numbered) → syntax n ≡ Absent → n ≡ numbered.Absent
 absent_inside n e = absent_at n (shape n) (sym (plain_is n (shape n)) ∙ e)
 
--- how many pieces there are
+-- the number of pieces
 pub none_inside : (parts : List Numbered) → pieces_of (map syntax parts) ≡ End → length parts ≡ 0
 none_inside [] e = refl
 none_inside (a ∷ parts) e = absurd (cc)

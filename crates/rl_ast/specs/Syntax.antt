@@ -52,12 +52,12 @@ abbrev mutual
   plain_parts End = notation.End
   plain_parts (Then piece pieces) = notation.Then (plain piece) (plain_parts pieces)
 
--- how many bytes spell it
+-- the number of bytes of its spelling
 abbrev pub width : Syntax → ℕ
 width tree = length (notation.spelling (plain tree))
 
 abbrev mutual
-  -- how many nodes it has
+  -- the number of its nodes
   pub nodes : Syntax → ℕ
   nodes (Node at word parts) = nodes_of parts + 1
   nodes (Listed parts) = nodes_of parts
@@ -70,7 +70,7 @@ abbrev mutual
   nodes_of End = 0
   nodes_of (Then piece pieces) = nodes piece + nodes_of pieces
 
--- where a node stands; anything else stands nowhere
+-- the place of a node; no other piece has one
 abbrev pub span_of : Syntax → Span
 span_of (Node at word parts) = at.span
 span_of _ = record { start = 0; end = 0 }
@@ -91,7 +91,7 @@ abbrev mutual
   IsPlaced node byte (Flag flag) = Unit {0}
   IsPlaced node byte Absent = Unit {0}
 
-  -- the same of parts, each behind one byte of which the first is this one
+  -- the same for parts, each behind one byte, of which the first is given
   pub ArePlaced : ℕ → ℕ → Pieces → Type 0
   ArePlaced node byte End = Unit {0}
   ArePlaced node byte (Then piece pieces) = IsPlaced node (byte + 1) piece × ArePlaced (node + nodes piece) (byte + 1 + width piece) pieces

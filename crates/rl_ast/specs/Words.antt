@@ -1,4 +1,4 @@
--- How the words of nodes are spelled.
+-- The spelling of the words of nodes.
 use Rattle.std.specs.Prelude.{ℕ, List, codes}
 use Rattle.rl_ast.specs.declared.word.Word.{Word}
 use Rattle.rl_ast.specs.declared.word.Word.TheVariants as word

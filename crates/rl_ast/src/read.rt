@@ -286,8 +286,8 @@ fn read_expression_statement(
     Ok(Some(Statement::Expression { at, expression }))
 }
 
-/// `(return EXPRESSION)`, or `(return -)`. `None` where the parts are not one expression of the grammar or the sign of
-/// what is absent.
+/// `(return EXPRESSION)`, or `(return -)`. `None` where the parts are not one expression of the grammar or the `-` of an
+/// absent part.
 #[tactic(auto, using(crate::proofs::Spelled::spelled, crate::proofs::ByKind::return_with))]
 fn read_return(alloc: Global, at: At, parts: &[Numbered]) -> Result<Option<Statement>, OutOfMemory>
     ensures found { IfOk result (λ r. IfSome r (λ s. (statement s ≡ Node at Word.Return (pieces_of (map syntax parts.now))) × (is_statement (Node at Word.Return (pieces_of (map syntax parts.now))) ≡ true))) }

@@ -169,7 +169,7 @@ is_operator-text o = is_written-text operator_text operators operators-found o
 pub is_operator-found : (text : List ℕ) → is_operator text ≡ true → (o : BinaryOperator) × (operator_text o ≡ text)
 is_operator-found text e = is_written-found operator_text operators text e
 
--- What a binary operator is written by passes the test.
+-- The text of a binary operator passes the test.
 pub operator-known : (text : List ℕ) (o : BinaryOperator) → operator_text o ≡ text → is_operator text ≡ true
 operator-known text o e = subst (λ t. is_operator t ≡ true) e (is_operator-text o)
 

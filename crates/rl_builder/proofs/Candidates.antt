@@ -75,7 +75,7 @@ taken-le-used used symbol name place small taken =
     (λ q among. subst (λ o. IsSome o) (sym (lookup-entry_of used q)) (tried-used used symbol name place taken q among)) in
     omega (arith, most, length-tried name place, length-map used entry_of)
 
--- so the candidate after as many as there are used names is free
+-- hence the candidate after as many as there are used names is free
 pub last-free : (used : List UsedName) (symbol : ℕ) (name : List ℕ) → length used < 2 ^ 64 → AllTaken used symbol name (length used) → IsFirstFree used symbol name (length used)
 last-free used symbol name small taken = record {
   free = true_from_ne_false _ (λ last. let more : length used + 1 ≤ length used = taken-le-used used symbol name (length used + 1) (omega arith) (below_more _ _ taken last) in omega arith);
@@ -110,7 +110,7 @@ pub chosen-first : (used : List UsedName) (symbol : ℕ) (name : List ℕ) (plac
 unfolding chosen
 chosen-first used symbol name place small first = ap (candidate name) (first-unique used symbol name place (free_place used symbol name) first (free_place-first used symbol name small))
 
--- what is chosen is free
+-- the chosen candidate is free
 pub chosen-free : (used : List UsedName) (symbol : ℕ) (name : List ℕ) → length used < 2 ^ 64 → IsFree used symbol (chosen used symbol name)
 unfolding chosen
 chosen-free used symbol name small = (free_place-first used symbol name small).free

@@ -23,7 +23,7 @@ map-cond : {X Y : Type 0} (f : X → Y) (test : Bool) (xs ys : List X) → map f
 map-cond f true xs ys = refl
 map-cond f false xs ys = refl
 
--- what is nothing after a function was nothing before it
+-- a name that is absent after a function was absent before it
 pub none-option_map : {X Y : Type 0} (f : X → Y) (o : Option X) → option_map f o ≡ None → o ≡ None
 none-option_map f None none = refl
 none-option_map f (Some x) none = absurd (none-some (f x) (sym none))
@@ -40,7 +40,7 @@ pub user_of-entries : (es : List (String Global × SymbolId)) (name : List ℕ) 
 user_of-entries [] name = refl
 user_of-entries (e ∷ es) name = option_map-cond (λ (s : SymbolId). s.0) (bytes_eq name (string_bytes e.0)) e.1 _ _ (user_of-entries es name)
 
--- what the map inserts is put among the used names
+-- a name that the map inserts is put among the used names
 pub with_user-entries : (es : List (String Global × SymbolId)) (key : String Global) (symbol : SymbolId) → map used_name_of (insert_entry string_eq es key symbol) ≡ with_user (map used_name_of es) (string_bytes key) symbol.0
 with_user-entries [] key symbol = refl
 with_user-entries (e ∷ es) key symbol =

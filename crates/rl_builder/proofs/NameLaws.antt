@@ -113,7 +113,7 @@ env_resolved-fresh old made noted named symbol identifier free declaration is_ma
     ∙ ap (λ place. after (changed_at (with_name (names.Named free)) place (old.identifiers ++ unnamed ∷ [])) place) is_next
     ∙ ap (λ identifiers. after identifiers (length old.identifiers)) (changed_at-last (with_name (names.Named free)) old.identifiers unnamed)
 
--- what the symbol's identifier is afterwards
+-- the identifier of the symbol afterwards
 pub identifier_of-resolved : (s : State) (name : List ℕ) (symbol : ℕ) (declaration : Span) → identifier_of (resolved s name symbol declaration).bindings symbol ≡ Some (resolved_identifier s symbol)
 identifier_of-resolved s name symbol declaration = by (identifier_of s.bindings symbol) refl
   where
@@ -231,6 +231,6 @@ name_of-injective s agree a b i j has_i has_j same =
     by : (x y : List ℕ) → Some (names.Named x) ≡ Some (names.Named y) → x ≡ y
     by x y e = cc
 
--- so two symbols never have identifiers of one name
+-- hence no two symbols have identifiers of one name
 pub names-differ : (s : State) → NamesAgree s → (a b i j : ℕ) → a ≢ b → identifier_of s.bindings a ≡ Some i → identifier_of s.bindings b ≡ Some j → name_of s.env.identifiers i ≢ name_of s.env.identifiers j
 names-differ s agree a b i j differ has_i has_j same = differ (name_of-injective s agree a b i j has_i has_j same)

@@ -222,7 +222,7 @@ order_stays table index order unordered is = by_item (slice_get table index) ref
         sym same ∙ ap (λ (j : Instruction). j.order.0) (sym (get_or_from_slice_get table index i i found))
         ∙ unordered index i (slice_get_within table index i found)
 
--- Where no instruction has an order and blocks list each at most once, `mark_instruction_ids` makes orders that count from 1.
+-- If no instruction has an order and blocks list each at most once, `mark_instruction_ids` makes orders that count from 1.
 pub numbered_orders : (blocks : List NumberedBlock) (table : List Instruction) → AreDistinct (listed_in blocks)
     → ((n : ℕ) → IsIn (listed_in blocks) n → n < length table) → All (λ (i : Instruction). i.order.0 ≡ 0) table
     → IsNumbered (ordered_table 1 blocks table) (ordered_blocks 1 blocks)

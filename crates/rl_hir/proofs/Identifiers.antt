@@ -1,4 +1,4 @@
--- What changing one entry of a list does, and leaves.
+-- A change of one entry of a list: its effect, and the entries that stay.
 use Rattle.std.proofs.Common.{◌≡◌, ◌≢◌, ◌⊎◌, ℕ, ◌<◌, ◌≤◌, Option, Some, None, List, length, slice_get, slice_set, inl, inr, refl, sym, ap, ◌∙◌, subst, length-set}
 use Rattle.std.proofs.lemmas.Bool.{cases_lt}
 use Rattle.std.proofs.lemmas.List.{get_or-set_same, get_or-set_other}

@@ -1,4 +1,4 @@
--- What an Ok carries, and what the reader of numbers tells.
+-- The value of an Ok, and the answers of the reader of numbers.
 use Rattle.std.proofs.Common.{◌≡◌, ℕ, List, Bool, true, false, if◌then◌else◌, Option, Some, None, Result, Ok, Err, IfOk, OnOk, sym, ap, ◌∙◌}
 use Rattle.rl_text.specs.Numeral.{is_numeral, number_of}
 

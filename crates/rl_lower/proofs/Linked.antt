@@ -1,4 +1,4 @@
--- What is built of a builder that was closed off is numbered and linked.
+-- A graph that is built from a closed builder is numbered and linked.
 use Rattle.std.proofs.Common.{◌≡◌, ℕ, zero, suc, Bool, true, false, cond, List, [], ◌∷◌, All, Contains, filter, length, map}
 use Rattle.std.proofs.Common.{slice_get, Some, refl, sym, ap, subst, arith}
 use Rattle.std.proofs.lemmas.List.Elements.{All-cons, All-contains, All-head, All-tail}

@@ -1,4 +1,4 @@
--- What the builder is behind the parameters of a function.
+-- The builder after the parameters of a function.
 use Rattle.std.proofs.Common.{◌≡◌, ℕ, zero, suc, ◌+◌, ◌<◌, ◌≤◌, ◌^◌, ◌++◌, ◌&&◌, Bool, true, false, not, nat_eq, if◌then◌else◌, List, [], ◌∷◌, length, length-append, Option, Some, None, slice_get, refl, sym, ap, ◌∙◌, subst, arith, append-nil, append_assoc, codes, eq-eqb, inl, inr}
 use Rattle.std.specs.Str.{bytes_eq}
 use Rattle.std.specs.Option.{is_some, option_map_or}
@@ -120,7 +120,7 @@ taken_agree number base (x ∷ symbols) (v ∷ arguments) source store before ot
     subst (λ (n : ℕ). take_arguments (places_from n symbols) arguments (set store (base + number) v) (base + other) ≡ take_from (number + 1) symbols arguments (set source number v) other) (omega arith)
     (taken_agree (number + 1) base symbols arguments (set source number v) (set store (base + number) v) (both_set number base source store v before) other (omega arith))
 
--- what a symbol's number and its identifier tell of each other
+-- a symbol's id and its identifier determine each other
 pub pair_tells : (number identifier : ℕ) (symbols : List Symbol) (other found : ℕ) → identifier_of (pairs_from number identifier symbols) other ≡ Some found → (place : ℕ) × (other ≡ number + place) × (found ≡ identifier + place) × (place < length symbols)
 pair_tells number identifier [] other found is = absurd (cc)
 pair_tells number identifier (x ∷ symbols) other found is = elim (eqb_tells number other) [
@@ -175,7 +175,7 @@ said_first x = by_test (bytes_eq x.name fbt) refl
     by_test true is = ap (λ (c : Bool). if c && true then fbt_diagnostic x.declaration ∷ [] else []) is ∙ sym (ap (λ (c : Bool). (if c then refusal row.F40 x.declaration ∷ [] else []) ++ []) is)
     by_test false is = ap (λ (c : Bool). if c && true then fbt_diagnostic x.declaration ∷ [] else []) is ∙ sym (ap (λ (c : Bool). (if c then refusal row.F40 x.declaration ∷ [] else []) ++ []) is)
 
--- what an environment becomes where some symbols got identifiers
+-- the environment after some symbols got identifiers
 abbrev pub env_with : Environment → List Symbol → Environment
 env_with env done = record env {
   next_type = env.next_type + length done;
@@ -184,7 +184,7 @@ env_with env done = record env {
   diagnostics = env.diagnostics ++ said_of_symbols done;
 }
 
--- the same of a builder that had none
+-- the same for a builder that had none
 abbrev pub state_with : State → List Symbol → State
 state_with s done = record s { env = env_with s.env done; bindings = pairs_from 0 (length s.env.identifiers) done; used_names = users_from 0 done }
 
@@ -259,7 +259,7 @@ empty_with s bindings used =
 pub parameters_given : (s : State) (symbols : List Symbol) → s.bindings ≡ [] → s.used_names ≡ [] → are_distinct symbols ≡ true → with_parameters s symbols ≡ state_with s symbols
 parameters_given s symbols bindings used distinct = ap (λ (t : State). resolved_from 0 t symbols) (sym (empty_with s bindings used)) ∙ all_with s [] symbols distinct
 
--- what is known of the identifier at a place
+-- facts about the identifier of a place
 known_at : (type : ℕ) (symbols : List Symbol) (place : ℕ) (x : Symbol) → slice_get symbols place ≡ Some x → slice_get (known_from type symbols) place ≡ Some (named_identifier x.name x.declaration (type + place))
 known_at type [] place x is = absurd (cc)
 known_at type (y ∷ symbols) zero x is = (let same : y ≡ x = cc in let none : type ≡ type + 0 = omega arith in ap (λ (z : Symbol). Some (named_identifier z.name z.declaration type)) same ∙ ap (λ (n : ℕ). Some (named_identifier x.name x.declaration n)) none)

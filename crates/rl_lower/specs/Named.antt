@@ -1,4 +1,4 @@
--- That each symbol has an identifier, which has its name.
+-- Each symbol has an identifier, which has its name.
 use Rattle.std.specs.Prelude.{◌≡◌, ℕ, ◌<◌, ◌^◌, Some, List, length, slice_get}
 use Rattle.rl_hir.specs.Pairs.{identifier_of}
 use Rattle.rl_hir.specs.declared.function.Identifier.{Identifier}

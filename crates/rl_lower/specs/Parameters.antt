@@ -15,7 +15,7 @@ resolved_from number s (symbol ∷ symbols) = resolved_from (number + 1) (resolv
 abbrev pub with_parameters : State → List Symbol → State
 with_parameters s symbols = resolved_from 0 s symbols
 
--- what is said of the symbols where they are declared
+-- the promise about symbols where they are declared
 abbrev pub said_of_symbols : List Symbol → List Diagnostic
 said_of_symbols [] = []
 said_of_symbols (symbol ∷ symbols) = (if is_text (codes "fbt") symbol.name then refusal row.F40 symbol.declaration ∷ [] else []) ++ said_of_symbols symbols

@@ -81,7 +81,7 @@ mutual
   calls_rise (Flag flag) node byte placed = omega arith
   calls_rise Absent node byte placed = omega arith
 
-  -- the same of parts and the bracket behind them
+  -- the same for parts and the bracket behind them
   calls_among_rise : (close : ℕ) (parts : Pieces) (node byte high : ℕ) → ArePlaced node byte parts → byte + length (spelled_on close (plain_parts parts)) ≡ high + 1 → Rise byte (calls_among parts) high
   calls_among_rise close End node byte high placed long = omega (arith, long)
   calls_among_rise close (Then piece pieces) node byte high placed long = (
@@ -91,7 +91,7 @@ mutual
       (calls_among_rise close pieces (node + nodes piece) (byte + 1 + width piece) high placed.1 (omega (arith, both, long)))
       )
 
--- what ends above a number
+-- a tree that ends above a given id
 above : (places : List (Option Span)) (low high i : ℕ) (place : Option Span) → Rise low places high → slice_get places i ≡ Some place → (span : Span) × (place ≡ Some span) × (low < span.end)
 above [] low high i place r at = absurd (cc)
 above (None ∷ places) low high i place r at = absurd r

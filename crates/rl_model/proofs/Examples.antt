@@ -119,7 +119,7 @@ answered_once = record { of_source = refl; of_graph = refl }
 answered : Both (answer Yes 2 ∷ answer Yes 3 ∷ []) (record { events = loads ∷ calls ∷ []; ending = ending.Returned returns.Explicit (value.Given 3) [] })
 answered = record { of_source = refl; of_graph = refl }
 
--- what is thrown ends the run
+-- a thrown value ends the run
 load_throws : Both (answer Throw 2 ∷ answer Yes 3 ∷ []) (record { events = loads ∷ []; ending = ending.Threw (value.Given 2) })
 load_throws = record { of_source = refl; of_graph = refl }
 
@@ -134,7 +134,7 @@ limited most answers = exec waiting (code_of graph) most (steps_for answers most
 two_in_a_row : limited 2 (answer Yes 2 ∷ answer Yes 3 ∷ []) ≡ function_trace graph [] [] (value.Given 1 ∷ []) (answer Yes 2 ∷ answer Yes 3 ∷ [])
 two_in_a_row = refl
 
--- where none may follow another, the load of `x` is the last
+-- if none may follow another, the load of `x` is the last
 none_in_a_row : limited 0 (answer Yes 2 ∷ answer Yes 3 ∷ []) ≡ record { events = loads ∷ []; ending = ending.Waiting }
 none_in_a_row = refl
 

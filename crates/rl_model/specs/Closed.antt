@@ -7,7 +7,7 @@ use Rattle.rl_hir.specs.declared.terminal.Terminal.TheVariants as terminals
 use Rattle.rl_hir.specs.declared.function.BasicBlock.{BasicBlock}
 use Rattle.rl_hir.specs.declared.function.Hir.{Hir}
 
--- The successors of a terminal, by block number.
+-- The successors of a terminal, by block id.
 abbrev pub successors : Terminal → List ℕ
 successors terminal = map (λ id. id.0) (successor_ids terminal)
 

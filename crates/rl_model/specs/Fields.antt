@@ -34,7 +34,7 @@ abbrev pub directives_in : Syntax → List (List ℕ)
 directives_in (Node at word.Body (Then (Listed directives) statements)) = texts_in directives
 directives_in _ = []
 
--- The parameters, pairs and identifiers of symbols that get identifiers one after the other, from the given numbers on.
+-- The parameters, pairs and identifiers of symbols that get identifiers one after the other, from the given ids on.
 abbrev pub places_from : (identifier : ℕ) → List Symbol → List Param
 places_from identifier [] = []
 places_from identifier (symbol ∷ symbols) = params.Place (record { identifier = record { 0 = identifier }; span = Some symbol.declaration }) ∷ places_from (identifier + 1) symbols

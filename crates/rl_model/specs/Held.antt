@@ -21,7 +21,7 @@ abbrev mutual
   calls_among End = []
   calls_among (Then piece pieces) = calls_in piece ++ calls_among pieces
 
--- Whether a statement can complete normally, so that what follows it in its list is reachable.
+-- True if a statement can complete normally, and then the statements behind it in its list are reachable.
 abbrev pub can_complete : Syntax → Bool
 can_complete (Node at word.Return parts) = false
 can_complete _ = true

@@ -27,7 +27,7 @@ use Rattle.rl_model.specs.declared.trace.Answer.{Answer}
 use Rattle.rl_model.specs.declared.trace.Event.{Event}
 use Rattle.rl_model.specs.declared.trace.Trace.{Trace}
 
--- The block with the number `id`.
+-- The block with the id `id`.
 abbrev pub block_of : List NumberedBlock → ℕ → Option BasicBlock
 block_of [] id = None
 block_of (b ∷ blocks) id = if nat_eq b.id.0 id then Some b.block else block_of blocks id
@@ -44,7 +44,7 @@ item_in table block place = elim (slice_get block.instructions place) [
   | None ↦ if place == length block.instructions then Some (Ends block.terminal) else None
 ]
 
--- A graph as a function: the item by block number and index in the block.
+-- A graph as a function: the item by block id and index in the block.
 abbrev pub Code : Type 0
 Code = ℕ → ℕ → Option Item
 
@@ -54,14 +54,14 @@ code_in blocks table id place = elim (block_of blocks id) [ Some block ↦ item_
 abbrev pub code_of : HirFunction → Code
 code_of f = code_in f.body.blocks f.instructions
 
--- By block number, the last terminal run that names the block.
+-- By block id, the last terminal run that names the block.
 abbrev pub Notes : Type 0
 Notes = ℕ → Option Terminal
 
 abbrev pub no_notes : Notes
 no_notes _ = None
 
--- The continuation of a run: the trace from a block number, an index in the block, a store, the notes and the answers.
+-- The continuation of a run: the trace from a block id, an index in the block, a store, the notes and the answers.
 abbrev pub Next : Type 0
 Next = ℕ → ℕ → Store → Notes → List Answer → Trace
 
@@ -72,7 +72,7 @@ value_of (primitives.Boolean flag) = value.Bool flag
 value_of (primitives.Number number) = value.Number number
 value_of (primitives.String text) = value.Text text
 
--- Whether another function assigns an identifier: none does, since there is no other.
+-- True if another function assigns an identifier: none does, since there is no other.
 abbrev pub is_open : ℕ → Bool
 is_open identifier = false
 

@@ -1,4 +1,4 @@
--- Where the rows of refusals apply: the nodes of a tree that are refused or stop the lowering, and their diagnostics.
+-- The rows of refusals by node: the nodes of a tree that are refused or stop the lowering, and their diagnostics.
 use Rattle.std.specs.Prelude.{◌≡◌, ℕ, Bool, if◌then◌else◌, Option, Some, None, List, [], ◌∷◌, ◌++◌, codes}
 use Rattle.std.specs.Str.{bytes_eq}
 use Rattle.rl_base.specs.Diagnostics.{diagnostic_at}

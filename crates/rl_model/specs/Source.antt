@@ -15,7 +15,7 @@ use Rattle.rl_model.specs.declared.trace.Trace.{Trace}
 use Rattle.rl_model.specs.Events.{global, binary, call}
 use Rattle.rl_model.specs.Traces.{Store, ExprMeaning, ExprsMeaning, StmtMeaning, ValueCont, unset, set, set_all, set_open, asked, returned, threw, waiting}
 
--- Whether another function assigns a symbol: none does, since there is no other.
+-- True if another function assigns a symbol: none does, since there is no other.
 abbrev pub is_open : ℕ → Bool
 is_open symbol = false
 

@@ -24,7 +24,7 @@ waiting = ended ending.Waiting
 abbrev pub emit : Event → Trace → Trace
 emit event trace = record trace { events = event ∷ trace.events }
 
--- Values by number: of symbols on the side of the source, of identifiers on the side of the graph.
+-- Values by id: of symbols on the side of the source, of identifiers on the side of the graph.
 abbrev pub Store : Type 0
 Store = ℕ → Value
 

@@ -49,7 +49,7 @@ pub record IsPredecessor (hir : Hir) (other id : ℕ) : Type 0 where
   pub reached : Reaches hir other
   pub leads : Contains (successors block.terminal) id
 
--- Block numbers are distinct, blocks list indices into the function's table, and the predecessors of a block are the reached
+-- Block ids are distinct, blocks list indices into the function's table, and the predecessors of a block are the reached
 -- blocks that have it as a successor.
 pub record IsLinked (f : HirFunction) : Type 0 where
   pub ids : AreDistinct (map (λ (b : NumberedBlock). b.id.0) f.body.blocks)

@@ -7,7 +7,7 @@ use Rattle.std.specs.Str.{bytes_eq}
 use Rattle.rl_scope.specs.Symbols.{are_distinct, symbol_from, symbol_named}
 use Rattle.rl_scope.specs.declared.semantic.Symbol.{Symbol}
 
--- whether a symbol has this name
+-- true if a symbol has this name
 abbrev has : List Symbol → List ℕ → Bool
 has symbols name = list_any (λ (s : Symbol). bytes_eq s.name name) symbols
 

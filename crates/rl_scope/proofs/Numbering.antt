@@ -44,7 +44,7 @@ no_number : (o : Option ℕ) → is_some o ≡ false → o ≡ None
 no_number None none = refl
 no_number (Some number) none = absurd (true≢false none)
 
--- the same of the map that the name was put into
+-- the same for the map that the name was put into
 pub numbers-insert : {S : Type 0} (before : IndexMap (String Global) ℕ S) (entries after : List (String Global × ℕ)) (symbols : List Symbol) (key : String Global) (s : Symbol) → AreNumbers entries symbols → before.entries ≡ entries → string_bytes key ≡ s.name → is_some (number_in entries s.name) ≡ false → after ≡ insert_entry string_eq before.entries key (length symbols) → AreNumbers after (symbols ++ s ∷ [])
 numbers-insert before entries after symbols key s numbers kept same new inserted =
     let none : number_in before.entries (string_bytes key) ≡ None = ap (λ (es : List (String Global × ℕ)). number_in es (string_bytes key)) kept ∙ ap (number_in entries) same ∙ no_number (number_in entries s.name) new in

@@ -1,4 +1,4 @@
--- What begins with each byte.
+-- The forms of a tree's spelling by their first bytes.
 use Rattle.std.proofs.Common.{◌≡◌, ℕ, ◌+◌, ◌-◌, ◌≤◌, ◌<◌, Bool, true, false, List, [], ◌∷◌, ◌++◌, length, take, drop, get_or, map, ap, sym, ◌∙◌, refl, arith, subst, append_assoc, true≢false, length-drop}
 use Rattle.std.proofs.lemmas.List.{append-nil, length-take, drop_more}
 use Rattle.std.proofs.lemmas.Str.{IsUtf8-from_ascii}
@@ -22,7 +22,7 @@ use Rattle.rl_text.proofs.Worded.{begun, form_of_byte, form-of_digit, no_digit-o
 use Rattle.rl_text.proofs.Numbers.{decimal-digits, largest-small}
 use Rattle.rl_text.proofs.Trees.{tree-Node, tree-List, tree-Text, tree-Number, tree-Flag, tree-Absent, spelling-Listed}
 
--- what stands behind each first byte
+-- the bytes behind each first byte
 pub node-inside : (depth : ℕ) (t : Tree) (bytes rest u : List ℕ) → bytes ≡ 40 ∷ rest → Begins depth t bytes u → (word : List ℕ) × (parts : Parts) × IsWord word × AreWritable parts × (height_of parts + 1 ≤ depth) × (rest ≡ word ++ (spelled_on 41 parts ++ u))
 node-inside depth (Node word parts) bytes rest u o b = (word, parts, b.writable.0, b.writable.1, b.low, (heads 40 40 _ _ (sym o ∙ b.spelled)).1 ∙ append_assoc word (spelled_on 41 parts) u)
 node-inside depth t bytes rest u o b = let wrong = form-from_byte t 40 rest u b.writable (sym o ∙ b.spelled) in absurd (omega arith)

@@ -1,4 +1,4 @@
--- What is measured of a tree's spelling: the tree's nodes, and how many are open at once.
+-- The measure of a tree's spelling: the tree's nodes, and the largest number of them open at once.
 use Rattle.std.proofs.Common.{◌≡◌, ℕ, ◌+◌, ◌-◌, ◌/◌, ◌%◌, max, Bool, true, false, cond, not, ◌==◌, ◌||◌, List, [], ◌∷◌, ◌++◌, ap, sym, ◌∙◌, refl, arith, append_assoc, inl, inr}
 use Rattle.std.proofs.lemmas.List.{append-nil}
 use Rattle.std.proofs.lemmas.List.Sums.{sum_by-append}
@@ -37,7 +37,7 @@ balanced-append s t a b c d p q = record {
   reaches = λ from rest. rw (p.apart t, append_assoc) (let e = p.reaches from (outside false t ++ rest) in let f = q.reaches from rest in omega (arith, e, f));
 }
 
--- what opens nothing may stand in front or behind
+-- bytes that open nothing may stand in front or behind
 pub balanced-behind : (s t : List ℕ) (nodes deep : ℕ) → Balanced s 0 0 → Balanced t nodes deep → Balanced (s ++ t) nodes deep
 balanced-behind s t nodes deep p q =
     let e : 0 + nodes ≡ nodes = omega arith in

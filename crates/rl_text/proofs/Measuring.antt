@@ -6,7 +6,7 @@ use Rattle.std.specs.List.{count_by}
 use Rattle.std.specs.Ordering.{ord_max}
 use Rattle.rl_text.specs.Measure.{outside, open_after, deepest_from}
 
--- what one more byte does outside and inside a text
+-- the effect of one more byte outside and inside a text
 pub outside-quote : (within : Bool) (byte : ℕ) (bytes : List ℕ) → byte ≡ 34 → outside within (byte ∷ bytes) ≡ outside (not within) bytes
 outside-quote within byte bytes h = rw h refl
 
@@ -36,7 +36,7 @@ deepest_from-low depth (byte ∷ bytes) = omega arith
 pub larger : (a b : ℕ) → ord_max nat_cmp a b ≡ max a b
 larger a b = grind (arith, nat_tests)
 
--- what was measured of all the bytes outside texts, where these are left
+-- the measure of all the bytes outside texts, if these are left
 pub record Measured (all : List ℕ) (at : ℕ) (left : List ℕ) (nodes depth deepest : ℕ) : Type 0 where
   pub counted : nodes + count_by (λ byte. byte == 40) left ≡ count_by (λ byte. byte == 40) all
   pub reached : max deepest (deepest_from depth left) ≡ deepest_from 0 all

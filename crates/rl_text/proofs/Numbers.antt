@@ -40,7 +40,7 @@ numeral-from_value s n digits some lead value small =
     let fits : read_on 0 s < 2 ^ 64 = omega (arith, value, largest-small n small) in
     record { bounded = small; written = sym (decimal-digits_value own s digits some lead fits) ∙ ap decimal value }
 
--- what a numeral is
+-- the form of a numeral
 pub numeral-digits : (s : List ℕ) (n : ℕ) → IsNumeral s n → list_all is_ascii_digit s ≡ true
 numeral-digits s n h = ap (list_all is_ascii_digit) h.written ∙ decimal-digits n h.bounded
 

@@ -33,13 +33,13 @@ cases : (b : Bool) (x : ℕ) (r : Option ℕ) → (b ≡ true → r ≡ Some x) 
 cases true x r on off = on refl
 cases false x r on off = off refl
 
--- what a reader of numerals answers
+-- the answer of a reader of numerals
 pub parse-exact : (text : List ℕ) (r : Option ℕ) → IfSome r (λ n. IsNumeral text n) → IfNone r ((n : ℕ) → IsNumeral text n → ⊥) → r ≡ (if is_numeral text then Some (number_of text) else None)
 parse-exact text None some none = cases (is_numeral text) (number_of text) None (λ h. absurd (none (number_of text) (numeral-from_test text h))) (λ _. refl)
 parse-exact text (Some n) some none = cases (is_numeral text) (number_of text) (Some n) (λ _. ap (λ m. Some m) (sym (numeral-number text n some)))
     (λ h. absurd (true≢false (sym (numeral-passes text n some) ∙ h)))
 
--- what such an answer says
+-- the meaning of such an answer
 found : (b : Bool) (x n : ℕ) → Some n ≡ (if b then Some x else None) → (b ≡ true) × (x ≡ n)
 found true x n e = (refl, cc)
 found false x n e = absurd (cc)

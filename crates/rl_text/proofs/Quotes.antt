@@ -109,6 +109,6 @@ pub length-quoted_rest-some : (text : List ℕ) → 0 < length (quoted_rest text
 length-quoted_rest-some [] = omega arith
 length-quoted_rest-some (byte ∷ text) = omega (arith, length-append (escape byte) (quoted_rest text), length-quoted_rest-some text)
 
--- how many bytes spell the text from its byte at a place on
+-- the number of bytes of a text's spelling from a given byte of the text on
 pub length-quoted_rest-more : (text : List ℕ) (i : ℕ) → i < length text → length (quoted_rest (drop i text)) ≡ length (escape (get_or text i 0)) + length (quoted_rest (drop (i + 1) text))
 length-quoted_rest-more text i lt = ap (λ t. length (quoted_rest t)) (drop_more text i 0 lt) ∙ length-append (escape (get_or text i 0)) (quoted_rest (drop (i + 1) text))

@@ -1,5 +1,5 @@
--- Trees whose node words are words: different ones are spelled differently, and no spelling is a prefix of another's with
--- what follows. Texts may be any bytes, and numbers of any size.
+-- Trees whose node words are words: different ones are spelled differently, and no spelling is a prefix of another's with the
+-- bytes behind it. Texts may be any bytes, and numbers of any size.
 use Rattle.std.proofs.Common.{◌≡◌, ℕ, ◌<◌, true, false, if◌then◌else◌, ◌==◌, ◌||◌, List, [], ◌∷◌, ◌++◌, ap, sym, ◌∙◌, refl, arith, append_assoc}
 use Rattle.std.proofs.lemmas.Bool.Decides.{nat_tests}
 use Rattle.std.proofs.lemmas.List.{append-nil}
@@ -27,7 +27,7 @@ abbrev mutual
   AreWorded (Then part parts) = IsWorded part × AreWorded parts
 
 mutual
-  -- What the notation has is worded.
+  -- Every tree of the notation is worded.
   pub worded : (t : Tree) → IsWritable t → IsWorded t
   worded (Node word parts) h = (h.0, are_worded parts h.1)
   worded (Listed parts) h = are_worded parts h

@@ -1,4 +1,4 @@
--- How many nodes bytes have, and how many parentheses are open at once.
+-- The number of nodes in bytes, and the largest number of parentheses open at once.
 use Rattle.std.specs.Prelude.{ℕ, ◌+◌, ◌-◌, max, Bool, false, not, ◌==◌, if◌then◌else◌, List, [], ◌∷◌, count_by}
 
 -- the bytes outside texts, from inside a text on or not: each quote opens or closes one, and is left out
@@ -6,11 +6,11 @@ abbrev pub outside : (within : Bool) → List ℕ → List ℕ
 outside within [] = []
 outside within (byte ∷ bytes) = if byte == 34 then outside (not within) bytes else if within then outside within bytes else byte ∷ outside within bytes
 
--- how many `(` stand outside texts
+-- the number of `(` outside texts
 abbrev pub nodes_in : List ℕ → ℕ
 nodes_in bytes = count_by (λ byte. byte == 40) (outside false bytes)
 
--- how many are open after a byte: `(` opens one, and `)` closes one, if any is open
+-- the number open after a byte: `(` opens one, and `)` closes one, if any is open
 abbrev pub open_after : (count byte : ℕ) → ℕ
 open_after count byte = if byte == 40 then count + 1 else if byte == 41 then count - 1 else count
 

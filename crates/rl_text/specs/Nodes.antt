@@ -1,4 +1,4 @@
--- How many nodes a tree has, and how many of them are open at once. Lists do not count.
+-- The number of nodes of a tree, and the largest number of them open at once. Lists do not count.
 use Rattle.std.specs.Prelude.{ℕ, ◌+◌, max}
 use Rattle.rl_text.specs.Notation.{Tree, Node, Listed, Said, Count, Flag, Absent, Parts, End, Then}
 

@@ -59,7 +59,7 @@ pub record Spells (bytes : List ℕ) (tree : Tree) : Type 0 where
   pub spelled : bytes ≡ spelling tree
 
 abbrev mutual
-  -- how many nodes and lists are open at once
+  -- the largest number of nodes and lists open at once
   pub height : Tree → ℕ
   height (Node word parts) = height_of parts + 1
   height (Listed parts) = height_of parts + 1

@@ -12,7 +12,7 @@ is_escaped byte = nat_lt byte 32 || byte == 34 || byte == 92
 abbrev pub escape : ℕ → List ℕ
 escape byte = if is_escaped byte then 92 ∷ hexadecimal (byte / 16) ∷ hexadecimal (byte % 16) ∷ [] else byte ∷ []
 
--- what follows the opening quote
+-- the bytes behind the opening quote
 abbrev pub quoted_rest : List ℕ → List ℕ
 quoted_rest [] = 34 ∷ []
 quoted_rest (byte ∷ bytes) = escape byte ++ quoted_rest bytes

@@ -6,8 +6,8 @@ ghost use Rattle.rl_text.specs.Measure.{nodes_in, deepest_in};
 use crate::measurement::Measure;
 
 /// Measures bytes of any form, also those that spell no tree. Each `"` opens or closes a text, and parentheses count
-/// outside texts alone: `nodes` is the number of `(`, and `deepest` the greatest number of them that are open at once,
-/// where a stray `)` closes nothing.
+/// outside texts alone: `nodes` is the number of `(`, and `deepest` the greatest number of them that are open at once.
+/// A stray `)` closes nothing.
 pub fn measure(bytes: &[u8]) -> Measure
     ensures bytes { result.bytes ≡ length bytes.now }
     ensures nodes { result.nodes ≡ nodes_in bytes.now }

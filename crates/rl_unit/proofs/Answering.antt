@@ -1,4 +1,4 @@
--- What was read and answered, where the bytes that were left may not be known.
+-- The bytes that were read, and the answer to them, if the bytes that were left need not be known.
 use Rattle.std.proofs.Common.{◌≡◌, ◌≢◌, inl, inr, ℕ, ◌++◌, ◌≤◌, ◌<◌, min, List, Option, Some, None, IfSome, length, length-take, take, refl, ap, sym, subst, ◌∙◌, arith}
 use Rattle.std.proofs.lemmas.Bool.{cases_lt}
 use Rattle.std.proofs.lemmas.List.{take_all}
@@ -19,7 +19,7 @@ use Rattle.rl_unit.specs.Answers.{AnswersSteadily, Explains, IsAnswer, IsOutput,
 use Rattle.rl_unit.specs.declared.run.Status.{Status}
 use Rattle.rl_unit.specs.declared.run.Status.TheVariants.{Done, Reported, Malformed, TooLarge, ReadFault, WriteFault, OutOfMemory, Usage}
 
--- what was read within the limit is all that was left
+-- bytes read within the limit are all that were left
 pub all_read : (left : Option (List ℕ)) (bytes : List ℕ) → IfSome left (λ known. bytes ≡ take most_read known) → length bytes ≤ most_bytes → IfSome left (λ known. bytes ≡ known)
 all_read None bytes first within = tt
 all_read (Some known) bytes first within =
@@ -33,7 +33,7 @@ more_left (Some known) bytes first past =
     let count : length bytes ≡ min most_read (length known) = ap length first ∙ length-take most_read known in
     record { no_output = tt; refuses = inl (omega arith) }
 
--- what was read is past the limits where all that was left is
+-- the bytes that were read pass the limits if all that were left do
 too_large_known : (left : Option (List ℕ)) (bytes : List ℕ) → IfSome left (λ known. bytes ≡ take most_read known) → IsTooLarge bytes → RefusesKnown left TooLarge
 too_large_known None bytes first large = record { no_output = tt; refuses = tt }
 too_large_known (Some known) bytes first large = elim (cases_lt most_bytes (length bytes)) [
@@ -97,7 +97,7 @@ refuses_left left bytes WriteFault first r = absurd r.no_output
 pub same_unit : (bytes : List ℕ) (u v : TreeOfUnit) → Spells bytes u → Spells bytes v → unit u ≡ unit v
 same_unit bytes u v one other = ap unit (Spells-unit-one bytes u v one other)
 
--- what an output says of the unit that was read, it says of each unit that the bytes spell
+-- a fact about the unit that was read holds of each unit that the bytes spell
 output_answers : (status : Status) (u : TreeOfUnit) (text : List ℕ) → IsOutput status u text → IsAnswer (marked (unit u)) status
 output_answers Done u text is = is.is_lowered.supported
 output_answers Reported u text is = is.unsupported
@@ -123,7 +123,7 @@ reads_whole None new bytes gone first = tt
 reads_whole (Some known) None bytes gone first = absurd gone
 reads_whole (Some known) (Some rest) bytes gone first = gone ∙ ap (λ (b : List ℕ). b ++ rest) first
 
--- where neither source nor sink fails, a status says what the bytes are
+-- if neither source nor sink fails, a status determines the bytes
 pub steady_answer : (status : Status) (bytes : List ℕ) (left old new : Option (List ℕ)) → left ≡ Some bytes → Explains status left old new → (status ≢ Usage) → (status ≡ ReadFault → ⊥) → (status ≡ WriteFault → ⊥) → AnswersSteadily bytes status
 steady_answer Done bytes left old new is e command read write = (e.1.source, spelled_known left bytes e.1.source is e.1.spelled, e.1.is_output.is_lowered.supported)
 steady_answer Reported bytes left old new is e command read write = (e.1.source, spelled_known left bytes e.1.source is e.1.spelled, e.1.is_output.unsupported)

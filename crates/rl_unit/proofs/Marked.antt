@@ -1,4 +1,4 @@
--- Where the marked function of a unit stands.
+-- The place of the marked function of a unit.
 use Rattle.std.proofs.Common.{◌≡◌, List, [], ◌∷◌, map, ap}
 use Rattle.rl_ast.specs.Syntax.{Listed, pieces_of}
 use Rattle.rl_ast.specs.Units.{node, statement, unit}

@@ -72,7 +72,9 @@ impl From<OutOfMemory> for Status {
 
 /// The arguments of the process, without the program's name. An argument that is not UTF-8 is no command of these programs:
 /// on one the error is `Usage`, and on want of memory `OutOfMemory`.
-pub fn arguments(rt: &HostRuntime) -> Result<Vec<String>, Status> {
+pub fn arguments(rt: &HostRuntime) -> Result<Vec<String>, Status>
+    ensures { IfErr result (λ status. (status ≡ Status.Usage) ⊎ (status ≡ Status.OutOfMemory)) }
+{
     let all = env::args(rt).map_err(|e| {
         if e.kind() == io::ErrorKind::OutOfMemory {
             Status::OutOfMemory
@@ -251,8 +253,8 @@ pub fn run<S: Source, K: Sink>(
     }
 }
 
-/// Runs the program over bytes in memory, and drops the output. Only allocations can fail, so each status but `OutOfMemory` says
-/// what the bytes are.
+/// Runs the program over bytes in memory, and drops the output. Only allocations can fail, so each status but `OutOfMemory`
+/// determines the bytes.
 pub fn run_steady(alloc: Global, words: &[String], bytes: Vec<u8>) -> Status
     requires { map string_bytes words.now ≡ codes "lower" ∷ [] }
     ensures { AnswersSteadily bytes.items result }

@@ -2,7 +2,7 @@ use Rattle.std.proofs.Common.{◌≡◌, ◌+◌, ◌≤◌, ◌++◌, take, dro
 use Rattle.rl_builder.specs.Order.{ordered_blocks, ordered_table, orders_of}
 use Rattle.rl_builder.proofs.order.mark_instruction_ids.Given as goal
 
--- what was numbered, and then what numbering the rest will give, is all
+-- the instructions numbered already, and then those numbered by the rest of the loop, are all
 abbrev pub invariant-loop-place : goal.invariant-loop-place
 invariant-loop-place l =
     record {

@@ -24,7 +24,7 @@ use Rattle.rl_lower.proofs.SoundKinds.{arguments_more, binary_sound, boolean_sou
 use Rattle.rl_lower.proofs.SoundTrees.{item_small}
 use Rattle.rl_lower.proofs.expression.+expressions.Goals as goal
 
--- how the parts of a node are counted, and that they are of the grammar
+-- the count of a node's parts, and that they fit the grammar
 
 abbrev count : Expression → ℕ
 count e = nodes (expression e)

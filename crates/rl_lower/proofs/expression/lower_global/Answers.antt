@@ -8,7 +8,7 @@ use Rattle.rl_lower.proofs.Names.{undeclared_from}
 use Rattle.rl_lower.proofs.SoundKinds.{eval_sound, global_sound}
 use Rattle.rl_lower.proofs.expression.lower_global.Goals as goal
 
--- whether the name is `eval`, from what was tested
+-- the name is `eval` if and only if the test says so
 eval_is : (name text : List ℕ) (tested known : Bool) → text ≡ name → tested ≡ bytes_eq text (codes "eval") → tested ≡ known → bytes_eq name (codes "eval") ≡ known
 eval_is name text tested known same is told = ap (λ (t : List ℕ). bytes_eq t (codes "eval")) (sym same) ∙ sym is ∙ told
 

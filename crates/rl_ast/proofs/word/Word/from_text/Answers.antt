@@ -8,7 +8,7 @@ use Rattle.rl_ast.specs.declared.word.Word.TheVariants as word
 use Rattle.rl_ast.specs.declared.word.TheConstants.{WORDS}
 use Rattle.rl_ast.proofs.word.Word.from_text.Goals as goal
 
--- where the table has a word
+-- the place of a word in the table
 held : (w : Word) → (k : ℕ) × (k < length WORDS) × (slice_get WORDS k ≡ Some w)
 held word.Unit = (0, lit< tt, refl)
 held word.Program = (1, lit< tt, refl)
