@@ -1,4 +1,5 @@
 pub mod KnownBytes
 pub mod Lines
+pub mod NameTables
 pub mod Operators
 pub mod Templates

@@ -13,7 +13,7 @@ tagged-front [] rest tag plain = refl
 tagged-front (byte ∷ front) rest tag plain =
     grind (arith, common_steps, plain 0, tagged-front front rest tag (λ i below. plain (suc i) (omega arith)))
 
--- A turn of `push_tagged` appends what stands before a `#`, and the tag.
+-- A turn of `write_tagged` appends what stands before a `#`, and the tag.
 pub tagged-step : (old middle new rest before after tag whole : List ℕ) → middle ≡ old ++ before → new ≡ middle ++ tag
     → rest ≡ before ++ (35 ∷ after) → Lacks 35 before → old ++ tagged rest tag ≡ whole → new ++ tagged after tag ≡ whole
 tagged-step old middle new rest before after tag whole m n e plain kept =
@@ -37,7 +37,7 @@ filled-front (byte ∷ front) rest word plain =
     let later = filled-front front rest word (λ i below. plain (suc i) (omega arith)) in
     filled-cons byte front rest word (plain 0 (omega arith)) later
 
--- A turn of `fill` appends what stands before a `%`, with the tag in its places, and the word.
+-- A turn of `write_filled` appends what stands before a `%`, with the tag in its places, and the word.
 pub filled-step : (old middle new rest before after word tag whole : List ℕ) → tag ≡ tag_of word
     → middle ≡ old ++ tagged before tag
     → new ≡ middle ++ word → rest ≡ before ++ (37 ∷ after) → Lacks 37 before → old ++ filled rest word ≡ whole

@@ -1,6 +1,7 @@
 pub mod Diagnostics
 pub mod Distinct
 pub mod Faults
+pub mod NameTables
 pub mod Operators
 pub mod Pieces
 pub mod Reserved

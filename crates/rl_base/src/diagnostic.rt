@@ -1,12 +1,15 @@
 ghost use Rattle.std.specs.Prelude.{◌≡◌, ◌++◌, map, codes, IfOk, OnOk};
-ghost use Rattle.std.specs.Fmt.{decimal};
+ghost use Rattle.std.specs.Option.{option_map};
 ghost use Rattle.rl_base.specs.Diagnostics.{diagnostic_at, message_of, help_of, heading, span_text, spans_text, help_text, line_of};
+ghost use Rattle.rl_base.specs.Rows.{help_template};
+ghost use Rattle.rl_base.specs.Templates.{filled};
 
+use crate::decimal::write_decimal;
 use crate::error::OutOfMemory;
 use crate::list::List;
 use crate::row::Row;
 use crate::span::Span;
-use crate::template::fill;
+use crate::template::{fill, write_filled};
 use crate::text::Text;
 use std::alloc::Global;
 
@@ -50,18 +53,17 @@ impl Diagnostic {
         }
     }
 
-    /// Appends the line that the program prints. On `OutOfMemory` an allocation failed, and `out` may end with a prefix of
-    /// the line.
-    pub fn write_line(&self, alloc: Global, out: &mut Vec<u8>) -> Result<(), OutOfMemory>
+    /// Appends the line that the program prints. Allocates for `out` alone. On `OutOfMemory` an allocation failed, and `out` may
+    /// end with a prefix of the line.
+    pub fn write_line(&self, out: &mut Vec<u8>) -> Result<(), OutOfMemory>
         ensures { OnOk result (out.new.items ≡ out.old.items ++ line_of self.now) }
     {
-        let message = self.message(alloc)?;
-        let help = self.help(alloc)?;
+        let word = self.word.as_str();
         write_heading(self.row, out)?;
         write_spans(self.labels.as_slice(), out)?;
         out.push(b' ')?;
-        out.extend_from_slice(message.as_bytes())?;
-        write_help(&help, out)?;
+        write_filled(self.row.message_template(word), word, out)?;
+        write_help(self.row, word, out)?;
         out.push(b'\n')?;
         Ok(())
     }
@@ -78,36 +80,26 @@ fn write_heading(row: Row, out: &mut Vec<u8>) -> Result<(), OutOfMemory>
     Ok(())
 }
 
-/// Appends `; ` and the help text, if there is one.
-fn write_help(help: &Option<Text>, out: &mut Vec<u8>) -> Result<(), OutOfMemory>
-    ensures { OnOk result (out.new.items ≡ out.old.items ++ help_text help.now) }
+/// Appends `; ` and the help text with `word` in it, if the row has one.
+fn write_help(row: Row, word: &str, out: &mut Vec<u8>) -> Result<(), OutOfMemory>
+    ensures { OnOk result (out.new.items ≡ out.old.items ++ help_text (option_map (λ template. filled template word.now) (help_template row))) }
 {
-    match help {
-        Some(help) => {
+    match row.help_template() {
+        Some(template) => {
             out.extend_from_slice(b"; ")?;
-            out.extend_from_slice(help.as_bytes())?;
-            Ok(())
+            write_filled(template, word, out)
         }
         None => Ok(()),
     }
-}
-
-/// Appends the decimal digits of a number.
-fn write_number(number: u32, out: &mut Vec<u8>) -> Result<(), OutOfMemory>
-    ensures { OnOk result (out.new.items ≡ out.old.items ++ decimal number) }
-{
-    let digits = number.to_string(*out.allocator())?;
-    out.extend_from_slice(digits.as_bytes())?;
-    Ok(())
 }
 
 /// Appends `START..END`.
 fn write_span(span: Span, out: &mut Vec<u8>) -> Result<(), OutOfMemory>
     ensures { OnOk result (out.new.items ≡ out.old.items ++ span_text span) }
 {
-    write_number(span.start, out)?;
+    write_decimal(u64::from(span.start), out)?;
     out.extend_from_slice(b"..")?;
-    write_number(span.end, out)
+    write_decimal(u64::from(span.end), out)
 }
 
 /// Appends spans with commas between them.

@@ -51,8 +51,8 @@ pub trait Sink {
     ghost counted: { (sink : Self) → faults sink < 2 ^ 64 };
 }
 
-/// The most bytes that `read_up_to` asks of a source in one call.
-const PIECE: usize = 4096;
+/// The most bytes that `read_up_to` asks of a source in one call: the default capacity of a pipe on Linux.
+const PIECE: usize = 65536;
 
 /// An error of `read_up_to`.
 #[derive(Clone, Copy, Debug, PartialEq, Eq)]
@@ -74,7 +74,24 @@ impl From<AllocError> for ReadError {
     }
 }
 
-/// Reads until the source ends or `most` bytes are there. On an error the bytes that were read are dropped.
+/// Makes room behind the first `filled` bytes: where they are all, appends zeros, at most `PIECE`, and up to a length of `most`.
+/// So each byte of room is zeroed once, however few bytes a source gives a call.
+fn make_room(bytes: &mut Vec<u8>, filled: usize, most: usize) -> Result<(), AllocError>
+    requires filled { filled ≤ vec_len bytes.old }
+    requires more { filled < most }
+    requires within { vec_len bytes.old ≤ most }
+    ensures kept { take filled bytes.new.items ≡ take filled bytes.old.items }
+    ensures room { OnOk result (filled < vec_len bytes.new) }
+    ensures within { vec_len bytes.new ≤ most }
+{
+    if filled < bytes.len() {
+        return Ok(());
+    }
+    bytes.resize(filled + PIECE.min(most - filled), 0)
+}
+
+/// Reads until the source ends or `most` bytes are there. The bytes go straight into the vector that is returned. On an error the
+/// bytes that were read are dropped.
 #[tactic(auto, using(crate::proofs::KnownBytes::first_read))]
 pub fn read_up_to<S: Source>(
     alloc: Global,
@@ -89,19 +106,20 @@ pub fn read_up_to<S: Source>(
     ensures cause { IsErrOf result ReadError.Fault → Rose (S.faults source.old) (S.faults source.new) }
 {
     let mut bytes = Vec::new(alloc);
-    let mut piece = [0u8; PIECE];
-    'reading: while bytes.len() < most {
-        let room = piece.len().min(most - bytes.len());
-        let window = &mut piece[..room];
-        let count = match source.take(window) {
+    let mut filled = 0;
+    'reading: while filled < most {
+        make_room(&mut bytes, filled, most)?;
+        let count = match source.take(&mut bytes[filled..]) {
             Ok(count) => count,
             Err(Failed) => return Err(ReadError::Fault),
         };
         if count == 0 {
+            bytes.truncate(filled);
             return Ok(bytes);
         }
-        bytes.extend_from_slice(&window[..count])?;
+        filled += count;
     }
+    bytes.truncate(filled);
     Ok(bytes)
 }
 

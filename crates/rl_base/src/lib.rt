@@ -4,6 +4,7 @@
 
 pub mod boxed;
 mod copy;
+pub mod decimal;
 pub mod diagnostic;
 pub mod error;
 pub mod ids;
@@ -11,6 +12,8 @@ pub mod infallible_io;
 pub mod io;
 pub mod list;
 pub mod memory;
+pub mod name_table;
+pub mod number;
 pub mod operator;
 pub mod row;
 pub mod span;
