@@ -2,6 +2,7 @@
 use Rattle.std.proofs.Common.{◌≡◌, ℕ, zero, suc, ◌+◌, ◌-◌, ◌*◌, ◌/◌, ◌%◌, ◌^◌, ◌<◌, Bool, true, false, ◌==◌, ◌&&◌, cond, List, [], ◌∷◌, ◌++◌, ap, sym, ◌∙◌, refl, arith}
 use Rattle.std.proofs.Math.Nat.{pow-succ'}
 use Rattle.std.proofs.lemmas.Bool.Decides.{nat_tests}
+use Rattle.std.proofs.lemmas.Fmt.{decimal_digit}
 use Rattle.std.specs.List.{list_all}
 use Rattle.std.specs.Char.{is_ascii_digit}
 use Rattle.std.specs.Fmt.{decimal, digits, digits_onto, digit_glyph}
@@ -85,7 +86,10 @@ pub numeral-decimal : (n : ℕ) → n < 2 ^ 64 → numeral n ≡ decimal n
 unfolding numeral digits
 numeral-decimal n small = room-onto (suc n) 64 n [] (below-next n) (omega arith) (omega arith) (omega arith)
 
-pub ruleset numerals = (numeral-decimal)
+pub numeral-digit : (n : ℕ) → n < 10 → numeral n ≡ (48 + n) ∷ []
+numeral-digit n small = numeral-decimal n (omega arith) ∙ decimal_digit n small
+
+pub ruleset numerals = (numeral-decimal, numeral-digit)
 
 -- Numerals are injective, and no numeral is a prefix of another's with what follows, where no digit follows.
 pub numerals-apart : (m n : ℕ) (u v : List ℕ) → NoDigit u → NoDigit v → numeral m ++ u ≡ numeral n ++ v → (m ≡ n) × (u ≡ v)

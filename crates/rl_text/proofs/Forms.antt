@@ -20,7 +20,7 @@ use Rattle.rl_text.proofs.Digits.{numeral-decimal}
 use Rattle.rl_text.proofs.Spellings.{form-from_byte, no-form, spellings-apart}
 use Rattle.rl_text.proofs.Worded.{begun, form_of_byte, form-of_digit, no_digit-on, no_letter-on, ends-from_no_digit}
 use Rattle.rl_text.proofs.Numbers.{decimal-digits, largest-small}
-use Rattle.rl_text.proofs.Trees.{tree-Node, tree-List, tree-Text, tree-Number, tree-Flag, tree-Absent, spelling-Listed}
+use Rattle.rl_text.proofs.Trees.{tree-Node, tree-List, tree-Flag, tree-Absent, spelling-Listed}
 
 -- the bytes behind each first byte
 pub node-inside : (depth : ℕ) (t : Tree) (bytes rest u : List ℕ) → bytes ≡ 40 ∷ rest → Begins depth t bytes u → (word : List ℕ) × (parts : Parts) × IsWord word × AreWritable parts × (height_of parts + 1 ≤ depth) × (rest ≡ word ++ (spelled_on 41 parts ++ u))
@@ -152,26 +152,21 @@ module _ (depth : ℕ) (bytes : List ℕ) (at : ℕ) (opened : drop at bytes ≡
       }))
 
 -- texts
-pub text-found : (depth : ℕ) (bytes rest u text : List ℕ) → bytes ≡ 34 ∷ rest → IsUtf8 text → rest ≡ quoted_rest text ++ u → Begins depth (tree (V.Text text)) bytes u
-text-found depth bytes rest u text o utf8 e = subst (λ t. Begins depth t bytes u) (sym (tree-Text text)) (record {
-  writable = utf8;
-  low = omega arith;
-  ends = tt;
-  spelled = o ∙ ap (λ l. 34 ∷ l) e;
-})
+pub text-found : (depth : ℕ) (bytes rest u text : List ℕ) → bytes ≡ 34 ∷ rest → IsUtf8 text → rest ≡ quoted_rest text ++ u → Begins depth (Said text) bytes u
+text-found depth bytes rest u text o utf8 e = record { writable = utf8; low = omega arith; ends = tt; spelled = o ∙ ap (λ l. 34 ∷ l) e }
 
 pub text-none : (depth : ℕ) (bytes rest : List ℕ) → bytes ≡ 34 ∷ rest → ((text u : List ℕ) → IsUtf8 text → rest ≡ quoted_rest text ++ u → ⊥) → NoneBegins depth bytes
 text-none depth bytes rest o none t u b = let i = text-inside depth t bytes rest u o b in none i.0 u i.1 i.2
 
 -- numbers
 module _ (bytes : List ℕ) (at after : ℕ) (run : IsRun is_ascii_digit bytes at after) where
-  pub number-found : (depth n : ℕ) → IsNumeral (take (after - at) (drop at bytes)) n → Begins depth (tree (V.Number n)) (drop at bytes) (drop after bytes)
-  number-found depth n numeral = subst (λ t. Begins depth t (drop at bytes) (drop after bytes)) (sym (tree-Number n)) (record {
+  pub number-found : (depth n : ℕ) → IsNumeral (take (after - at) (drop at bytes)) n → Begins depth (Count n) (drop at bytes) (drop after bytes)
+  number-found depth n numeral = record {
     writable = numeral.bounded;
     low = omega arith;
     ends = run.stopped;
     spelled = run-there bytes at after run.forward ∙ ap (λ l. l ++ drop after bytes) (numeral.written ∙ sym (numeral-decimal n (largest-small n numeral.bounded)));
-  })
+  }
 
   pub number-none : (depth digit : ℕ) (rest : List ℕ) → is_ascii_digit digit ≡ true → drop at bytes ≡ digit ∷ rest → ((n : ℕ) → IsNumeral (take (after - at) (drop at bytes)) n → ⊥) → NoneBegins depth (drop at bytes)
   number-none depth digit rest d o none t u b =

@@ -8,5 +8,6 @@ pub mod Quotes
 pub mod Reading
 pub mod Runs
 pub mod Spellings
+pub mod Tails
 pub mod Trees
 pub mod Worded

@@ -1,10 +1,13 @@
 -- Laws of measuring bytes one after the other.
-use Rattle.std.proofs.Common.{◌≡◌, ℕ, zero, nat_cmp, ◌+◌, ◌-◌, ◌≤◌, max, Bool, true, false, cond, not, ◌==◌, List, [], ◌∷◌, sym, refl, arith, true≢false}
+use Rattle.std.proofs.Common.{◌≡◌, sym, subst, ◌++◌, ap, ◌∙◌, take, ℕ, zero, nat_cmp, ◌+◌, ◌-◌, ◌≤◌, max, Bool, true, false, cond, not, ◌==◌, ◌<◌, List, [], ◌∷◌, length, drop, get_or, refl, arith}
+use Rattle.std.proofs.lemmas.List.{drop_more, drop_all}
 use Rattle.std.proofs.lemmas.List.Sums.{sum_by-cons}
 use Rattle.std.proofs.lemmas.Bool.Decides.{nat_tests}
-use Rattle.std.specs.List.{count_by}
+use Rattle.std.specs.List.{count_by, list_all}
 use Rattle.std.specs.Ordering.{ord_max}
-use Rattle.rl_text.specs.Measure.{outside, open_after, deepest_from}
+use Rattle.rl_text.specs.Places.{StopsAt, IsRun}
+use Rattle.rl_text.proofs.Runs.{both, run-there}
+use Rattle.rl_text.specs.Measure.{is_inside, outside, open_after, deepest_from}
 
 -- the effect of one more byte outside and inside a text
 pub outside-quote : (within : Bool) (byte : ℕ) (bytes : List ℕ) → byte ≡ 34 → outside within (byte ∷ bytes) ≡ outside (not within) bytes
@@ -15,6 +18,26 @@ outside-other byte bytes h = grind (arith, nat_tests)
 
 pub outside-within : (byte : ℕ) (bytes : List ℕ) → (byte ≡ 34 → ⊥) → outside true (byte ∷ bytes) ≡ outside true bytes
 outside-within byte bytes h = grind (arith, nat_tests)
+
+inside-run : (run rest : List ℕ) → list_all is_inside run ≡ true → outside true (run ++ rest) ≡ outside true rest
+inside-run [] rest h = refl
+inside-run (byte ∷ run) rest h =
+    let p = both (is_inside byte) _ h in
+    let other : byte ≡ 34 → ⊥ = λ e. grind (arith, nat_tests, p.0) in outside-within byte (run ++ rest) other ∙ inside-run run rest p.1
+
+-- The bytes of a text up to its quote are left out, and so are those of a text that no quote closes.
+module _ (bytes : List ℕ) (at end : ℕ) (run : IsRun is_inside bytes at end) where
+  behind : outside true (drop at bytes) ≡ outside true (drop end bytes)
+  behind = ap (outside true) (run-there bytes at end run.forward) ∙ inside-run (take (end - at) (drop at bytes)) (drop end bytes) run.passed
+
+  pub text_closed : end < length bytes → outside true (drop at bytes) ≡ outside false (drop (end + 1) bytes)
+  text_closed lt =
+      let there = drop_more bytes end 0 lt in
+      let stops = subst (StopsAt is_inside) there run.stopped in
+      let quote : get_or bytes end 0 ≡ 34 = grind (arith, nat_tests, stops) in behind ∙ ap (outside true) there ∙ outside-quote true (get_or bytes end 0) (drop (end + 1) bytes) quote
+
+  pub text_open : (end < length bytes → ⊥) → outside true (drop at bytes) ≡ outside false (drop end bytes)
+  text_open past = let none : drop end bytes ≡ [] = drop_all end bytes (omega arith) in behind ∙ ap (outside true) none ∙ ap (outside false) (sym none)
 
 pub opens-cons : (byte : ℕ) (bytes : List ℕ) → count_by (λ byte. byte == 40) (byte ∷ bytes) ≡ cond (byte == 40) 1 0 + count_by (λ byte. byte == 40) bytes
 opens-cons byte bytes = sum_by-cons _ byte bytes
@@ -44,50 +67,29 @@ pub record Measured (all : List ℕ) (at : ℕ) (left : List ℕ) (nodes depth d
   pub few_open : depth ≤ at
   pub covered : depth ≤ deepest
 
--- one byte more
-module _ (all : List ℕ) (at : ℕ) (byte : ℕ) (bytes : List ℕ) (nodes depth deepest : ℕ) where
-  pub measured-quote : (within : Bool) → byte ≡ 34 → Measured all at (outside within (byte ∷ bytes)) nodes depth deepest → Measured all (at + 1) (outside (not within) bytes) nodes depth deepest
-  measured-quote within quote measured =
-      let m = rw (outside-quote within byte bytes quote) at measured in
-      record { counted = m.counted; reached = m.reached; few_nodes = omega arith; few_open = omega arith; covered = m.covered }
+-- A byte outside texts is measured: a parenthesis that opens, or a byte that is neither a quote nor a parenthesis.
+module _ (bytes : List ℕ) (at nodes depth deepest : ℕ) (inside : at < length bytes) (measured : Measured (outside false bytes) at (outside false (drop at bytes)) nodes depth deepest) where
+  before : Measured (outside false bytes) at (outside false (get_or bytes at 0 ∷ drop (at + 1) bytes)) nodes depth deepest
+  before = rw (drop_more bytes at 0 inside) at measured
 
-  pub measured-within : (within : Bool) → (byte ≡ 34 → ⊥) → within ≡ true → Measured all at (outside within (byte ∷ bytes)) nodes depth deepest → Measured all (at + 1) (outside within bytes) nodes depth deepest
-  measured-within true other inside measured =
-      let m = rw (outside-within byte bytes other) at measured in
-      record { counted = m.counted; reached = m.reached; few_nodes = omega arith; few_open = omega arith; covered = m.covered }
-  measured-within false other inside measured = absurd (true≢false (sym inside))
-
-  pub measured-open : (within : Bool) → within ≡ false → byte ≡ 40 → Measured all at (outside within (byte ∷ bytes)) nodes depth deepest → Measured all (at + 1) (outside within bytes) (nodes + 1) (depth + 1) (max deepest (depth + 1))
-  measured-open true apart opened measured = absurd (true≢false apart)
-  measured-open false apart opened measured =
-      let m = rw opened at measured in
-      let left = outside false bytes in record {
+  pub measured_open : (deeper : ℕ) → deeper ≡ ord_max nat_cmp deepest (depth + 1) → get_or bytes at 0 ≡ 40 → Measured (outside false bytes) (at + 1) (outside false (drop (at + 1) bytes)) (nodes + 1) (depth + 1) deeper
+  measured_open deeper is opened =
+      let m = rw opened at before in
+      let left = outside false (drop (at + 1) bytes) in
+      rw (is, larger) (record {
         counted = omega (arith, m.counted, opens-cons 40 left);
         reached = omega (arith, m.reached, m.covered, deepest_from-low (depth + 1) left);
         few_nodes = omega arith;
         few_open = omega arith;
         covered = omega arith;
-      }
+      })
 
-  pub measured-close : (within : Bool) → within ≡ false → byte ≡ 41 → Measured all at (outside within (byte ∷ bytes)) nodes depth deepest → Measured all (at + 1) (outside within bytes) nodes (depth - 1) deepest
-  measured-close true apart closed measured = absurd (true≢false apart)
-  measured-close false apart closed measured =
-      let m = rw closed at measured in
-      let left = outside false bytes in record {
-        counted = omega (arith, m.counted, opens-cons 41 left);
-        reached = omega (arith, m.reached, m.covered, deepest_from-low (depth - 1) left);
-        few_nodes = omega arith;
-        few_open = omega arith;
-        covered = omega arith;
-      }
-
-  pub measured-other : (within : Bool) → (byte ≡ 34 → ⊥) → within ≡ false → (byte ≡ 40 → ⊥) → (byte ≡ 41 → ⊥) → Measured all at (outside within (byte ∷ bytes)) nodes depth deepest → Measured all (at + 1) (outside within bytes) nodes depth deepest
-  measured-other true other apart no_open no_close measured = absurd (true≢false apart)
-  measured-other false other apart no_open no_close measured =
-      let m = rw (outside-other byte bytes other) at measured in
-      let left = outside false bytes in
-      let on = rw (open_after-other depth byte no_open no_close) at m.reached in record {
-        counted = omega (arith, m.counted, opens-other byte left no_open);
+  pub measured_other : (get_or bytes at 0 ≡ 34 → ⊥) → (get_or bytes at 0 ≡ 40 → ⊥) → (get_or bytes at 0 ≡ 41 → ⊥) → Measured (outside false bytes) (at + 1) (outside false (drop (at + 1) bytes)) nodes depth deepest
+  measured_other no_quote no_open no_close =
+      let left = outside false (drop (at + 1) bytes) in
+      let m = rw (outside-other (get_or bytes at 0) (drop (at + 1) bytes) no_quote) at before in
+      let on = rw (open_after-other depth (get_or bytes at 0) no_open no_close) at m.reached in record {
+        counted = omega (arith, m.counted, opens-other (get_or bytes at 0) left no_open);
         reached = omega (arith, on, m.covered, deepest_from-low depth left);
         few_nodes = omega arith;
         few_open = omega arith;

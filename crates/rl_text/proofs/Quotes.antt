@@ -1,9 +1,11 @@
 -- Laws of quoted texts.
-use Rattle.std.proofs.Common.{◌≡◌, ℕ, ◌+◌, ◌*◌, ◌/◌, ◌%◌, ◌<◌, ◌≤◌, Bool, true, false, cond, List, [], ◌∷◌, ◌++◌, length, drop, get_or, ap, sym, ◌∙◌, refl, arith, true≢false, append_assoc, length-append, ◌⊎◌, inl, inr}
+use Rattle.std.proofs.Common.{◌≡◌, ℕ, ◌+◌, ◌-◌, ◌*◌, ◌/◌, ◌%◌, ◌<◌, Bool, true, false, not, cond, List, [], ◌∷◌, ◌++◌, length, take, drop, get_or, ap, sym, ◌∙◌, refl, arith, true≢false, append_assoc, length-append, ◌⊎◌, inl, inr}
 use Rattle.std.proofs.lemmas.List.{drop_more}
 use Rattle.std.proofs.lemmas.Bool.Decides.{nat_tests}
-use Rattle.rl_text.specs.Quoted.{hexadecimal, is_escaped, escape, quoted_rest}
-use Rattle.rl_text.proofs.Runs.{heads}
+use Rattle.std.specs.List.{list_all}
+use Rattle.rl_text.specs.Quoted.{hexadecimal, is_escaped, is_plain, escape, quoted_rest}
+use Rattle.rl_text.specs.Places.{IsRun}
+use Rattle.rl_text.proofs.Runs.{heads, both, run-there}
 
 pub hexadecimal-injective : (a b : ℕ) → hexadecimal a ≡ hexadecimal b → a < 16 → b < 16 → a ≡ b
 hexadecimal-injective a b h p q = grind (arith, nat_tests)
@@ -73,13 +75,39 @@ quotes-apart (a ∷ s) (b ∷ t) u v h =
     let r = quotes-apart s t u v e.1 in
     ((λ i. e.0 i ∷ r.0 i), r.1)
 
-pub three_first : (bytes : List ℕ) → 3 ≤ length bytes → bytes ≡ get_or bytes 0 0 ∷ get_or bytes 1 0 ∷ get_or bytes 2 0 ∷ drop 3 bytes
-three_first [] l = absurd (omega arith)
-three_first (a ∷ []) l = absurd (omega arith)
-three_first (a ∷ b ∷ []) l = absurd (omega arith)
-three_first (a ∷ b ∷ c ∷ bytes) l = refl
+-- A plain byte is written as it stands.
+plain-escape : (byte : ℕ) → is_plain byte ≡ true → escape byte ≡ byte ∷ []
+plain-escape byte h = escape-plain byte (not-true (is_escaped byte) h)
+  where
+    not-true : (b : Bool) → not b ≡ true → b ≡ false
+    not-true true e = sym e
+    not-true false e = refl
 
--- a text was read from one place to another
+-- A run of plain bytes is written as it stands.
+pub quoted-plain : (run rest : List ℕ) → list_all is_plain run ≡ true → quoted_rest (run ++ rest) ≡ run ++ quoted_rest rest
+quoted-plain [] rest h = refl
+quoted-plain (byte ∷ run) rest h =
+    let p = both (is_plain byte) _ h in
+    rw (plain-escape byte p.0) (ap (λ l. byte ∷ l) (quoted-plain run rest p.1))
+
+-- Behind a run of plain bytes, a text goes on.
+pub quoted-behind : (run u text v : List ℕ) → list_all is_plain run ≡ true → run ++ u ≡ quoted_rest text ++ v → (more : List ℕ) × (u ≡ quoted_rest more ++ v)
+quoted-behind [] u text v h e = (text, e)
+quoted-behind (byte ∷ run) u [] v h e = absurd (escape-no_quote byte v (run ++ u) (sym e ∙ sym (ap (λ l. l ++ (run ++ u)) (plain-escape byte (both (is_plain byte) _ h).0))))
+quoted-behind (byte ∷ run) u (c ∷ text) v h e =
+    let p = both (is_plain byte) _ h in
+    quoted-behind run u text v p.1 (escapes-apart byte c (run ++ u) (quoted_rest text ++ v) (ap (λ l. l ++ (run ++ u)) (plain-escape byte p.0) ∙ e ∙ append_assoc (escape c) (quoted_rest text) v)).1
+
+-- The rest of a text is spelled by a run of plain bytes and the rest behind it, or by an escape and the rest behind it.
+pub run-written : (out new text : List ℕ) (at end : ℕ) → IsRun is_plain text at end → new ≡ out ++ take (end - at) (drop at text) → new ++ quoted_rest (drop end text) ≡ out ++ quoted_rest (drop at text)
+run-written out new text at end run e =
+    let plain = take (end - at) (drop at text) in
+    rw (e, append_assoc) (ap (λ l. out ++ l) (sym (ap quoted_rest (run-there text at end run.forward) ∙ quoted-plain plain (drop end text) run.passed)))
+
+pub escape-written : (out new text : List ℕ) (at : ℕ) → at < length text → new ≡ out ++ escape (get_or text at 0) → new ++ quoted_rest (drop (at + 1) text) ≡ out ++ quoted_rest (drop at text)
+escape-written out new text at lt e = rw (e, append_assoc) (ap (λ l. out ++ quoted_rest l) (sym (drop_more text at 0 lt)))
+
+-- The text spells the bytes from `at` to `place`, which need not be its end.
 pub record ReadsText (bytes : List ℕ) (at place : ℕ) (text : List ℕ) : Type 0 where
   pub whole : (more rest : List ℕ) → drop place bytes ≡ quoted_rest more ++ rest → drop at bytes ≡ quoted_rest (text ++ more) ++ rest
   pub on : (any rest : List ℕ) → drop at bytes ≡ quoted_rest any ++ rest → (more : List ℕ) × (drop place bytes ≡ quoted_rest more ++ rest)
@@ -97,6 +125,14 @@ module _ (bytes : List ℕ) (at place after : ℕ) (text : List ℕ) (byte : ℕ
       go : (r rest : List ℕ) → drop place bytes ≡ quoted_rest r ++ rest → (more : List ℕ) × (drop after bytes ≡ quoted_rest more ++ rest)
       go [] rest d = absurd (escape-no_quote byte rest (drop after bytes) (sym d ∙ stands))
       go (x ∷ r) rest d = (r, (escapes-apart byte x (drop after bytes) (quoted_rest r ++ rest) (sym stands ∙ d ∙ append_assoc (escape x) (quoted_rest r) rest)).1)
+
+pub text-run : (bytes : List ℕ) (at place end : ℕ) (text : List ℕ) → ReadsText bytes at place text → IsRun is_plain bytes place end → ReadsText bytes at end (text ++ take (end - place) (drop place bytes))
+text-run bytes at place end text reads run =
+    let plain = take (end - place) (drop place bytes) in
+    let there = run-there bytes place end run.forward in record {
+      whole = λ more rest e. reads.whole (plain ++ more) rest (there ∙ ap (λ l. plain ++ l) e ∙ sym (append_assoc plain (quoted_rest more) rest) ∙ ap (λ l. l ++ rest) (sym (quoted-plain plain more run.passed))) ∙ ap (λ l. quoted_rest l ++ rest) (sym (append_assoc text plain more));
+      on = λ any rest e. let r = reads.on any rest e in quoted-behind plain (drop end bytes) r.0 rest run.passed (sym there ∙ r.1);
+    }
 
 pub text-stopped : (bytes : List ℕ) (at place : ℕ) (text : List ℕ) → ReadsText bytes at place text → ((u : List ℕ) → drop place bytes ≡ 34 ∷ u → ⊥) → ((c : ℕ) (u : List ℕ) → drop place bytes ≡ escape c ++ u → ⊥) → (any rest : List ℕ) → drop at bytes ≡ quoted_rest any ++ rest → ⊥
 text-stopped bytes at place text reads no_quote no_byte any rest e = let r = reads.on any rest e in go r.0 r.1

@@ -1,9 +1,10 @@
 -- Runs of bytes that pass a test.
-use Rattle.std.proofs.Common.{◌≡◌, ℕ, ◌+◌, ◌-◌, ◌<◌, ◌≤◌, Bool, true, false, ◌&&◌, List, [], ◌∷◌, ◌++◌, length, take, drop, get_or, ap, sym, ◌∙◌, refl, arith, subst, true≢false, length-drop, get_or-drop}
+use Rattle.std.proofs.Common.{◌≡◌, ℕ, ◌+◌, ◌-◌, ◌<◌, ◌≤◌, Bool, true, false, ◌&&◌, List, [], ◌∷◌, ◌++◌, length, take, drop, get_or, ap, sym, ◌∙◌, refl, arith, subst, true≢false}
 use Rattle.std.specs.List.{list_all}
 use Rattle.std.proofs.lemmas.List.Folds.{list_all-append}
-use Rattle.std.proofs.lemmas.List.{take_more, take-append-drop, drop-drop}
-use Rattle.rl_text.specs.Places.{StopsAt}
+use Rattle.std.proofs.lemmas.List.{drop_more, take-append-drop, drop-drop}
+use Rattle.std.proofs.Math.Seq.{take-add}
+use Rattle.rl_text.specs.Places.{StopsAt, IsRun}
 
 pub heads : (a b : ℕ) (x y : List ℕ) → a ∷ x ≡ b ∷ y → (a ≡ b) × (x ≡ y)
 heads a b x y h = (cc, cc)
@@ -23,14 +24,32 @@ module _ (test : ℕ → Bool) where
       let rest = runs-apart s t u v (both (test c) _ p).1 (both (test d) _ q).1 m n e.1 in
       ((λ i. e.0 i ∷ rest.0 i), rest.1)
 
-  -- one more byte
-  pub run-more : (bytes : List ℕ) (at after : ℕ) → at ≤ after → after < length bytes → list_all test (take (after - at) (drop at bytes)) ≡ true → test (get_or bytes after 0) ≡ true → list_all test (take (after + 1 - at) (drop at bytes)) ≡ true
-  run-more bytes at after low lt passed one =
-      let inside : after - at < length (drop at bytes) = omega (arith, length-drop at bytes) in
-      let step : after + 1 - at ≡ after - at + 1 = omega arith in
-      let there : at + (after - at) ≡ after = omega arith in
-      rw (step, take_more (drop at bytes) (after - at) 0 inside, get_or-drop at bytes (after - at) 0, there)
-      (list_all-append test (take (after - at) (drop at bytes)) (get_or bytes after 0 ∷ []) ∙ rw (passed, one) refl)
+  -- The bytes from one offset to another pass the test.
+  pub record Passed (bytes : List ℕ) (at end : ℕ) : Type 0 where
+    pub forward : at ≤ end
+    pub within : end ≤ length bytes
+    pub passed : list_all test (take (end - at) (drop at bytes)) ≡ true
+
+  pub passed-block : (bytes : List ℕ) (at end next : ℕ) → Passed bytes at end → end ≤ next → next ≤ length bytes → list_all test (take (next - end) (drop end bytes)) ≡ true → Passed bytes at next
+  passed-block bytes at end next h low within block =
+      let split : next - at ≡ (end - at) + (next - end) = omega arith in
+      let there : at + (end - at) ≡ end = omega arith in record {
+        forward = omega arith;
+        within = within;
+        passed = rw (split, take-add (end - at) (next - end) (drop at bytes), drop-drop (end - at) at bytes, there)
+            (list_all-append test (take (end - at) (drop at bytes)) (take (next - end) (drop end bytes)) ∙ rw (h.passed, block) refl);
+      }
+
+  pub passed-more : (bytes : List ℕ) (at end : ℕ) → Passed bytes at end → end < length bytes → test (get_or bytes end 0) ≡ true → Passed bytes at (end + 1)
+  passed-more bytes at end h lt one =
+      let step : end + 1 - end ≡ 1 = omega arith in
+      passed-block bytes at end (end + 1) h (omega arith) (omega arith) (rw (step, drop_more bytes end 0 lt, one) refl)
+
+  -- A run behind bytes that pass the test is longer by them.
+  pub passed_run : (bytes : List ℕ) (at end after : ℕ) → Passed bytes at end → IsRun test bytes end after → IsRun test bytes at after
+  passed_run bytes at end after h run =
+      let all = passed-block bytes at end after h run.forward run.within run.passed in
+      record { forward = all.forward; within = all.within; passed = all.passed; stopped = run.stopped }
 
 -- the bytes at the run's beginning
 pub run-there : (bytes : List ℕ) (at after : ℕ) → at ≤ after → drop at bytes ≡ take (after - at) (drop at bytes) ++ drop after bytes

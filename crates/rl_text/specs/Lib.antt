@@ -6,3 +6,4 @@ pub mod Numeral
 pub mod Places
 pub mod Quoted
 pub mod Raw
+pub mod Spaced

@@ -1,6 +1,10 @@
 -- The number of nodes in bytes, and the largest number of parentheses open at once.
 use Rattle.std.specs.Prelude.{ℕ, ◌+◌, ◌-◌, max, Bool, false, not, ◌==◌, if◌then◌else◌, List, [], ◌∷◌, count_by}
 
+-- The byte closes no text.
+abbrev pub is_inside : ℕ → Bool
+is_inside byte = not (byte == 34)
+
 -- the bytes outside texts, from inside a text on or not: each quote opens or closes one, and is left out
 abbrev pub outside : (within : Bool) → List ℕ → List ℕ
 outside within [] = []

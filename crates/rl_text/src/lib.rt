@@ -7,5 +7,6 @@ pub mod number;
 pub mod quoted;
 pub mod raw;
 pub mod read;
-mod scan;
+pub mod scan;
 pub mod write;
+pub mod written;

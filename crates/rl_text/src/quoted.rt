@@ -1,9 +1,10 @@
 //! Texts in quotes, with their escapes: a backslash and two hexadecimal digits in lower case.
 
-ghost use Rattle.std.specs.Prelude.{◌≡◌, ℕ, ◌+◌, ◌^◌, ◌<◌, ◌≤◌, List, ◌∷◌, ◌++◌, drop, length, IfSome, IfNone, IfOk, OnOk};
-ghost use Rattle.rl_text.specs.Quoted.{hexadecimal, is_escaped, escape, quoted_rest, quoted};
+ghost use Rattle.std.specs.Prelude.{◌≡◌, ℕ, ◌+◌, ◌-◌, ◌^◌, ◌<◌, ◌≤◌, true, List, ◌∷◌, ◌++◌, take, drop, length, IfSome, IfNone, IfOk, OnOk};
+ghost use Rattle.rl_text.specs.Quoted.{hexadecimal, is_escaped, is_plain, escape, quoted_rest, quoted};
+ghost use Rattle.rl_text.specs.Places.{StopsAt, IsRun};
 
-use crate::scan::has_byte;
+use crate::scan::{ByteClass, has_byte, long_run_end};
 use rl_base::error::OutOfMemory;
 use std::alloc::Global;
 
@@ -57,47 +58,55 @@ pub fn quoted_len(text: &[u8]) -> usize
     count
 }
 
-/// Decodes the first byte of a text behind its opening quote: its value, and the number of bytes that spell it. `None` if
-/// `bytes` is empty, or begins with a byte that needs an escape or with an escape that is none of the notation.
-fn first_byte(bytes: &[u8]) -> Option<(u8, usize)>
-    ensures some { IfSome result (λ r. (bytes.now ≡ escape r.0 ++ drop r.1 bytes.now) × (0 < r.1) × (r.1 ≤ length bytes.now)) }
-    ensures none { IfNone result ((byte : ℕ) (rest : List ℕ) → bytes.now ≡ escape byte ++ rest → ⊥) }
-{
-    if bytes.is_empty() {
-        return None;
+/// The bytes that need no escape.
+struct Plain;
+
+impl ByteClass for Plain {
+    ghost test = { is_plain };
+
+    #[inline(always)]
+    fn contains(byte: u8) -> bool {
+        !needs_escape(byte)
     }
-    let first = bytes[0];
-    if first == b'\\' {
-        return first_escape(bytes);
-    }
-    if needs_escape(first) {
-        return None;
-    }
-    Some((first, 1))
 }
 
-/// Decodes the escape at the start of `bytes`, which begins with a backslash. `None` if it is none of the notation.
-fn first_escape(bytes: &[u8]) -> Option<(u8, usize)>
-    requires { bytes.now ≡ 92 ∷ drop 1 bytes.now }
-    ensures some { IfSome result (λ r. (bytes.now ≡ escape r.0 ++ drop r.1 bytes.now) × (0 < r.1) × (r.1 ≤ length bytes.now)) }
+/// The byte offset at which the bytes from `at` on that need no escape end.
+pub fn plain_end(bytes: &[u8], at: usize) -> usize
+    requires { at ≤ length bytes.now }
+    ensures { IsRun is_plain bytes.now at result }
+{
+    long_run_end::<Plain>(bytes, at)
+}
+
+/// Appends the bytes from `at` on that need no escape to `out`, and returns the byte offset at which they end.
+fn push_run(bytes: &[u8], at: usize, out: &mut Vec<u8>) -> Result<usize, OutOfMemory>
+    requires { at ≤ length bytes.now }
+    ensures run { IfOk result (λ end. IsRun is_plain bytes.now at end) }
+    ensures appended { IfOk result (λ end. out.new.items ≡ out.old.items ++ take (end - at) (drop at bytes.now)) }
+{
+    let end = plain_end(bytes, at);
+    out.extend_from_slice(&bytes[at..end])?;
+    Ok(end)
+}
+
+/// Decodes the escape that stands at the start of `bytes`, of three bytes. `None` if none of the notation stands there.
+fn first_escape(bytes: &[u8]) -> Option<u8>
+    requires { StopsAt is_plain bytes.now }
+    ensures some { IfSome result (λ byte. (3 ≤ length bytes.now) × (bytes.now ≡ escape byte ++ drop 3 bytes.now)) }
     ensures none { IfNone result ((byte : ℕ) (rest : List ℕ) → bytes.now ≡ escape byte ++ rest → ⊥) }
 {
-    if bytes.len() < 3 {
+    if bytes.len() < 3 || bytes[0] != b'\\' {
         return None;
     }
     let high = hexadecimal_value(bytes[1])?;
     let low = hexadecimal_value(bytes[2])?;
     let byte = 16 * high + low;
-    if needs_escape(byte) {
-        Some((byte, 3))
-    } else {
-        None
-    }
+    if needs_escape(byte) { Some(byte) } else { None }
 }
 
 /// Reads the text behind an opening quote, from the byte offset `at` on. Returns the decoded bytes and the offset behind
 /// the closing quote. `None` if no text of the notation closes. On `OutOfMemory`, an allocation failed.
-pub(crate) fn read_quoted(
+pub fn read_quoted(
     alloc: Global,
     bytes: &[u8],
     at: usize,
@@ -107,38 +116,37 @@ pub(crate) fn read_quoted(
     ensures none { IfOk result (λ r. IfNone r ((text rest : List ℕ) → drop at bytes.now ≡ quoted_rest text ++ rest → ⊥)) }
 {
     let mut text = Vec::new(alloc);
-    let mut place = at;
-    'reading: while !has_byte(bytes, place, b'"') {
-        let Some((byte, count)) = first_byte(&bytes[place..]) else {
+    let mut end = push_run(bytes, at, &mut text)?;
+    'reading: while !has_byte(bytes, end, b'"') {
+        let Some(byte) = first_escape(&bytes[end..]) else {
             return Ok(None);
         };
         text.push(byte)?;
-        place += count;
+        end = push_run(bytes, end + 3, &mut text)?;
     }
-    Ok(Some((text, place + 1)))
+    Ok(Some((text, end + 1)))
 }
 
-/// Appends the spelling of `byte` to `out`.
-fn push_escaped(byte: u8, out: &mut Vec<u8>) -> Result<(), OutOfMemory>
+/// Appends the escape of `byte` to `out`.
+fn push_escape(byte: u8, out: &mut Vec<u8>) -> Result<(), OutOfMemory>
+    requires { is_escaped byte ≡ true }
     ensures { OnOk result (out.new.items ≡ out.old.items ++ escape byte) }
 {
-    if needs_escape(byte) {
-        let high = hexadecimal_digit(byte / 16);
-        let low = hexadecimal_digit(byte % 16);
-        out.extend_from_slice(&[b'\\', high, low])?;
-    } else {
-        out.push(byte)?;
-    }
+    let high = hexadecimal_digit(byte / 16);
+    let low = hexadecimal_digit(byte % 16);
+    out.extend_from_slice(&[b'\\', high, low])?;
     Ok(())
 }
 
 /// Appends `text` in quotes to `out`. On `OutOfMemory`, an allocation failed, and `out` may hold a part of it.
-pub(crate) fn write_quoted(text: &[u8], out: &mut Vec<u8>) -> Result<(), OutOfMemory>
+pub fn write_quoted(text: &[u8], out: &mut Vec<u8>) -> Result<(), OutOfMemory>
     ensures { OnOk result (out.new.items ≡ out.old.items ++ quoted text.now) }
 {
     out.push(b'"')?;
-    'writing: for byte in text {
-        push_escaped(*byte, out)?;
+    let mut end = push_run(text, 0, out)?;
+    'writing: while end < text.len() {
+        push_escape(text[end], out)?;
+        end = push_run(text, end + 1, out)?;
     }
     out.push(b'"')?;
     Ok(())

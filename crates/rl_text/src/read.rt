@@ -3,7 +3,7 @@
 ghost use Rattle.std.specs.Prelude.{◌≡◌, ℕ, ◌+◌, ◌<◌, ◌≤◌, ◌∷◌, length, drop, slice_index, true, IfOk, IfSome, IfNone, IsErrOf};
 ghost use Rattle.std.specs.Char.{is_ascii_digit};
 ghost use Rattle.std.specs.Str.{IsUtf8};
-ghost use Rattle.rl_text.specs.Notation.{Tree, Spells, height};
+ghost use Rattle.rl_text.specs.Notation.{Tree, Said, Count, Spells, height};
 ghost use Rattle.rl_text.specs.Raw.{tree};
 ghost use Rattle.rl_text.specs.Places.{Begins, NoneBegins, NoneGoesOn, IsBracket, Adds};
 
@@ -192,33 +192,67 @@ fn read_parts(
     }
 }
 
-/// Reads a text whose opening quote stands at the byte offset `at`. `None` if no text of the
-/// notation closes, or its bytes are not UTF-8.
+/// Reads a text whose opening quote stands at the byte offset `at`, as a tree.
+#[tactic(auto, using(crate::proofs::Trees::tree_forms))]
 fn read_text(alloc: Global, bytes: &[u8], at: usize) -> Result<Found, OutOfMemory>
     requires within { at < length bytes.now }
     requires opened { drop at bytes.now ≡ 34 ∷ drop (at + 1) bytes.now }
     ensures found { IfOk result (λ r. IfSome r (λ f. (at < f.1) × (f.1 ≤ length bytes.now) × Begins 0 (tree f.0) (drop at bytes.now) (drop f.1 bytes.now))) }
     ensures none { IfOk result (λ r. IfNone r ((depth : ℕ) → NoneBegins depth (drop at bytes.now))) }
 {
+    let Some((text, next)) = read_text_at(alloc, bytes, at)? else {
+        return Ok(None);
+    };
+    Ok(Some((Raw::Text(text), next)))
+}
+
+/// Reads the text whose opening quote stands at the byte offset `at`. Returns the decoded text and the offset behind the
+/// closing quote. `None` if no text of the notation closes, or its bytes are not UTF-8. On `OutOfMemory`, an allocation
+/// failed.
+pub fn read_text_at(
+    alloc: Global,
+    bytes: &[u8],
+    at: usize,
+) -> Result<Option<(Text, usize)>, OutOfMemory>
+    requires within { at < length bytes.now }
+    requires opened { drop at bytes.now ≡ 34 ∷ drop (at + 1) bytes.now }
+    ensures found { IfOk result (λ r. IfSome r (λ f. (at < f.1) × (f.1 ≤ length bytes.now) × Begins 0 (Said f.0) (drop at bytes.now) (drop f.1 bytes.now))) }
+    ensures none { IfOk result (λ r. IfNone r ((depth : ℕ) → NoneBegins depth (drop at bytes.now))) }
+{
     let Some((text, next)) = read_quoted(alloc, bytes, at + 1)? else {
         return Ok(None);
     };
     match String::from_utf8(text) {
-        Ok(inner) => Ok(Some((Raw::Text(Text::new(inner)), next))),
+        Ok(inner) => Ok(Some((Text::new(inner), next))),
         Err(_) => Ok(None),
     }
 }
 
-/// Reads a number whose first digit stands at the byte offset `at`.
+/// Reads a number whose first digit stands at the byte offset `at`, as a tree.
+#[tactic(auto, using(crate::proofs::Trees::tree_forms))]
 fn read_number(bytes: &[u8], at: usize) -> Found
     requires within { at < length bytes.now }
     requires digit { is_ascii_digit (slice_index bytes.now at) ≡ true }
     ensures found { IfSome result (λ f. (at < f.1) × (f.1 ≤ length bytes.now) × Begins 0 (tree f.0) (drop at bytes.now) (drop f.1 bytes.now)) }
     ensures none { IfNone result ((depth : ℕ) → NoneBegins depth (drop at bytes.now)) }
 {
+    let Some((number, next)) = read_number_at(bytes, at) else {
+        return None;
+    };
+    Some((Raw::Number(number), next))
+}
+
+/// Reads the number whose first digit stands at the byte offset `at`. Returns its value and the offset behind its last
+/// digit. `None` if the digits are no number of the notation: one with a leading zero, or above `LARGEST`.
+pub fn read_number_at(bytes: &[u8], at: usize) -> Option<(u64, usize)>
+    requires within { at < length bytes.now }
+    requires digit { is_ascii_digit (slice_index bytes.now at) ≡ true }
+    ensures found { IfSome result (λ f. (at < f.1) × (f.1 ≤ length bytes.now) × Begins 0 (Count f.0) (drop at bytes.now) (drop f.1 bytes.now)) }
+    ensures none { IfNone result ((depth : ℕ) → NoneBegins depth (drop at bytes.now)) }
+{
     let end = digits_end(bytes, at);
     let number = parse_number(&bytes[at..end])?;
-    Some((Raw::Number(number), end))
+    Some((number, end))
 }
 
 /// An owned copy of `bytes` as a text. `None` if they are not UTF-8.

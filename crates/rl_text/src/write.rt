@@ -8,6 +8,7 @@ ghost use Rattle.rl_text.specs.Places.{spelled_parts};
 
 use crate::quoted::write_quoted;
 use crate::raw::Raw;
+use itoa::Buffer;
 use rl_base::error::OutOfMemory;
 use std::alloc::Global;
 
@@ -60,18 +61,22 @@ fn write_parts(parts: &[Raw], apart: bool, close: u8, out: &mut Vec<u8>) -> Resu
     write_byte(close, out)
 }
 
-/// Appends the decimal digits of `number`.
+/// Appends the decimal digits of `number` to `out`. On `OutOfMemory`, an allocation failed, and `out` may hold a part of it.
 #[tactic(auto, using(crate::proofs::Digits::numerals))]
-fn write_number(number: u64, out: &mut Vec<u8>) -> Result<(), OutOfMemory>
+pub fn write_number(number: u64, out: &mut Vec<u8>) -> Result<(), OutOfMemory>
     ensures { OnOk result (out.new.items ≡ out.old.items ++ numeral number) }
 {
-    let digits = number.to_string(*out.allocator())?;
-    out.extend_from_slice(digits.as_bytes())?;
+    if number < 10 {
+        out.push(b'0' + number as u8)?;
+        return Ok(());
+    }
+    let mut digits = Buffer::new();
+    out.extend_from_slice(digits.format(number).as_bytes())?;
     Ok(())
 }
 
 /// Appends one byte.
-fn write_byte(byte: u8, out: &mut Vec<u8>) -> Result<(), OutOfMemory>
+pub fn write_byte(byte: u8, out: &mut Vec<u8>) -> Result<(), OutOfMemory>
     ensures { OnOk result (out.new.items ≡ out.old.items ++ byte ∷ []) }
 {
     out.push(byte)?;

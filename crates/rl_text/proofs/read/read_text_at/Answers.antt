@@ -4,7 +4,7 @@ use Rattle.std.proofs.lemmas.Str.{IsUtf8-string_bytes}
 use Rattle.rl_text.specs.Quoted.{quoted_rest}
 use Rattle.rl_text.proofs.Quotes.{quotes-apart}
 use Rattle.rl_text.proofs.Forms.{text-found, text-none}
-use Rattle.rl_text.proofs.read.read_text.Goals as goal
+use Rattle.rl_text.proofs.read.read_text_at.Goals as goal
 
 pub returns-in_default-clause-none : goal.returns-in_default-clause-none
 returns-in_default-clause-none c depth =

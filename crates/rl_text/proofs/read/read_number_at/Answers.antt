@@ -2,7 +2,7 @@ use Rattle.std.proofs.Common.{◌+◌, drop, get_or, Option, Some, None, IfNone}
 use Rattle.std.proofs.lemmas.List.{drop_more}
 use Rattle.rl_text.proofs.Forms.{number-found, number-none, number-longer}
 use Rattle.rl_text.proofs.Numerals.{numeral-found, numeral-none}
-use Rattle.rl_text.proofs.read.read_number.Goals as goal
+use Rattle.rl_text.proofs.read.read_number_at.Goals as goal
 
 if_none : {A P : Type 0} (o : Option A) → P → IfNone o P
 if_none (Some v) h = tt
