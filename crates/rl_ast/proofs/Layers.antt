@@ -1,12 +1,5 @@
 -- The plain tree of each variant.
 use Rattle.std.proofs.Common.{◌≡◌, ℕ, Bool, List, map, sym, ap, ◌∙◌}
-use Rattle.rl_text.specs.Notation as notation
-use Rattle.rl_text.specs.Raw as raw_layer
-use Rattle.rl_text.specs.Raw.{tree, parts_of}
-use Rattle.rl_text.specs.declared.raw.Raw.{Raw}
-use Rattle.rl_text.specs.declared.raw.Raw.TheVariants as raw
-use Rattle.rl_text.specs.declared.raw.Raw.TheOpen as raw_layers
-use Rattle.rl_text.specs.declared.raw.Raw.TheFolds.{fold-Raw, fold-roll-Raw}
 use Rattle.rl_ast.specs.Syntax.{Syntax, Node, Listed, Said, Count, Flag, Absent, pieces_of, layer, syntax}
 use Rattle.rl_ast.specs.declared.word.Word.{Word}
 use Rattle.rl_ast.specs.declared.numbered.At.{At}
@@ -39,29 +32,4 @@ pub syntax_absent : syntax numbered.Absent ≡ Absent
 unfolding syntax
 syntax_absent = ap (λ q. fold-Numbered Syntax layer q) (sym numbered.rolls-Absent) ∙ fold-roll-Numbered Syntax layer layers.Absent
 
--- the tree of the notation of each variant
-pub tree_node : (word : List ℕ) (parts : List Raw) → tree (raw.Node word parts) ≡ notation.Node word (parts_of (map tree parts))
-unfolding tree
-tree_node word parts = ap (λ q. fold-Raw notation.Tree raw_layer.layer q) (sym (raw.rolls-Node word parts)) ∙ fold-roll-Raw notation.Tree raw_layer.layer (raw_layers.Node word parts)
-
-pub tree_list : (parts : List Raw) → tree (raw.List parts) ≡ notation.Listed (parts_of (map tree parts))
-unfolding tree
-tree_list parts = ap (λ q. fold-Raw notation.Tree raw_layer.layer q) (sym (raw.rolls-List parts)) ∙ fold-roll-Raw notation.Tree raw_layer.layer (raw_layers.List parts)
-
-pub tree_text : (text : List ℕ) → tree (raw.Text text) ≡ notation.Said text
-unfolding tree
-tree_text text = ap (λ q. fold-Raw notation.Tree raw_layer.layer q) (sym (raw.rolls-Text text)) ∙ fold-roll-Raw notation.Tree raw_layer.layer (raw_layers.Text text)
-
-pub tree_number : (number : ℕ) → tree (raw.Number number) ≡ notation.Count number
-unfolding tree
-tree_number number = ap (λ q. fold-Raw notation.Tree raw_layer.layer q) (sym (raw.rolls-Number number)) ∙ fold-roll-Raw notation.Tree raw_layer.layer (raw_layers.Number number)
-
-pub tree_flag : (flag : Bool) → tree (raw.Flag flag) ≡ notation.Flag flag
-unfolding tree
-tree_flag flag = ap (λ q. fold-Raw notation.Tree raw_layer.layer q) (sym (raw.rolls-Flag flag)) ∙ fold-roll-Raw notation.Tree raw_layer.layer (raw_layers.Flag flag)
-
-pub tree_absent : tree raw.Absent ≡ notation.Absent
-unfolding tree
-tree_absent = ap (λ q. fold-Raw notation.Tree raw_layer.layer q) (sym raw.rolls-Absent) ∙ fold-roll-Raw notation.Tree raw_layer.layer raw_layers.Absent
-
-pub ruleset by_layer = (syntax_node, syntax_list, syntax_text, syntax_number, syntax_flag, syntax_absent, tree_node, tree_list, tree_text, tree_number, tree_flag, tree_absent)
+pub ruleset by_layer = (syntax_node, syntax_list, syntax_text, syntax_number, syntax_flag, syntax_absent)

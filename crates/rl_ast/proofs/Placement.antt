@@ -1,50 +1,20 @@
--- The text of a tree decides its nodes' numbers and places.
-use Rattle.std.proofs.Common.{◌≡◌, ℕ, ◌+◌, List, [], ◌∷◌, length, sym, ap, ◌∙◌, refl, subst, cond}
-use Rattle.std.specs.Str.{bytes_eq}
+-- The text of a tree decides the ids and spans of its nodes.
+use Rattle.std.proofs.Common.{◌≡◌, ℕ, ◌+◌, length, sym, ap, ◌∙◌, refl, subst}
 use Rattle.rl_text.specs.Notation as notation
 use Rattle.rl_ast.specs.Words.{word_text}
 use Rattle.rl_ast.specs.Syntax.{Syntax, Node, Listed, Said, Count, Flag, Absent, Pieces, End, Then, plain, plain_parts, width, nodes, nodes_of, StandsAt, IsPlaced, ArePlaced}
-use Rattle.rl_ast.specs.declared.word.Word.{Word}
-use Rattle.rl_ast.specs.declared.word.Word.TheVariants as word
-use Rattle.rl_ast.specs.declared.word.TheConstants.{WORDS}
 use Rattle.rl_ast.specs.declared.numbered.At.{At}
+use Rattle.rl_ast.proofs.Words.{word-one}
 
--- the first of these words that the text spells
-word_of : List Word → List ℕ → Word
-word_of [] text = word.Unit
-word_of (w ∷ words) text = cond (bytes_eq text (word_text w)) w (word_of words text)
+abbrev placed_at : (node last start end : ℕ) → At
+placed_at node last start end = record { id = record { 0 = node }; end = record { 0 = last }; span = record { start = start; end = end } }
 
-word-back : (w : Word) → word_of WORDS (word_text w) ≡ w
-unfolding word_of
-word-back word.Unit = refl
-word-back word.Program = refl
-word-back word.Expr = refl
-word-back word.Arrow = refl
-word-back word.Params = refl
-word-back word.Param = refl
-word-back word.Bind = refl
-word-back word.Null = refl
-word-back word.Bool = refl
-word-back word.Num = refl
-word-back word.Str = refl
-word-back word.Paren = refl
-word-back word.Id = refl
-word-back word.Binary = refl
-word-back word.Call = refl
-word-back word.Body = refl
-word-back word.Return = refl
-
-pub word-one : (v w : Word) → word_text v ≡ word_text w → v ≡ w
-word-one v w e = sym (word-back v) ∙ ap (λ text. word_of WORDS text) e ∙ word-back w
-
-abbrev placed_at : ℕ → ℕ → ℕ → At
-placed_at node start end = record { id = record { 0 = node }; span = record { start = start; end = end } }
-
-pub at-one : (a b : At) (node byte bytes : ℕ) → StandsAt a node byte bytes → StandsAt b node byte bytes → a ≡ b
-at-one a b node byte bytes s t =
-    ap (λ n. placed_at n a.span.start a.span.end) (s.number ∙ sym t.number)
-    ∙ ap (λ n. placed_at b.id.0 n a.span.end) (s.start ∙ sym t.start)
-    ∙ ap (λ n. placed_at b.id.0 b.span.start n) (s.end ∙ sym t.end)
+pub at-one : (a b : At) (node count byte bytes : ℕ) → StandsAt a node count byte bytes → StandsAt b node count byte bytes → a ≡ b
+at-one a b node count byte bytes s t =
+    ap (λ n. placed_at n a.end.0 a.span.start a.span.end) (s.number ∙ sym t.number)
+    ∙ ap (λ n. placed_at b.id.0 n a.span.start a.span.end) (s.last ∙ sym t.last)
+    ∙ ap (λ n. placed_at b.id.0 b.end.0 n a.span.end) (s.start ∙ sym t.start)
+    ∙ ap (λ n. placed_at b.id.0 b.end.0 b.span.start n) (s.end ∙ sym t.end)
 
 mutual
   pub nodes-one : (s t : Syntax) → plain s ≡ plain t → nodes s ≡ nodes t
@@ -67,7 +37,9 @@ mutual
       let words : word ≡ word' = word-one word word' (cc) in
       let same : plain_parts parts ≡ plain_parts parts' = cc in
       let wide : width (Node at word parts) ≡ width (Node at' word' parts') = ap (λ t. length (notation.spelling t)) e in
-      let places : at ≡ at' = at-one at at' node byte (width (Node at word parts)) here.0 (subst (λ n. StandsAt at' node byte n) (sym wide) there.0) in
+      let many : nodes (Node at word parts) ≡ nodes (Node at' word' parts') = nodes-one (Node at word parts) (Node at' word' parts') e in
+      let stands = subst (λ n. StandsAt at' node n byte (width (Node at word parts))) (sym many) (subst (λ n. StandsAt at' node (nodes (Node at' word' parts')) byte n) (sym wide) there.0) in
+      let places : at ≡ at' = at-one at at' node (nodes (Node at word parts)) byte (width (Node at word parts)) here.0 stands in
       let pieces : parts ≡ parts' = placed_parts-one parts parts' (node + 1) (byte + 1 + length (word_text word)) same here.1 (subst (λ w. ArePlaced (node + 1) (byte + 1 + length (word_text w)) parts') (sym words) there.1) in
       cc
   placed-one (Listed parts) (Listed parts') node byte e here there = ap Listed (placed_parts-one parts parts' node byte (cc) here there)

@@ -1,83 +1,103 @@
--- The grammar of units, as far as it goes.
-use Rattle.std.specs.Prelude.{Bool, true, false, ◌&&◌}
+-- The grammar of units: one table, from the kind of a part and the word of a node to the parts that the node has.
+use Rattle.std.specs.Prelude.{ℕ, Bool, true, false, not, ◌&&◌, Option, Some, None, List, [], ◌∷◌}
 use Rattle.rl_base.specs.Operators.{is_operator}
+use Rattle.rl_ast.specs.Syntax.{Syntax, Node, Listed, Said, Flag, Absent, Pieces, End, Then, is_item}
+use Rattle.rl_ast.specs.declared.grammar.Field.{Field}
+use Rattle.rl_ast.specs.declared.grammar.Field.TheVariants as field
+use Rattle.rl_ast.specs.declared.grammar.Kind.{Kind}
+use Rattle.rl_ast.specs.declared.grammar.Kind.TheVariants as kind
+use Rattle.rl_ast.specs.declared.word.Word.{Word}
 use Rattle.rl_ast.specs.declared.word.Word.TheVariants as word
-use Rattle.rl_ast.specs.Syntax.{Syntax, Node, Listed, Said, Flag, Absent, Pieces, End, Then}
 
-abbrev mutual
-  -- `(null)`, `(bool FLAG)`, `(num TEXT)`, `(str TEXT)`, `(paren EXPRESSION)`, `(id TEXT)`,
-  -- `(binary OPERATOR EXPRESSION EXPRESSION)`, `(call n EXPRESSION [EXPRESSION ..])`
-  pub is_expression : Syntax → Bool
-  is_expression (Node at word.Null End) = true
-  is_expression (Node at word.Bool (Then (Flag value) End)) = true
-  is_expression (Node at word.Num (Then (Said text) End)) = true
-  is_expression (Node at word.Str (Then (Said text) End)) = true
-  is_expression (Node at word.Paren (Then expression End)) = is_expression expression
-  is_expression (Node at word.Id (Then (Said name) End)) = true
-  is_expression (Node at word.Binary (Then (Said operator) (Then left (Then right End)))) = is_operator operator && is_expression left && is_expression right
-  is_expression (Node at word.Call (Then (Flag false) (Then callee (Then (Listed arguments) End)))) = is_expression callee && are_expressions arguments
-  is_expression _ = false
-
-  pub are_expressions : Pieces → Bool
-  are_expressions End = true
-  are_expressions (Then expression expressions) = is_expression expression && are_expressions expressions
+-- `(null)`, `(bool FLAG)`, `(num TEXT)`, `(str TEXT)`, `(paren EXPRESSION)`, `(id TEXT)`,
+-- `(binary OPERATOR EXPRESSION EXPRESSION)`, `(call n EXPRESSION [EXPRESSION ..])`
+abbrev pub expression_rule : Word → Option (List Field)
+expression_rule word.Null = Some []
+expression_rule word.Bool = Some (field.One kind.Flag ∷ [])
+expression_rule word.Num = Some (field.One kind.Text ∷ [])
+expression_rule word.Str = Some (field.One kind.Text ∷ [])
+expression_rule word.Paren = Some (field.One kind.Expression ∷ [])
+expression_rule word.Id = Some (field.One kind.Text ∷ [])
+expression_rule word.Binary = Some (field.One kind.BinaryOperator ∷ field.One kind.Expression ∷ field.One kind.Expression ∷ [])
+expression_rule word.Call = Some (field.One kind.No ∷ field.One kind.Expression ∷ field.Many kind.Expression ∷ [])
+expression_rule _ = None
 
 -- `(expr EXPRESSION)`, `(return EXPRESSION)`, `(return -)`
-abbrev pub is_statement : Syntax → Bool
-is_statement (Node at word.Expr (Then expression End)) = is_expression expression
-is_statement (Node at word.Return (Then Absent End)) = true
-is_statement (Node at word.Return (Then expression End)) = is_expression expression
-is_statement _ = false
-
-abbrev pub are_statements : Pieces → Bool
-are_statements End = true
-are_statements (Then statement statements) = is_statement statement && are_statements statements
-
-abbrev pub are_texts : Pieces → Bool
-are_texts End = true
-are_texts (Then (Said text) texts) = are_texts texts
-are_texts _ = false
+abbrev pub statement_rule : Word → Option (List Field)
+statement_rule word.Expr = Some (field.One kind.Expression ∷ [])
+statement_rule word.Return = Some (field.Maybe kind.Expression ∷ [])
+statement_rule _ = None
 
 -- `(body [TEXT ..] [STATEMENT ..])`, or an expression
-abbrev pub is_body : Syntax → Bool
-is_body (Node at word.Body (Then (Listed directives) (Then (Listed statements) End))) = are_texts directives && are_statements statements
-is_body body = is_expression body
+abbrev pub body_rule : Word → Option (List Field)
+body_rule word.Body = Some (field.Many kind.Text ∷ field.Many kind.Statement ∷ [])
+body_rule w = expression_rule w
 
--- `(bind TEXT -)`
-abbrev pub is_binding : Syntax → Bool
-is_binding (Node at word.Bind (Then (Said name) (Then Absent End))) = true
-is_binding _ = false
+-- The parts of a function, and of a unit: `(bind TEXT -)`, `(param BINDING -)`, `(params [PARAM ..] -)`, the marked function
+-- `(arrow y ASYNC PARAMS BODY)` and its statement `(expr FUNCTION)`, `(program [MARKED])`, `(unit [] PROGRAM)`
+abbrev pub outer_rule : Kind → Word → Option (List Field)
+outer_rule kind.Binding word.Bind = Some (field.One kind.Text ∷ field.Never ∷ [])
+outer_rule kind.Param word.Param = Some (field.One kind.Binding ∷ field.Never ∷ [])
+outer_rule kind.Params word.Params = Some (field.Many kind.Param ∷ field.Never ∷ [])
+outer_rule kind.Function word.Arrow = Some (field.One kind.Yes ∷ field.One kind.Flag ∷ field.One kind.Params ∷ field.One kind.Body ∷ [])
+outer_rule kind.Marked word.Expr = Some (field.One kind.Function ∷ [])
+outer_rule kind.Program word.Program = Some (field.Single kind.Marked ∷ [])
+outer_rule kind.Unit word.Unit = Some (field.Empty ∷ field.One kind.Program ∷ [])
+outer_rule _ _ = None
 
--- `(param BINDING -)`
-abbrev pub is_param : Syntax → Bool
-is_param (Node at word.Param (Then binding (Then Absent End))) = is_binding binding
-is_param _ = false
+-- The parts of a node, by the kind that is asked for and the node's word; `None` if no node of this word is of the kind.
+abbrev pub rule : Kind → Word → Option (List Field)
+rule kind.Expression w = expression_rule w
+rule kind.Statement w = statement_rule w
+rule kind.Body w = body_rule w
+rule k w = outer_rule k w
 
-abbrev pub are_params : Pieces → Bool
-are_params End = true
-are_params (Then param params) = is_param param && are_params params
+-- The texts of a kind.
+abbrev pub text_fits : Kind → List ℕ → Bool
+text_fits kind.Text text = true
+text_fits kind.BinaryOperator text = is_operator text
+text_fits _ text = false
 
--- `(params [PARAM ..] -)`
-abbrev pub is_params : Syntax → Bool
-is_params (Node at word.Params (Then (Listed items) (Then Absent End))) = are_params items
-is_params _ = false
+-- The flags of a kind.
+abbrev pub flag_fits : Kind → Bool → Bool
+flag_fits kind.Flag flag = true
+flag_fits kind.No flag = not flag
+flag_fits kind.Yes flag = flag
+flag_fits _ flag = false
 
--- the marked function: `(arrow y ASYNC PARAMS BODY)`
-abbrev pub is_function : Syntax → Bool
-is_function (Node at word.Arrow (Then (Flag true) (Then (Flag is_async) (Then params (Then body End))))) = is_params params && is_body body
-is_function _ = false
+abbrev mutual
+  -- True of a tree that may stand in the field.
+  pub fits : Field → Syntax → Bool
+  fits (field.One k) (Node at w parts) = each (rule k w) parts
+  fits (field.One k) (Said text) = text_fits k text
+  fits (field.One k) (Flag flag) = flag_fits k flag
+  fits (field.One k) _ = false
+  fits (field.Maybe k) (Node at w parts) = each (rule k w) parts
+  fits (field.Maybe k) (Said text) = text_fits k text
+  fits (field.Maybe k) (Flag flag) = flag_fits k flag
+  fits (field.Maybe k) Absent = true
+  fits (field.Maybe k) _ = false
+  fits (field.Many k) (Listed parts) = every k parts
+  fits (field.Many k) _ = false
+  fits (field.Single k) (Listed parts) = single k parts
+  fits (field.Single k) _ = false
+  fits field.Empty (Listed End) = true
+  fits field.Empty _ = false
+  fits field.Never Absent = true
+  fits field.Never _ = false
 
--- `(expr FUNCTION)`
-abbrev pub is_marked : Syntax → Bool
-is_marked (Node at word.Expr (Then function End)) = is_function function
-is_marked _ = false
+  -- True of parts that may stand in the fields, one in each.
+  pub each : Option (List Field) → Pieces → Bool
+  each (Some []) End = true
+  each (Some (f ∷ fields)) (Then part parts) = fits f part && each (Some fields) parts
+  each _ _ = false
 
--- `(program [(expr FUNCTION)])`
-abbrev pub is_program : Syntax → Bool
-is_program (Node at word.Program (Then (Listed (Then marked End)) End)) = is_marked marked
-is_program _ = false
+  -- True of one item of a kind.
+  pub single : Kind → Pieces → Bool
+  single k (Then part End) = is_item part && fits (field.One k) part
+  single k _ = false
 
--- `(unit [] PROGRAM)`
-abbrev pub is_unit : Syntax → Bool
-is_unit (Node at word.Unit (Then (Listed End) (Then program End))) = is_program program
-is_unit _ = false
+  -- True of items of a kind. Lists hold nodes and texts alone.
+  pub every : Kind → Pieces → Bool
+  every k End = true
+  every k (Then part parts) = is_item part && fits (field.One k) part && every k parts

@@ -1,5 +1,11 @@
+pub mod Fields
+pub mod Forms
 pub mod Grammar
 pub mod Limits
+pub mod Nodes
+pub mod Reads
+pub mod Sizes
 pub mod Syntax
 pub mod Units
+pub mod Views
 pub mod Words

@@ -1,5 +1,6 @@
 -- The spelling of the words of nodes.
-use Rattle.std.specs.Prelude.{ℕ, List, codes}
+use Rattle.std.specs.Prelude.{ℕ, ◌+◌, ◌-◌, ◌*◌, ◌/◌, ◌%◌, List, length, get_or, codes}
+use Rattle.rl_ast.specs.declared.word.TheConstants.{ENTRIES, LAST, MIDDLE, LENGTH}
 use Rattle.rl_ast.specs.declared.word.Word.{Word}
 use Rattle.rl_ast.specs.declared.word.Word.TheVariants as word
 
@@ -21,3 +22,7 @@ word_text word.Binary = codes "binary"
 word_text word.Call = codes "call"
 word_text word.Body = codes "body"
 word_text word.Return = codes "return"
+
+-- A hash of a text, different for any two words.
+abbrev pub word_index : List ℕ → ℕ
+word_index text = (get_or text 0 0 + LAST * get_or text (length text - 1) 0 + MIDDLE * get_or text (length text / 2) 0 + LENGTH * (length text % 32)) % ENTRIES

@@ -1,147 +1,211 @@
-//! Views of a numbered tree, and of the parts of a node.
+//! Parts of numbered trees by their forms.
 
-ghost use Rattle.std.specs.Prelude.{◌≡◌, ℕ, Bool, true, false, List as Items, map, MatchOption, IfSome, IfNone, IsTrue, ◌↔◌};
-ghost use Rattle.rl_base.specs.Operators.{operator_text, is_operator};
-ghost use Rattle.rl_ast.specs.Syntax.{Syntax, Node, Listed, Said, Flag, Absent, Pieces, End, Then, pieces_of, syntax};
+ghost use Rattle.std.specs.Prelude.{◌≡◌, true, false, Some, [], ◌∷◌, map, MatchOption};
+ghost use Rattle.rl_ast.specs.Forms as forms;
+ghost use Rattle.rl_ast.specs.Grammar.{fits, each, every, single};
+ghost use Rattle.rl_ast.specs.declared.grammar.Field.{Field};
+ghost use Rattle.rl_ast.specs.declared.grammar.Field.TheVariants as field;
+ghost use Rattle.rl_ast.specs.declared.grammar.Kind.{Kind};
+ghost use Rattle.rl_ast.specs.declared.grammar.Kind.TheVariants as kind;
+ghost use Rattle.rl_base.specs.Operators.{operator_text};
+ghost use Rattle.rl_ast.specs.Forms.{is_one, is_two, is_three, is_four};
+ghost use Rattle.rl_ast.specs.Syntax.{Node, Listed, Said, Flag, End, Then, pieces_of, syntax, is_item};
 
 use crate::numbered::{At, Numbered};
 use crate::word::Word;
 use rl_base::operator::BinaryOperator;
 use rl_base::text::Text;
 
-/// Id and span, and the parts, of a node with the word `word`. `None` at any other tree.
+/// True of a node or a text, the trees that stand in lists.
 #[tactic(auto, using(crate::proofs::Layers::by_layer))]
-pub(crate) fn as_node(tree: &Numbered, word: Word) -> Option<(At, &[Numbered])>
-    ensures { MatchOption result ((at : At) (pieces : Pieces) → syntax tree.now ≡ Node at word pieces → ⊥) (λ n. syntax tree.now ≡ Node n.0 word (pieces_of (map syntax n.1.now))) }
+pub(crate) fn is_item(tree: &Numbered) -> bool
+    ensures { result ≡ is_item (syntax tree.now) }
 {
     match tree {
-        Numbered::Node(at, own, parts) => {
-            if *own == word {
-                Some((*at, parts.as_slice()))
-            } else {
-                None
-            }
-        }
-        _ => None,
-    }
-}
-
-/// The items of a list. `None` at any other tree.
-#[tactic(auto, using(crate::proofs::Layers::by_layer))]
-pub(crate) fn as_list(tree: &Numbered) -> Option<&[Numbered]>
-    ensures { MatchOption result ((pieces : Pieces) → syntax tree.now ≡ Listed pieces → ⊥) (λ items. syntax tree.now ≡ Listed (pieces_of (map syntax items.now))) }
-{
-    match tree {
-        Numbered::List(items) => Some(items.as_slice()),
-        _ => None,
-    }
-}
-
-/// The text of a text. `None` at any other tree.
-#[tactic(auto, using(crate::proofs::Layers::by_layer))]
-pub(crate) fn as_text(tree: &Numbered) -> Option<&Text>
-    ensures { MatchOption result ((text : Items ℕ) → syntax tree.now ≡ Said text → ⊥) (λ text. syntax tree.now ≡ Said text.now) }
-{
-    match tree {
-        Numbered::Text(text) => Some(text),
-        _ => None,
-    }
-}
-
-/// The operator that a text writes. `None` at any other tree.
-#[tactic(auto, using(crate::proofs::ByKind::operators))]
-pub(crate) fn as_operator(tree: &Numbered) -> Option<BinaryOperator>
-    ensures found { IfSome result (λ operator. (syntax tree.now ≡ Said (operator_text operator)) × (is_operator (operator_text operator) ≡ true)) }
-    ensures none { IfNone result ((text : Items ℕ) → syntax tree.now ≡ Said text → is_operator text ≡ false) }
-{
-    let text = as_text(tree)?;
-    BinaryOperator::from_text(text.as_str())
-}
-
-/// The value of a flag. `None` at any other tree.
-#[tactic(auto, using(crate::proofs::Layers::by_layer))]
-pub(crate) fn as_flag(tree: &Numbered) -> Option<bool>
-    ensures { MatchOption result ((flag : Bool) → syntax tree.now ≡ Flag flag → ⊥) (λ flag. syntax tree.now ≡ Flag flag) }
-{
-    match tree {
-        Numbered::Flag(flag) => Some(*flag),
-        _ => None,
+        Numbered::Node(_, _, _) => true,
+        Numbered::Text(_) => true,
+        Numbered::List(_) => false,
+        Numbered::Number(_) => false,
+        Numbered::Flag(_) => false,
+        Numbered::Absent => false,
     }
 }
 
 /// True of `-`.
 #[tactic(auto, using(crate::proofs::Layers::by_layer))]
 pub(crate) fn is_absent(tree: &Numbered) -> bool
-    ensures { IsTrue result ↔ (syntax tree.now ≡ Absent) }
+    ensures { result ≡ forms.is_absent (syntax tree.now) }
 {
     match tree {
         Numbered::Absent => true,
-        _ => false,
+        Numbered::Node(_, _, _) => false,
+        Numbered::Text(_) => false,
+        Numbered::List(_) => false,
+        Numbered::Number(_) => false,
+        Numbered::Flag(_) => false,
     }
 }
 
-/// True of no parts.
-#[tactic(auto, using(crate::proofs::Shapes::none_inside, crate::proofs::Shapes::nothing_inside))]
-pub(crate) fn no_parts(parts: &[Numbered]) -> bool
-    ensures { IsTrue result ↔ (pieces_of (map syntax parts.now) ≡ End) }
+/// The items of a list. `None` at any other tree.
+#[tactic(auto, using(crate::proofs::Layers::by_layer))]
+pub(crate) fn as_items(tree: &Numbered) -> Option<&[Numbered]>
+    ensures { MatchOption result (forms.is_list (syntax tree.now) ≡ false) (λ items. syntax tree.now ≡ Listed (pieces_of (map syntax items.now))) }
 {
-    parts.is_empty()
-}
-
-/// True of `[]`.
-pub(crate) fn is_empty_list(tree: &Numbered) -> bool
-    ensures { IsTrue result ↔ (syntax tree.now ≡ Listed End) }
-{
-    match as_list(tree) {
-        Some(items) => no_parts(items),
-        None => false,
+    match tree {
+        Numbered::List(items) => Some(items.as_slice()),
+        Numbered::Node(_, _, _) => None,
+        Numbered::Text(_) => None,
+        Numbered::Number(_) => None,
+        Numbered::Flag(_) => None,
+        Numbered::Absent => None,
     }
 }
 
-/// The one part. `None` at more or fewer.
-#[tactic(auto, using(crate::proofs::Shapes::one_of, crate::proofs::Shapes::one_inside))]
-pub(crate) fn one(parts: &[Numbered]) -> Option<&Numbered>
-    ensures { MatchOption result ((piece : Syntax) → pieces_of (map syntax parts.now) ≡ Then piece End → ⊥) (λ first. pieces_of (map syntax parts.now) ≡ Then (syntax first.now) End) }
+/// The ids and span, the word and the parts of a node.
+#[tactic(auto, using(crate::proofs::Layers::by_layer))]
+pub(crate) fn node(tree: &Numbered) -> (At, Word, &[Numbered])
+    requires { forms.is_node (syntax tree.now) ≡ true }
+    ensures { syntax tree.now ≡ Node result.0 result.1 (pieces_of (map syntax result.2.now)) }
 {
-    if parts.len() == 1 {
-        Some(&parts[0])
-    } else {
-        None
+    match tree {
+        Numbered::Node(at, word, parts) => (*at, *word, parts.as_slice()),
+        Numbered::List(_) => unreachable!(),
+        Numbered::Text(_) => unreachable!(),
+        Numbered::Number(_) => unreachable!(),
+        Numbered::Flag(_) => unreachable!(),
+        Numbered::Absent => unreachable!(),
     }
 }
 
-/// The two parts. `None` at more or fewer.
-#[tactic(auto, using(crate::proofs::Shapes::two_of, crate::proofs::Shapes::two_inside))]
-pub(crate) fn two(parts: &[Numbered]) -> Option<(&Numbered, &Numbered)>
-    ensures { MatchOption result ((a b : Syntax) → pieces_of (map syntax parts.now) ≡ Then a (Then b End) → ⊥) (λ p. pieces_of (map syntax parts.now) ≡ Then (syntax p.0.now) (Then (syntax p.1.now) End)) }
+/// The first part and those behind it. `None` if there is none.
+pub(crate) fn split_first(parts: &[Numbered]) -> Option<(&Numbered, &[Numbered])>
+    ensures { MatchOption result (pieces_of (map syntax parts.now) ≡ End) (λ p. pieces_of (map syntax parts.now) ≡ Then (syntax p.0.now) (pieces_of (map syntax p.1.now))) }
 {
-    if parts.len() == 2 {
-        Some((&parts[0], &parts[1]))
-    } else {
-        None
+    match parts {
+        [] => None,
+        [first, rest @ ..] => Some((first, rest)),
     }
 }
 
-/// The three parts. `None` at more or fewer.
-#[tactic(auto, using(crate::proofs::Shapes::three_of, crate::proofs::Shapes::three_inside))]
-pub(crate) fn three(parts: &[Numbered]) -> Option<(&Numbered, &Numbered, &Numbered)>
-    ensures { MatchOption result ((a b c : Syntax) → pieces_of (map syntax parts.now) ≡ Then a (Then b (Then c End)) → ⊥) (λ p. pieces_of (map syntax parts.now) ≡ Then (syntax p.0.now) (Then (syntax p.1.now) (Then (syntax p.2.now) End))) }
+/// True of one part.
+pub(crate) fn is_one(parts: &[Numbered]) -> bool
+    ensures { result ≡ is_one (pieces_of (map syntax parts.now)) }
 {
-    if parts.len() == 3 {
-        Some((&parts[0], &parts[1], &parts[2]))
-    } else {
-        None
+    match parts {
+        [] => false,
+        [_first, rest @ ..] => match rest {
+            [] => true,
+            [_second, _others @ ..] => false,
+        },
     }
 }
 
-/// The four parts. `None` at more or fewer.
-#[tactic(auto, using(crate::proofs::Shapes::four_of, crate::proofs::Shapes::four_inside))]
-pub(crate) fn four(parts: &[Numbered]) -> Option<(&Numbered, &Numbered, &Numbered, &Numbered)>
-    ensures { MatchOption result ((a b c d : Syntax) → pieces_of (map syntax parts.now) ≡ Then a (Then b (Then c (Then d End))) → ⊥) (λ p. pieces_of (map syntax parts.now) ≡ Then (syntax p.0.now) (Then (syntax p.1.now) (Then (syntax p.2.now) (Then (syntax p.3.now) End)))) }
+/// The one part.
+#[tactic(auto, using(crate::proofs::Counts::counts, crate::proofs::Viewing::one_fits))]
+pub(crate) fn one(parts: &[Numbered]) -> &Numbered
+    requires { is_one (pieces_of (map syntax parts.now)) ≡ true }
+    ensures parts { pieces_of (map syntax parts.now) ≡ Then (syntax result.now) End }
+    ensures fit { (f : Field) → each (Some (f ∷ [])) (pieces_of (map syntax parts.now)) ≡ true → fits f (syntax result.now) ≡ true }
 {
-    if parts.len() == 4 {
-        Some((&parts[0], &parts[1], &parts[2], &parts[3]))
-    } else {
-        None
+    let [a] = parts else {
+        unreachable!();
+    };
+    a
+}
+
+/// The two parts.
+#[tactic(auto, using(crate::proofs::Counts::counts, crate::proofs::Viewing::two_fit))]
+pub(crate) fn two(parts: &[Numbered]) -> (&Numbered, &Numbered)
+    requires { is_two (pieces_of (map syntax parts.now)) ≡ true }
+    ensures parts { pieces_of (map syntax parts.now) ≡ Then (syntax result.0.now) (Then (syntax result.1.now) End) }
+    ensures fit { (f g : Field) → each (Some (f ∷ g ∷ [])) (pieces_of (map syntax parts.now)) ≡ true → (fits f (syntax result.0.now) ≡ true) × (fits g (syntax result.1.now) ≡ true) }
+{
+    let [a, b] = parts else {
+        unreachable!();
+    };
+    (a, b)
+}
+
+/// The three parts.
+#[tactic(auto, using(crate::proofs::Counts::counts, crate::proofs::Viewing::three_fit))]
+pub(crate) fn three(parts: &[Numbered]) -> (&Numbered, &Numbered, &Numbered)
+    requires { is_three (pieces_of (map syntax parts.now)) ≡ true }
+    ensures parts { pieces_of (map syntax parts.now) ≡ Then (syntax result.0.now) (Then (syntax result.1.now) (Then (syntax result.2.now) End)) }
+    ensures fit { (f g h : Field) → each (Some (f ∷ g ∷ h ∷ [])) (pieces_of (map syntax parts.now)) ≡ true → (fits f (syntax result.0.now) ≡ true) × (fits g (syntax result.1.now) ≡ true) × (fits h (syntax result.2.now) ≡ true) }
+{
+    let [a, b, c] = parts else {
+        unreachable!();
+    };
+    (a, b, c)
+}
+
+/// The four parts.
+#[tactic(auto, using(crate::proofs::Counts::counts, crate::proofs::Viewing::four_fit))]
+pub(crate) fn four(parts: &[Numbered]) -> (&Numbered, &Numbered, &Numbered, &Numbered)
+    requires { is_four (pieces_of (map syntax parts.now)) ≡ true }
+    ensures parts { pieces_of (map syntax parts.now) ≡ Then (syntax result.0.now) (Then (syntax result.1.now) (Then (syntax result.2.now) (Then (syntax result.3.now) End))) }
+    ensures fit { (f g h i : Field) → each (Some (f ∷ g ∷ h ∷ i ∷ [])) (pieces_of (map syntax parts.now)) ≡ true → (fits f (syntax result.0.now) ≡ true) × (fits g (syntax result.1.now) ≡ true) × (fits h (syntax result.2.now) ≡ true) × (fits i (syntax result.3.now) ≡ true) }
+{
+    let [a, b, c, d] = parts else {
+        unreachable!();
+    };
+    (a, b, c, d)
+}
+
+/// The items of a list.
+#[tactic(auto, using(crate::proofs::Layers::by_layer))]
+pub(crate) fn items(tree: &Numbered) -> &[Numbered]
+    requires { forms.is_list (syntax tree.now) ≡ true }
+    ensures items { syntax tree.now ≡ Listed (pieces_of (map syntax result.now)) }
+    ensures fit { (k : Kind) → fits (field.Many k) (syntax tree.now) ≡ true → every k (pieces_of (map syntax result.now)) ≡ true }
+    ensures single { (k : Kind) → fits (field.Single k) (syntax tree.now) ≡ true → single k (pieces_of (map syntax result.now)) ≡ true }
+{
+    match as_items(tree) {
+        Some(items) => items,
+        None => unreachable!(),
+    }
+}
+
+/// The value of a text.
+#[tactic(auto, using(crate::proofs::Layers::by_layer))]
+pub(crate) fn text(tree: &Numbered) -> &Text
+    requires { forms.is_text (syntax tree.now) ≡ true }
+    ensures { syntax tree.now ≡ Said result.now }
+{
+    match tree {
+        Numbered::Text(text) => text,
+        Numbered::Node(_, _, _) => unreachable!(),
+        Numbered::List(_) => unreachable!(),
+        Numbered::Number(_) => unreachable!(),
+        Numbered::Flag(_) => unreachable!(),
+        Numbered::Absent => unreachable!(),
+    }
+}
+
+/// The value of a flag.
+#[tactic(auto, using(crate::proofs::Layers::by_layer))]
+pub(crate) fn flag(tree: &Numbered) -> bool
+    requires { forms.is_flag (syntax tree.now) ≡ true }
+    ensures { syntax tree.now ≡ Flag result }
+{
+    match tree {
+        Numbered::Flag(flag) => *flag,
+        Numbered::Node(_, _, _) => unreachable!(),
+        Numbered::List(_) => unreachable!(),
+        Numbered::Text(_) => unreachable!(),
+        Numbered::Number(_) => unreachable!(),
+        Numbered::Absent => unreachable!(),
+    }
+}
+
+/// The operator that a text writes.
+#[tactic(auto, using(crate::proofs::Viewing::operators))]
+pub(crate) fn binary_operator(tree: &Numbered) -> BinaryOperator
+    requires { fits (field.One kind.BinaryOperator) (syntax tree.now) ≡ true }
+    ensures { syntax tree.now ≡ Said (operator_text result) }
+{
+    match BinaryOperator::from_text(text(tree).as_str()) {
+        Some(operator) => operator,
+        None => unreachable!(),
     }
 }

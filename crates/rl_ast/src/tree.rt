@@ -1,169 +1,188 @@
-//! The syntax tree of a unit, one variant or struct for each kind of node. Names are those of `oxc_ast`.
+//! Trees by their sorts: the compiler tells an expression's tree from a statement's.
 
-ghost use Rattle.std.specs.Prelude.{◌≡◌};
-ghost use Rattle.rl_ast.specs.Syntax.{span_of};
-ghost use Rattle.rl_ast.specs.Units.{expression};
+ghost use Rattle.std.specs.Prelude.{◌≡◌, true, map, MatchOption};
+ghost use Rattle.rl_ast.specs.Grammar.{fits, every, single};
+ghost use Rattle.rl_ast.specs.Syntax.{Absent, End, Then, pieces_of, syntax};
+ghost use Rattle.rl_ast.specs.declared.grammar.Field.{Field};
+ghost use Rattle.rl_ast.specs.declared.grammar.Field.TheVariants as field;
+ghost use Rattle.rl_ast.specs.declared.grammar.Kind.{Kind};
+ghost use Rattle.rl_ast.specs.declared.grammar.Kind.TheVariants as kind;
 
-use crate::numbered::At;
-use rl_base::boxed::Boxed;
-use rl_base::list::List;
-use rl_base::operator::BinaryOperator;
-use rl_base::span::Span;
-use rl_base::text::Text;
+use crate::numbered::Numbered;
+use crate::parts::{is_absent, one, split_first};
+use std::alloc::AllocError;
+use std::marker::PhantomData;
 
-/// A program with one marked function: `(unit [] PROGRAM)`.
-#[derive(Drop)]
-pub struct Unit {
-    pub at: At,
-    pub program: Program,
+/// A sort of trees: those of one kind of the grammar.
+pub trait Sort {
+    ghost kind: { Kind };
 }
 
-/// `(program [STATEMENT ..])`.
-#[derive(Drop)]
-pub struct Program {
-    pub at: At,
-    pub body: List<Statement>,
+/// The sort of expressions.
+#[derive(Clone, Copy)]
+pub struct ExpressionSort;
+
+impl Sort for ExpressionSort {
+    ghost kind = { kind.Expression };
 }
 
-/// A statement.
-#[cycle(ast)]
-#[derive(Drop)]
-pub enum Statement {
-    /// `(expr EXPRESSION)`.
-    Expression {
-        at: At,
-        expression: Expression,
-    },
-    /// `(return EXPRESSION)`, or `(return -)`.
-    Return {
-        at: At,
-        argument: Option<Boxed<Expression>>,
-    },
+/// The sort of statements.
+#[derive(Clone, Copy)]
+pub struct StatementSort;
+
+impl Sort for StatementSort {
+    ghost kind = { kind.Statement };
 }
 
-/// An expression.
-#[cycle(ast)]
-#[derive(Drop)]
-pub enum Expression {
-    /// `(null)`.
-    Null {
-        at: At,
-    },
-    /// `(bool FLAG)`.
-    Boolean {
-        at: At,
-        value: bool,
-    },
-    /// `(num TEXT)`: a numeric literal by its source text.
-    Number {
-        at: At,
-        text: Text,
-    },
-    /// `(str TEXT)`: a string literal by its value, in UTF-8.
-    String {
-        at: At,
-        text: Text,
-    },
-    /// `(paren EXPRESSION)`.
-    Parenthesized {
-        at: At,
-        expression: Boxed<Expression>,
-    },
-    /// `(id TEXT)`: a reference by its name.
-    Identifier {
-        at: At,
-        name: Text,
-    },
-    /// `(binary TEXT EXPRESSION EXPRESSION)`.
-    Binary {
-        at: At,
-        operator: BinaryOperator,
-        left: Boxed<Expression>,
-        right: Boxed<Expression>,
-    },
-    /// `(call n EXPRESSION [EXPRESSION ..])`: a call that is not optional.
-    Call {
-        at: At,
-        callee: Boxed<Expression>,
-        arguments: List<Expression>,
-    },
-    /// `(arrow MARK ASYNC PARAMS BODY)`.
-    ArrowFunction(Boxed<ArrowFunction>),
+/// The sort of bodies of functions.
+#[derive(Clone, Copy)]
+pub struct BodySort;
+
+impl Sort for BodySort {
+    ghost kind = { kind.Body };
 }
 
-/// An arrow function: `(arrow MARK ASYNC PARAMS BODY)` (ECMA-262, 15.3).
-#[cycle(ast)]
-#[derive(Drop)]
-pub struct ArrowFunction {
-    pub at: At,
-    /// True of the function to lower. A unit of the grammar has one.
-    pub marked: bool,
-    /// True of an `async` arrow function (ECMA-262, 15.9).
-    pub is_async: bool,
-    pub params: Params,
-    pub body: ArrowBody,
+/// The sort of names that parameters bind.
+#[derive(Clone, Copy)]
+pub struct BindingSort;
+
+impl Sort for BindingSort {
+    ghost kind = { kind.Binding };
 }
 
-/// The body of an arrow function.
-#[cycle(ast)]
-#[derive(Drop)]
-pub enum ArrowBody {
-    /// An expression whose value is returned.
-    Expression(Expression),
-    /// `(body [DIRECTIVE ..] [STATEMENT ..])`.
-    Statements {
-        at: At,
-        directives: List<Text>,
-        statements: List<Statement>,
-    },
+/// The sort of parameters.
+#[derive(Clone, Copy)]
+pub struct ParamSort;
+
+impl Sort for ParamSort {
+    ghost kind = { kind.Param };
 }
 
-/// The parameters of a function: `(params [PARAM ..] -)`.
-#[derive(Drop)]
-pub struct Params {
-    pub at: At,
-    pub items: List<FormalParameter>,
+/// The sort of lists of parameters.
+#[derive(Clone, Copy)]
+pub struct ParamsSort;
+
+impl Sort for ParamsSort {
+    ghost kind = { kind.Params };
 }
 
-/// A parameter without a default: `(param BIND -)`.
-#[derive(Drop)]
-pub struct FormalParameter {
-    pub at: At,
-    pub pattern: BindingIdentifier,
+/// The sort of marked functions.
+#[derive(Clone, Copy)]
+pub struct FunctionSort;
+
+impl Sort for FunctionSort {
+    ghost kind = { kind.Function };
 }
 
-/// The name that a parameter binds, without a type: `(bind TEXT -)`.
-#[derive(Drop)]
-pub struct BindingIdentifier {
-    pub at: At,
-    pub name: Text,
+/// The sort of statements of marked functions.
+#[derive(Clone, Copy)]
+pub struct MarkedSort;
+
+impl Sort for MarkedSort {
+    ghost kind = { kind.Marked };
 }
 
-impl Expression {
-    /// The span of the expression's node, as a byte range in the unit's text.
-    #[tactic(auto, using(crate::proofs::Spelled::spelled, crate::proofs::Spelled::function_by_layer))]
-    pub fn span(&self) -> Span
-        ensures { result ≡ span_of (expression self.now) }
+/// The sort of programs.
+#[derive(Clone, Copy)]
+pub struct ProgramSort;
+
+impl Sort for ProgramSort {
+    ghost kind = { kind.Program };
+}
+
+/// The sort of texts.
+#[derive(Clone, Copy)]
+pub struct TextSort;
+
+impl Sort for TextSort {
+    ghost kind = { kind.Text };
+}
+
+/// A tree of a sort.
+pub struct Tree<'b, K: Sort> {
+    /// The tree, of any form that the sort has.
+    pub tree: &'b Numbered,
+    sort: PhantomData<K>,
+    ghost fit: { fits (field.One K.kind) (syntax tree.now) ≡ true },
+}
+
+impl<'b, K: Sort> Clone for Tree<'b, K> {
+    fn clone(&self) -> Result<Self, AllocError> {
+        Ok(*self)
+    }
+}
+
+impl<'b, K: Sort> Copy for Tree<'b, K> {}
+
+impl<'b, K: Sort> Tree<'b, K> {
+    /// The tree as one of the sort.
+    pub(crate) fn new(tree: &'b Numbered) -> Self
+        requires { fits (field.One K.kind) (syntax tree.now) ≡ true }
+        ensures { syntax result.tree.now ≡ syntax tree.now }
     {
-        match self {
-            Expression::Null { at } => at.span,
-            Expression::Boolean { at, value: _ } => at.span,
-            Expression::Number { at, text: _ } => at.span,
-            Expression::String { at, text: _ } => at.span,
-            Expression::Parenthesized { at, expression: _ } => at.span,
-            Expression::Identifier { at, name: _ } => at.span,
-            Expression::Binary {
-                at,
-                operator: _,
-                left: _,
-                right: _,
-            } => at.span,
-            Expression::Call {
-                at,
-                callee: _,
-                arguments: _,
-            } => at.span,
-            Expression::ArrowFunction(function) => function.get().at.span,
+        Tree {
+            tree,
+            sort: PhantomData,
         }
+    }
+
+    /// The one item of a list as a tree of the sort.
+    #[tactic(auto, using(crate::proofs::Viewing::singles))]
+    pub(crate) fn single(items: &'b [Numbered]) -> Self
+        requires { single K.kind (pieces_of (map syntax items.now)) ≡ true }
+        ensures { pieces_of (map syntax items.now) ≡ Then (syntax result.tree.now) End }
+    {
+        Tree::new(one(items))
+    }
+
+    /// The tree as one of the sort. `None` at `-`.
+    #[tactic(auto, using(crate::proofs::Viewing::optional))]
+    pub(crate) fn optional(tree: &'b Numbered) -> Option<Self>
+        requires { fits (field.Maybe K.kind) (syntax tree.now) ≡ true }
+        ensures { MatchOption result (syntax tree.now ≡ Absent) (λ t. syntax t.tree.now ≡ syntax tree.now) }
+    {
+        if is_absent(tree) {
+            None
+        } else {
+            Some(Tree::new(tree))
+        }
+    }
+}
+
+/// Trees of a sort, as the items of a list.
+pub struct Trees<'b, K: Sort> {
+    /// The trees, in order.
+    pub trees: &'b [Numbered],
+    sort: PhantomData<K>,
+    ghost fit: { every K.kind (pieces_of (map syntax trees.now)) ≡ true },
+}
+
+impl<'b, K: Sort> Clone for Trees<'b, K> {
+    fn clone(&self) -> Result<Self, AllocError> {
+        Ok(*self)
+    }
+}
+
+impl<'b, K: Sort> Copy for Trees<'b, K> {}
+
+impl<'b, K: Sort> Trees<'b, K> {
+    /// The items as ones of the sort.
+    pub(crate) fn new(trees: &'b [Numbered]) -> Self
+        requires { every K.kind (pieces_of (map syntax trees.now)) ≡ true }
+        ensures { result.trees.now ≡ trees.now }
+    {
+        Trees {
+            trees,
+            sort: PhantomData,
+        }
+    }
+
+    /// The first tree and the others. `None` if there is none.
+    #[tactic(auto, using(crate::proofs::Viewing::items))]
+    pub fn split_first(self) -> Option<(Tree<'b, K>, Trees<'b, K>)>
+        ensures { MatchOption result (pieces_of (map syntax self.entry.trees.now) ≡ End) (λ p. pieces_of (map syntax self.entry.trees.now) ≡ Then (syntax p.0.tree.now) (pieces_of (map syntax p.1.trees.now))) }
+    {
+        let (first, rest) = split_first(self.trees)?;
+        Some((Tree::new(first), Trees::new(rest)))
     }
 }

@@ -1,0 +1,56 @@
+//! Units: the tree of a program with one marked function, and the table of its nodes.
+
+ghost use Rattle.std.specs.Prelude.{◌≡◌, true};
+ghost use Rattle.rl_ast.specs.Grammar.{fits};
+ghost use Rattle.rl_ast.specs.Syntax.{syntax};
+ghost use Rattle.rl_ast.specs.Views.{seen_unit};
+ghost use Rattle.rl_ast.specs.declared.grammar.Field.{Field};
+ghost use Rattle.rl_ast.specs.declared.grammar.Field.TheVariants as field;
+ghost use Rattle.rl_ast.specs.declared.grammar.Kind.TheVariants as kind;
+ghost use Rattle.rl_ast.specs.Nodes.{entries};
+
+use crate::nodes::NodeEntry;
+use crate::numbered::{At, Numbered};
+use crate::parts::{node, two};
+use crate::tree::Tree;
+use crate::view::ProgramTree;
+use crate::word::Word;
+use rl_base::list::List;
+
+/// A program with one marked function: `(unit [] PROGRAM)`. Its tree fits the grammar.
+#[derive(Drop)]
+pub struct Unit {
+    /// The tree of the unit.
+    pub tree: Numbered,
+    /// The nodes of the tree, by their ids.
+    pub nodes: List<NodeEntry>,
+    ghost fit: { fits (field.One kind.Unit) (syntax tree) ≡ true },
+    ghost listed: { nodes ≡ entries (syntax tree) },
+}
+
+/// The outermost node of a unit.
+#[derive(Clone, Copy)]
+pub struct UnitNode<'b> {
+    pub at: At,
+    pub program: ProgramTree<'b>,
+}
+
+impl Unit {
+    /// The view of the outermost node.
+    #[tactic(auto, using(crate::proofs::Viewing::viewing))]
+    pub fn view(&self) -> UnitNode<'_>
+        ensures { seen_unit result ≡ syntax self.now.tree }
+    {
+        let (at, word, parts) = node(&self.tree);
+        match word {
+            Word::Unit => {
+                let (_entities, program) = two(parts);
+                UnitNode {
+                    at,
+                    program: Tree::new(program),
+                }
+            }
+            _ => unreachable!(),
+        }
+    }
+}
