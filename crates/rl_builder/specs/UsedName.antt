@@ -1,10 +1,9 @@
 -- Entries of the maps of a builder.
-use Rattle.std.specs.Prelude.{ℕ, List, string_bytes}
-use Rattle.std.specs.declared.alloc.Global.{Global}
-use Rattle.std.specs.declared.string.String.{String}
+use Rattle.std.specs.Prelude.{ℕ, List}
 use Rattle.rl_base.specs.declared.ids.IdentifierId.{IdentifierId}
 use Rattle.rl_base.specs.declared.ids.SymbolId.{SymbolId}
 use Rattle.rl_hir.specs.declared.function.Pair.{Pair}
+use Rattle.rl_builder.specs.declared.names.NameUser.{NameUser}
 
 -- A name, and the id of the symbol that has it.
 pub record UsedName : Type 0 where
@@ -15,6 +14,6 @@ pub record UsedName : Type 0 where
 abbrev pub pair_of : SymbolId × IdentifierId → Pair
 pair_of entry = record { symbol = entry.0; identifier = entry.1 }
 
--- An entry of the map from names to symbols.
-abbrev pub used_name_of : String Global × SymbolId → UsedName
-used_name_of entry = record { name = string_bytes entry.0; symbol = entry.1.0 }
+-- An entry of the table of names.
+abbrev pub used_name_of : NameUser → UsedName
+used_name_of user = record { name = user.name; symbol = user.symbol.0 }

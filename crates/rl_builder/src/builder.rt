@@ -282,12 +282,8 @@ impl<'e> Over<'e, Work> {
         ensures names { OnOk result (NamesAgree (state_of self.old.env.now self.old.work) → NamesAgree (state_of self.new.env.now self.new.work)) }
     {
         let alloc = self.work.alloc;
-        let free = self
-            .work
-            .used_names
-            .free_name(alloc, name.as_str(), symbol)?;
+        let free = self.work.used_names.claim(alloc, name.as_str(), symbol)?;
         let identifier = new_temporary(self.env, Some(declaration))?;
-        self.work.used_names.insert(alloc, free.as_str(), symbol)?;
         self.work.bindings.insert(symbol, identifier)?;
         self.env.add_pair(symbol, identifier)?;
         self.env.set_name(identifier, IdentifierName::Named(free));

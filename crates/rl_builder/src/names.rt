@@ -1,6 +1,6 @@
 //! Identifiers of symbols, and their names (the maps `bindings` and `usedNames` of `HIRBuilder`).
 
-ghost use Rattle.std.specs.Prelude.{◌≡◌, ◌∷◌, ◌++◌, [], None, OnOk, IfOk};
+ghost use Rattle.std.specs.Prelude.{◌≡◌, ◌∷◌, ◌++◌, [], None, OnOk, IfOk, if◌then◌else◌};
 ghost use Rattle.std.specs.Option.{option_map};
 ghost use Rattle.rl_hir.specs.Pairs.{identifier_of};
 ghost use Rattle.rl_builder.specs.Names.{with_user, is_free, chosen, IsFree, name_of, is_named, is_fbt, fbt_diagnostic, reserved_diagnostic};
@@ -10,6 +10,7 @@ use rl_base::diagnostic::Diagnostic;
 use rl_base::error::OutOfMemory;
 use rl_base::ids::{IdentifierId, SymbolId};
 use rl_base::list::List;
+use rl_base::name_table::{NameTable, Named};
 use rl_base::row::Row;
 use rl_base::span::Span;
 use rl_base::text::Text;
@@ -60,10 +61,28 @@ impl Bindings {
     }
 }
 
-/// A map from the names of identifiers to the symbols that have them. Contracts see its entries.
+/// A name of identifiers, and the symbol that has it.
+#[derive(Drop)]
+pub struct NameUser {
+    /// The name.
+    pub name: Text,
+    /// The id of the symbol.
+    pub symbol: SymbolId,
+}
+
+impl Named for NameUser {
+    ghost name = { λ user. user.name };
+
+    fn name(&self) -> &str {
+        self.name.as_str()
+    }
+}
+
+/// A map from the names of identifiers to the symbols that have them. Contracts see its entries, in the order in which the
+/// names came.
 #[derive(Drop)]
 pub struct UsedNames {
-    symbols: IndexMap<String, SymbolId>,
+    users: NameTable<NameUser>,
 }
 
 impl Model for UsedNames {
@@ -72,7 +91,7 @@ impl Model for UsedNames {
 
     ghost Value = { List UsedName };
 
-    ghost view = { λ used. map used_name_of used.symbols.entries };
+    ghost view = { λ used. map used_name_of used.users };
 }
 
 impl UsedNames {
@@ -81,7 +100,7 @@ impl UsedNames {
         ensures { result ≡ [] }
     {
         UsedNames {
-            symbols: IndexMap::new(alloc),
+            users: NameTable::new(alloc),
         }
     }
 
@@ -89,40 +108,49 @@ impl UsedNames {
     fn is_free(&self, name: &str, symbol: SymbolId) -> bool
         ensures { result ≡ is_free self.now symbol.0 name.now }
     {
-        match self.symbols.get(name) {
-            Some(user) => user.0 == symbol.0,
+        match self.users.get(name) {
+            Some(user) => user.symbol.0 == symbol.0,
             None => true,
         }
     }
 
-    /// The first of `name`, `name_0`, `name_1` .. that no other symbol has. (Of one candidate more than there are used
-    /// names one is free.) On `OutOfMemory` an allocation failed.
-    pub fn free_name(
-        &self,
+    /// Gives the name `candidate` to `symbol` and returns true, or returns false if another symbol has it, and changes nothing.
+    /// On `OutOfMemory` an allocation failed, and the entries are unspecified.
+    fn claim_candidate(
+        &mut self,
+        alloc: Global,
+        candidate: &Text,
+        symbol: SymbolId,
+    ) -> Result<bool, OutOfMemory>
+        ensures free { IfOk result (λ is_claimed. is_claimed ≡ is_free self.old symbol.0 candidate.now) }
+        ensures used { IfOk result (λ is_claimed. self.new ≡ (if is_claimed then with_user self.old candidate.now symbol.0 else self.old)) }
+    {
+        let name = candidate.copy(alloc)?;
+        let is_new = self.users.insert_new(alloc, NameUser { name, symbol })?;
+        Ok(is_new || self.is_free(candidate.as_str(), symbol))
+    }
+
+    /// The first of `name`, `name_0`, `name_1` .. that no other symbol has, which is given to `symbol`. (Of one candidate more
+    /// than there are used names one is free.) On `OutOfMemory` an allocation failed, and the entries are unspecified.
+    pub fn claim(
+        &mut self,
         alloc: Global,
         name: &str,
         symbol: SymbolId,
     ) -> Result<Text, OutOfMemory>
-        ensures chosen { IfOk result (λ text. text ≡ chosen self.now symbol.0 name.now) }
-        ensures free { IfOk result (λ text. IsFree self.now symbol.0 text) }
+        ensures chosen { IfOk result (λ text. text ≡ chosen self.old symbol.0 name.now) }
+        ensures free { IfOk result (λ text. IsFree self.old symbol.0 text) }
+        ensures used { IfOk result (λ text. self.new ≡ with_user self.old text symbol.0) }
     {
         let mut candidate = Text::from_str(alloc, name)?;
-        for index in 0..self.symbols.len() {
-            if self.is_free(candidate.as_str(), symbol) {
+        for index in 0..self.users.len() {
+            if self.claim_candidate(alloc, &candidate, symbol)? {
                 return Ok(candidate);
             }
             candidate = Text::new(format!(in alloc; "{name}_{index}")?);
         }
+        self.claim_candidate(alloc, &candidate, symbol)?;
         Ok(candidate)
-    }
-
-    /// Gives a name to a symbol, in place of the symbol that had it. On `OutOfMemory` an allocation failed, and the entries are
-    /// unspecified.
-    pub fn insert(&mut self, alloc: Global, name: &str, symbol: SymbolId) -> Result<(), OutOfMemory>
-        ensures { OnOk result (self.new ≡ with_user self.old name.now symbol.0) }
-    {
-        self.symbols.insert(String::from_str(alloc, name)?, symbol)?;
-        Ok(())
     }
 }
 

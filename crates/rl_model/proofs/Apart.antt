@@ -1,20 +1,17 @@
 -- No two calls of a unit stand at one place: each ends after those before it, which are its parts or stand before it.
-use Rattle.std.proofs.Common.{◌≡◌, ℕ, zero, suc, ◌+◌, ◌<◌, ◌≤◌, ◌++◌, ◌⊎◌, inl, inr, true, List, [], ◌∷◌, length, length-append, append-nil, slice_get, Option, Some, None, map, refl, sym, ap, ◌∙◌, subst, arith}
+use Rattle.std.proofs.Common.{◌≡◌, ℕ, zero, suc, ◌+◌, ◌<◌, ◌≤◌, ◌++◌, ◌⊎◌, inl, inr, List, [], ◌∷◌, length, length-append, append-nil, slice_get, Option, Some, None, refl, sym, ap, ◌∙◌, subst, arith}
 use Rattle.rl_base.specs.declared.span.Span.{Span}
 use Rattle.rl_text.specs.Notation.{spelled_on, spelling}
-use Rattle.rl_ast.proofs.Grammar.{one_statement}
-use Rattle.rl_ast.specs.Grammar.{is_marked}
-use Rattle.rl_ast.specs.Syntax.{Syntax, Node, Listed, Said, Count, Flag, Absent, Pieces, End, Then, IsPlaced, ArePlaced, nodes, pieces_of, plain, plain_parts, width}
-use Rattle.rl_ast.specs.Units.{Spells, node, statement, unit}
+use Rattle.rl_ast.specs.Syntax.{Syntax, Node, Listed, Said, Count, Flag, Absent, Pieces, End, Then, IsPlaced, ArePlaced, nodes, plain, plain_parts, width}
+use Rattle.rl_ast.specs.Units.{IsOfGrammar, Spells}
+use Rattle.rl_ast.proofs.Units.{marked_form, program_form, unit_form}
 use Rattle.rl_ast.specs.Words.{word_text}
 use Rattle.rl_ast.specs.declared.numbered.At.{At}
-use Rattle.rl_ast.specs.declared.tree.Statement.{Statement}
-use Rattle.rl_ast.specs.declared.tree.Unit.{Unit as TreeOfUnit}
 use Rattle.rl_ast.specs.declared.word.Word.{Word}
 use Rattle.rl_ast.specs.declared.word.Word.TheVariants as word
 use Rattle.rl_base.specs.Distinct.{AreDistinct}
 use Rattle.rl_model.specs.Held.{calls_in, calls_among}
-use Rattle.rl_model.specs.Source.{function_in, marked}
+use Rattle.rl_model.specs.Source.{marked}
 
 -- the ends of the places rise, from above the first number to the last one at most
 abbrev Rise : ℕ → List (Option Span) → ℕ → Type 0
@@ -118,27 +115,22 @@ rise_apart (Some span ∷ places) low high r zero (suc j) place at there = absur
 rise_apart (Some span ∷ places) low high r (suc i) zero place at there = absurd (never_before places span high i place r.1 at (cc))
 rise_apart (Some span ∷ places) low high r (suc i) (suc j) place at there = ap suc (rise_apart places span.end high r.1 i j place at there)
 
--- a statement that is a marked function has its calls
-marked_calls : (s : Syntax) → is_marked s ≡ true → calls_in s ≡ calls_in (function_in s)
-marked_calls (Node at word.Expr (Then function End)) is = append-nil (calls_in function)
-marked_calls _ is = absurd (cc)
+-- the calls of a unit are those of its function
+unit_calls : (u : Syntax) → IsOfGrammar u → calls_in u ≡ calls_in (marked u)
+unit_calls u grammar =
+    let unit = unit_form u grammar in
+    let program = program_form unit.0 unit.1.fit in
+    let statement = marked_form program.0 program.1.fit in
+    let form : u ≡ Node unit.1.at word.Unit (Then (Listed End) (Then (Node program.1.at word.Program (Then (Listed (Then (Node statement.1.at word.Expr (Then statement.0 End)) End)) End)) End)) =
+    unit.1.is
+    ∙ ap (λ p. Node unit.1.at word.Unit (Then (Listed End) (Then p End))) program.1.is
+    ∙ ap (λ s. Node unit.1.at word.Unit (Then (Listed End) (Then (Node program.1.at word.Program (Then (Listed (Then s End)) End)) End))) statement.1.is in
+    ap calls_in form ∙ behind (calls_in statement.0) ∙ sym (ap (λ t. calls_in (marked t)) form)
+  where
+    behind : (calls : List (Option Span)) → (((calls ++ []) ++ []) ++ []) ++ [] ≡ calls
+    behind calls = append-nil _ ∙ append-nil _ ∙ append-nil _ ∙ append-nil calls
 
 -- the calls of a unit's function are apart
-pub calls_apart : (bytes : List ℕ) (u : TreeOfUnit) → Spells bytes u → AreDistinct (calls_in (marked (unit u)))
+pub calls_apart : (bytes : List ℕ) (u : Syntax) → Spells bytes u → AreDistinct (calls_in (marked u))
 calls_apart bytes u spells =
-    subst AreDistinct all (rise_apart (calls_in (unit u)) 0 (0 + width (unit u)) (calls_rise (unit u) 0 0 spells.numbers))
-  where
-    only : (s : Statement) × (u.program.body ≡ s ∷ []) × (is_marked (statement s) ≡ true)
-    only = one_statement u spells.grammar
-
-    of_body : List Statement → Syntax
-    of_body body = node u.at word.Unit (Listed (pieces_of []) ∷ node u.program.at word.Program (Listed (pieces_of (map statement body)) ∷ []) ∷ [])
-
-    all : calls_in (unit u) ≡ calls_in (marked (unit u))
-    all =
-        ap (λ (body : List Statement). calls_in (of_body body)) only.1
-        ∙ append-nil ((calls_in (statement only.0) ++ []) ++ [])
-        ∙ append-nil (calls_in (statement only.0) ++ [])
-        ∙ append-nil (calls_in (statement only.0))
-        ∙ marked_calls (statement only.0) only.2
-        ∙ sym (ap (λ (body : List Statement). calls_in (marked (of_body body))) only.1)
+    subst AreDistinct (unit_calls u spells.grammar) (rise_apart (calls_in u) 0 (0 + width u) (calls_rise u 0 0 spells.numbers))

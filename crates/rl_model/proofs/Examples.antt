@@ -38,7 +38,7 @@ span start = record { start = start; end = start + 1 }
 
 -- a node that stands at a byte
 abbrev node : ℕ → Word → List Syntax → Syntax
-node start w parts = Node (record { id = record { 0 = start }; span = span start }) w (pieces_of parts)
+node start w parts = Node (record { id = record { 0 = start }; end = record { 0 = start + 1 }; span = span start }) w (pieces_of parts)
 
 abbrev name : ℕ → List ℕ → Syntax
 name start text = node start word.Id (Said text ∷ [])

@@ -1,8 +1,6 @@
 -- The promises of a result: of each graph, and of the result as a whole.
 use Rattle.std.specs.Prelude.{◌≡◌, ℕ, ◌*◌, ◌≤◌, List, [], length}
 use Rattle.rl_ast.specs.Syntax.{Syntax, nodes}
-use Rattle.rl_ast.specs.Units.{unit}
-use Rattle.rl_ast.specs.declared.tree.Unit.{Unit}
 use Rattle.rl_base.specs.Distinct.{AreDistinct}
 use Rattle.rl_hir.specs.Listing.{lowered}
 use Rattle.rl_hir.specs.Numbered.{IsNumbered}
@@ -44,15 +42,15 @@ pub record IsGraph (function : Syntax) (l : Lowered) (f : HirFunction) : Type 0 
   pub well_formed : IsWellFormed (length l.identifiers) f
 
 -- The result of lowering a unit to whose marked function no row applies.
-pub record IsLowered (u : Unit) (l : Lowered) : Type 0 where
-  pub supported : IsSupported (marked (unit u))
-  pub main : IsGraph (marked (unit u)) l l.function
+pub record IsLowered (u : Syntax) (l : Lowered) : Type 0 where
+  pub supported : IsSupported (marked u)
+  pub main : IsGraph (marked u) l l.function
   pub inner : l.inner ≡ []
-  pub identifiers : HasIdentifiersOf (marked (unit u)) l
-  pub apart : AreDistinct (calls_in (marked (unit u)))
-  pub bounded : lowered_size l ≤ 64 * nodes (unit u)
+  pub identifiers : HasIdentifiersOf (marked u) l
+  pub apart : AreDistinct (calls_in (marked u))
+  pub bounded : lowered_size l ≤ 64 * nodes u
   pub writable : IsWritable (lowered l)
 
 -- The bytes spell a unit, and this is its result.
 abbrev pub LowersTo : List ℕ → Lowered → Type 0
-LowersTo bytes l = (u : Unit) × IsUnit bytes u × IsLowered u l
+LowersTo bytes l = (u : Syntax) × IsUnit bytes u × IsLowered u l

@@ -1,29 +1,22 @@
 -- The symbols of a function are those of its parameters.
-use Rattle.std.proofs.Common.{◌≡◌, ◌<◌, ℕ, suc, ◌+◌, List, ◌∷◌, ◌++◌, map, length, drop, get_or, sym, ap, ◌∙◌, add-one, drop-cons}
-use Rattle.rl_ast.proofs.Spelled.{function_by_layer}
-use Rattle.rl_ast.specs.Syntax.{pieces_of}
-use Rattle.rl_ast.specs.Units.{function, param}
-use Rattle.rl_ast.specs.declared.tree.ArrowFunction.{ArrowFunction, out-ArrowFunction}
-use Rattle.rl_ast.specs.declared.tree.FormalParameter.{FormalParameter}
+use Rattle.std.proofs.Common.{◌≡◌, ℕ, List, [], ◌∷◌, ◌++◌, sym, ap, ◌∙◌}
+use Rattle.rl_ast.specs.Syntax.{Syntax, Node, Listed, Said, Absent, Pieces, End, Then}
+use Rattle.rl_ast.specs.declared.numbered.At.{At}
+use Rattle.rl_ast.specs.declared.word.Word.TheVariants as word
+use Rattle.rl_scope.specs.Symbols.{declared_by, declared_in, symbols_of}
 use Rattle.rl_scope.specs.declared.semantic.Symbol.{Symbol}
-use Rattle.rl_scope.specs.Symbols.{declared_in, symbols_of}
 
-pub symbols_declared : (f : ArrowFunction) → symbols_of (function f) ≡ declared_in (pieces_of (map param (out-ArrowFunction f).params.items))
-symbols_declared f = ap symbols_of (function_by_layer f)
+-- a parameter declares the name that it binds
+pub param_declares : (tree pattern : Syntax) (at bind : At) (name : List ℕ) → Node at word.Param (Then pattern (Then Absent End)) ≡ tree → Node bind word.Bind (Then (Said name) (Then Absent End)) ≡ pattern → declared_by tree ≡ record { name = name; declaration = bind.span } ∷ []
+param_declares tree pattern at bind name is binds =
+    sym (ap (λ p. declared_by (Node at word.Param (Then p (Then Absent End)))) binds ∙ ap declared_by is)
 
--- the symbols that parameters declare
-abbrev pub declared : List FormalParameter → List Symbol
-declared params = declared_in (pieces_of (map param params))
+-- a function declares the names of its parameters
+pub function_declares : (tree params body : Syntax) (items : Pieces) (at list : At) (marked is_async : Syntax) → Node at word.Arrow (Then marked (Then is_async (Then params (Then body End)))) ≡ tree → Node list word.Params (Then (Listed items) (Then Absent End)) ≡ params → symbols_of tree ≡ declared_in items
+function_declares tree params body items at list marked is_async is binds =
+    sym (ap (λ p. symbols_of (Node at word.Arrow (Then marked (Then is_async (Then p (Then body End)))))) binds ∙ ap symbols_of is)
 
--- those of parameters as they were read are those of the function
-pub declared_are : (f : ArrowFunction) (params : List FormalParameter) → params ≡ (out-ArrowFunction f).params.items → declared params ≡ symbols_of (function f)
-declared_are f params read = ap declared read ∙ sym (symbols_declared f)
-
--- the parameter at a place declares the next symbol
-pub next_declared : (params : List FormalParameter) (place : ℕ) (p : FormalParameter) (s : Symbol) (before : List Symbol) → place < length params → p ≡ get_or params place p → s ≡ record { name = p.pattern.name; declaration = p.pattern.at.span }
-    → before ++ declared (drop place params) ≡ declared params → before ++ s ∷ declared (drop (place + 1) params) ≡ declared params
-next_declared params place p s before within is same all =
-    let next : drop place params ≡ p ∷ drop (place + 1) params = rw add-one (drop-cons params place p within ∙ ap (λ (q : FormalParameter). q ∷ drop (suc place) params) (sym is)) in
-    ap (λ (t : Symbol). before ++ t ∷ declared (drop (place + 1) params)) same
-    ∙ ap (λ (l : List FormalParameter). before ++ declared l) (sym next)
-    ∙ all
+-- the next parameter declares the next symbol
+pub next_declared : (all left : Pieces) (param : Syntax) (rest : Pieces) (s : Symbol) (before : List Symbol) → left ≡ Then param rest → declared_by param ≡ s ∷ [] → before ++ declared_in left ≡ declared_in all → before ++ s ∷ declared_in rest ≡ declared_in all
+next_declared all left param rest s before split is same =
+    sym (ap (λ l. before ++ declared_in l) split ∙ ap (λ (l : List Symbol). before ++ (l ++ declared_in rest)) is) ∙ same

@@ -1,13 +1,14 @@
 //! The symbols of a unit, after `oxc_semantic`.
 
-ghost use Rattle.std.specs.Prelude.{◌≡◌, ◌<◌, ◌^◌, ℕ, true, false, length, map, slice_get, Some, IfOk, IfErr, IfSome};
+ghost use Rattle.std.specs.Prelude.{◌≡◌, ◌<◌, ◌^◌, ℕ, [], ◌∷◌, true, false, length, map, slice_get, Some, IfOk, IfErr, IfSome};
 ghost use Rattle.std.specs.Option.{option_map};
-ghost use Rattle.rl_ast.specs.Syntax.{pieces_of};
-ghost use Rattle.rl_ast.specs.Units as spec;
-ghost use Rattle.rl_scope.specs.Symbols.{are_distinct, declared_in, symbol_named, symbols_of};
+ghost use Rattle.rl_ast.specs.Syntax.{pieces_of, syntax};
+ghost use Rattle.rl_scope.specs.Symbols.{are_distinct, declared_by, declared_in, symbol_named, symbols_of};
 
 use crate::symbols::Symbols;
-use rl_ast::tree::{ArrowFunction, FormalParameter};
+use rl_ast::view::{
+    FunctionTree, ParamTree, ParamTrees, binding_view, function_view, param_view, params_view,
+};
 use rl_base::error::OutOfMemory;
 use rl_base::ids::SymbolId;
 use rl_base::span::Span;
@@ -56,26 +57,30 @@ impl From<OutOfMemory> for RuleError {
 }
 
 /// The symbol that a parameter declares. On `OutOfMemory`, an allocation failed.
-fn declared_by(alloc: Global, param: &FormalParameter) -> Result<Symbol, OutOfMemory>
-    ensures { IfOk result (λ symbol. symbol ≡ record { name = param.now.pattern.name; declaration = param.now.pattern.at.span }) }
+#[tactic(auto, using(crate::proofs::Declaring::param_declares))]
+fn declared_by(alloc: Global, param: ParamTree<'_>) -> Result<Symbol, OutOfMemory>
+    ensures { IfOk result (λ symbol. declared_by (syntax param.entry.tree.now) ≡ symbol ∷ []) }
 {
+    let binding = binding_view(param_view(param).pattern);
     Ok(Symbol {
-        name: param.pattern.name.copy(alloc)?,
-        declaration: param.pattern.at.span,
+        name: binding.name.copy(alloc)?,
+        declaration: binding.at.span,
     })
 }
 
 /// The symbols that parameters declare, in order. On `Malformed(4)`, two of them have one name.
-fn declare_all(alloc: Global, params: &[FormalParameter]) -> Result<Symbols, RuleError>
-    ensures symbols { IfOk result (λ symbols. symbols ≡ declared_in (pieces_of (map spec.param params.now))) }
+fn declare_all(alloc: Global, params: ParamTrees<'_>) -> Result<Symbols, RuleError>
+    ensures symbols { IfOk result (λ symbols. symbols ≡ declared_in (pieces_of (map syntax params.entry.trees.now))) }
     ensures distinct { IfOk result (λ symbols. are_distinct symbols ≡ true) }
-    ensures malformed { IfErr result (λ e. (rule : ℕ) → e ≡ RuleError.Malformed rule → (rule ≡ 4) × (are_distinct (declared_in (pieces_of (map spec.param params.now))) ≡ false)) }
+    ensures malformed { IfErr result (λ e. (rule : ℕ) → e ≡ RuleError.Malformed rule → (rule ≡ 4) × (are_distinct (declared_in (pieces_of (map syntax params.entry.trees.now))) ≡ false)) }
 {
     let mut symbols = Symbols::new(alloc);
-    for param in params {
+    let mut left = params;
+    'params: while let Some((param, rest)) = left.split_first() {
         if !symbols.declare(alloc, declared_by(alloc, param)?)? {
             return Err(RuleError::Malformed(4));
         }
+        left = rest;
     }
     Ok(symbols)
 }
@@ -83,12 +88,14 @@ fn declare_all(alloc: Global, params: &[FormalParameter]) -> Result<Symbols, Rul
 impl Semantic {
     /// The symbols of a unit's function. On `Malformed(4)`, two of its parameters have one name; on `OutOfMemory`, an
     /// allocation failed.
-    pub fn of(alloc: Global, function: &ArrowFunction) -> Result<Semantic, RuleError>
-        ensures symbols { IfOk result (λ semantic. semantic.symbols ≡ symbols_of (spec.function function.now)) }
-        ensures distinct { IfOk result (λ semantic. are_distinct (symbols_of (spec.function function.now)) ≡ true) }
-        ensures malformed { IfErr result (λ e. (rule : ℕ) → e ≡ RuleError.Malformed rule → (rule ≡ 4) × (are_distinct (symbols_of (spec.function function.now)) ≡ false)) }
+    #[tactic(auto, using(crate::proofs::Declaring::function_declares))]
+    pub fn of(alloc: Global, function: FunctionTree<'_>) -> Result<Semantic, RuleError>
+        ensures symbols { IfOk result (λ semantic. semantic.symbols ≡ symbols_of (syntax function.entry.tree.now)) }
+        ensures distinct { IfOk result (λ semantic. are_distinct (symbols_of (syntax function.entry.tree.now)) ≡ true) }
+        ensures malformed { IfErr result (λ e. (rule : ℕ) → e ≡ RuleError.Malformed rule → (rule ≡ 4) × (are_distinct (symbols_of (syntax function.entry.tree.now)) ≡ false)) }
     {
-        let symbols = declare_all(alloc, function.params.items.as_slice())?;
+        let params = params_view(function_view(function).params);
+        let symbols = declare_all(alloc, params.items)?;
         Ok(Semantic { symbols })
     }
 

@@ -4,30 +4,33 @@ ghost use Rattle.std.specs.Prelude.{◌≡◌, ◌<◌, [], ◌∷◌, ◌++◌,
 ghost use Rattle.rl_scope.specs.Symbols.{symbol_named};
 
 use crate::semantic::Symbol;
-use indexmap::IndexMap;
 use rl_base::error::OutOfMemory;
-use rl_base::list::List;
+use rl_base::name_table::{NameTable, Named};
 use std::alloc::Global;
 use std::marker::Model;
+
+impl Named for Symbol {
+    ghost name = { λ symbol. symbol.name };
+
+    fn name(&self) -> &str {
+        self.name.as_str()
+    }
+}
 
 /// Symbols in the order of their declarations, with an index by name. Contracts see the list of symbols. The index of a
 /// symbol in it is its `SymbolId`.
 #[derive(Drop)]
 pub struct Symbols {
-    symbols: List<Symbol>,
-    numbers: IndexMap<String, usize>,
+    table: NameTable<Symbol>,
 }
 
 impl Model for Symbols {
     ghost use Rattle.std.specs.Prelude.{List as Items};
-    ghost use Rattle.rl_scope.specs.Numbers.{AreNumbers};
     ghost use Rattle.rl_scope.specs.declared.semantic.Symbol.{Symbol};
 
     ghost Value = { Items Symbol };
 
-    ghost view = { λ s. s.symbols };
-
-    ghost invariant = { λ s. AreNumbers s.numbers.entries s.symbols };
+    ghost view = { λ s. s.table };
 }
 
 impl Symbols {
@@ -36,8 +39,7 @@ impl Symbols {
         ensures { result ≡ [] }
     {
         Symbols {
-            symbols: List::new(alloc),
-            numbers: IndexMap::new(alloc),
+            table: NameTable::new(alloc),
         }
     }
 
@@ -45,14 +47,14 @@ impl Symbols {
     pub fn as_slice(&self) -> &[Symbol]
         ensures { result.now ≡ self.now }
     {
-        self.symbols.as_slice()
+        self.table.as_slice()
     }
 
     /// Number of symbols.
     pub fn len(&self) -> usize
         ensures { result ≡ length self.now }
     {
-        self.symbols.len()
+        self.table.len()
     }
 
     /// The index of the symbol named `name`. `None` if there is none.
@@ -60,7 +62,7 @@ impl Symbols {
         ensures found { result ≡ symbol_named self.now name.now }
         ensures within { IfSome result (λ number. number < length self.now) }
     {
-        self.numbers.get(name).copied()
+        self.table.find(name)
     }
 
     /// Appends a symbol and returns true, or returns false if its name is taken, and changes nothing. On `OutOfMemory`, an
@@ -70,15 +72,6 @@ impl Symbols {
         ensures symbols { IfOk result (λ is_new. self.new ≡ (if is_new then self.old ++ symbol ∷ [] else self.old)) }
         ensures err { OnErr result (self.new ≡ self.old) }
     {
-        if self.numbers.contains_key(symbol.name.as_str()) {
-            return Ok(false);
-        }
-        let name = String::from_str(alloc, symbol.name.as_str())?;
-        let number = self.symbols.len();
-        // With room in the map, nothing fails once the symbol is among the symbols.
-        self.numbers.reserve(1)?;
-        self.symbols.push(symbol)?;
-        self.numbers.insert(name, number)?;
-        Ok(true)
+        self.table.insert_new(alloc, symbol)
     }
 }

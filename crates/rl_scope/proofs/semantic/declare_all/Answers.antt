@@ -1,8 +1,9 @@
-use Rattle.std.proofs.Common.{◌≡◌, ℕ, Bool, true, false, true≢false, List, [], ◌∷◌, ◌++◌, not, is_some, if◌then◌else◌, drop, ◌+◌, refl, sym, ap, ◌∙◌, append_assoc}
-use Rattle.rl_scope.proofs.Declaring.{declared, next_declared}
+use Rattle.std.proofs.Common.{◌≡◌, ℕ, Bool, true, false, true≢false, List, [], ◌∷◌, ◌++◌, not, is_some, if◌then◌else◌, map, refl, sym, ap, ◌∙◌, append_assoc}
+use Rattle.rl_ast.specs.Syntax.{pieces_of, syntax}
+use Rattle.rl_scope.proofs.Declaring.{next_declared}
 use Rattle.rl_scope.proofs.Distinct.{distinct-push, not_distinct-append}
 use Rattle.rl_scope.proofs.semantic.declare_all.Goals as goal
-use Rattle.rl_scope.specs.Symbols.{are_distinct, symbol_named}
+use Rattle.rl_scope.specs.Symbols.{are_distinct, declared_in, symbol_named}
 use Rattle.rl_scope.specs.declared.semantic.Symbol.{Symbol}
 use Rattle.rl_scope.specs.declared.semantic.RuleError.TheVariants.{Malformed}
 
@@ -19,20 +20,21 @@ new_from is_new true is new = absurd (true≢false (sym new ∙ is))
 
 pub returns-then-not-branch-clause-malformed : goal.returns-then-not-branch-clause-malformed
 returns-then-not-branch-clause-malformed c rule is =
-    let before = c.loop-param.symbols in
+    let before = c.params.symbols in
     let s = c.in_ok-declared_by.field-0 in
-    let known = known_from _ (is_some (symbol_named before s.name)) c.in_ok-declare.ensures.is_new c.if-not-branch.true in
-    let all = next_declared c.args.params.now c.loop-param.param-index c.param-item.result s before c.loop-param-test.true c.param-item.is c.in_ok-declared_by.ensures c.loop-param.invariant.all in
-    (number_is rule is, ap are_distinct (sym all) ∙ not_distinct-append before _ s known)
+    let known = known_from c.in_ok-declare.field-0 (is_some (symbol_named before s.name)) c.in_ok-declare.ensures.is_new c.if-not-branch.true in
+    let all = next_declared (pieces_of (map syntax c.args.params.trees.now)) (pieces_of (map syntax c.params.left.trees.now)) (syntax c.in-Some.param.tree.now) (pieces_of (map syntax c.in-Some.rest.trees.now)) s before c.in-Some.ensures c.in_ok-declared_by.ensures c.params.invariant.all in
+    (number_is rule is, ap are_distinct (sym all) ∙ not_distinct-append before (declared_in (pieces_of (map syntax c.in-Some.rest.trees.now))) s known)
 
-pub loop-param-preserved : goal.loop-param-preserved
-loop-param-preserved c =
-    let before = c.loop-param.symbols in
+pub params-preserved : goal.params-preserved
+params-preserved c =
+    let before = c.params.symbols in
     let s = c.in_ok-declared_by.field-0 in
-    let unknown = new_from _ (is_some (symbol_named before s.name)) c.in_ok-declare.ensures.is_new c.if-not-branch.false in
+    let unknown = new_from c.in_ok-declare.field-0 (is_some (symbol_named before s.name)) c.in_ok-declare.ensures.is_new c.if-not-branch.false in
     let added : c.declare.new.self ≡ before ++ s ∷ [] = c.in_ok-declare.ensures.symbols ∙ ap (λ (b : Bool). if b then before ++ s ∷ [] else before) c.if-not-branch.false in
-    let all = next_declared c.args.params.now c.loop-param.param-index c.param-item.result s before c.loop-param-test.true c.param-item.is c.in_ok-declared_by.ensures c.loop-param.invariant.all in
+    let rest = pieces_of (map syntax c.in-Some.rest.trees.now) in
+    let all = next_declared (pieces_of (map syntax c.args.params.trees.now)) (pieces_of (map syntax c.params.left.trees.now)) (syntax c.in-Some.param.tree.now) (pieces_of (map syntax c.in-Some.rest.trees.now)) s before c.in-Some.ensures c.in_ok-declared_by.ensures c.params.invariant.all in
     record {
-      all = ap (λ (symbols : List Symbol). symbols ++ declared (drop (c.loop-param.param-index + 1) c.args.params.now)) added ∙ append_assoc before (s ∷ []) _ ∙ all;
-      distinct = ap are_distinct added ∙ distinct-push before s c.loop-param.invariant.distinct unknown;
+      all = ap (λ (symbols : List Symbol). symbols ++ declared_in rest) added ∙ append_assoc before (s ∷ []) (declared_in rest) ∙ all;
+      distinct = ap are_distinct added ∙ distinct-push before s c.params.invariant.distinct unknown;
     }

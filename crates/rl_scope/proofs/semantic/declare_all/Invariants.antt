@@ -1,12 +1,15 @@
-use Rattle.std.proofs.Common.{◌≡◌, ◌++◌, drop, map, true}
-use Rattle.rl_ast.specs.Syntax.{pieces_of}
-use Rattle.rl_ast.specs.Units.{param}
+use Rattle.std.proofs.Common.{◌≡◌, ◌++◌, map, true}
+use Rattle.rl_ast.specs.Sizes.{size_of}
+use Rattle.rl_ast.specs.Syntax.{pieces_of, syntax}
 use Rattle.rl_scope.specs.Symbols.{are_distinct, declared_in}
 use Rattle.rl_scope.proofs.semantic.declare_all.Given as goal
 
--- the symbols so far are distinct, and they and those of the rest are all
-abbrev pub invariant-loop-param : goal.invariant-loop-param
-invariant-loop-param l = record {
-  all : l.symbols ++ declared_in (pieces_of (map param (drop l.param-index l.params))) ≡ declared_in (pieces_of (map param l.params));
+abbrev pub decreases-params : goal.decreases-params
+decreases-params l = size_of (pieces_of (map syntax l.left.trees.now))
+
+-- The symbols that were declared are distinct, and with those of the parameters that are left they are all.
+abbrev pub invariant-params : goal.invariant-params
+invariant-params l = record {
+  all : l.symbols ++ declared_in (pieces_of (map syntax l.left.trees.now)) ≡ declared_in (pieces_of (map syntax l.params.trees.now));
   distinct : are_distinct l.symbols ≡ true;
 }

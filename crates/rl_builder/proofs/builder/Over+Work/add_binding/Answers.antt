@@ -17,16 +17,16 @@ returns-clause-state c =
     let env : c.set_name.new.self ≡ env_resolved None old free symbol.0 c.args.declaration =
     env_resolved-fresh old c.new_temporary.new.env c.add_pair.new.self c.set_name.new.self symbol identifier c.in_ok-free.free c.args.declaration c.in_ok-identifier.ensures.ok c.in_ok-identifier.ensures.id c.in_ok-add_pair.ensures.ok c.set_name.ensures
     ∙ ap (λ name. env_resolved None old name symbol.0 c.args.declaration) text in
-    let bindings : c.insert-2.new.self ≡ work.bindings ++ pair symbol.0 (length old.identifiers) ∷ [] =
-    c.in_ok-insert-2.ensures ∙ ap (λ place. work.bindings ++ pair symbol.0 place ∷ []) c.in_ok-identifier.ensures.id in
-    let used : c.insert.new.self ≡ with_user work.used_names free symbol.0 =
-    c.in_ok-insert.ensures ∙ ap (λ name. with_user work.used_names name symbol.0) (c.as_str-2.ensures ∙ text) in
+    let bindings : c.insert.new.self ≡ work.bindings ++ pair symbol.0 (length old.identifiers) ∷ [] =
+    c.in_ok-insert.ensures ∙ ap (λ place. work.bindings ++ pair symbol.0 place ∷ []) c.in_ok-identifier.ensures.id in
+    let used : c.claim.new.self ≡ with_user work.used_names free symbol.0 =
+    c.in_ok-free.ensures.used ∙ ap (λ name. with_user work.used_names name symbol.0) text in
     λ i. record (state_of old work) { env = env i; bindings = bindings i; used_names = used i }
 
 pub returns-clause-identifier : goal.returns-clause-identifier
 returns-clause-identifier c =
     let symbol = c.args.symbol.0 in
-    ap (λ pairs. identifier_of pairs symbol) c.in_ok-insert-2.ensures
+    ap (λ pairs. identifier_of pairs symbol) c.in_ok-insert.ensures
     ∙ identifier_of-last c.args.self.now.work.bindings symbol c.in_ok-identifier.identifier.0 c.requires.fresh
 
 pub returns-clause-names : goal.returns-clause-names
