@@ -1,6 +1,6 @@
 -- A result is read back from its tree, so no two results have one tree. Where a tree is no result's, what is read does
 -- not matter.
-use Rattle.std.proofs.Common.{◌≡◌, ℕ, zero, suc, Bool, true, false, Option, Some, None, List, [], ◌∷◌, map, codes, refl, sym, ap, ◌∙◌}
+use Rattle.std.proofs.Common.{◌≡◌, ℕ, zero, suc, Bool, false, if◌then◌else◌, Option, Some, None, List, [], ◌∷◌, map, codes, refl, sym, ap, ◌∙◌}
 use Rattle.std.specs.Str.{bytes_eq}
 use Rattle.rl_base.specs.declared.span.Span.{Span}
 use Rattle.rl_base.specs.declared.ids.BlockId.{BlockId}
@@ -108,6 +108,11 @@ unfolding list_of
 list-back show read back [] = refl
 list-back show read back (x ∷ xs) = ap (λ first. first ∷ list_of read (spec.list show xs)) (back x) ∙ ap (λ rest. x ∷ rest) (list-back show read back xs)
 
+-- The entry of the first row with a word; `other` where there is none.
+abbrev choose : {X : Type 0} → List ℕ → List (List ℕ × X) → X → X
+choose word [] other = other
+choose word (row ∷ rows) other = if bytes_eq word row.0 then row.1 else choose word rows other
+
 -- each type
 
 span_of : Tree → Span
@@ -127,57 +132,39 @@ place-back : (p : Place) → place_of (spec.place p) ≡ p
 unfolding place_of
 place-back p = rw (optional_span-back p.span) refl
 
+primitive_readers : List (List ℕ × (Tree → PrimitiveValue))
+primitive_readers =
+    (codes "undefined", λ tree. primitives.Undefined)
+    ∷ (codes "null", λ tree. primitives.Null)
+    ∷ (codes "bool", λ tree. primitives.Boolean (flag_of (part 0 tree)))
+    ∷ (codes "number", λ tree. primitives.Number (number_of (part 0 tree)))
+    ∷ (codes "text", λ tree. primitives.String (text_of (part 0 tree)))
+    ∷ []
+
 primitive_of : Tree → PrimitiveValue
-primitive_of tree =
-    elim (bytes_eq (word_of tree) (codes "undefined")) [
-      | true ↦ primitives.Undefined
-      | false ↦
-          elim (bytes_eq (word_of tree) (codes "null")) [
-            | true ↦ primitives.Null
-            | false ↦
-                elim (bytes_eq (word_of tree) (codes "bool")) [
-                  | true ↦ primitives.Boolean (flag_of (part 0 tree))
-                  | false ↦
-                      elim (bytes_eq (word_of tree) (codes "text")) [
-                        | true ↦ primitives.String (text_of (part 0 tree))
-                        | false ↦ primitives.Number (number_of (part 0 tree))
-                      ]
-                ]
-          ]
-    ]
+primitive_of tree = choose (word_of tree) primitive_readers (λ tree. primitives.Undefined) tree
 
 primitive-back : (v : PrimitiveValue) → primitive_of (spec.primitive v) ≡ v
-unfolding primitive_of text_of
+unfolding primitive_of primitive_readers text_of
 primitive-back primitives.Undefined = refl
 primitive-back primitives.Null = refl
 primitive-back (primitives.Boolean value) = refl
 primitive-back (primitives.Number number) = refl
 primitive-back (primitives.String text) = refl
 
+binding_readers : List (List ℕ × (Tree → NonLocalBinding))
+binding_readers =
+    (codes "module", λ tree. bindings.ModuleLocal (text_of (part 0 tree)))
+    ∷ (codes "default", λ tree. bindings.ImportDefault (text_of (part 0 tree)) (text_of (part 2 tree)))
+    ∷ (codes "namespace", λ tree. bindings.ImportNamespace (text_of (part 0 tree)) (text_of (part 2 tree)))
+    ∷ (codes "named", λ tree. bindings.ImportSpecifier (text_of (part 0 tree)) (text_of (part 2 tree)) (text_of (part 3 tree)))
+    ∷ []
+
 binding_of : Tree → NonLocalBinding
-binding_of tree =
-    let name = text_of (part 0 tree) in
-    let kind = text_of (part 1 tree) in
-    let source = text_of (part 2 tree) in
-    elim (bytes_eq kind (codes "module")) [
-      | true ↦ bindings.ModuleLocal name
-      | false ↦
-          elim (bytes_eq kind (codes "default")) [
-            | true ↦ bindings.ImportDefault name source
-            | false ↦
-                elim (bytes_eq kind (codes "namespace")) [
-                  | true ↦ bindings.ImportNamespace name source
-                  | false ↦
-                      elim (bytes_eq kind (codes "named")) [
-                        | true ↦ bindings.ImportSpecifier name source (text_of (part 3 tree))
-                        | false ↦ bindings.Global name
-                      ]
-                ]
-          ]
-    ]
+binding_of tree = choose (text_of (part 1 tree)) binding_readers (λ tree. bindings.Global (text_of (part 0 tree))) tree
 
 binding-back : (b : NonLocalBinding) → binding_of (spec.binding b) ≡ b
-unfolding binding_of text_of
+unfolding binding_of binding_readers text_of
 binding-back (bindings.Global name) = refl
 binding-back (bindings.ModuleLocal name) = refl
 binding-back (bindings.ImportDefault name source) = refl
@@ -185,12 +172,12 @@ binding-back (bindings.ImportNamespace name source) = refl
 binding-back (bindings.ImportSpecifier name source imported) = refl
 
 argument_of : Tree → Tree → PlaceOrSpread
-argument_of shape operand = elim (bytes_eq (text_of shape) (codes "spread")) [ true ↦ arguments.Spread (place_of operand) | false ↦ arguments.Place (place_of operand) ]
+argument_of shape operand = if bytes_eq (text_of shape) (codes "spread") then arguments.Spread (place_of operand) else arguments.Place (place_of operand)
 
 argument-back : (a : PlaceOrSpread) → argument_of (spec.shape_of a) (spec.operand_of a) ≡ a
 unfolding argument_of text_of
-argument-back (arguments.Place p) = rw (place-back p) refl
-argument-back (arguments.Spread p) = rw (place-back p) refl
+argument-back (arguments.Place p) = λ i. arguments.Place (place-back p i)
+argument-back (arguments.Spread p) = λ i. arguments.Spread (place-back p i)
 
 arguments_of : Parts → Parts → List PlaceOrSpread
 arguments_of End operands = []
@@ -208,33 +195,25 @@ abbrev later : Parts → Parts
 later End = End
 later (Then first rest) = rest
 
+value_readers : List (List ℕ × (Tree → InstructionValue))
+value_readers =
+    (codes "primitive", λ tree. values.Primitive (primitive_of (part 0 tree)))
+    ∷ (codes "loadlocal", λ tree. values.LoadLocal (place_of (part 0 tree)))
+    ∷ (codes "loadglobal", λ tree. values.LoadGlobal (binding_of (part 0 tree)))
+    ∷ (codes "binary", λ tree. values.Binary (operator_of (text_of (part 0 (part 0 tree)))) (place_of (part 0 (part 1 tree))) (place_of (part 1 (part 1 tree))))
+    ∷ (codes "call", λ tree. values.Call (place_of (part 0 (part 1 tree))) (arguments_of (parts_in (part 0 tree)) (later (parts_in (part 1 tree)))))
+    ∷ []
+
 value_of : Tree → InstructionValue
-value_of tree =
-    let operands = part 1 tree in
-    elim (bytes_eq (word_of tree) (codes "primitive")) [
-      | true ↦ values.Primitive (primitive_of (part 0 tree))
-      | false ↦
-          elim (bytes_eq (word_of tree) (codes "loadlocal")) [
-            | true ↦ values.LoadLocal (place_of (part 0 tree))
-            | false ↦
-                elim (bytes_eq (word_of tree) (codes "loadglobal")) [
-                  | true ↦ values.LoadGlobal (binding_of (part 0 tree))
-                  | false ↦
-                      elim (bytes_eq (word_of tree) (codes "binary")) [
-                        | true ↦ values.Binary (operator_of (text_of (part 0 (part 0 tree)))) (place_of (part 0 operands)) (place_of (part 1 operands))
-                        | false ↦ values.Call (place_of (part 0 operands)) (arguments_of (parts_in (part 0 tree)) (later (parts_in operands)))
-                      ]
-                ]
-          ]
-    ]
+value_of tree = choose (word_of tree) value_readers (λ tree. values.LoadLocal (place_of tree)) tree
 
 value-back : (v : InstructionValue) → value_of (spec.value v) ≡ v
-unfolding value_of text_of
-value-back (values.Primitive v) = rw (primitive-back v) refl
-value-back (values.LoadLocal p) = rw (place-back p) refl
-value-back (values.LoadGlobal b) = rw (binding-back b) refl
-value-back (values.Binary operator left right) = rw (operator-back operator, place-back left, place-back right) refl
-value-back (values.Call callee xs) = rw (place-back callee, arguments-back xs) refl
+unfolding value_of value_readers text_of
+value-back (values.Primitive v) = λ i. values.Primitive (primitive-back v i)
+value-back (values.LoadLocal p) = λ i. values.LoadLocal (place-back p i)
+value-back (values.LoadGlobal b) = λ i. values.LoadGlobal (binding-back b i)
+value-back (values.Binary operator left right) = λ i. values.Binary (operator-back operator i) (place-back left i) (place-back right i)
+value-back (values.Call callee xs) = λ i. values.Call (place-back callee i) (arguments-back xs i)
 
 instruction_of : Tree → Instruction
 instruction_of tree = record {
@@ -248,59 +227,44 @@ instruction-back : (i : Instruction) → instruction_of (spec.instruction i) ≡
 unfolding instruction_of
 instruction-back i = rw (place-back i.lvalue, optional_span-back i.span, value-back i.value) refl
 
+abbrev order_of : Tree → EvaluationOrder
+order_of tree = record { 0 = number_of tree }
+
+return_variants : List (List ℕ × ReturnVariant)
+return_variants = (codes "implicit", returns.Implicit) ∷ (codes "explicit", returns.Explicit) ∷ (codes "void", returns.Void) ∷ []
+
 return_variant_of : Tree → ReturnVariant
-return_variant_of tree =
-    elim (bytes_eq (text_of tree) (codes "implicit")) [
-      | true ↦ returns.Implicit
-      | false ↦
-          elim (bytes_eq (text_of tree) (codes "explicit")) [
-            | true ↦ returns.Explicit
-            | false ↦
-                returns.Void
-          ]
-    ]
+return_variant_of tree = choose (text_of tree) return_variants returns.Void
 
 return_variant-back : (variant : ReturnVariant) → return_variant_of (Said (spec.return_variant variant)) ≡ variant
-unfolding return_variant_of text_of
+unfolding return_variant_of return_variants text_of
 return_variant-back returns.Implicit = refl
 return_variant-back returns.Explicit = refl
 return_variant-back returns.Void = refl
 
+terminal_readers : List (List ℕ × (Tree → Terminal))
+terminal_readers =
+    (codes "return", λ tree. terminals.Return (order_of (part 0 tree)) (optional_of span_of (part 1 tree)) (return_variant_of (part 2 tree)) (place_of (part 3 tree)))
+    ∷ (codes "unreachable", λ tree. terminals.Unreachable (order_of (part 0 tree)) (optional_of span_of (part 1 tree)))
+    ∷ []
+
 terminal_of : Tree → Terminal
-terminal_of tree = let order : EvaluationOrder = record { 0 = number_of (part 0 tree) } in let at = optional_of span_of (part 1 tree) in
-    elim (bytes_eq (word_of tree) (codes "return")) [
-      | true ↦ terminals.Return order at (return_variant_of (part 2 tree)) (place_of (part 3 tree))
-      | false ↦
-          terminals.Unreachable order at
-    ]
+terminal_of tree = choose (word_of tree) terminal_readers (λ tree. terminals.Unreachable (order_of tree) None) tree
 
 terminal-back : (t : Terminal) → terminal_of (spec.terminal t) ≡ t
-unfolding terminal_of
-terminal-back (terminals.Return order at variant p) = rw (optional_span-back at, return_variant-back variant, place-back p) refl
-terminal-back (terminals.Unreachable order at) = rw (optional_span-back at) refl
+unfolding terminal_of terminal_readers
+terminal-back (terminals.Return order at variant p) = λ i. terminals.Return order (optional_span-back at i) (return_variant-back variant i) (place-back p i)
+terminal-back (terminals.Unreachable order at) = λ i. terminals.Unreachable order (optional_span-back at i)
+
+block_kinds : List (List ℕ × BlockKind)
+block_kinds =
+    (codes "block", kinds.Block) ∷ (codes "value", kinds.Value) ∷ (codes "loop", kinds.Loop) ∷ (codes "sequence", kinds.Sequence) ∷ (codes "catch", kinds.Catch) ∷ []
 
 block_kind_of : Tree → BlockKind
-block_kind_of tree =
-    elim (bytes_eq (text_of tree) (codes "block")) [
-      | true ↦ kinds.Block
-      | false ↦
-          elim (bytes_eq (text_of tree) (codes "value")) [
-            | true ↦ kinds.Value
-            | false ↦
-                elim (bytes_eq (text_of tree) (codes "loop")) [
-                  | true ↦ kinds.Loop
-                  | false ↦
-                      elim (bytes_eq (text_of tree) (codes "sequence")) [
-                        | true ↦ kinds.Sequence
-                        | false ↦
-                            kinds.Catch
-                      ]
-                ]
-          ]
-    ]
+block_kind_of tree = choose (text_of tree) block_kinds kinds.Block
 
 block_kind-back : (kind : BlockKind) → block_kind_of (Said (spec.block_kind kind)) ≡ kind
-unfolding block_kind_of text_of
+unfolding block_kind_of block_kinds text_of
 block_kind-back kinds.Block = refl
 block_kind-back kinds.Value = refl
 block_kind-back kinds.Loop = refl
@@ -341,31 +305,25 @@ block-back b = rw (
   list-back spec.pred pred_of pred-back b.block.preds,
 ) refl
 
+function_types : List (List ℕ × ReactFunctionType)
+function_types = (codes "component", types.Component) ∷ (codes "hook", types.Hook) ∷ (codes "other", types.Other) ∷ []
+
 function_type_of : Tree → ReactFunctionType
-function_type_of tree =
-    elim (bytes_eq (text_of tree) (codes "component")) [
-      | true ↦ types.Component
-      | false ↦
-          elim (bytes_eq (text_of tree) (codes "hook")) [
-            | true ↦ types.Hook
-            | false ↦
-                types.Other
-          ]
-    ]
+function_type_of tree = choose (text_of tree) function_types types.Other
 
 function_type-back : (type : ReactFunctionType) → function_type_of (Said (spec.function_type type)) ≡ type
-unfolding function_type_of text_of
+unfolding function_type_of function_types text_of
 function_type-back types.Component = refl
 function_type-back types.Hook = refl
 function_type-back types.Other = refl
 
 param_of : Tree → Param
-param_of tree = elim (bytes_eq (word_of tree) (codes "spread")) [ true ↦ params.Spread (place_of (part 0 tree)) | false ↦ params.Place (place_of tree) ]
+param_of tree = if bytes_eq (word_of tree) (codes "spread") then params.Spread (place_of (part 0 tree)) else params.Place (place_of tree)
 
 param-back : (p : Param) → param_of (spec.param p) ≡ p
 unfolding param_of
-param-back (params.Place p) = rw (place-back p) refl
-param-back (params.Spread p) = rw (place-back p) refl
+param-back (params.Place p) = λ i. params.Place (place-back p i)
+param-back (params.Spread p) = λ i. params.Spread (place-back p i)
 
 text-back : (text : List ℕ) → text_of (spec.said text) ≡ text
 unfolding text_of
@@ -408,7 +366,7 @@ unfolding inner_of
 inner-back i = rw (function-back i.function) refl
 
 name_of : Tree → IdentifierName
-name_of tree = elim (bytes_eq (word_of tree) (codes "named")) [ true ↦ names.Named (text_of (part 0 tree)) | false ↦ names.Promoted (text_of (part 0 tree)) ]
+name_of tree = if bytes_eq (word_of tree) (codes "named") then names.Named (text_of (part 0 tree)) else names.Promoted (text_of (part 0 tree))
 
 name-back : (n : IdentifierName) → name_of (spec.name n) ≡ n
 unfolding name_of text_of

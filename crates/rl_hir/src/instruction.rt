@@ -3,6 +3,7 @@ ghost use Rattle.rl_hir.specs.Instructions.{argument_shape, argument_place};
 
 use rl_base::ids::{EvaluationOrder, IdentifierId};
 use rl_base::list::List;
+use rl_base::number::WholeNumber;
 use rl_base::operator::BinaryOperator;
 use rl_base::span::Span;
 use rl_base::text::Text;
@@ -120,8 +121,8 @@ pub enum PrimitiveValue {
     Null,
     /// The value of `true` or `false`.
     Boolean(bool),
-    /// A whole number; those that come from a unit are at most 2^53.
-    Number(u64),
+    /// A whole number up to 2^53.
+    Number(WholeNumber),
     /// A text, in UTF-8.
     String(Text),
 }
