@@ -2,7 +2,7 @@
 use Rattle.std.specs.Prelude.{◌≡◌, ℕ, List, [], ◌∷◌, ◌++◌, Option, IfSome}
 use Rattle.std.specs.Io.KnownBytes.{Keeps, Appends}
 use Rattle.rl_ast.specs.Limits.{IsTooLarge}
-use Rattle.rl_ast.specs.declared.tree.Unit.{Unit as TreeOfUnit}
+use Rattle.rl_ast.specs.Syntax.{Syntax}
 use Rattle.rl_base.specs.Pieces.{AppendsPrefix}
 use Rattle.rl_hir.specs.declared.function.Lowered.{Lowered}
 use Rattle.rl_model.specs.Headline.{IsLowered}
@@ -13,7 +13,7 @@ use Rattle.rl_unit.specs.declared.run.Status.TheVariants.{Done, Reported, Malfor
 
 -- The bytes, where they are known, are within the limits and spell a unit that has a result.
 pub record HasResult (bytes : Option (List ℕ)) : Type 0 where
-  pub source : TreeOfUnit
+  pub source : Syntax
   pub spelled : IfSome bytes (λ known. IsUnit known source)
   pub within : IfSome bytes (λ known. IsTooLarge known → ⊥)
   pub result : Lowered

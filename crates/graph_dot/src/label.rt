@@ -90,7 +90,7 @@ fn push_primitive(value: &PrimitiveValue, line: &mut String) -> Result<(), OutOf
         PrimitiveValue::Undefined => line.push_str("undefined")?,
         PrimitiveValue::Null => line.push_str("null")?,
         PrimitiveValue::Boolean(value) => write!(line, "{value}")?,
-        PrimitiveValue::Number(value) => write!(line, "{value}")?,
+        PrimitiveValue::Number(value) => write!(line, "{}", value.get())?,
         PrimitiveValue::String(text) => push_text(text.as_str(), line)?,
     }
     Ok(())

@@ -1,8 +1,5 @@
 -- The arguments of a call, one after the other.
-use Rattle.std.proofs.Common.{◌≡◌, ℕ, zero, suc, ◌≤◌, ◌++◌, codes, List, [], ◌∷◌, map, drop, refl, sym, ap, ◌∙◌, arith}
-use Rattle.rl_ast.specs.declared.tree.Expression.{Expression}
-use Rattle.rl_ast.specs.Syntax.{nodes_of, pieces_of}
-use Rattle.rl_ast.specs.Units.{expression}
+use Rattle.std.proofs.Common.{◌≡◌, ℕ, ◌++◌, codes, List, [], ◌∷◌, map, refl, sym, ap, ◌∙◌}
 use Rattle.rl_hir.specs.Instructions.{argument_place, argument_shape}
 use Rattle.rl_hir.specs.declared.instruction.Place.{Place}
 use Rattle.rl_hir.specs.declared.instruction.PlaceOrSpread.{PlaceOrSpread}
@@ -12,12 +9,6 @@ use Rattle.rl_model.specs.Traces.{Store}
 
 abbrev pub identifier_in : PlaceOrSpread → ℕ
 identifier_in a = (argument_place a).identifier.0
-
--- The arguments from an index on have no more nodes than all.
-pub nodes_left : (es : List Expression) (place : ℕ) → nodes_of (pieces_of (map expression (drop place es))) ≤ nodes_of (pieces_of (map expression es))
-nodes_left es zero = omega arith
-nodes_left [] (suc place) = omega arith
-nodes_left (e ∷ es) (suc place) = let rest : nodes_of (pieces_of (map expression (drop place es))) ≤ nodes_of (pieces_of (map expression es)) = nodes_left es place in omega (arith, rest)
 
 map_more : {X Y : Type 0} (f : X → Y) (xs : List X) (x : X) (ys : List Y) → map f (xs ++ x ∷ []) ++ ys ≡ map f xs ++ (f x ∷ ys)
 map_more f [] x ys = refl

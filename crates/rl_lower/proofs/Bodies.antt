@@ -1,5 +1,5 @@
 -- `LowersBody` of a body that is an expression, and of one that is a list of statements.
-use Rattle.std.proofs.Common.{◌≡◌, ℕ, ◌+◌, ◌*◌, ◌++◌, true, false, List, [], ◌∷◌, map, Option, refl, sym, ap, ◌∙◌, subst, arith, append-nil}
+use Rattle.std.proofs.Common.{◌≡◌, ◌+◌, ◌*◌, ◌++◌, true, false, List, [], Option, refl, sym, ap, ◌∙◌, subst, arith, append-nil}
 use Rattle.rl_base.specs.declared.diagnostic.Diagnostic.{Diagnostic}
 use Rattle.rl_base.specs.declared.span.Span.{Span}
 use Rattle.rl_hir.specs.declared.instruction.Place.{Place}
@@ -9,9 +9,11 @@ use Rattle.rl_builder.specs.Builder.{State, reserved, new_block, completed_by}
 use Rattle.rl_builder.specs.declared.builder.WipBlock.{WipBlock}
 use Rattle.rl_ast.specs.declared.numbered.At.{At}
 use Rattle.rl_ast.specs.declared.word.Word.TheVariants as word
-use Rattle.rl_ast.specs.Grammar.{is_expression}
-use Rattle.rl_ast.specs.Syntax.{Syntax, Node, Listed, Said, Count, Flag, Absent, Pieces, End, Then, pieces_of, nodes, nodes_of}
-use Rattle.rl_ast.specs.Units.{said}
+use Rattle.rl_ast.specs.Grammar.{every, fits}
+use Rattle.rl_ast.specs.Syntax.{Syntax, Node, Listed, Said, Pieces, End, Then, nodes, nodes_of}
+use Rattle.rl_ast.specs.declared.grammar.Field.TheVariants as field
+use Rattle.rl_ast.specs.declared.grammar.Kind.TheVariants as sort
+use Rattle.rl_ast.proofs.Viewing.{rest_fit}
 use Rattle.rl_model.specs.declared.trace.Answer.{Answer}
 use Rattle.rl_scope.specs.declared.semantic.Symbol.{Symbol}
 use Rattle.rl_model.specs.Held.{calls_in, calls_among, calls_of, live_in_body}
@@ -27,64 +29,23 @@ use Rattle.rl_lower.specs.Endings.{return_of}
 use Rattle.rl_lower.proofs.Functions.{value_returned}
 use Rattle.rl_lower.proofs.Parts.{means_same}
 
--- The meaning of a body that is an expression.
-returns_value : (symbols : List Symbol) (e : Syntax) → is_expression e ≡ true
-    → (source : Store) (answers : List Answer) (exits : Exits)
-    → eval_expr symbols e source answers
-    (λ v after rest. returned returns.Implicit v) exits.throws ≡ exec_before_end symbols e source answers exits
-returns_value symbols (Node at word.Unit parts) is source answers exits = refl
-returns_value symbols (Node at word.Program parts) is source answers exits = refl
-returns_value symbols (Node at word.Expr parts) is source answers exits = refl
-returns_value symbols (Node at word.Arrow parts) is source answers exits = refl
-returns_value symbols (Node at word.Params parts) is source answers exits = refl
-returns_value symbols (Node at word.Null parts) is source answers exits = refl
-returns_value symbols (Node at word.Bool parts) is source answers exits = refl
-returns_value symbols (Node at word.Num parts) is source answers exits = refl
-returns_value symbols (Node at word.Str parts) is source answers exits = refl
-returns_value symbols (Node at word.Paren parts) is source answers exits = refl
-returns_value symbols (Node at word.Body parts) is source answers exits = absurd (cc)
-returns_value symbols (Node at word.Return parts) is source answers exits = refl
-returns_value symbols (Node at word.Param parts) is source answers exits = refl
-returns_value symbols (Node at word.Bind parts) is source answers exits = refl
-returns_value symbols (Node at word.Id parts) is source answers exits = refl
-returns_value symbols (Node at word.Binary parts) is source answers exits = refl
-returns_value symbols (Node at word.Call parts) is source answers exits = refl
-returns_value symbols (Listed parts) is source answers exits = refl
-returns_value symbols (Said text) is source answers exits = refl
-returns_value symbols (Count number) is source answers exits = refl
-returns_value symbols (Flag flag) is source answers exits = refl
-returns_value symbols Absent is source answers exits = refl
+-- A body that is an expression returns its value: all its calls are reachable, and its end is not.
+pub record ReturnsValue (e : Syntax) : Type 0 where
+  pub means : (symbols : List Symbol) (source : Store) (answers : List Answer) (exits : Exits)
+      → eval_expr symbols e source answers
+      (λ v after rest. returned returns.Implicit v) exits.throws ≡ exec_before_end symbols e source answers exits
+  pub reached : calls_in e ≡ live_in_body e
+  pub ends : false ≡ can_body_complete e
 
--- Its calls are all reachable, and its end is not.
-expression_reachable : (e : Syntax) → is_expression e ≡ true → (calls_in e ≡ live_in_body e) × (false ≡ can_body_complete e)
-expression_reachable (Node at word.Unit parts) is = (refl, refl)
-expression_reachable (Node at word.Program parts) is = (refl, refl)
-expression_reachable (Node at word.Expr parts) is = (refl, refl)
-expression_reachable (Node at word.Arrow parts) is = (refl, refl)
-expression_reachable (Node at word.Params parts) is = (refl, refl)
-expression_reachable (Node at word.Null parts) is = (refl, refl)
-expression_reachable (Node at word.Bool parts) is = (refl, refl)
-expression_reachable (Node at word.Num parts) is = (refl, refl)
-expression_reachable (Node at word.Str parts) is = (refl, refl)
-expression_reachable (Node at word.Paren parts) is = (refl, refl)
-expression_reachable (Node at word.Body parts) is = absurd (cc)
-expression_reachable (Node at word.Return parts) is = (refl, refl)
-expression_reachable (Node at word.Param parts) is = (refl, refl)
-expression_reachable (Node at word.Bind parts) is = (refl, refl)
-expression_reachable (Node at word.Id parts) is = (refl, refl)
-expression_reachable (Node at word.Binary parts) is = (refl, refl)
-expression_reachable (Node at word.Call parts) is = (refl, refl)
-expression_reachable (Listed parts) is = (refl, refl)
-expression_reachable (Said text) is = (refl, refl)
-expression_reachable (Count number) is = (refl, refl)
-expression_reachable (Flag flag) is = (refl, refl)
-expression_reachable Absent is = (refl, refl)
+pub returns_value : (e : Syntax) → fits (field.One sort.Expression) e ≡ true → ReturnsValue e
+returns_value (Node at word.Body parts) fit = absurd (cc)
+returns_value _ fit = record { means = λ symbols source answers exits. refl; reached = refl; ends = refl }
 
 pub expression_body_call : (symbols : List Symbol) (tree e : Syntax) (s later mid new : State) (place : Place)
-    (next : WipBlock) (kind : BlockKind) (span : Option Span) → tree ≡ e → is_expression e ≡ true → later ≡ reserved s
+    (next : WipBlock) (kind : BlockKind) (span : Option Span) → tree ≡ e → fits (field.One sort.Expression) e ≡ true → later ≡ reserved s
     → next ≡ new_block s.env.next_block kind → LowersExpression symbols e later mid place.identifier.0
     → new ≡ completed_by mid (return_of span returns.Implicit place) next → LowersBody symbols tree s new
-expression_body_call symbols tree e s later mid new place next kind span is grammar opened fresh l moved =
+expression_body_call symbols tree e s later mid new place next kind span is fit opened fresh l moved =
     let l2 : LowersExpression symbols e (reserved s) mid place.identifier.0 = subst (λ (o : State). LowersExpression symbols e o mid place.identifier.0) opened l in
     subst (λ (t : Syntax). LowersBody symbols t s new) (sym is)
     (subst (λ (n : State). LowersBody symbols e s n) (sym (moved ∙ ap (λ (w : WipBlock). completed_by mid (return_of span returns.Implicit place) w) fresh)) (record {
@@ -92,22 +53,21 @@ expression_body_call symbols tree e s later mid new place next kind span is gram
       blocks = blocks_value_returned s mid span place kind l2.blocks;
       refused = l2.refused;
       calls = l2.calls;
-      reachable = adds_same (calls_in e) _ false _ s _ (expression_reachable e grammar).0 (expression_reachable e grammar).1 (adds_value_returned s mid (calls_in e) (return_of span returns.Implicit place) kind l2.reachable (λ listed. l2.keeps.listed ((keeps_reserved s).listed listed)));
-      runs = λ supported. means_same s _ (returns_value symbols e grammar) (value_returned s mid (eval_expr symbols e) place.identifier.0 span place kind refl (l2.runs supported));
+      reachable = adds_same (calls_in e) _ false _ s _ (returns_value e fit).reached (returns_value e fit).ends (adds_value_returned s mid (calls_in e) (return_of span returns.Implicit place) kind l2.reachable (λ listed. l2.keeps.listed ((keeps_reserved s).listed listed)));
+      runs = λ supported. means_same s _ ((returns_value e fit).means symbols) (value_returned s mid (eval_expr symbols e) place.identifier.0 span place kind refl (l2.runs supported));
     }))
 
-no_refusals : (symbols : List Symbol) (texts : List (List ℕ)) → refusals_in symbols (pieces_of (map said texts)) ≡ []
-no_refusals symbols [] = refl
-no_refusals symbols (t ∷ ts) = no_refusals symbols ts
+-- Directives are texts, which have no refusals and no calls.
+texts_alone : (symbols : List Symbol) (texts : Pieces) → every sort.Text texts ≡ true
+    → (refusals_in symbols texts ≡ []) × (calls_among texts ≡ [])
+texts_alone symbols End fit = (refl, refl)
+texts_alone symbols (Then (Said text) texts) fit = texts_alone symbols texts (rest_fit sort.Text (Then (Said text) texts) (Said text) texts refl fit)
+texts_alone symbols (Then _ texts) fit = absurd (cc)
 
-no_calls : (texts : List (List ℕ)) → calls_among (pieces_of (map said texts)) ≡ []
-no_calls [] = refl
-no_calls (t ∷ ts) = no_calls ts
-
-pub statements_body_call : (symbols : List Symbol) (tree : Syntax) (at : At) (directives : List (List ℕ)) (statements : Pieces)
-    (s new : State) → tree ≡ Node at word.Body (Then (Listed (pieces_of (map said directives))) (Then (Listed statements) End))
+pub statements_body_call : (symbols : List Symbol) (tree : Syntax) (at : At) (directives statements : Pieces) (s new : State)
+    → every sort.Text directives ≡ true → tree ≡ Node at word.Body (Then (Listed directives) (Then (Listed statements) End))
     → LowersStatements symbols statements s new → LowersBody symbols tree s new
-statements_body_call symbols tree at directives statements s new is l = subst (λ (t : Syntax). LowersBody symbols t s new) (sym is) (record {
+statements_body_call symbols tree at directives statements s new texts is l = subst (λ (t : Syntax). LowersBody symbols t s new) (sym is) (record {
   keeps = keeps_more s new (4 * nodes_of statements) _ (omega arith) l.keeps;
   blocks = l.blocks;
   refused = l.refused ∙ ap (λ (ds : List Diagnostic). s.env.diagnostics ++ ds) (sym same);
@@ -116,8 +76,8 @@ statements_body_call symbols tree at directives statements s new is l = subst (�
   runs = λ supported. means_same s new (λ source answers exits. refl) (l.runs (sym same ∙ supported));
 })
   where
-    same : refusals symbols (Node at word.Body (Then (Listed (pieces_of (map said directives))) (Then (Listed statements) End))) ≡ refusals_in symbols statements
-    same = ap (λ (ds : List Diagnostic). ds ++ (refusals_in symbols statements ++ [])) (no_refusals symbols directives) ∙ append-nil (refusals_in symbols statements)
+    same : refusals symbols (Node at word.Body (Then (Listed directives) (Then (Listed statements) End))) ≡ refusals_in symbols statements
+    same = ap (λ (ds : List Diagnostic). ds ++ (refusals_in symbols statements ++ [])) (texts_alone symbols directives texts).0 ∙ append-nil (refusals_in symbols statements)
 
-    same_calls : calls_in (Node at word.Body (Then (Listed (pieces_of (map said directives))) (Then (Listed statements) End))) ≡ calls_among statements
-    same_calls = ap (λ (cs : List (Option Span)). cs ++ (calls_among statements ++ [])) (no_calls directives) ∙ append-nil (calls_among statements)
+    same_calls : calls_in (Node at word.Body (Then (Listed directives) (Then (Listed statements) End))) ≡ calls_among statements
+    same_calls = ap (λ (cs : List (Option Span)). cs ++ (calls_among statements ++ [])) (texts_alone symbols directives texts).1 ∙ append-nil (calls_among statements)

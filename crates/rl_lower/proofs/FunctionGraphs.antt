@@ -1,14 +1,9 @@
 -- The graph of a function (`IsGraphOf`): its traces, size, calls, identifiers and fields, from the lowering of its body.
-use Rattle.std.proofs.Common.{◌≡◌, ℕ, ◌+◌, ◌*◌, ◌<◌, ◌≤◌, ◌^◌, ◌++◌, Bool, true, false, cond, if◌then◌else◌, codes, List, [], ◌∷◌, map, filter, length, length-append, Option, None, refl, sym, ap, ◌∙◌, subst, arith, append-nil, append_assoc, eq-eqb}
+use Rattle.std.proofs.Common.{◌≡◌, ℕ, ◌+◌, ◌*◌, ◌<◌, ◌≤◌, ◌^◌, ◌++◌, Bool, true, false, cond, List, [], ◌∷◌, map, filter, length, length-append, Option, None, refl, sym, ap, ◌∙◌, subst, arith, append-nil, append_assoc, eq-eqb}
 use Rattle.rl_base.specs.declared.diagnostic.Diagnostic.{Diagnostic}
-use Rattle.rl_base.specs.declared.row.Row.TheVariants as row
 use Rattle.rl_base.specs.declared.span.Span.{Span}
 use Rattle.rl_ast.specs.declared.word.Word.TheVariants as word
-use Rattle.rl_ast.specs.declared.tree.ArrowFunction.{ArrowFunction, out-ArrowFunction}
-use Rattle.rl_ast.specs.declared.tree.FormalParameter.{FormalParameter}
-use Rattle.rl_ast.specs.Syntax.{Syntax, Node, Listed, Said, Count, Flag, Absent, End, Then, pieces_of, nodes, nodes_of}
-use Rattle.rl_ast.specs.Units.{arrow_body, function, param, said}
-use Rattle.rl_ast.proofs.Spelled.{function_by_layer}
+use Rattle.rl_ast.specs.Syntax.{Syntax, Node, Listed, End, Then, nodes}
 use Rattle.rl_hir.specs.declared.environment.Environment.{Environment}
 use Rattle.rl_hir.specs.declared.function.BlockKind.TheVariants as kinds
 use Rattle.rl_hir.specs.declared.function.HirFunction.{HirFunction}
@@ -22,8 +17,7 @@ use Rattle.rl_builder.specs.Builder.{State, started}
 use Rattle.rl_builder.specs.Order.{reached_blocks, ordered_blocks, ordered_table, order_after}
 use Rattle.rl_builder.specs.declared.builder.Built.{Built}
 use Rattle.rl_scope.specs.declared.semantic.Symbol.{Symbol}
-use Rattle.rl_scope.specs.Symbols.{are_distinct, declared_in, symbols_of}
-use Rattle.rl_scope.proofs.Declaring.{symbols_declared}
+use Rattle.rl_scope.specs.Symbols.{are_distinct, symbols_of}
 use Rattle.rl_model.specs.declared.trace.Answer.{Answer}
 use Rattle.rl_model.specs.declared.trace.Assignment.{Assignment}
 use Rattle.rl_model.specs.declared.trace.Trace.{Trace}
@@ -31,9 +25,9 @@ use Rattle.rl_model.specs.declared.trace.Value.{Value}
 use Rattle.rl_model.specs.declared.trace.Value.TheVariants as value
 use Rattle.rl_model.specs.Closed.{IsClosed}
 use Rattle.rl_model.specs.Headline.{NeverStuck, SameRuns}
-use Rattle.rl_model.specs.Held.{call_at, calls_in, calls_among, calls_of, graph_calls, live_calls_in, live_in_body}
+use Rattle.rl_model.specs.Held.{call_at, calls_in, calls_of, graph_calls, live_calls_in, live_in_body, HoldsCalls}
 use Rattle.rl_model.specs.Machine.{set_by, take_arguments, trace_by}
-use Rattle.rl_model.specs.Rows.{is_text, refusal, refusals, refusals_in, refusals_of}
+use Rattle.rl_model.specs.Rows.{refusals, refusals_of}
 use Rattle.rl_model.specs.Size.{function_size}
 use Rattle.rl_model.specs.Source.{source_trace, exec_body, take_from}
 use Rattle.rl_model.specs.Traces.{Store, ValueCont, returned, threw, unset, set_all, waiting}
@@ -44,64 +38,16 @@ use Rattle.rl_lower.specs.Listed.{IsListed}
 use Rattle.rl_lower.specs.Reachable.{entry_calls, is_reachable, where_reachable}
 use Rattle.rl_lower.proofs.Reachable.{completed_calls, graph_plain, adds_value, none_where}
 use Rattle.rl_lower.specs.Lowering.{HasRoom, Preserves, LowersBody, exec_before_end}
-use Rattle.rl_model.specs.Fields.{texts_in}
-use Rattle.rl_model.specs.Fields.{directives_in}
-use Rattle.rl_model.specs.Fields.{AddsUnnamed}
+use Rattle.rl_model.specs.Fields.{AddsUnnamed, known_from, pairs_from}
+use Rattle.rl_lower.specs.Simulation.{Agrees}
 use Rattle.rl_lower.specs.Parameters.{said_of_symbols, with_parameters}
-use Rattle.rl_model.specs.Fields.{pairs_from}
-use Rattle.rl_model.specs.Fields.{known_from}
 use Rattle.rl_lower.proofs.Building.{IsFresh, keeps_closed, listed_fresh}
+use Rattle.rl_lower.proofs.FunctionTrees.{IsFunction, function_calls, function_nodes, function_refusals}
 use Rattle.rl_lower.proofs.Functions.{function_finished, function_runs_by}
 use Rattle.rl_lower.proofs.Graphs.{without_order, ordered_table_plain}
-use Rattle.rl_lower.proofs.Keeping.{added_then, keeps_then, one_unnamed}
+use Rattle.rl_lower.proofs.Keeping.{added_then, keeps_then, one_unnamed, room_less}
 use Rattle.rl_lower.proofs.Parameters.{known_length, parameters_agree, parameters_given, parameters_made, state_with}
-use Rattle.rl_ast.proofs.Expressions.{has_expression_word}
 use Rattle.rl_lower.proofs.Finished.{finished_closed}
-
--- Nodes, refusals and calls of a function, by its parameters and its body.
-
-abbrev items : ArrowFunction → List FormalParameter
-items f = (out-ArrowFunction f).params.items
-
-abbrev body_of : ArrowFunction → Syntax
-body_of f = arrow_body (out-ArrowFunction f).body
-
-declared_nodes : (params : List FormalParameter)
-    → 2 * length (declared_in (pieces_of (map param params))) ≤ nodes_of (pieces_of (map param params))
-declared_nodes [] = omega arith
-declared_nodes (p ∷ params) =
-    let rest : 2 * length (declared_in (pieces_of (map param params))) ≤ nodes_of (pieces_of (map param params)) = declared_nodes params in omega (arith, rest)
-
--- Each symbol is a parameter, which has two nodes.
-pub function_nodes : (f : ArrowFunction) → nodes (body_of f) + 2 + 2 * length (symbols_of (function f)) ≤ nodes (function f)
-function_nodes f =
-    let counted : nodes (function f) ≡ 0 + (0 + (nodes_of (pieces_of (map param (items f))) + (0 + 0) + 1 + (nodes (body_of f) + 0))) + 1 = ap nodes (function_by_layer f) in
-    let few : 2 * length (declared_in (pieces_of (map param (items f)))) ≤ nodes_of (pieces_of (map param (items f))) = declared_nodes (items f) in
-    let same : length (symbols_of (function f)) ≡ length (declared_in (pieces_of (map param (items f)))) = ap (λ (l : List Symbol). length l) (symbols_declared f) in
-    omega (arith, counted, few, same)
-
-said_params : (symbols : List Symbol) (params : List FormalParameter)
-    → refusals_in symbols (pieces_of (map param params)) ≡ said_of_symbols (declared_in (pieces_of (map param params)))
-said_params symbols [] = refl
-said_params symbols (p ∷ params) =
-    let own : List Diagnostic = if is_text (codes "fbt") p.pattern.name then refusal row.F40 p.pattern.at.span ∷ [] else [] in
-    ap (λ (l : List Diagnostic). l ++ refusals_in symbols (pieces_of (map param params))) (append-nil (own ++ []) ∙ append-nil own) ∙ ap (λ (l : List Diagnostic). own ++ l) (said_params symbols params)
-
-pub function_refusals : (f : ArrowFunction)
-    → refusals_of (function f) ≡ said_of_symbols (symbols_of (function f)) ++ refusals (symbols_of (function f)) (body_of f)
-function_refusals f =
-    let symbols : List Symbol = symbols_of (function f) in
-    ap (λ (t : Syntax). refusals symbols t) (function_by_layer f)
-    ∙ ap (λ (l : List Diagnostic). l ++ (refusals symbols (body_of f) ++ [])) (append-nil (refusals_in symbols (pieces_of (map param (items f)))) ∙ said_params symbols (items f) ∙ ap said_of_symbols (sym (symbols_declared f)))
-    ∙ ap (λ (l : List Diagnostic). said_of_symbols symbols ++ l) (append-nil (refusals symbols (body_of f)))
-
-no_calls_in : (params : List FormalParameter) → calls_among (pieces_of (map param params)) ≡ []
-no_calls_in [] = refl
-no_calls_in (p ∷ params) = no_calls_in params
-
-pub function_calls : (f : ArrowFunction) → calls_in (function f) ≡ calls_in (body_of f)
-function_calls f =
-    ap calls_in (function_by_layer f) ∙ ap (λ (l : List (Option Span)). (l ++ []) ++ (calls_in (body_of f) ++ [])) (no_calls_in (items f)) ∙ append-nil (calls_in (body_of f))
 
 -- The builder behind the parameters.
 
@@ -181,60 +127,16 @@ body_means : (symbols : List Symbol) (b : Syntax) (store : Store) (answers : Lis
     → exec_body symbols b store answers
     (λ v after rest. returned returns.Implicit v) throws ≡ exec_before_end symbols b store answers
     (record { normal = λ after rest. returned returns.Void value.Undefined; throws = throws })
-body_means symbols (Node at word.Unit parts) store answers throws = refl
-body_means symbols (Node at word.Program parts) store answers throws = refl
-body_means symbols (Node at word.Expr parts) store answers throws = refl
-body_means symbols (Node at word.Arrow parts) store answers throws = refl
-body_means symbols (Node at word.Params parts) store answers throws = refl
-body_means symbols (Node at word.Null parts) store answers throws = refl
-body_means symbols (Node at word.Bool parts) store answers throws = refl
-body_means symbols (Node at word.Num parts) store answers throws = refl
-body_means symbols (Node at word.Str parts) store answers throws = refl
-body_means symbols (Node at word.Paren parts) store answers throws = refl
-body_means symbols (Node at word.Return parts) store answers throws = refl
-body_means symbols (Node at word.Param parts) store answers throws = refl
-body_means symbols (Node at word.Bind parts) store answers throws = refl
-body_means symbols (Node at word.Id parts) store answers throws = refl
-body_means symbols (Node at word.Binary parts) store answers throws = refl
-body_means symbols (Node at word.Call parts) store answers throws = refl
-body_means symbols (Node at word.Body End) store answers throws = refl
-body_means symbols (Node at word.Body (Then directives End)) store answers throws = refl
 body_means symbols (Node at word.Body (Then directives (Then (Listed statements) End))) store answers throws = refl
-body_means symbols (Node at word.Body (Then directives (Then (Listed statements) (Then more parts)))) store answers throws =
-    refl
-body_means symbols (Node at word.Body (Then directives (Then (Node own said1 inner) parts))) store answers throws = refl
-body_means symbols (Node at word.Body (Then directives (Then (Said text) parts))) store answers throws = refl
-body_means symbols (Node at word.Body (Then directives (Then (Count number) parts))) store answers throws = refl
-body_means symbols (Node at word.Body (Then directives (Then (Flag flag) parts))) store answers throws = refl
-body_means symbols (Node at word.Body (Then directives (Then Absent parts))) store answers throws = refl
-body_means symbols (Listed parts) store answers throws = refl
-body_means symbols (Said text) store answers throws = refl
-body_means symbols (Count number) store answers throws = refl
-body_means symbols (Flag flag) store answers throws = refl
-body_means symbols Absent store answers throws = refl
+body_means symbols _ store answers throws = refl
 
-function_runs : (f : ArrowFunction) (start : List Assignment) (arguments : List Value) (answers : List Answer)
-    → source_trace (function f) start arguments answers ≡ exec_body (symbols_of (function f)) (body_of f)
-    (take_from 0 (symbols_of (function f)) arguments (set_all start unset)) answers
+function_runs : (f body : Syntax) → IsFunction f body → (start : List Assignment) (arguments : List Value) (answers : List Answer)
+    → source_trace f start arguments answers ≡ exec_body (symbols_of f) body
+    (take_from 0 (symbols_of f) arguments (set_all start unset)) answers
     (λ v store rest. returned returns.Implicit v) (λ v store rest. threw v)
-function_runs f start arguments answers =
-    ap (λ (t : Syntax). source_trace t start arguments answers) (function_by_layer f)
-    ∙ ap (λ (symbols : List Symbol). exec_body symbols (body_of f) (take_from 0 symbols arguments (set_all start unset)) answers (λ v store rest. returned returns.Implicit v) (λ v store rest. threw v)) (sym (ap symbols_of (function_by_layer f)))
-
-graph_runs_by : (fn : ArrowFunction) (env new : Environment) (params : List Param) (built : Built)
-    → IsGraphOf (symbols_of (function fn)) (body_of fn) env new params built → are_distinct (symbols_of (function fn)) ≡ true
-    → refusals (symbols_of (function fn)) (body_of fn) ≡ []
-    → (f : HirFunction) (pairs : List Pair) → f.body ≡ built.hir → f.instructions ≡ built.instructions → f.params ≡ params
-    → (stuck : Trace) (start : List Assignment) (arguments : List Value) (answers : List Answer)
-    → trace_by stuck f pairs start arguments answers ≡ source_trace (function fn) start arguments answers
-graph_runs_by fn env new params built g distinct supported f pairs body_is instructions_is params_is =
-    let symbols : List Symbol = symbols_of (function fn) in
-    let begun : State = state_with (started env kinds.Block) symbols in
-    function_runs_by begun g.state (exec_before_end symbols (body_of fn)) (begun_fresh env symbols) (parameters_made (started env kinds.Block) symbols) (lowered_from symbols (body_of fn) env new params built g distinct).blocks ((lowered_from symbols (body_of fn) env new params built g distinct).runs supported) f pairs (function fn)
-    (body_is ∙ ap (λ (b : Built). b.hir) g.graph) (instructions_is ∙ ap (λ (b : Built). b.instructions) g.graph)
-    (λ start arguments. take_from 0 symbols arguments (set_all start unset))
-    (λ start arguments. subst (λ (ps : List Param). Rattle.rl_lower.specs.Simulation.Agrees begun.bindings (take_from 0 symbols arguments (set_all start unset)) (take_arguments ps arguments (set_by pairs start unset))) (sym (params_is ∙ g.places)) (parameters_agree (started env kinds.Block) symbols arguments (set_all start unset) (set_by pairs start unset)))
-    (λ start arguments answers. function_runs fn start arguments answers ∙ body_means symbols (body_of fn) (take_from 0 symbols arguments (set_all start unset)) answers (λ v after rest. threw v))
+function_runs f body w start arguments answers =
+    ap (λ (t : Syntax). source_trace t start arguments answers) w.is
+    ∙ ap (λ (symbols : List Symbol). exec_body symbols body (take_from 0 symbols arguments (set_all start unset)) answers (λ v store rest. returned returns.Implicit v) (λ v store rest. threw v)) (sym (ap symbols_of w.is))
 
 -- Its size.
 
@@ -314,58 +216,76 @@ nothing_twice : (xs ys : List Diagnostic) → xs ++ ys ≡ [] → ys ≡ []
 nothing_twice [] ys e = e
 nothing_twice (x ∷ xs) ys e = absurd (cc)
 
-body_supported : (f : ArrowFunction) → refusals_of (function f) ≡ [] → refusals (symbols_of (function f)) (body_of f) ≡ []
-body_supported f none =
-    nothing_twice (said_of_symbols (symbols_of (function f))) (refusals (symbols_of (function f)) (body_of f)) (sym (function_refusals f) ∙ none)
+body_supported : (f body : Syntax) → IsFunction f body → refusals_of f ≡ [] → refusals (symbols_of f) body ≡ []
+body_supported f body w none = nothing_twice (said_of_symbols (symbols_of f)) (refusals (symbols_of f) body) (sym (function_refusals f body w) ∙ none)
 
-pub lower_room : (f : ArrowFunction) (symbols : List Symbol) (s : State) → symbols ≡ symbols_of (function f)
-    → HasRoom s (4 * nodes (function f)) → HasRoom s (4 * (nodes (body_of f) + 2) + length symbols)
-lower_room f symbols s is room =
-    let same : length symbols ≡ length (symbols_of (function f)) = ap (λ (l : List Symbol). length l) is in
-    let counted : nodes (body_of f) + 2 + 2 * length (symbols_of (function f)) ≤ nodes (function f) = function_nodes f in
-    Rattle.rl_lower.proofs.Keeping.room_less s (4 * nodes (function f)) (4 * (nodes (body_of f) + 2) + length symbols) (omega (arith, same, counted)) room
+pub lower_room : (f body : Syntax) (symbols : List Symbol) (s : State) → IsFunction f body → symbols ≡ symbols_of f
+    → HasRoom s (4 * nodes f) → HasRoom s (4 * (nodes body + 2) + length symbols)
+lower_room f body symbols s w is room =
+    let same : length symbols ≡ length (symbols_of f) = ap (λ (l : List Symbol). length l) is in
+    let counted : nodes body + 2 + 2 * length (symbols_of f) ≤ nodes f = function_nodes f body w in
+    room_less s (4 * nodes f) (4 * (nodes body + 2) + length symbols) (omega (arith, same, counted)) room
 
-pub lower_refused : (f : ArrowFunction) (symbols : List Symbol) (env new : Environment) (params : List Param) (built : Built)
-    → symbols ≡ symbols_of (function f) → are_distinct symbols ≡ true → IsGraphOf symbols (body_of f) env new params built
-    → new.diagnostics ≡ env.diagnostics ++ refusals_of (function f)
-lower_refused f symbols env new params built is distinct g =
-    graph_refused symbols (body_of f) env new params built g distinct
-    ∙ ap (λ (l : List Symbol). env.diagnostics ++ (said_of_symbols l ++ refusals l (body_of f))) is
-    ∙ ap (λ (l : List Diagnostic). env.diagnostics ++ l) (sym (function_refusals f))
+pub lower_refused : (f body : Syntax) (symbols : List Symbol) (env new : Environment) (params : List Param) (built : Built)
+    → IsFunction f body → symbols ≡ symbols_of f → are_distinct symbols ≡ true → IsGraphOf symbols body env new params built
+    → new.diagnostics ≡ env.diagnostics ++ refusals_of f
+lower_refused f body symbols env new params built w is distinct g =
+    graph_refused symbols body env new params built g distinct
+    ∙ ap (λ (l : List Symbol). env.diagnostics ++ (said_of_symbols l ++ refusals l body)) is
+    ∙ ap (λ (l : List Diagnostic). env.diagnostics ++ l) (sym (function_refusals f body w))
 
-lower_runs_by : (f : ArrowFunction) (symbols : List Symbol) (env new : Environment) (params : List Param) (built : Built)
-    → symbols ≡ symbols_of (function f) → are_distinct symbols ≡ true → IsGraphOf symbols (body_of f) env new params built
-    → refusals_of (function f) ≡ []
+lower_runs_by : (f body : Syntax) (symbols : List Symbol) (env new : Environment) (params : List Param) (built : Built)
+    → IsFunction f body → symbols ≡ symbols_of f → are_distinct symbols ≡ true → IsGraphOf symbols body env new params built
+    → refusals_of f ≡ []
     → (h : HirFunction) (pairs : List Pair) → h.body ≡ built.hir → h.instructions ≡ built.instructions → h.params ≡ params
     → (stuck : Trace) (start : List Assignment) (arguments : List Value) (answers : List Answer)
-    → trace_by stuck h pairs start arguments answers ≡ source_trace (function f) start arguments answers
-lower_runs_by f symbols env new params built is distinct g supported =
-    graph_runs_by f env new params built (subst (λ (l : List Symbol). IsGraphOf l (body_of f) env new params built) is g) (subst (λ (l : List Symbol). are_distinct l ≡ true) is distinct)
-    (body_supported f supported)
+    → trace_by stuck h pairs start arguments answers ≡ source_trace f start arguments answers
+lower_runs_by f body given env new params built w is distinct g supported h pairs body_is instructions_is params_is =
+    function_runs_by begun graph.state (exec_before_end symbols body) (begun_fresh env symbols) (parameters_made (started env kinds.Block) symbols)
+    lowered.blocks (lowered.runs (body_supported f body w supported)) h pairs f
+    (body_is ∙ ap (λ (b : Built). b.hir) graph.graph) (instructions_is ∙ ap (λ (b : Built). b.instructions) graph.graph)
+    (λ start arguments. take_from 0 symbols arguments (set_all start unset))
+    (λ start arguments. subst (λ (ps : List Param). Agrees begun.bindings (take_from 0 symbols arguments (set_all start unset))
+    (take_arguments ps arguments (set_by pairs start unset))) (sym (params_is ∙ graph.places))
+    (parameters_agree (started env kinds.Block) symbols arguments (set_all start unset) (set_by pairs start unset)))
+    (λ start arguments answers. function_runs f body w start arguments answers
+    ∙ body_means symbols body (take_from 0 symbols arguments (set_all start unset)) answers (λ v after rest. threw v))
+  where
+    symbols : List Symbol
+    symbols = symbols_of f
 
-pub lower_same_runs : (f : ArrowFunction) (symbols : List Symbol) (env new : Environment) (params : List Param) (built : Built)
-    → symbols ≡ symbols_of (function f) → are_distinct symbols ≡ true → IsGraphOf symbols (body_of f) env new params built
-    → refusals_of (function f) ≡ []
+    begun : State
+    begun = state_with (started env kinds.Block) symbols
+
+    graph : IsGraphOf symbols body env new params built
+    graph = subst (λ (l : List Symbol). IsGraphOf l body env new params built) is g
+
+    lowered : LowersBody symbols body begun graph.state
+    lowered = lowered_from symbols body env new params built graph (subst (λ (l : List Symbol). are_distinct l ≡ true) is distinct)
+
+pub lower_same_runs : (f body : Syntax) (symbols : List Symbol) (env new : Environment) (params : List Param) (built : Built)
+    → IsFunction f body → symbols ≡ symbols_of f → are_distinct symbols ≡ true → IsGraphOf symbols body env new params built
+    → refusals_of f ≡ []
     → (h : HirFunction) (pairs : List Pair) → h.body ≡ built.hir → h.instructions ≡ built.instructions → h.params ≡ params
-    → SameRuns (function f) h pairs
-lower_same_runs f symbols env new params built is distinct g supported h pairs body_is instructions_is params_is start arguments answers =
-    lower_runs_by f symbols env new params built is distinct g supported h pairs body_is instructions_is params_is waiting start arguments answers
+    → SameRuns f h pairs
+lower_same_runs f body symbols env new params built w is distinct g supported h pairs body_is instructions_is params_is start arguments answers =
+    lower_runs_by f body symbols env new params built w is distinct g supported h pairs body_is instructions_is params_is waiting start arguments answers
 
-pub lower_never_stuck : (f : ArrowFunction) (symbols : List Symbol) (env new : Environment) (params : List Param)
-    (built : Built) → symbols ≡ symbols_of (function f) → are_distinct symbols ≡ true
-    → IsGraphOf symbols (body_of f) env new params built → refusals_of (function f) ≡ []
+pub lower_never_stuck : (f body : Syntax) (symbols : List Symbol) (env new : Environment) (params : List Param) (built : Built)
+    → IsFunction f body → symbols ≡ symbols_of f → are_distinct symbols ≡ true → IsGraphOf symbols body env new params built
+    → refusals_of f ≡ []
     → (h : HirFunction) (pairs : List Pair) → h.body ≡ built.hir → h.instructions ≡ built.instructions → h.params ≡ params
     → NeverStuck h pairs
-lower_never_stuck f symbols env new params built is distinct g supported h pairs body_is instructions_is params_is stuck start arguments answers =
-    lower_runs_by f symbols env new params built is distinct g supported h pairs body_is instructions_is params_is stuck start arguments answers
-    ∙ sym (lower_same_runs f symbols env new params built is distinct g supported h pairs body_is instructions_is params_is start arguments answers)
+lower_never_stuck f body symbols env new params built w is distinct g supported h pairs body_is instructions_is params_is stuck start arguments answers =
+    lower_runs_by f body symbols env new params built w is distinct g supported h pairs body_is instructions_is params_is stuck start arguments answers
+    ∙ sym (lower_same_runs f body symbols env new params built w is distinct g supported h pairs body_is instructions_is params_is start arguments answers)
 
-pub lower_bounded : (f : ArrowFunction) (symbols : List Symbol) (env new : Environment) (params : List Param) (built : Built)
-    → are_distinct symbols ≡ true → IsGraphOf symbols (body_of f) env new params built → (h : HirFunction) → h.body ≡ built.hir
-    → h.instructions ≡ built.instructions → function_size h ≤ 64 * nodes (function f)
-lower_bounded f symbols env new params built distinct g h body_is instructions_is =
-    let counted : nodes (body_of f) + 2 + 2 * length (symbols_of (function f)) ≤ nodes (function f) = function_nodes f in
-    graph_bounded symbols (body_of f) env new params built g distinct h (nodes (function f)) body_is instructions_is (omega (arith, counted))
+pub lower_bounded : (f body : Syntax) (symbols : List Symbol) (env new : Environment) (params : List Param) (built : Built)
+    → IsFunction f body → are_distinct symbols ≡ true → IsGraphOf symbols body env new params built
+    → (h : HirFunction) → h.body ≡ built.hir → h.instructions ≡ built.instructions → function_size h ≤ 64 * nodes f
+lower_bounded f body symbols env new params built w distinct g h body_is instructions_is =
+    let counted : nodes body + 2 + 2 * length (symbols_of f) ≤ nodes f = function_nodes f body w in
+    graph_bounded symbols body env new params built g distinct h (nodes f) body_is instructions_is (omega (arith, counted))
 
 pub lower_functions : (symbols : List Symbol) (body : Syntax) (env new : Environment) (params : List Param) (built : Built)
     → are_distinct symbols ≡ true → IsGraphOf symbols body env new params built → new.functions ≡ env.functions
@@ -393,33 +313,10 @@ pub lower_fn_type : (symbols : List Symbol) (body : Syntax) (env new : Environme
 lower_fn_type symbols body env new params built distinct g =
     ap (λ (e : Environment). e.fn_type) g.after ∙ (graph_keeps symbols body env new params built g distinct).fn_type
 
-pub lower_block_calls : (f : ArrowFunction) (symbols : List Symbol) (env new : Environment) (params : List Param)
-    (built : Built) → are_distinct symbols ≡ true → IsGraphOf symbols (body_of f) env new params built → (h : HirFunction)
-    → h.body ≡ built.hir → h.instructions ≡ built.instructions
-    → graph_calls h.instructions h.body.blocks ≡ live_calls_in (function f)
-lower_block_calls f symbols env new params built distinct g h body_is instructions_is =
-    graph_blocks_held symbols (body_of f) env new params built g distinct h body_is instructions_is ∙ sym (ap live_calls_in (function_by_layer f))
-
-pub lower_calls : (f : ArrowFunction) (symbols : List Symbol) (env new : Environment) (params : List Param) (built : Built)
-    → are_distinct symbols ≡ true → IsGraphOf symbols (body_of f) env new params built → (h : HirFunction)
-    → h.instructions ≡ built.instructions → calls_of h.instructions ≡ calls_in (function f)
-lower_calls f symbols env new params built distinct g h instructions_is =
-    graph_calls_held symbols (body_of f) env new params built g distinct h instructions_is ∙ sym (function_calls f)
-
--- Directives.
-
-pub texts_back : (texts : List (List ℕ)) → texts_in (pieces_of (map said texts)) ≡ texts
-texts_back [] = refl
-texts_back (t ∷ ts) = ap (λ (l : List (List ℕ)). t ∷ l) (texts_back ts)
-
-pub no_directives : (e : Syntax) → has_expression_word e ≡ true → directives_in e ≡ []
-no_directives (Node at word.Null parts) is = refl
-no_directives (Node at word.Bool parts) is = refl
-no_directives (Node at word.Num parts) is = refl
-no_directives (Node at word.Str parts) is = refl
-no_directives (Node at word.Paren parts) is = refl
-no_directives (Node at word.Arrow parts) is = refl
-no_directives (Node at word.Id parts) is = refl
-no_directives (Node at word.Binary parts) is = refl
-no_directives (Node at word.Call parts) is = refl
-no_directives _ is = absurd (cc)
+pub lower_held : (f body : Syntax) (symbols : List Symbol) (env new : Environment) (params : List Param) (built : Built)
+    → IsFunction f body → are_distinct symbols ≡ true → IsGraphOf symbols body env new params built
+    → (h : HirFunction) → h.body ≡ built.hir → h.instructions ≡ built.instructions → HoldsCalls f h
+lower_held f body symbols env new params built w distinct g h body_is instructions_is = record {
+  table = graph_calls_held symbols body env new params built g distinct h instructions_is ∙ sym (function_calls f body w);
+  blocks = graph_blocks_held symbols body env new params built g distinct h body_is instructions_is ∙ sym (ap live_calls_in w.is);
+}

@@ -9,6 +9,7 @@ pub mod Calls
 pub mod Closings
 pub mod Finished
 pub mod FunctionGraphs
+pub mod FunctionTrees
 pub mod Functions
 pub mod Graphs
 pub mod Keeping

@@ -7,9 +7,7 @@ use Rattle.rl_base.specs.declared.ids.InstructionId.{InstructionId}
 use Rattle.rl_base.specs.declared.span.Span.{Span}
 use Rattle.rl_text.specs.Notation.{IsWritable}
 use Rattle.rl_text.specs.Number.{largest}
-use Rattle.rl_ast.specs.Syntax.{Syntax, nodes}
-use Rattle.rl_ast.specs.Units.{arrow_body, function}
-use Rattle.rl_ast.specs.declared.tree.ArrowFunction.{ArrowFunction, out-ArrowFunction}
+use Rattle.rl_ast.specs.Syntax.{Syntax, nodes, span_of}
 use Rattle.rl_hir.specs.Identifiers.{named_identifier}
 use Rattle.rl_hir.specs.Listing as listing
 use Rattle.rl_hir.specs.declared.environment.Environment.{Environment}
@@ -39,12 +37,12 @@ use Rattle.rl_lower.specs.Lowering.{CountersGrowBy, HasRoom, LowersBody}
 use Rattle.rl_lower.specs.Sound.{AreWritableIdentifiers, HasKnownParts, HasSmallCounters, HasWritableParts, IsSmallSymbol, IsSmallTree, IsSoundGraph, IsWritableGraph, StaysSound}
 use Rattle.rl_lower.proofs.Building.{keeps_closed, orders_fit}
 use Rattle.rl_lower.proofs.Closings.{closed_is}
+use Rattle.rl_lower.proofs.FunctionTrees.{IsFunction, function_body, function_span, function_symbols}
 use Rattle.rl_lower.proofs.Keeping.{keeps_then, room_less}
 use Rattle.rl_lower.proofs.Parameters.{known_length, state_with}
 use Rattle.rl_lower.proofs.SoundListing.{function_writable, named_writable, place_writable, span_writable, undefined_writable, unnamed_writable}
 use Rattle.rl_lower.proofs.SoundMoves.{counters_before, none_known, place_value, sound_next, sound_return, sound_value, table_more, terminals_more}
 use Rattle.rl_lower.proofs.SoundOrders.{built_table_known, built_terminals_known, built_writable}
-use Rattle.rl_lower.proofs.SoundTrees.{function_small_body, function_span, function_symbols}
 
 -- the parameters
 
@@ -207,20 +205,20 @@ function_places symbols body env mid new built i f g more body_is table_is param
     below : length mid.identifiers ≤ length new.identifiers
     below = omega (arith, longer)
 
-pub function_listed : (fn : ArrowFunction) (symbols : List Symbol) (env mid : Environment) (built : Built) (f : HirFunction)
-    → symbols ≡ symbols_of (function fn) → IsSoundGraph symbols (arrow_body (out-ArrowFunction fn).body) env mid built
-    → f.span ≡ Some (out-ArrowFunction fn).at.span → f.name ≡ None
-    → (IsSmallTree (arrow_body (out-ArrowFunction fn).body) → All IsUtf8 f.directives) → f.body ≡ built.hir
+pub function_listed : (fn tree : Syntax) (symbols : List Symbol) (env mid : Environment) (built : Built) (f : HirFunction)
+    → IsFunction fn tree → symbols ≡ symbols_of fn → IsSoundGraph symbols tree env mid built
+    → f.span ≡ Some (span_of fn) → f.name ≡ None
+    → (IsSmallTree tree → All IsUtf8 f.directives) → f.body ≡ built.hir
     → f.instructions ≡ built.instructions → f.params ≡ places_from (length env.identifiers) symbols → f.context ≡ []
-    → f.returns ≡ record { identifier = record { 0 = length mid.identifiers }; span = None } → IsSmallTree (function fn)
+    → f.returns ≡ record { identifier = record { 0 = length mid.identifiers }; span = None } → IsSmallTree fn
     → IsWritable (listing.function f)
-function_listed fn symbols env mid built f are g span_is no_name directives body_is table_is params_are none returned small =
-    let body : IsSmallTree (arrow_body (out-ArrowFunction fn).body) = function_small_body fn small in
+function_listed fn tree symbols env mid built f w are g span_is no_name directives body_is table_is params_are none returned small =
+    let body : IsSmallTree tree = function_body fn tree w small in
     let graph : IsWritableGraph built = g.graph body in
     let named : All IsSmallSymbol symbols = subst (λ (l : List Symbol). All IsSmallSymbol l) (sym are)
-    (function_symbols fn small) in
+    (function_symbols fn tree w small) in
     function_writable f
-    (subst (λ o. IsWritable (listing.optional listing.span o)) (sym span_is) (function_span fn small))
+    (subst (λ o. IsWritable (listing.optional listing.span o)) (sym span_is) (function_span fn tree w small))
     (subst (λ o. IsWritable (listing.optional listing.said o)) (sym no_name) tt)
     (directives body)
     (subst (λ (ps : List Param). All (λ p. IsWritable (listing.param p)) ps) (sym params_are)
@@ -237,13 +235,14 @@ function_listed fn symbols env mid built f are g span_is no_name directives body
 abbrev unnamed : Span → ℕ → Identifier
 unnamed span type = record { name = None; span = Some span; type_id = record { 0 = type } }
 
-pub function_identifiers : (fn : ArrowFunction) (symbols : List Symbol) (env mid new : Environment) (built : Built)
-    → symbols ≡ symbols_of (function fn) → IsSoundGraph symbols (arrow_body (out-ArrowFunction fn).body) env mid built
-    → new.identifiers ≡ mid.identifiers ++ unnamed (out-ArrowFunction fn).at.span mid.next_type ∷ [] → IsSmallTree (function fn)
+pub function_identifiers : (fn body : Syntax) (span : Span) (symbols : List Symbol) (env mid new : Environment) (built : Built)
+    → IsFunction fn body → span ≡ span_of fn → symbols ≡ symbols_of fn → IsSoundGraph symbols body env mid built
+    → new.identifiers ≡ mid.identifiers ++ unnamed span mid.next_type ∷ [] → IsSmallTree fn
     → AreWritableIdentifiers env.identifiers → AreWritableIdentifiers new.identifiers
-function_identifiers fn symbols env mid new built are g more small w =
+function_identifiers fn body span symbols env mid new built w span_is are g more small known =
     let named : All IsSmallSymbol symbols = subst (λ (l : List Symbol). All IsSmallSymbol l) (sym are)
-    (function_symbols fn small) in
+    (function_symbols fn body w small) in
     All-same IsWritableIdentifier new.identifiers _ more
-    (All-push IsWritableIdentifier mid.identifiers _ (g.identifiers named (function_small_body fn small) w)
-    (unnamed_writable (Some (out-ArrowFunction fn).at.span) mid.next_type (function_span fn small) g.types))
+    (All-push IsWritableIdentifier mid.identifiers _ (g.identifiers named (function_body fn body w small) known)
+    (unnamed_writable (Some span) mid.next_type
+    (subst (λ (s : Span). IsWritable (listing.optional listing.span (Some s))) (sym span_is) (function_span fn body w small)) g.types))

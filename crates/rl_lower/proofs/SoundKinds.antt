@@ -1,16 +1,16 @@
 -- Each kind of expression and statement keeps places known and parts writable.
-use Rattle.std.proofs.Common.{◌≡◌, ℕ, ◌<◌, Bool, true, false, List, [], ◌∷◌, ◌++◌, length, Option, Some, None, refl, sym, ap, ◌∙◌, subst, arith}
+use Rattle.std.proofs.Common.{◌≡◌, ℕ, ◌<◌, false, List, [], ◌∷◌, ◌++◌, length, Option, Some, None, refl, sym, ap, ◌∙◌, subst, arith}
 use Rattle.std.proofs.lemmas.Option.{slice_get_within}
-use Rattle.std.proofs.lemmas.List.Elements.{All-nil, All-cons, All-map, All-push, All-weaker}
+use Rattle.std.proofs.lemmas.List.Elements.{All-cons, All-map, All-push, All-weaker}
 use Rattle.rl_base.specs.Operators.{operator_text}
 use Rattle.rl_base.specs.declared.diagnostic.Diagnostic.{Diagnostic}
 use Rattle.rl_base.specs.declared.ids.IdentifierId.{IdentifierId}
 use Rattle.rl_base.specs.declared.operator.BinaryOperator.{BinaryOperator}
 use Rattle.rl_base.specs.declared.span.Span.{Span}
 use Rattle.rl_text.specs.Notation.{IsWritable}
-use Rattle.rl_text.specs.Numeral.{is_numeral, number_of}
 use Rattle.rl_ast.specs.Syntax.{Syntax, Node, Listed, Said, Flag, Absent, Pieces, End, Then}
 use Rattle.rl_ast.specs.declared.numbered.At.{At}
+use Rattle.rl_ast.specs.declared.word.Word.{Word}
 use Rattle.rl_ast.specs.declared.word.Word.TheVariants as word
 use Rattle.rl_hir.specs.Instructions.{argument_place}
 use Rattle.rl_hir.specs.Listing as listing
@@ -18,13 +18,12 @@ use Rattle.rl_hir.specs.Pairs.{identifier_of}
 use Rattle.rl_hir.specs.declared.function.BlockKind.{BlockKind}
 use Rattle.rl_hir.specs.declared.instruction.InstructionValue.{InstructionValue}
 use Rattle.rl_hir.specs.declared.instruction.InstructionValue.TheVariants as values
-use Rattle.rl_hir.specs.declared.instruction.NonLocalBinding.TheVariants as bindings
 use Rattle.rl_hir.specs.declared.instruction.Place.{Place}
 use Rattle.rl_hir.specs.declared.instruction.PlaceOrSpread.{PlaceOrSpread}
 use Rattle.rl_hir.specs.declared.instruction.PlaceOrSpread.TheVariants as arguments
 use Rattle.rl_hir.specs.declared.instruction.PrimitiveValue.TheVariants as primitives
 use Rattle.rl_hir.specs.declared.terminal.ReturnVariant.TheVariants as returns
-use Rattle.rl_builder.specs.Builder.{State, recorded, reserved, completed_by, new_block}
+use Rattle.rl_builder.specs.Builder.{State, reserved, completed_by, new_block}
 use Rattle.rl_builder.specs.Names.{resolved, resolved_by, refused_name}
 use Rattle.rl_builder.specs.Temporaries.{temporary, with_value}
 use Rattle.rl_builder.specs.declared.builder.WipBlock.{WipBlock}
@@ -32,120 +31,47 @@ use Rattle.rl_model.specs.WellFormed.{AreKnown, value_places}
 use Rattle.rl_lower.specs.Endings.{return_of, returned_from}
 use Rattle.rl_lower.specs.Named.{HasIdentifier}
 use Rattle.rl_lower.specs.Sound.{AreSmallTrees, HasSmallCounters, IsSmallTree, IsSoundPlace, SoundArguments, SoundExpression, StaysSound}
-use Rattle.rl_lower.proofs.SoundListing.{binary_writable, boolean_writable, call_writable, global_writable, local_writable, null_writable, number_writable, place_writable, span_writable, string_writable, undefined_writable}
+use Rattle.rl_lower.proofs.SoundListing.{binary_writable, call_writable, local_writable, place_writable, span_writable, undefined_writable}
 use Rattle.rl_lower.proofs.SoundMoves.{none_known, one_known, place_later, place_value, sound_diagnostics, sound_next, sound_refl, sound_reserved, sound_return, sound_returned, sound_then, sound_value, sound_weaker, with_diagnostics}
-use Rattle.rl_lower.proofs.SoundTrees.{numeral_fits}
 
--- an expression, from what its tree, the state and the place are known to be
-sound_call : (tree e : Syntax) (s new known : State) (p other : Place) → tree ≡ e → new ≡ known → p ≡ other
-    → SoundExpression e s known other → SoundExpression tree s new p
-sound_call tree e s new known p other is moved placed sound =
+-- A value in a fresh identifier, behind what came before it.
+value_sound : (tree : Syntax) (at : At) (w : Word) (parts : Pieces) (v : InstructionValue) (s mid known new : State) (p : Place)
+    → tree ≡ Node at w parts → mid ≡ known → StaysSound (IsSmallTree (Node at w parts)) s known
+    → AreKnown (length known.env.identifiers) (value_places v)
+    → (IsSmallTree (Node at w parts) → HasSmallCounters known → IsWritable (listing.value v))
+    → new ≡ with_value mid v (Some at.span) → p ≡ temporary mid (Some at.span) → SoundExpression tree s new p
+value_sound tree at w parts v s mid known new p is same before places value moved placed =
     subst (λ (t : Syntax). SoundExpression t s new p) (sym is)
-    (subst (λ (n : State). SoundExpression e s n p) (sym moved)
-    (subst (λ (q : Place). SoundExpression e s known q) (sym placed) sound))
-
--- moves that answer no place, and then a value in a fresh identifier
-value_behind : (e : Syntax) (s mid : State) (v : InstructionValue) (span : Option Span) → StaysSound (IsSmallTree e) s mid
-    → AreKnown (length mid.env.identifiers) (value_places v)
-    → (IsSmallTree e → HasSmallCounters mid → IsWritable (listing.value v))
-    → (IsSmallTree e → IsWritable (listing.optional listing.span span))
-    → SoundExpression e s (with_value mid v span) (temporary mid span)
-value_behind e s mid v span moved places value at = record {
-  state = sound_next (IsSmallTree e) s mid (with_value mid v span) moved
-      (sound_value (IsSmallTree e) mid v span places value at);
-  place = place_value (IsSmallTree e) mid v span at;
-}
-
-leaf_sound : (e : Syntax) (s : State) (v : InstructionValue) (span : Option Span)
-    → AreKnown (length s.env.identifiers) (value_places v) → (IsSmallTree e → HasSmallCounters s → IsWritable (listing.value v))
-    → (IsSmallTree e → IsWritable (listing.optional listing.span span))
-    → SoundExpression e s (with_value s v span) (temporary s span)
-leaf_sound e s v span places value at = value_behind e s s v span (sound_refl (IsSmallTree e) s) places value at
-
--- literals
-
-pub null_sound : (tree : Syntax) (at : At) (s new : State) (p : Place) → tree ≡ Node at word.Null End
-    → new ≡ with_value s (values.Primitive primitives.Null) (Some at.span) → p ≡ temporary s (Some at.span)
-    → SoundExpression tree s new p
-null_sound tree at s new p is moved placed =
-    sound_call tree (Node at word.Null End) s new _ p _ is moved placed
-    (leaf_sound (Node at word.Null End) s (values.Primitive primitives.Null) (Some at.span)
-    (none_known (length s.env.identifiers)) (λ small fits. null_writable) (λ small. span_writable at.span small.0.0))
-
-pub boolean_sound : (tree : Syntax) (at : At) (flag : Bool) (s new : State) (p : Place)
-    → tree ≡ Node at word.Bool (Then (Flag flag) End)
-    → new ≡ with_value s (values.Primitive (primitives.Boolean flag)) (Some at.span) → p ≡ temporary s (Some at.span)
-    → SoundExpression tree s new p
-boolean_sound tree at flag s new p is moved placed =
-    sound_call tree (Node at word.Bool (Then (Flag flag) End)) s new _ p _ is moved placed
-    (leaf_sound (Node at word.Bool (Then (Flag flag) End)) s (values.Primitive (primitives.Boolean flag)) (Some at.span)
-    (none_known (length s.env.identifiers)) (λ small fits. boolean_writable flag) (λ small. span_writable at.span small.0.0))
-
-pub string_sound : (tree : Syntax) (at : At) (text copy : List ℕ) (s new : State) (p : Place)
-    → tree ≡ Node at word.Str (Then (Said text) End) → copy ≡ text
-    → new ≡ with_value s (values.Primitive (primitives.String copy)) (Some at.span) → p ≡ temporary s (Some at.span)
-    → SoundExpression tree s new p
-string_sound tree at text copy s new p is same moved placed =
-    sound_call tree (Node at word.Str (Then (Said text) End)) s new _ p _ is
-    (moved ∙ ap (λ (t : List ℕ). with_value s (values.Primitive (primitives.String t)) (Some at.span)) same) placed
-    (leaf_sound (Node at word.Str (Then (Said text) End)) s (values.Primitive (primitives.String text)) (Some at.span)
-    (none_known (length s.env.identifiers)) (λ small fits. string_writable text small.1.1.0)
-    (λ small. span_writable at.span small.0.0))
-
-pub number_sound : (tree : Syntax) (at : At) (text : List ℕ) (number : ℕ) (s new : State) (p : Place)
-    → tree ≡ Node at word.Num (Then (Said text) End) → is_numeral text ≡ true → number ≡ number_of text
-    → new ≡ with_value s (values.Primitive (primitives.Number number)) (Some at.span) → p ≡ temporary s (Some at.span)
-    → SoundExpression tree s new p
-number_sound tree at text number s new p is numeral same moved placed =
-    sound_call tree (Node at word.Num (Then (Said text) End)) s new _ p _ is moved placed
-    (leaf_sound (Node at word.Num (Then (Said text) End)) s (values.Primitive (primitives.Number number)) (Some at.span)
-    (none_known (length s.env.identifiers)) (λ small fits. number_writable number (numeral_fits text number numeral same))
-    (λ small. span_writable at.span small.0.0))
-
--- the value of a refused number is Undefined
-pub refused_sound : (tree : Syntax) (at : At) (text : List ℕ) (d : Diagnostic) (s mid new : State) (p : Place)
-    → tree ≡ Node at word.Num (Then (Said text) End) → mid ≡ recorded s d
-    → new ≡ with_value mid (values.Primitive primitives.Undefined) (Some at.span) → p ≡ temporary mid (Some at.span)
-    → SoundExpression tree s new p
-refused_sound tree at text d s mid new p is noted moved placed =
-    sound_call tree e s new _ p _ is
-    (moved ∙ ap (λ (m : State). with_value m (values.Primitive primitives.Undefined) (Some at.span)) noted)
-    (placed ∙ ap (λ (m : State). temporary m (Some at.span)) noted)
-    (value_behind e s (recorded s d) (values.Primitive primitives.Undefined) (Some at.span)
-    (sound_diagnostics (IsSmallTree e) s _) (none_known (length s.env.identifiers)) (λ small fits. undefined_writable)
-    (λ small. span_writable at.span small.0.0))
+    (subst (λ (n : State). SoundExpression e s n p) (sym (moved ∙ ap (λ (m : State). with_value m v (Some at.span)) same))
+    (subst (λ (q : Place). SoundExpression e s (with_value known v (Some at.span)) q)
+    (sym (placed ∙ ap (λ (m : State). temporary m (Some at.span)) same)) (record {
+      state = sound_next (IsSmallTree e) s known _ before
+          (sound_value (IsSmallTree e) known v (Some at.span) places value spanned);
+      place = place_value (IsSmallTree e) known v (Some at.span) spanned;
+    })))
   where
     e : Syntax
-    e = Node at word.Num (Then (Said text) End)
+    e = Node at w parts
 
--- names
+    spanned : IsSmallTree e → IsWritable (listing.optional listing.span (Some at.span))
+    spanned small = span_writable at.span small.0.0
 
-pub global_sound : (at : At) (name copy : List ℕ) (s new : State) (p : Place) → copy ≡ name
-    → new ≡ with_value s (values.LoadGlobal (bindings.Global copy)) (Some at.span) → p ≡ temporary s (Some at.span)
-    → SoundExpression (Node at word.Id (Then (Said name) End)) s new p
-global_sound at name copy s new p same moved placed =
-    sound_call e e s new _ p _ refl
-    (moved ∙ ap (λ (n : List ℕ). with_value s (values.LoadGlobal (bindings.Global n)) (Some at.span)) same) placed
-    (leaf_sound e s (values.LoadGlobal (bindings.Global name)) (Some at.span) (none_known (length s.env.identifiers))
-    (λ small fits. global_writable name small.1.1.0) (λ small. span_writable at.span small.0.0))
-  where
-    e : Syntax
-    e = Node at word.Id (Then (Said name) End)
+-- A value behind diagnostics.
+pub noted_sound : (tree : Syntax) (at : At) (w : Word) (parts : Pieces) (v : InstructionValue) (said : List Diagnostic)
+    (s mid new : State) (p : Place) → tree ≡ Node at w parts → mid ≡ with_diagnostics s said
+    → AreKnown (length s.env.identifiers) (value_places v)
+    → (IsSmallTree (Node at w parts) → HasSmallCounters (with_diagnostics s said) → IsWritable (listing.value v))
+    → new ≡ with_value mid v (Some at.span) → p ≡ temporary mid (Some at.span) → SoundExpression tree s new p
+noted_sound tree at w parts v said s mid new p is noted =
+    value_sound tree at w parts v s mid _ new p is noted (sound_diagnostics _ s said)
 
-pub eval_sound : (at : At) (name copy : List ℕ) (d : Diagnostic) (s mid new : State) (p : Place) → copy ≡ name
-    → mid ≡ recorded s d → new ≡ with_value mid (values.LoadGlobal (bindings.Global copy)) (Some at.span)
-    → p ≡ temporary mid (Some at.span) → SoundExpression (Node at word.Id (Then (Said name) End)) s new p
-eval_sound at name copy d s mid new p same noted moved placed =
-    sound_call e e s new _ p _ refl
-    (moved ∙ ap (λ (n : List ℕ). with_value mid (values.LoadGlobal (bindings.Global n)) (Some at.span)) same
-    ∙ ap (λ (m : State). with_value m (values.LoadGlobal (bindings.Global name)) (Some at.span)) noted)
-    (placed ∙ ap (λ (m : State). temporary m (Some at.span)) noted)
-    (value_behind e s (recorded s d) (values.LoadGlobal (bindings.Global name)) (Some at.span)
-    (sound_diagnostics (IsSmallTree e) s _) (none_known (length s.env.identifiers))
-    (λ small fits. global_writable name small.1.1.0) (λ small. span_writable at.span small.0.0))
-  where
-    e : Syntax
-    e = Node at word.Id (Then (Said name) End)
+-- A value without places.
+pub leaf_sound : (tree : Syntax) (at : At) (w : Word) (parts : Pieces) (v : InstructionValue) (s new : State) (p : Place)
+    → tree ≡ Node at w parts → value_places v ≡ [] → (IsSmallTree (Node at w parts) → IsWritable (listing.value v))
+    → new ≡ with_value s v (Some at.span) → p ≡ temporary s (Some at.span) → SoundExpression tree s new p
+leaf_sound tree at w parts v s new p is none value =
+    value_sound tree at w parts v s s s new p is refl (sound_refl _ s)
+    (subst (AreKnown (length s.env.identifiers)) (sym none) (none_known (length s.env.identifiers))) (λ small fits. value small)
 
 -- a variable, whose identifier was made with the parameters
 pub local_sound : (at : At) (name : List ℕ) (found : ℕ) (declaration : Span) (i : IdentifierId) (s mid new : State) (p : Place)
@@ -153,15 +79,10 @@ pub local_sound : (at : At) (name : List ℕ) (found : ℕ) (declaration : Span)
     → new ≡ with_value mid (values.LoadLocal (record { identifier = i; span = Some at.span })) (Some at.span)
     → p ≡ temporary mid (Some at.span) → SoundExpression (Node at word.Id (Then (Said name) End)) s new p
 local_sound at name found declaration i s mid new p h moved bound ended placed =
-    sound_call e e s new _ p _ refl
-    (ended ∙ ap (λ (m : State). with_value m (values.LoadLocal variable) (Some at.span)) noted)
-    (placed ∙ ap (λ (m : State). temporary m (Some at.span)) noted)
-    (value_behind e s (with_diagnostics s said) (values.LoadLocal variable) (Some at.span)
-    (sound_diagnostics (IsSmallTree e) s said)
+    noted_sound e at word.Id (Then (Said name) End) (values.LoadLocal variable) said s mid new p refl noted
     (one_known (length s.env.identifiers) variable below)
     (λ small fits. local_writable variable
-    (place_writable variable (omega (arith, below, fits.identifiers)) (span_writable at.span small.0.0)))
-    (λ small. span_writable at.span small.0.0))
+    (place_writable variable (omega (arith, below, fits.identifiers)) (span_writable at.span small.0.0))) ended placed
   where
     e : Syntax
     e = Node at word.Id (Then (Said name) End)
@@ -201,15 +122,14 @@ pub binary_sound : (tree left right : Syntax) (at : At) (operator : BinaryOperat
     → new ≡ with_value last (values.Binary operator l r) (Some at.span) → p ≡ temporary last (Some at.span)
     → SoundExpression tree s new p
 binary_sound tree left right at operator l r s mid last new p is first second moved placed =
-    sound_call tree whole s new _ p _ is moved placed
-    (value_behind whole s last (values.Binary operator l r) (Some at.span)
+    value_sound tree at word.Binary _ (values.Binary operator l r) s last last new p is refl
     (sound_then (IsSmallTree left) (IsSmallTree right)
     (IsSmallTree whole) s mid last left_small right_small first.state second.state)
     (All-cons (λ (q : Place). q.identifier.0 < length last.env.identifiers) l (r ∷ []) l_known.known
     (one_known (length last.env.identifiers) r second.place.known))
     (λ small fits. binary_writable operator l r small.1.1.0 (l_known.writable small fits)
     (second.place.writable (right_small small) fits))
-    (λ small. span_writable at.span small.0.0))
+    moved placed
   where
     whole : Syntax
     whole = Node at word.Binary (Then (Said (operator_text operator)) (Then left (Then right End)))
@@ -223,16 +143,6 @@ binary_sound tree left right at operator l r s mid last new p is first second mo
     l_known : IsSoundPlace (IsSmallTree whole) last l
     l_known =
         place_later (IsSmallTree left) (IsSmallTree right) (IsSmallTree whole) mid last l left_small second.state first.place
-
--- arguments
-
-pub arguments_refl : (trees : Pieces) (s : State) → SoundArguments trees s s []
-arguments_refl trees s =
-    record {
-      state = sound_refl (AreSmallTrees trees) s;
-      places = All-nil
-          (λ (a : PlaceOrSpread). IsSoundPlace (AreSmallTrees trees) s (argument_place a));
-    }
 
 -- an argument more, of a tree that is small where all are
 pub arguments_more : (trees : Pieces) (tree : Syntax) (s mid new : State) (given more : List PlaceOrSpread) (p : Place)
@@ -257,8 +167,7 @@ pub call_sound : (tree callee : Syntax) (trees : Pieces) (at : At) (f : Place) (
     → new ≡ with_value last (values.Call f given) (Some at.span) → p ≡ temporary last (Some at.span)
     → SoundExpression tree s new p
 call_sound tree callee trees at f given s mid last new p is first second moved placed =
-    sound_call tree whole s new _ p _ is moved placed
-    (value_behind whole s last (values.Call f given) (Some at.span)
+    value_sound tree at word.Call _ (values.Call f given) s last last new p is refl
     (sound_then (IsSmallTree callee) (AreSmallTrees trees)
     (IsSmallTree whole) s mid last callee_small given_small first.state second.state)
     (All-cons (λ (q : Place). q.identifier.0 < length last.env.identifiers) f _ f_known.known
@@ -270,7 +179,7 @@ call_sound tree callee trees at f given s mid last new p is first second moved p
     (All-weaker (λ (a : PlaceOrSpread). IsSoundPlace (AreSmallTrees trees) last (argument_place a))
     (λ (a : PlaceOrSpread). IsWritable (listing.operand_of a)) (λ a known. known.writable (given_small small) fits) given
     second.places))
-    (λ small. span_writable at.span small.0.0))
+    moved placed
   where
     whole : Syntax
     whole = Node at word.Call (Then (Flag false) (Then callee (Then (Listed trees) End)))

@@ -1,9 +1,7 @@
 //! Lowering of expressions: each leaves its value in a temporary.
 
 ghost use Rattle.std.specs.Prelude.{◌≡◌, ◌*◌, true, map, List, None, OnOk, IfOk};
-ghost use Rattle.rl_ast.specs.Grammar.{are_expressions, is_expression};
-ghost use Rattle.rl_ast.specs.Syntax.{Node, Said, End, Then, nodes, nodes_of, pieces_of};
-ghost use Rattle.rl_ast.specs.Units as spec;
+ghost use Rattle.rl_ast.specs.Syntax.{Node, Said, End, Then, nodes, nodes_of, pieces_of, syntax};
 ghost use Rattle.rl_builder.specs.Builder.{state_of, recorded};
 ghost use Rattle.rl_builder.specs.Temporaries.{temporary, with_value};
 ghost use Rattle.rl_lower.specs.Lowering.{HasRoom, LowersExpression, LowersArguments};
@@ -14,12 +12,13 @@ ghost use Rattle.rl_scope.specs.declared.semantic.Symbol.{Symbol};
 ghost use Rattle.rl_scope.specs.Symbols.{symbol_named};
 
 use rl_ast::numbered::At;
-use rl_ast::tree::Expression;
+use rl_ast::view::{Expression, ExpressionTree, ExpressionTrees, expression_view};
 use rl_ast::word::Word;
 use rl_base::diagnostic::Diagnostic;
 use rl_base::error::OutOfMemory;
 use rl_base::ids::EvaluationOrder;
 use rl_base::list::List;
+use rl_base::number::WholeNumber;
 use rl_base::row::Row;
 use rl_base::span::Span;
 use rl_base::stop::Stop;
@@ -123,19 +122,20 @@ fn lower_arguments(
     alloc: Global,
     builder: &mut HirBuilder,
     semantic: &Semantic,
-    arguments: &[Expression],
+    arguments: ExpressionTrees<'_>,
 ) -> Result<List<PlaceOrSpread>, OutOfMemory>
-    requires grammar { are_expressions (pieces_of (map spec.expression arguments.now)) ≡ true }
     requires names { IsNamed semantic.now.symbols (state_of builder.old.env.now builder.old.work) }
-    requires room { HasRoom (state_of builder.old.env.now builder.old.work) (4 * nodes_of (pieces_of (map spec.expression arguments.now))) }
+    requires room { HasRoom (state_of builder.old.env.now builder.old.work) (4 * nodes_of (pieces_of (map syntax arguments.trees.now))) }
     ensures same_reference { builder.new.env.ghost_name ≡ builder.old.env.ghost_name }
-    ensures lowered { IfOk result (λ given. LowersArguments semantic.now.symbols (pieces_of (map spec.expression arguments.now)) (state_of builder.old.env.now builder.old.work) (state_of builder.new.env.now builder.new.work) given) }
-    ensures sound { IfOk result (λ given. SoundArguments (pieces_of (map spec.expression arguments.now)) (state_of builder.old.env.now builder.old.work) (state_of builder.new.env.now builder.new.work) given) }
+    ensures lowered { IfOk result (λ given. LowersArguments semantic.now.symbols (pieces_of (map syntax arguments.entry.trees.now)) (state_of builder.old.env.now builder.old.work) (state_of builder.new.env.now builder.new.work) given) }
+    ensures sound { IfOk result (λ given. SoundArguments (pieces_of (map syntax arguments.entry.trees.now)) (state_of builder.old.env.now builder.old.work) (state_of builder.new.env.now builder.new.work) given) }
 {
     let mut given = List::new(alloc);
-    'arguments: for argument in arguments {
+    let mut left = arguments;
+    'arguments: while let Some((argument, rest)) = left.split_first() {
         let place = lower_expression(alloc, builder, semantic, argument)?;
         given.push(PlaceOrSpread::Place(place))?;
+        left = rest;
     }
     Ok(given)
 }
@@ -146,31 +146,31 @@ pub(crate) fn lower_expression(
     alloc: Global,
     builder: &mut HirBuilder,
     semantic: &Semantic,
-    expression: &Expression,
+    expression: ExpressionTree<'_>,
 ) -> Result<Place, OutOfMemory>
-    requires grammar { is_expression (spec.expression expression.now) ≡ true }
     requires names { IsNamed semantic.now.symbols (state_of builder.old.env.now builder.old.work) }
-    requires room { HasRoom (state_of builder.old.env.now builder.old.work) (4 * nodes (spec.expression expression.now)) }
+    requires room { HasRoom (state_of builder.old.env.now builder.old.work) (4 * nodes (syntax expression.tree.now)) }
     ensures same_reference { builder.new.env.ghost_name ≡ builder.old.env.ghost_name }
-    ensures lowered { IfOk result (λ place. LowersExpression semantic.now.symbols (spec.expression expression.now) (state_of builder.old.env.now builder.old.work) (state_of builder.new.env.now builder.new.work) place.identifier.0) }
-    ensures sound { IfOk result (λ place. SoundExpression (spec.expression expression.now) (state_of builder.old.env.now builder.old.work) (state_of builder.new.env.now builder.new.work) place) }
+    ensures lowered { IfOk result (λ place. LowersExpression semantic.now.symbols (syntax expression.entry.tree.now) (state_of builder.old.env.now builder.old.work) (state_of builder.new.env.now builder.new.work) place.identifier.0) }
+    ensures sound { IfOk result (λ place. SoundExpression (syntax expression.entry.tree.now) (state_of builder.old.env.now builder.old.work) (state_of builder.new.env.now builder.new.work) place) }
 {
-    match expression {
+    match expression_view(expression) {
         Expression::Null { at } => {
             let value = InstructionValue::Primitive(PrimitiveValue::Null);
             lower_value_to_temporary(builder, value, Some(at.span))
         }
         Expression::Boolean { at, value } => {
-            let value = InstructionValue::Primitive(PrimitiveValue::Boolean(*value));
+            let value = InstructionValue::Primitive(PrimitiveValue::Boolean(value));
             lower_value_to_temporary(builder, value, Some(at.span))
         }
         Expression::Number { at, text } => match parse_number(text.as_bytes()) {
             Some(number) => {
+                let number = WholeNumber::new(number);
                 let value = InstructionValue::Primitive(PrimitiveValue::Number(number));
                 lower_value_to_temporary(builder, value, Some(at.span))
             }
             None => {
-                refuse(alloc, builder, Row::F43, *at)?;
+                refuse(alloc, builder, Row::F43, at)?;
                 let value = InstructionValue::Primitive(PrimitiveValue::Undefined);
                 lower_value_to_temporary(builder, value, Some(at.span))
             }
@@ -180,21 +180,19 @@ pub(crate) fn lower_expression(
             lower_value_to_temporary(builder, value, Some(at.span))
         }
         Expression::Parenthesized { at: _, expression } => {
-            lower_expression(alloc, builder, semantic, expression.get())
+            lower_expression(alloc, builder, semantic, expression)
         }
-        Expression::Identifier { at, name } => {
-            lower_identifier(alloc, builder, semantic, *at, name)
-        }
+        Expression::Identifier { at, name } => lower_identifier(alloc, builder, semantic, at, name),
         Expression::Binary {
             at,
             operator,
             left,
             right,
         } => {
-            let left = lower_expression(alloc, builder, semantic, left.get())?;
-            let right = lower_expression(alloc, builder, semantic, right.get())?;
+            let left = lower_expression(alloc, builder, semantic, left)?;
+            let right = lower_expression(alloc, builder, semantic, right)?;
             let value = InstructionValue::Binary {
-                operator: *operator,
+                operator,
                 left,
                 right,
             };
@@ -205,11 +203,10 @@ pub(crate) fn lower_expression(
             callee,
             arguments,
         } => {
-            let callee = lower_expression(alloc, builder, semantic, callee.get())?;
-            let arguments = lower_arguments(alloc, builder, semantic, arguments.as_slice())?;
+            let callee = lower_expression(alloc, builder, semantic, callee)?;
+            let arguments = lower_arguments(alloc, builder, semantic, arguments)?;
             let value = InstructionValue::Call { callee, arguments };
             lower_value_to_temporary(builder, value, Some(at.span))
         }
-        Expression::ArrowFunction(_) => unreachable!(),
     }
 }

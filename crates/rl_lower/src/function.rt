@@ -1,11 +1,9 @@
 //! Lowering of functions: parameters, bodies and ends.
 
-ghost use Rattle.std.specs.Prelude.{◌≡◌, ◌+◌, ◌*◌, ◌≤◌, true, false, ◌++◌, OnOk, IfOk, IfErr, None, Some, [], All, codes, length};
+ghost use Rattle.std.specs.Prelude.{◌≡◌, ◌+◌, ◌*◌, ◌≤◌, true, false, ◌++◌, map, OnOk, IfOk, IfErr, None, Some, [], All, codes, length};
 ghost use Rattle.std.specs.Option.{option_copied};
 ghost use Rattle.std.specs.Str.{IsUtf8};
-ghost use Rattle.rl_ast.specs.Grammar.{is_body, is_function};
-ghost use Rattle.rl_ast.specs.Syntax.{nodes};
-ghost use Rattle.rl_ast.specs.Units as spec;
+ghost use Rattle.rl_ast.specs.Syntax.{nodes, pieces_of, span_of, syntax};
 ghost use Rattle.rl_base.specs.Reserved.{is_reserved};
 ghost use Rattle.rl_base.specs.declared.diagnostic.Diagnostic.{Diagnostic as Said};
 ghost use Rattle.rl_builder.specs.Builder.{state_of, started};
@@ -17,7 +15,7 @@ ghost use Rattle.rl_lower.specs.Named.{IsNamed};
 ghost use Rattle.rl_lower.specs.Parameters.{with_parameters};
 ghost use Rattle.rl_lower.specs.Sound.{AreWritableIdentifiers, IsSmallTree, IsSoundGraph, StaysSound};
 ghost use Rattle.rl_model.specs.Closed.{IsClosed};
-ghost use Rattle.rl_model.specs.Fields.{AddsUnnamed, directives_in, known_from, pairs_from, places_from};
+ghost use Rattle.rl_model.specs.Fields.{AddsUnnamed, async_in, body_in, directives_in, known_from, pairs_from, places_from, texts_in};
 ghost use Rattle.rl_model.specs.Headline.{NeverStuck, SameRuns};
 ghost use Rattle.rl_model.specs.Held.{HoldsCalls};
 ghost use Rattle.rl_base.specs.declared.row.Row.TheVariants as row;
@@ -29,7 +27,9 @@ ghost use Rattle.rl_text.specs.Notation.{IsWritable};
 
 use crate::expression::{lower_expression, lower_value_to_temporary};
 use crate::statement::lower_statements;
-use rl_ast::tree::{ArrowBody, ArrowFunction};
+use rl_ast::view::{
+    ArrowBody, BodyTree, FunctionTree, TextTrees, body_view, function_view, text_view,
+};
 use rl_base::diagnostic::Diagnostic;
 use rl_base::error::OutOfMemory;
 use rl_base::ids::{EvaluationOrder, SymbolId};
@@ -87,16 +87,15 @@ fn lower_body(
     alloc: Global,
     builder: &mut HirBuilder,
     semantic: &Semantic,
-    body: &ArrowBody,
+    body: BodyTree<'_>,
 ) -> Result<(), OutOfMemory>
-    requires grammar { is_body (spec.arrow_body body.now) ≡ true }
     requires names { IsNamed semantic.now.symbols (state_of builder.old.env.now builder.old.work) }
-    requires room { HasRoom (state_of builder.old.env.now builder.old.work) (4 * (nodes (spec.arrow_body body.now) + 1)) }
+    requires room { HasRoom (state_of builder.old.env.now builder.old.work) (4 * (nodes (syntax body.tree.now) + 1)) }
     ensures same_reference { builder.new.env.ghost_name ≡ builder.old.env.ghost_name }
-    ensures lowered { OnOk result (LowersBody semantic.now.symbols (spec.arrow_body body.now) (state_of builder.old.env.now builder.old.work) (state_of builder.new.env.now builder.new.work)) }
-    ensures sound { OnOk result (StaysSound (IsSmallTree (spec.arrow_body body.now)) (state_of builder.old.env.now builder.old.work) (state_of builder.new.env.now builder.new.work)) }
+    ensures lowered { OnOk result (LowersBody semantic.now.symbols (syntax body.entry.tree.now) (state_of builder.old.env.now builder.old.work) (state_of builder.new.env.now builder.new.work)) }
+    ensures sound { OnOk result (StaysSound (IsSmallTree (syntax body.entry.tree.now)) (state_of builder.old.env.now builder.old.work) (state_of builder.new.env.now builder.new.work)) }
 {
-    match body {
+    match body_view(body) {
         ArrowBody::Expression(expression) => {
             let fallthrough = builder.reserve(BlockKind::Block);
             let value = lower_expression(alloc, builder, semantic, expression)?;
@@ -114,7 +113,7 @@ fn lower_body(
             at: _,
             directives: _,
             statements,
-        } => lower_statements(alloc, builder, semantic, statements.as_slice()),
+        } => lower_statements(alloc, builder, semantic, statements),
     }
 }
 
@@ -122,14 +121,13 @@ fn lower_body(
 fn lower_graph(
     alloc: Global,
     semantic: &Semantic,
-    body: &ArrowBody,
+    body: BodyTree<'_>,
     env: &mut Environment,
 ) -> Result<Graph, Stop>
-    requires grammar { is_body (spec.arrow_body body.now) ≡ true }
     requires distinct { are_distinct semantic.now.symbols ≡ true }
-    requires room { HasRoom (started env.old BlockKind.Block) (4 * (nodes (spec.arrow_body body.now) + 2) + length semantic.now.symbols) }
-    ensures graph { IfOk result (λ graph. IsGraphOf semantic.now.symbols (spec.arrow_body body.now) env.old env.new graph.params graph.built) }
-    ensures sound { IfOk result (λ graph. IsSoundGraph semantic.now.symbols (spec.arrow_body body.now) env.old env.new graph.built) }
+    requires room { HasRoom (started env.old BlockKind.Block) (4 * (nodes (syntax body.tree.now) + 2) + length semantic.now.symbols) }
+    ensures graph { IfOk result (λ graph. IsGraphOf semantic.now.symbols (syntax body.entry.tree.now) env.old env.new graph.params graph.built) }
+    ensures sound { IfOk result (λ graph. IsSoundGraph semantic.now.symbols (syntax body.entry.tree.now) env.old env.new graph.built) }
     ensures goes_on { OnOk result (first_named (λ name. is_reserved name) semantic.now.symbols ≡ None) }
     ensures stopped { IfErr result (λ e. (d : Said) → e ≡ Stop.Diagnostic d → Some d ≡ stop_at row.S1 (first_named (λ name. is_reserved name) semantic.now.symbols) None) }
 {
@@ -148,28 +146,31 @@ fn lower_graph(
     Ok(Graph { params, built })
 }
 
-fn copy_texts(alloc: Global, texts: &[Text]) -> Result<List<Text>, OutOfMemory>
-    ensures { IfOk result (λ copies. copies ≡ texts.now) }
+/// Copies of texts, in order.
+fn copy_texts(alloc: Global, texts: TextTrees<'_>) -> Result<List<Text>, OutOfMemory>
+    ensures copied { IfOk result (λ copies. copies ≡ texts_in (pieces_of (map syntax texts.entry.trees.now))) }
 {
     let mut copies = List::new(alloc);
-    'texts: for text in texts {
-        copies.push(text.copy(alloc)?)?;
+    let mut left = texts;
+    'texts: while let Some((text, rest)) = left.split_first() {
+        copies.push(text_view(text).copy(alloc)?)?;
+        left = rest;
     }
     Ok(copies)
 }
 
 /// The directives that begin a body.
-fn directives_of(alloc: Global, body: &ArrowBody) -> Result<List<Text>, OutOfMemory>
-    ensures copied { IfOk result (λ directives. directives ≡ directives_in (spec.arrow_body body.now)) }
-    ensures texts { IfOk result (λ directives. IsSmallTree (spec.arrow_body body.now) → All IsUtf8 directives) }
+fn directives_of(alloc: Global, body: BodyTree<'_>) -> Result<List<Text>, OutOfMemory>
+    ensures copied { IfOk result (λ directives. directives ≡ directives_in (syntax body.entry.tree.now)) }
+    ensures texts { IfOk result (λ directives. IsSmallTree (syntax body.entry.tree.now) → All IsUtf8 directives) }
 {
-    match body {
+    match body_view(body) {
         ArrowBody::Expression(_) => Ok(List::new(alloc)),
         ArrowBody::Statements {
             at: _,
             directives,
             statements: _,
-        } => copy_texts(alloc, directives.as_slice()),
+        } => copy_texts(alloc, directives),
     }
 }
 
@@ -190,34 +191,33 @@ fn find_this(symbols: &[Symbol]) -> Option<&Symbol>
 /// allocation failed; of the environment nothing is promised then.
 pub fn lower(
     alloc: Global,
-    function: &ArrowFunction,
+    function: FunctionTree<'_>,
     semantic: &Semantic,
     env: &mut Environment,
 ) -> Result<HirFunction, Stop>
-    requires grammar { is_function (spec.function function.now) ≡ true }
-    requires symbols { semantic.now.symbols ≡ symbols_of (spec.function function.now) }
+    requires symbols { semantic.now.symbols ≡ symbols_of (syntax function.tree.now) }
     requires distinct { are_distinct semantic.now.symbols ≡ true }
     requires fresh { env.old.pairs ≡ [] }
-    requires room { HasRoom (started env.old BlockKind.Block) (4 * nodes (spec.function function.now)) }
-    ensures goes_on { OnOk result (stop_of (spec.function function.now) ≡ None) }
-    ensures stopped { IfErr result (λ e. (d : Said) → e ≡ Stop.Diagnostic d → stop_of (spec.function function.now) ≡ Some d) }
-    ensures refused { OnOk result (env.new.diagnostics ≡ env.old.diagnostics ++ refusals_of (spec.function function.now)) }
+    requires room { HasRoom (started env.old BlockKind.Block) (4 * nodes (syntax function.tree.now)) }
+    ensures goes_on { OnOk result (stop_of (syntax function.entry.tree.now) ≡ None) }
+    ensures stopped { IfErr result (λ e. (d : Said) → e ≡ Stop.Diagnostic d → stop_of (syntax function.entry.tree.now) ≡ Some d) }
+    ensures refused { OnOk result (env.new.diagnostics ≡ env.old.diagnostics ++ refusals_of (syntax function.entry.tree.now)) }
     ensures closed { IfOk result (λ f. IsClosed f.body) }
-    ensures same_runs { IfOk result (λ f. refusals_of (spec.function function.now) ≡ [] → SameRuns (spec.function function.now) f env.new.pairs) }
-    ensures never_stuck { IfOk result (λ f. refusals_of (spec.function function.now) ≡ [] → NeverStuck f env.new.pairs) }
-    ensures held { IfOk result (λ f. HoldsCalls (spec.function function.now) f) }
+    ensures same_runs { IfOk result (λ f. refusals_of (syntax function.entry.tree.now) ≡ [] → SameRuns (syntax function.entry.tree.now) f env.new.pairs) }
+    ensures never_stuck { IfOk result (λ f. refusals_of (syntax function.entry.tree.now) ≡ [] → NeverStuck f env.new.pairs) }
+    ensures held { IfOk result (λ f. HoldsCalls (syntax function.entry.tree.now) f) }
     ensures numbered { IfOk result (λ f. IsNumbered f.instructions f.body.blocks) }
     ensures linked { IfOk result (λ f. IsLinked f) }
     ensures functions { OnOk result (env.new.functions ≡ env.old.functions) }
-    ensures bounded { IfOk result (λ f. function_size f ≤ 64 * nodes (spec.function function.now)) }
+    ensures bounded { IfOk result (λ f. function_size f ≤ 64 * nodes (syntax function.entry.tree.now)) }
 
     // The fields that traces do not read.
-    ensures span { IfOk result (λ f. f.span ≡ Some function.now.at.span) }
+    ensures span { IfOk result (λ f. f.span ≡ Some (span_of (syntax function.entry.tree.now))) }
     ensures name { IfOk result (λ f. f.name ≡ None) }
     ensures fn_type { IfOk result (λ f. f.fn_type ≡ env.old.fn_type) }
-    ensures is_async { IfOk result (λ f. f.is_async ≡ function.now.is_async) }
+    ensures is_async { IfOk result (λ f. f.is_async ≡ async_in (syntax function.entry.tree.now)) }
     ensures generator { IfOk result (λ f. f.generator ≡ false) }
-    ensures directives { IfOk result (λ f. f.directives ≡ directives_in (spec.arrow_body function.now.body)) }
+    ensures directives { IfOk result (λ f. f.directives ≡ directives_in (body_in (syntax function.entry.tree.now))) }
     ensures params { IfOk result (λ f. f.params ≡ places_from (length env.old.identifiers) semantic.now.symbols) }
     ensures context { IfOk result (λ f. f.context ≡ []) }
     ensures returns { IfOk result (λ f. (f.returns.span ≡ None) × (f.returns.identifier.0 + 1 ≡ length env.new.identifiers)) }
@@ -228,16 +228,17 @@ pub fn lower(
 
     // Places name identifiers that were made, and the notation has the listing of what a small function is lowered to.
     ensures places { IfOk result (λ f. HasKnownPlaces (length env.new.identifiers) f) }
-    ensures writable { IfOk result (λ f. IsSmallTree (spec.function function.now) → IsWritable (listed_function f)) }
-    ensures known { OnOk result (IsSmallTree (spec.function function.now) → AreWritableIdentifiers env.old.identifiers → AreWritableIdentifiers env.new.identifiers) }
+    ensures writable { IfOk result (λ f. IsSmallTree (syntax function.entry.tree.now) → IsWritable (listed_function f)) }
+    ensures known { OnOk result (IsSmallTree (syntax function.entry.tree.now) → AreWritableIdentifiers env.old.identifiers → AreWritableIdentifiers env.new.identifiers) }
 {
     if let Some(symbol) = find_this(semantic.symbols.as_slice()) {
         let word = symbol.name.as_str();
         let diagnostic = Diagnostic::at(alloc, Row::S2, word, symbol.declaration)?;
         return Err(Stop::Diagnostic(diagnostic));
     }
+    let function = function_view(function);
     let span = Some(function.at.span);
-    let graph = lower_graph(alloc, semantic, &function.body, env)?;
+    let graph = lower_graph(alloc, semantic, function.body, env)?;
     let returns = create_temporary_place(env, span)?;
     Ok(HirFunction {
         span,
@@ -245,7 +246,7 @@ pub fn lower(
         fn_type: env.fn_type,
         generator: false,
         is_async: function.is_async,
-        directives: directives_of(alloc, &function.body)?,
+        directives: directives_of(alloc, function.body)?,
         params: graph.params,
         context: List::new(alloc),
         returns,

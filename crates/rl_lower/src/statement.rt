@@ -1,9 +1,7 @@
 //! Lowering of statements, and of lists of them.
 
-ghost use Rattle.std.specs.Prelude.{◌≡◌, ◌*◌, true, map, OnOk, Some};
-ghost use Rattle.rl_ast.specs.Grammar.{is_statement, are_statements};
-ghost use Rattle.rl_ast.specs.Syntax.{nodes, nodes_of, pieces_of};
-ghost use Rattle.rl_ast.specs.Units as spec;
+ghost use Rattle.std.specs.Prelude.{◌≡◌, ◌*◌, map, OnOk, Some};
+ghost use Rattle.rl_ast.specs.Syntax.{nodes, nodes_of, pieces_of, syntax};
 ghost use Rattle.rl_builder.specs.Builder.{state_of};
 ghost use Rattle.rl_lower.specs.Endings.{returned_from};
 ghost use Rattle.rl_lower.specs.Lowering.{HasRoom, LowersStatement, LowersStatements};
@@ -11,7 +9,7 @@ ghost use Rattle.rl_lower.specs.Named.{IsNamed};
 ghost use Rattle.rl_lower.specs.Sound.{AreSmallTrees, IsSmallTree, StaysSound};
 
 use crate::expression::{lower_expression, lower_value_to_temporary};
-use rl_ast::tree::Statement;
+use rl_ast::view::{Statement, StatementTree, StatementTrees, statement_view};
 use rl_base::error::OutOfMemory;
 use rl_base::ids::EvaluationOrder;
 use rl_base::span::Span;
@@ -45,23 +43,22 @@ fn lower_statement(
     alloc: Global,
     builder: &mut HirBuilder,
     semantic: &Semantic,
-    statement: &Statement,
+    statement: StatementTree<'_>,
 ) -> Result<(), OutOfMemory>
-    requires grammar { is_statement (spec.statement statement.now) ≡ true }
     requires names { IsNamed semantic.now.symbols (state_of builder.old.env.now builder.old.work) }
-    requires room { HasRoom (state_of builder.old.env.now builder.old.work) (4 * nodes (spec.statement statement.now)) }
+    requires room { HasRoom (state_of builder.old.env.now builder.old.work) (4 * nodes (syntax statement.tree.now)) }
     ensures same_reference { builder.new.env.ghost_name ≡ builder.old.env.ghost_name }
-    ensures lowered { OnOk result (LowersStatement semantic.now.symbols (spec.statement statement.now) (state_of builder.old.env.now builder.old.work) (state_of builder.new.env.now builder.new.work)) }
-    ensures sound { OnOk result (StaysSound (IsSmallTree (spec.statement statement.now)) (state_of builder.old.env.now builder.old.work) (state_of builder.new.env.now builder.new.work)) }
+    ensures lowered { OnOk result (LowersStatement semantic.now.symbols (syntax statement.entry.tree.now) (state_of builder.old.env.now builder.old.work) (state_of builder.new.env.now builder.new.work)) }
+    ensures sound { OnOk result (StaysSound (IsSmallTree (syntax statement.entry.tree.now)) (state_of builder.old.env.now builder.old.work) (state_of builder.new.env.now builder.new.work)) }
 {
-    match statement {
+    match statement_view(statement) {
         Statement::Expression { at: _, expression } => {
             lower_expression(alloc, builder, semantic, expression)?;
             Ok(())
         }
         Statement::Return { at, argument } => match argument {
             Some(argument) => {
-                let value = lower_expression(alloc, builder, semantic, argument.get())?;
+                let value = lower_expression(alloc, builder, semantic, argument)?;
                 lower_return(builder, at.span, value)
             }
             None => {
@@ -78,17 +75,18 @@ pub(crate) fn lower_statements(
     alloc: Global,
     builder: &mut HirBuilder,
     semantic: &Semantic,
-    statements: &[Statement],
+    statements: StatementTrees<'_>,
 ) -> Result<(), OutOfMemory>
-    requires grammar { are_statements (pieces_of (map spec.statement statements.now)) ≡ true }
     requires names { IsNamed semantic.now.symbols (state_of builder.old.env.now builder.old.work) }
-    requires room { HasRoom (state_of builder.old.env.now builder.old.work) (4 * nodes_of (pieces_of (map spec.statement statements.now))) }
+    requires room { HasRoom (state_of builder.old.env.now builder.old.work) (4 * nodes_of (pieces_of (map syntax statements.trees.now))) }
     ensures same_reference { builder.new.env.ghost_name ≡ builder.old.env.ghost_name }
-    ensures lowered { OnOk result (LowersStatements semantic.now.symbols (pieces_of (map spec.statement statements.now)) (state_of builder.old.env.now builder.old.work) (state_of builder.new.env.now builder.new.work)) }
-    ensures sound { OnOk result (StaysSound (AreSmallTrees (pieces_of (map spec.statement statements.now))) (state_of builder.old.env.now builder.old.work) (state_of builder.new.env.now builder.new.work)) }
+    ensures lowered { OnOk result (LowersStatements semantic.now.symbols (pieces_of (map syntax statements.entry.trees.now)) (state_of builder.old.env.now builder.old.work) (state_of builder.new.env.now builder.new.work)) }
+    ensures sound { OnOk result (StaysSound (AreSmallTrees (pieces_of (map syntax statements.entry.trees.now))) (state_of builder.old.env.now builder.old.work) (state_of builder.new.env.now builder.new.work)) }
 {
-    'statements: for statement in statements {
+    let mut left = statements;
+    'statements: while let Some((statement, rest)) = left.split_first() {
         lower_statement(alloc, builder, semantic, statement)?;
+        left = rest;
     }
     Ok(())
 }

@@ -7,14 +7,12 @@ use Rattle.rl_ast.specs.Limits.{IsTooLarge, most_bytes, most_read}
 use Rattle.rl_base.specs.Diagnostics.{line_of}
 use Rattle.rl_base.specs.declared.diagnostic.Diagnostic.{Diagnostic}
 use Rattle.rl_ast.specs.Syntax.{Syntax}
-use Rattle.rl_ast.specs.Units.{Spells, unit}
-use Rattle.rl_ast.proofs.ReadBack.{Spells-unit-one}
+use Rattle.rl_ast.proofs.Units.{one_unit}
 use Rattle.rl_hir.specs.declared.function.Lowered.{Lowered}
 use Rattle.rl_model.specs.Headline.{LowersTo}
 use Rattle.rl_model.specs.Units.{IsUnit}
 use Rattle.rl_model.specs.Rows.{refusals_of, stop_of}
 use Rattle.rl_model.specs.Source.{marked}
-use Rattle.rl_ast.specs.declared.tree.Unit.{Unit as TreeOfUnit}
 use Rattle.rl_unit.specs.Answers.{AnswersSteadily, Explains, IsAnswer, IsOutput, IsComplete, IsMalformed, IsRefused, IsStopped, Writes, WritesKnown, ReadsWhole, Refuses, RefusesKnown, lines, output, report_of}
 use Rattle.rl_unit.specs.declared.run.Status.{Status}
 use Rattle.rl_unit.specs.declared.run.Status.TheVariants.{Done, Reported, Malformed, TooLarge, ReadFault, WriteFault, OutOfMemory, Usage}
@@ -54,8 +52,8 @@ writes_stop bytes said text stopped written = record {
   source = stopped.source;
   spelled = stopped.spelled;
   is_output = record {
-    unsupported = λ supported. never_both (stop_of (marked (unit stopped.source))) said stopped.stops supported.goes_on;
-    written = written ∙ ap (λ (o : Option Diagnostic). report_of o (refusals_of (marked (unit stopped.source)))) (sym stopped.stops);
+    unsupported = λ supported. never_both (stop_of (marked stopped.source)) said stopped.stops supported.goes_on;
+    written = written ∙ ap (λ (o : Option Diagnostic). report_of o (refusals_of (marked stopped.source))) (sym stopped.stops);
   };
 }
 
@@ -65,7 +63,7 @@ writes_report bytes said text refused written = record {
   spelled = refused.spelled;
   is_output = record {
     unsupported = λ supported. refused.some (refused.names ∙ supported.accepted);
-    written = written ∙ ap lines refused.names ∙ ap (λ (o : Option Diagnostic). report_of o (refusals_of (marked (unit refused.source)))) (sym refused.goes_on);
+    written = written ∙ ap lines refused.names ∙ ap (λ (o : Option Diagnostic). report_of o (refusals_of (marked refused.source))) (sym refused.goes_on);
   };
 }
 
@@ -93,12 +91,8 @@ refuses_left left bytes Reported first r = absurd r.no_output
 refuses_left left bytes Done first r = absurd r.no_output
 refuses_left left bytes WriteFault first r = absurd r.no_output
 
--- bytes spell one unit
-pub same_unit : (bytes : List ℕ) (u v : TreeOfUnit) → Spells bytes u → Spells bytes v → unit u ≡ unit v
-same_unit bytes u v one other = ap unit (Spells-unit-one bytes u v one other)
-
 -- a fact about the unit that was read holds of each unit that the bytes spell
-output_answers : (status : Status) (u : TreeOfUnit) (text : List ℕ) → IsOutput status u text → IsAnswer (marked (unit u)) status
+output_answers : (status : Status) (u : Syntax) (text : List ℕ) → IsOutput status u text → IsAnswer (marked u) status
 output_answers Done u text is = is.is_lowered.supported
 output_answers Reported u text is = is.unsupported
 output_answers Malformed u text is = absurd is
@@ -108,15 +102,32 @@ output_answers WriteFault u text is = absurd is
 output_answers OutOfMemory u text is = absurd is
 output_answers Usage u text is = absurd is
 
-spelled_known : (left : Option (List ℕ)) (bytes : List ℕ) (u : TreeOfUnit) → left ≡ Some bytes → IfSome left (λ known. IsUnit known u) → IsUnit bytes u
+spelled_known : (left : Option (List ℕ)) (bytes : List ℕ) (u : Syntax) → left ≡ Some bytes → IfSome left (λ known. IsUnit known u) → IsUnit bytes u
 spelled_known left bytes u is spelled = subst (λ o. IfSome o (λ known. IsUnit known u)) is spelled
 
 pub output_complete : (left : Option (List ℕ)) (status : Status) (text : List ℕ) → WritesKnown left status text → IsComplete left status
 output_complete left status text w = record {
   answers = λ bytes u is within spells.
       let read : IsUnit bytes w.source = subst (λ o. IfSome o (λ known. IsUnit known w.source)) is w.spelled in
-      subst (λ (s : Syntax). IsAnswer (marked s) status) (same_unit bytes w.source u read.spells spells.spells) (output_answers status w.source text w.is_output);
+      subst (λ (s : Syntax). IsAnswer (marked s) status) (one_unit bytes w.source u read.spells spells.spells) (output_answers status w.source text w.is_output);
 }
+
+-- no unit within the limits is refused
+no_unit : (left : Option (List ℕ)) (status : Status) (bytes : List ℕ) → RefusesKnown left status → left ≡ Some bytes → Refuses status bytes
+no_unit left status bytes r is = subst (λ o. IfSome o (λ known. Refuses status known)) is r.refuses
+
+refusal_answers : (status : Status) (left : Option (List ℕ)) (bytes : List ℕ) (u : Syntax) → RefusesKnown left status → left ≡ Some bytes → (IsTooLarge bytes → ⊥) → IsUnit bytes u → IsAnswer (marked u) status
+refusal_answers Malformed left bytes u r is within spells = absurd ((no_unit left Malformed bytes r is).no_unit u spells)
+refusal_answers TooLarge left bytes u r is within spells = absurd (within (no_unit left TooLarge bytes r is))
+refusal_answers ReadFault left bytes u r is within spells = tt
+refusal_answers OutOfMemory left bytes u r is within spells = tt
+refusal_answers Usage left bytes u r is within spells = absurd r.no_output
+refusal_answers Reported left bytes u r is within spells = absurd r.no_output
+refusal_answers Done left bytes u r is within spells = absurd r.no_output
+refusal_answers WriteFault left bytes u r is within spells = absurd r.no_output
+
+pub refusal_complete : (left : Option (List ℕ)) (status : Status) → RefusesKnown left status → IsComplete left status
+refusal_complete left status r = record { answers = λ bytes u is within spells. refusal_answers status left bytes u r is within spells }
 
 pub reads_whole : (left new : Option (List ℕ)) (bytes : List ℕ) → Consumes left new bytes → IfSome left (λ known. bytes ≡ take most_read known) → ReadsWhole left new
 reads_whole None new bytes gone first = tt

@@ -1,5 +1,4 @@
 pub mod Answering
-pub mod Fields
 pub mod Marked
 pub mod Outcomes
 pub mod Room

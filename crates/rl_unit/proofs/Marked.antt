@@ -1,12 +1,12 @@
--- The place of the marked function of a unit.
-use Rattle.std.proofs.Common.{◌≡◌, List, [], ◌∷◌, map, ap}
-use Rattle.rl_ast.specs.Syntax.{Listed, pieces_of}
-use Rattle.rl_ast.specs.Units.{node, statement, unit}
+-- The marked function of a unit, by the views that lead to it.
+use Rattle.std.proofs.Common.{◌≡◌, ap, ◌∙◌}
+use Rattle.rl_ast.specs.Syntax.{Syntax, Node, Listed, End, Then}
+use Rattle.rl_ast.specs.declared.numbered.At.{At}
 use Rattle.rl_ast.specs.declared.word.Word.TheVariants as word
-use Rattle.rl_ast.specs.declared.tree.Statement.{Statement}
-use Rattle.rl_ast.specs.declared.tree.Unit.{Unit}
-use Rattle.rl_model.specs.Source.{function_in, marked}
+use Rattle.rl_model.specs.Source.{marked}
 
--- the function of that statement is the marked one
-pub marked_statement : (u : Unit) (s : Statement) → u.program.body ≡ s ∷ [] → marked (unit u) ≡ function_in (statement s)
-marked_statement u s e = ap (λ (b : List Statement). marked (node u.at word.Unit (Listed (pieces_of []) ∷ node u.program.at word.Program (Listed (pieces_of (map statement b)) ∷ []) ∷ []))) e
+pub marked_is : (u program statement function : Syntax) (at at2 at3 : At) → Node at word.Unit (Then (Listed End) (Then program End)) ≡ u → Node at2 word.Program (Then (Listed (Then statement End)) End) ≡ program → Node at3 word.Expr (Then function End) ≡ statement → function ≡ marked u
+marked_is u program statement function at at2 at3 unit_is program_is statement_is =
+    ap (λ s. marked (Node at word.Unit (Then (Listed End) (Then (Node at2 word.Program (Then (Listed (Then s End)) End)) End)))) statement_is
+    ∙ ap (λ p. marked (Node at word.Unit (Then (Listed End) (Then p End)))) program_is
+    ∙ ap marked unit_is

@@ -1,16 +1,11 @@
 -- The marked function of a unit within the limits leaves room for its graph.
-use Rattle.std.proofs.Common.{◌≡◌, ℕ, ◌+◌, ◌*◌, ◌<◌, ◌≤◌, inl, inr, true, List, [], ◌∷◌, map, length, refl, ap, ◌∙◌, arith}
+use Rattle.std.proofs.Common.{◌≡◌, ℕ, ◌+◌, ◌*◌, ◌<◌, ◌≤◌, inl, inr, List, [], ◌++◌, length, length-append, ap, arith}
 use Rattle.rl_text.specs.Measure.{nodes_in}
-use Rattle.rl_text.specs.Nodes.{count, count_of}
-use Rattle.rl_text.proofs.Measures.{nodes_in-spelling}
 use Rattle.rl_ast.specs.declared.word.Word.TheVariants as word
-use Rattle.rl_ast.specs.declared.tree.Statement.{Statement}
-use Rattle.rl_ast.specs.declared.tree.Unit.{Unit as TreeOfUnit}
-use Rattle.rl_ast.specs.Grammar.{is_unit, is_marked}
 use Rattle.rl_ast.specs.Limits.{IsTooLarge}
-use Rattle.rl_ast.specs.Syntax.{Syntax, Node, Listed, Said, Count, Flag, Absent, Pieces, End, Then, pieces_of, plain, plain_parts, nodes, nodes_of}
-use Rattle.rl_ast.specs.Units.{node, statement, unit, Spells}
-use Rattle.rl_ast.proofs.Grammar.{one_statement}
+use Rattle.rl_ast.specs.Syntax.{Syntax, Node, Listed, Said, Pieces, End, Then, nodes, nodes_of}
+use Rattle.rl_ast.specs.Units.{Spells}
+use Rattle.rl_ast.proofs.Measured.{nodes_measured}
 use Rattle.rl_model.specs.Source.{function_in, marked}
 use Rattle.rl_hir.specs.declared.environment.Environment.{Environment}
 use Rattle.rl_hir.specs.declared.function.Identifier.{Identifier}
@@ -19,51 +14,51 @@ use Rattle.rl_hir.specs.declared.function.InnerFunction.{InnerFunction}
 use Rattle.rl_model.specs.Size.{function_size, inner_size}
 use Rattle.rl_hir.specs.declared.function.BlockKind.TheVariants as kinds
 use Rattle.rl_builder.specs.Builder.{started}
+use Rattle.rl_scope.specs.Symbols.{declared_by, declared_in, symbols_of}
 use Rattle.rl_lower.specs.Lowering.{HasRoom}
-use Rattle.rl_unit.proofs.Marked.{marked_statement}
 
-mutual
-  same_count : (t : Syntax) → count (plain t) ≡ nodes t
-  same_count (Node at said parts) = ap (λ (n : ℕ). n + 1) (same_counts parts)
-  same_count (Listed parts) = same_counts parts
-  same_count (Said text) = refl
-  same_count (Count number) = refl
-  same_count (Flag flag) = refl
-  same_count Absent = refl
+function_within : (s : Syntax) → nodes (function_in s) ≤ nodes s
+function_within (Node at word.Expr (Then function End)) = omega arith
+function_within _ = omega arith
 
-  same_counts : (p : Pieces) → count_of (plain_parts p) ≡ nodes_of p
-  same_counts End = refl
-  same_counts (Then piece pieces) =
-      let first : count (plain piece) ≡ nodes piece = same_count piece in
-      let rest : count_of (plain_parts pieces) ≡ nodes_of pieces = same_counts pieces in
-      omega (arith, first, rest)
+pub marked_within : (u : Syntax) → nodes (marked u) ≤ nodes u
+marked_within (Node at word.Unit (Then entities (Then (Node at2 word.Program (Then (Listed (Then statement End)) End)) End))) =
+    let inside : nodes (function_in statement) ≤ nodes statement = function_within statement in
+    omega arith
+marked_within _ = omega arith
 
-function_within : (t : Syntax) → is_marked t ≡ true → nodes (function_in t) ≤ nodes t
-function_within (Node at word.Expr (Then function End)) is = omega arith
-function_within _ is = absurd (cc)
-
-pub marked_within : (u : TreeOfUnit) → is_unit (unit u) ≡ true → nodes (marked (unit u)) ≤ nodes (unit u)
-marked_within u grammar =
-    let only = one_statement u grammar in
-    let inside : nodes (function_in (statement only.0)) ≤ nodes (statement only.0) = function_within (statement only.0) only.2 in
-    let same : nodes (marked (unit u)) ≡ nodes (function_in (statement only.0)) = ap nodes (marked_statement u only.0 only.1) in
-    let whole : nodes (unit u) ≡ 0 + (nodes (statement only.0) + 0 + 0 + 1 + 0) + 1 =
-    ap (λ (b : List Statement). nodes (node u.at word.Unit (Listed (pieces_of []) ∷ node u.program.at word.Program (Listed (pieces_of (map statement b)) ∷ []) ∷ []))) only.1 in
-    omega (arith, inside, same, whole)
-
-pub few_nodes : (bytes : List ℕ) (u : TreeOfUnit) → Spells bytes u → (IsTooLarge bytes → ⊥) → nodes (marked (unit u)) ≤ 65536
+pub few_nodes : (bytes : List ℕ) (u : Syntax) → Spells bytes u → (IsTooLarge bytes → ⊥) → nodes (marked u) ≤ 65536
 few_nodes bytes u spells small =
-    let counted : nodes_in bytes ≡ nodes (unit u) = ap nodes_in spells.spelled.spelled ∙ nodes_in-spelling (plain (unit u)) spells.spelled.writable ∙ same_count (unit u) in
+    let counted : nodes_in bytes ≡ nodes u = nodes_measured bytes u spells.spelled in
     let few : 65536 < nodes_in bytes → ⊥ = λ more. small (inr (inl more)) in
-    let inside : nodes (marked (unit u)) ≤ nodes (unit u) = marked_within u spells.grammar in
+    let inside : nodes (marked u) ≤ nodes u = marked_within u in
     omega (arith, counted, few, inside)
 
--- a function alone is bounded in the unit's nodes where it is in its own
-pub alone_bounded : (u : TreeOfUnit) → is_unit (unit u) ≡ true → (f : HirFunction) → function_size f ≤ 64 * nodes (marked (unit u)) → (inner : List InnerFunction) → inner ≡ [] → function_size f + inner_size inner ≤ 64 * nodes (unit u)
-alone_bounded u grammar f few inner none =
+-- a function alone is bounded in the unit's nodes if it is in its own
+pub alone_bounded : (u : Syntax) (f : HirFunction) → function_size f ≤ 64 * nodes (marked u) → (inner : List InnerFunction) → inner ≡ [] → function_size f + inner_size inner ≤ 64 * nodes u
+alone_bounded u f few inner none =
     let nothing : inner_size inner ≡ 0 = ap inner_size none in
-    let inside : nodes (marked (unit u)) ≤ nodes (unit u) = marked_within u grammar in
+    let inside : nodes (marked u) ≤ nodes u = marked_within u in
     omega (arith, few, nothing, inside)
+
+-- a function has at most as many symbols as nodes
+declared_one : (p : Syntax) → length (declared_by p) ≤ nodes p
+declared_one (Node at word.Param (Then (Node bind word.Bind (Then (Said name) type)) default)) = omega arith
+declared_one _ = omega arith
+
+declared_few : (ps : Pieces) → length (declared_in ps) ≤ nodes_of ps
+declared_few End = omega arith
+declared_few (Then p ps) =
+    let both : length (declared_by p ++ declared_in ps) ≡ length (declared_by p) + length (declared_in ps) = length-append (declared_by p) (declared_in ps) in
+    let first : length (declared_by p) ≤ nodes p = declared_one p in
+    let rest : length (declared_in ps) ≤ nodes_of ps = declared_few ps in
+    omega (arith, both, first, rest)
+
+pub symbols_few : (s : Syntax) → length (symbols_of s) ≤ nodes s
+symbols_few (Node at word.Arrow (Then marked (Then is_async (Then (Node list word.Params (Then (Listed params) rest)) body)))) =
+    let few : length (declared_in params) ≤ nodes_of params = declared_few params in
+    omega (arith, few)
+symbols_few _ = omega arith
 
 -- an environment in which nothing was made
 pub fresh_room : (env : Environment) (n : ℕ) → env.next_block ≡ 0 → env.next_type ≡ 0 → env.identifiers ≡ [] → n ≤ 65536 → HasRoom (started env kinds.Block) (4 * n)

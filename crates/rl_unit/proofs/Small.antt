@@ -4,9 +4,8 @@ use Rattle.rl_text.specs.Notation as notation
 use Rattle.rl_text.specs.Notation.{AreWritable, IsWritable, spelled_on, spelling}
 use Rattle.rl_text.specs.Raw.{parts_of}
 use Rattle.rl_ast.specs.Syntax.{Syntax, Node, Listed, Said, Count, Flag, Absent, Pieces, End, Then, IsPlaced, ArePlaced, nodes, plain, plain_parts, width}
-use Rattle.rl_ast.specs.Units.{Spells, unit}
+use Rattle.rl_ast.specs.Units.{Spells}
 use Rattle.rl_ast.specs.Words.{word_text}
-use Rattle.rl_ast.specs.declared.tree.Unit.{Unit as TreeOfUnit}
 use Rattle.rl_ast.specs.declared.word.Word.TheVariants as word
 use Rattle.rl_hir.specs.Listing.{lowered, function, identifier, inner, pair}
 use Rattle.rl_hir.specs.declared.function.InnerFunction.{InnerFunction}
@@ -51,10 +50,10 @@ marked_small (Node at word.Unit (Then entities (Then (Node at2 word.Program (The
 marked_small _ small = (tt, tt)
 
 -- the marked function of a unit within the limits
-pub unit_small : (bytes : List ℕ) (u : TreeOfUnit) → Spells bytes u → length bytes ≤ 2 ^ 24 → IsSmallTree (marked (unit u))
+pub unit_small : (bytes : List ℕ) (u : Syntax) → Spells bytes u → length bytes ≤ 2 ^ 24 → IsSmallTree (marked u)
 unit_small bytes u spells short =
-    let long : length bytes ≡ width (unit u) = ap length spells.spelled.spelled in
-    marked_small (unit u) (placed_small (unit u) 0 0 spells.numbers (omega (arith, long, short)), spells.spelled.writable)
+    let long : length bytes ≡ width u = ap length spells.spelled.spelled in
+    marked_small u (placed_small u 0 0 spells.numbers (omega (arith, long, short)), spells.spelled.writable)
 
 -- a list whose items have writable trees
 pub all_writable : {X : Type 0} (tree : X → notation.Tree) (items : List X) → All (λ x. IsWritable (tree x)) items → AreWritable (parts_of (map tree items))

@@ -7,7 +7,6 @@ use Rattle.rl_text.specs.Notation.{spelling}
 use Rattle.rl_hir.specs.Listing.{lowered}
 use Rattle.rl_ast.specs.Limits.{IsTooLarge, most_read}
 use Rattle.rl_ast.specs.Syntax.{Syntax}
-use Rattle.rl_ast.specs.Units.{unit}
 use Rattle.rl_base.specs.Diagnostics.{line_of}
 use Rattle.rl_base.specs.declared.diagnostic.Diagnostic.{Diagnostic}
 use Rattle.rl_model.specs.Rows.{IsSupported, refusals_of, stop_of}
@@ -16,13 +15,12 @@ use Rattle.rl_model.specs.Headline.{IsLowered}
 use Rattle.rl_model.specs.Units.{IsUnit}
 use Rattle.rl_unit.specs.declared.run.Status.{Status}
 use Rattle.rl_unit.specs.declared.run.Status.TheVariants.{Done, Reported, Malformed, TooLarge, ReadFault, WriteFault, OutOfMemory, Usage}
-use Rattle.rl_ast.specs.declared.tree.Unit.{Unit as TreeOfUnit}
 use Rattle.rl_hir.specs.declared.function.Lowered.{Lowered}
 
 -- The bytes are within the limits, and spell no well-formed unit.
 pub record IsMalformed (bytes : List ℕ) : Type 0 where
   pub within : IsTooLarge bytes → ⊥
-  pub no_unit : (u : TreeOfUnit) → IsUnit bytes u → ⊥
+  pub no_unit : (u : Syntax) → IsUnit bytes u → ⊥
 
 -- The output for a result: its text, and a line feed.
 abbrev pub output : Lowered → List ℕ
@@ -30,16 +28,16 @@ output l = spelling (lowered l) ++ 10 ∷ []
 
 -- The bytes spell a unit that is stopped, by the diagnostic `said`.
 pub record IsStopped (bytes : List ℕ) (said : Diagnostic) : Type 0 where
-  pub source : TreeOfUnit
+  pub source : Syntax
   pub spelled : IsUnit bytes source
-  pub stops : stop_of (marked (unit source)) ≡ Some said
+  pub stops : stop_of (marked source) ≡ Some said
 
 -- The bytes spell a unit that is not stopped and is refused, by the diagnostics `said`, at least one.
 pub record IsRefused (bytes : List ℕ) (said : List Diagnostic) : Type 0 where
-  pub source : TreeOfUnit
+  pub source : Syntax
   pub spelled : IsUnit bytes source
-  pub goes_on : stop_of (marked (unit source)) ≡ None
-  pub names : said ≡ refusals_of (marked (unit source))
+  pub goes_on : stop_of (marked source) ≡ None
+  pub names : said ≡ refusals_of (marked source)
   pub some : said ≢ []
 
 -- The lines of diagnostics, in order.
@@ -53,31 +51,31 @@ report_of (Some stop) refusals = line_of stop
 report_of None refusals = lines refusals
 
 -- The text is the output for a result of the unit.
-pub record IsResultOf (u : TreeOfUnit) (text : List ℕ) : Type 0 where
+pub record IsResultOf (u : Syntax) (text : List ℕ) : Type 0 where
   pub result : Lowered
   pub is_lowered : IsLowered u result
   pub written : text ≡ output result
 
 -- A row applies to the unit, and the text is its report.
-pub record IsReportOf (u : TreeOfUnit) (text : List ℕ) : Type 0 where
-  pub unsupported : IsSupported (marked (unit u)) → ⊥
-  pub written : text ≡ report_of (stop_of (marked (unit u))) (refusals_of (marked (unit u)))
+pub record IsReportOf (u : Syntax) (text : List ℕ) : Type 0 where
+  pub unsupported : IsSupported (marked u) → ⊥
+  pub written : text ≡ report_of (stop_of (marked u)) (refusals_of (marked u))
 
 -- The text is the output of a status for a unit: of Done a result, of Reported a report.
-abbrev pub IsOutput : Status → TreeOfUnit → List ℕ → Type 0
+abbrev pub IsOutput : Status → Syntax → List ℕ → Type 0
 IsOutput Done u text = IsResultOf u text
 IsOutput Reported u text = IsReportOf u text
 IsOutput _ u text = ⊥
 
 -- The text is the output of the status for the unit that the bytes spell.
 pub record Writes (bytes : List ℕ) (status : Status) (text : List ℕ) : Type 0 where
-  pub source : TreeOfUnit
+  pub source : Syntax
   pub spelled : IsUnit bytes source
   pub is_output : IsOutput status source text
 
 -- As `Writes`, of bytes that may not be known: of some unit, and within the limits where they are known.
 pub record WritesKnown (bytes : Option (List ℕ)) (status : Status) (text : List ℕ) : Type 0 where
-  pub source : TreeOfUnit
+  pub source : Syntax
   pub spelled : IfSome bytes (λ known. IsUnit known source)
   pub within : IfSome bytes (λ known. IsTooLarge known → ⊥)
   pub is_output : IsOutput status source text
@@ -161,13 +159,13 @@ IsAnswer function Usage = ⊥
 
 -- Bytes that were left, are known, are within the limits and spell a unit have the status of that unit.
 pub record IsComplete (left : Option (List ℕ)) (status : Status) : Type 0 where
-  pub answers : (bytes : List ℕ) (u : TreeOfUnit) → left ≡ Some bytes → (IsTooLarge bytes → ⊥) → IsUnit bytes u → IsAnswer (marked (unit u)) status
+  pub answers : (bytes : List ℕ) (u : Syntax) → left ≡ Some bytes → (IsTooLarge bytes → ⊥) → IsUnit bytes u → IsAnswer (marked u) status
 
 -- The answer to a unit over a source and a sink that never fail: its result where no row applies, its report where one does,
 -- and neither where the bytes are malformed or pass a limit. Or memory was wanted and not given.
 abbrev pub AnswersSteadily : List ℕ → Status → Type 0
-AnswersSteadily bytes Done = (u : TreeOfUnit) × IsUnit bytes u × IsSupported (marked (unit u))
-AnswersSteadily bytes Reported = (u : TreeOfUnit) × IsUnit bytes u × (IsSupported (marked (unit u)) → ⊥)
+AnswersSteadily bytes Done = (u : Syntax) × IsUnit bytes u × IsSupported (marked u)
+AnswersSteadily bytes Reported = (u : Syntax) × IsUnit bytes u × (IsSupported (marked u) → ⊥)
 AnswersSteadily bytes Malformed = IsMalformed bytes
 AnswersSteadily bytes TooLarge = IsTooLarge bytes
 AnswersSteadily bytes ReadFault = ⊥

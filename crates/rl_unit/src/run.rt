@@ -15,8 +15,7 @@ use rl_base::error::OutOfMemory;
 use rl_base::infallible_io::{SteadySink, SteadySource};
 use rl_base::io::{ReadError, Sink, Source, read_up_to, write_all};
 use rl_hir::function::Lowered;
-use rl_hir::listing::listing;
-use rl_text::write::write_raw;
+use rl_hir::listing::write_listing;
 use std::alloc::Global;
 use std::{env, io};
 
@@ -122,7 +121,7 @@ fn report(alloc: Global, said: &[Diagnostic]) -> Result<Vec<u8>, OutOfMemory>
 {
     let mut text = Vec::new(alloc);
     for diagnostic in said {
-        diagnostic.write_line(alloc, &mut text)?;
+        diagnostic.write_line(&mut text)?;
     }
     Ok(text)
 }
@@ -132,16 +131,20 @@ fn stop_line(alloc: Global, stop: &Diagnostic) -> Result<Vec<u8>, OutOfMemory>
     ensures { IfOk result (λ text. text.items ≡ line_of stop.now) }
 {
     let mut text = Vec::new(alloc);
-    stop.write_line(alloc, &mut text)?;
+    stop.write_line(&mut text)?;
     Ok(text)
 }
+
+/// Bytes of a listing for each instruction, as most have them.
+const BYTES_OF_INSTRUCTION: usize = 96;
 
 /// The text of a result, and a line feed.
 fn listed(alloc: Global, lowered: &Lowered) -> Result<Vec<u8>, OutOfMemory>
     ensures { IfOk result (λ text. text.items ≡ output lowered.now) }
 {
-    let raw = listing(alloc, lowered)?;
-    let mut text = write_raw(alloc, &raw)?;
+    let room = BYTES_OF_INSTRUCTION.saturating_mul(lowered.function.instructions.len());
+    let mut text = Vec::with_capacity(alloc, room)?;
+    write_listing(lowered, &mut text)?;
     text.push(b'\n')?;
     Ok(text)
 }

@@ -1,16 +1,16 @@
 //! Units, from their bytes to their results.
 
 ghost use Rattle.std.specs.Prelude.{◌≡◌, ◌↔◌, true, List, IfErr, IfOk, IsErrOf};
-ghost use Rattle.rl_ast.specs.Grammar.{is_function, is_marked, is_unit};
-ghost use Rattle.rl_model.specs.Source.{function_in, marked};
-ghost use Rattle.rl_ast.specs.Units as spec;
+ghost use Rattle.rl_ast.specs.Syntax.{syntax};
+ghost use Rattle.rl_model.specs.Source.{marked};
 ghost use Rattle.rl_model.specs.Headline.{LowersTo};
 ghost use Rattle.rl_unit.specs.Answers.{IsMalformed, IsRefused, IsStopped};
 ghost use Rattle.rl_ast.specs.Limits.{IsTooLarge};
 ghost use Rattle.rl_base.specs.declared.diagnostic.Diagnostic.{Diagnostic};
 
 use rl_ast::read::{TreeError, read_tree};
-use rl_ast::tree::{ArrowFunction, Expression, Statement, Unit};
+use rl_ast::unit::Unit;
+use rl_ast::view::{FunctionTree, marked_view, program_view};
 use rl_base::diagnostic::Diagnostic;
 use rl_base::error::OutOfMemory;
 use rl_base::list::List;
@@ -54,60 +54,13 @@ impl From<OutOfMemory> for LowerError {
     }
 }
 
-/// The function that an expression is.
-#[tactic(auto, using(rl_ast::proofs::Spelled::spelled))]
-fn arrow_of(expression: &Expression) -> &ArrowFunction
-    requires { is_function (spec.expression expression.now) ≡ true }
-    ensures { spec.function result.now ≡ spec.expression expression.now }
+/// The marked function of a unit: the one that `lower_unit` lowers.
+#[tactic(auto, using(crate::proofs::Marked::marked_is))]
+pub fn marked_function(unit: &Unit) -> FunctionTree<'_>
+    ensures { syntax result.tree.now ≡ marked (syntax unit.now.tree) }
 {
-    match expression {
-        Expression::Null { at: _ } => unreachable!(),
-        Expression::Boolean { at: _, value: _ } => unreachable!(),
-        Expression::Number { at: _, text: _ } => unreachable!(),
-        Expression::String { at: _, text: _ } => unreachable!(),
-        Expression::Parenthesized {
-            at: _,
-            expression: _,
-        } => unreachable!(),
-        Expression::Identifier { at: _, name: _ } => unreachable!(),
-        Expression::Binary {
-            at: _,
-            operator: _,
-            left: _,
-            right: _,
-        } => unreachable!(),
-        Expression::Call {
-            at: _,
-            callee: _,
-            arguments: _,
-        } => unreachable!(),
-        Expression::ArrowFunction(function) => function.get(),
-    }
-}
-
-/// The function of an expression statement.
-#[tactic(auto, using(rl_ast::proofs::Spelled::spelled))]
-fn function_of(statement: &Statement) -> &ArrowFunction
-    requires { is_marked (spec.statement statement.now) ≡ true }
-    ensures function { spec.function result.now ≡ function_in (spec.statement statement.now) }
-    ensures grammar { is_function (spec.function result.now) ≡ true }
-{
-    match statement {
-        Statement::Expression { at: _, expression } => arrow_of(expression),
-        Statement::Return { at: _, argument: _ } => unreachable!(),
-    }
-}
-
-/// The marked function of a unit.
-fn marked_function(unit: &Unit) -> &ArrowFunction
-    requires { is_unit (spec.unit unit.now) ≡ true }
-    ensures function { spec.function result.now ≡ marked (spec.unit unit.now) }
-    ensures grammar { is_function (spec.function result.now) ≡ true }
-{
-    match unit.program.body.get(0) {
-        Some(statement) => function_of(statement),
-        None => unreachable!(),
-    }
+    let program = program_view(unit.view().program);
+    marked_view(program.marked).function
 }
 
 /// Lowers the marked function of the unit that `bytes`, all of them, spell (`lower` of the original, with its parser and its

@@ -1,11 +1,13 @@
-use Rattle.std.proofs.Common.{◌≡◌, ℕ, Bool, true, false, if◌then◌else◌, codes, List, [], ◌∷◌, Some, refl, sym, ap, ◌∙◌}
-use Rattle.std.specs.Str.{bytes_eq}
+use Rattle.std.proofs.Common.{◌≡◌, ℕ, Bool, true, false, if◌then◌else◌, codes, List, [], ◌∷◌, Some, refl, sym, ap, ◌∙◌, subst}
+use Rattle.std.specs.Str.{IsUtf8, bytes_eq}
 use Rattle.rl_base.specs.declared.row.Row.TheVariants as row
 use Rattle.rl_model.specs.Rows.{refusal}
 use Rattle.rl_lower.proofs.Answering.{ok_given}
 use Rattle.rl_lower.proofs.Lowered.{eval_call, global_call}
 use Rattle.rl_lower.proofs.Names.{undeclared_from}
-use Rattle.rl_lower.proofs.SoundKinds.{eval_sound, global_sound}
+use Rattle.rl_lower.proofs.SoundKinds.{leaf_sound, noted_sound}
+use Rattle.rl_lower.proofs.SoundListing.{global_writable}
+use Rattle.rl_lower.proofs.SoundMoves.{none_known}
 use Rattle.rl_lower.proofs.expression.lower_global.Goals as goal
 
 -- the name is `eval` if and only if the test says so
@@ -29,11 +31,12 @@ returns-clause-lowered c =
 pub returns-then-eq-clause-sound : goal.returns-then-eq-clause-sound
 returns-then-eq-clause-sound c =
     ok_given c.lower_value_to_temporary.result c.lower_value_to_temporary.ensures.state c.lower_value_to_temporary.ensures.place
-    (λ place moved placed. eval_sound c.args.at c.args.name.now c.in_ok-copy.field-0
-    (refusal row.F2 c.args.at.span) _ _ _ place c.in_ok-copy.ensures c.in_ok-refuse.ensures.state moved placed)
+    (λ place. noted_sound _ c.args.at _ _ _ _ _ _ _ place refl c.in_ok-refuse.ensures.state (none_known _)
+    (λ small fits. global_writable _ (subst IsUtf8 (sym c.in_ok-copy.ensures) small.1.1.0)))
 
 pub returns-clause-sound : goal.returns-clause-sound
 returns-clause-sound c =
     ok_given c.lower_value_to_temporary-2.result c.lower_value_to_temporary-2.ensures.state
     c.lower_value_to_temporary-2.ensures.place
-    (λ place moved placed. global_sound c.args.at c.args.name.now c.in_ok-copy.field-0 _ _ place c.in_ok-copy.ensures moved placed)
+    (λ place. leaf_sound _ c.args.at _ _ _ _ _ place refl refl
+    (λ small. global_writable _ (subst IsUtf8 (sym c.in_ok-copy.ensures) small.1.1.0)))

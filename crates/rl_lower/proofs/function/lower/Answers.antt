@@ -1,35 +1,21 @@
 use Rattle.std.proofs.Common.{None, Some, false, ap, ◌∙◌, refl}
-use Rattle.rl_ast.proofs.Grammar.{function_body}
-use Rattle.rl_ast.specs.Units.{arrow_body}
+use Rattle.rl_ast.specs.Syntax.{Syntax, span_of}
 use Rattle.rl_hir.specs.declared.environment.Environment.{Environment}
 use Rattle.rl_hir.specs.declared.function.HirFunction.{HirFunction}
-use Rattle.rl_lower.proofs.FunctionGraphs.{graph_closed, identifiers_fit, types_fit, lower_bounded, lower_calls, lower_never_stuck, lower_fn_type, lower_functions, lower_identifiers, lower_block_calls, lower_pairs, lower_refused, lower_room, lower_same_runs}
+use Rattle.rl_lower.proofs.FunctionGraphs.{graph_closed, identifiers_fit, types_fit, lower_bounded, lower_never_stuck, lower_fn_type, lower_functions, lower_held, lower_identifiers, lower_pairs, lower_refused, lower_room, lower_same_runs}
+use Rattle.rl_lower.proofs.FunctionTrees.{function_form}
 use Rattle.rl_lower.proofs.WellFormed.{graph_linked, graph_numbered}
 use Rattle.rl_lower.proofs.SoundGraphs.{function_identifiers, function_listed, function_places}
 use Rattle.rl_lower.proofs.function.lower.Goals as goal
 
-pub lower_graph-requires-clause-grammar : goal.lower_graph-requires-clause-grammar
-lower_graph-requires-clause-grammar c = function_body c.args.function.now c.requires.grammar
-
-pub lower_graph-requires-clause-room : goal.lower_graph-requires-clause-room
-lower_graph-requires-clause-room c = lower_room c.args.function.now c.args.semantic.now.symbols _ c.requires.symbols c.requires.room
-
-pub create_temporary_place-requires-clause-identifiers : goal.create_temporary_place-requires-clause-identifiers
-create_temporary_place-requires-clause-identifiers c =
-    identifiers_fit c.args.semantic.now.symbols (arrow_body c.args.function.now.body) c.args.env.now _ c.in_ok-graph.graph.params c.in_ok-graph.graph.built c.in_ok-graph.ensures.graph c.requires.distinct (lower_room c.args.function.now c.args.semantic.now.symbols _ c.requires.symbols c.requires.room)
-
-pub create_temporary_place-requires-clause-types : goal.create_temporary_place-requires-clause-types
-create_temporary_place-requires-clause-types c =
-    types_fit c.args.semantic.now.symbols (arrow_body c.args.function.now.body) c.args.env.now _ c.in_ok-graph.graph.params c.in_ok-graph.graph.built c.in_ok-graph.ensures.graph c.requires.distinct (lower_room c.args.function.now c.args.semantic.now.symbols _ c.requires.symbols c.requires.room)
-
 -- The function that is returned.
 abbrev lowered : (c : goal.After-new) → HirFunction
 lowered c = record {
-  span = Some c.args.function.now.at.span;
+  span = Some c.function_view-function.result.at.span;
   name = None;
   fn_type = c.create_temporary_place.new.env.fn_type;
   generator = false;
-  is_async = c.args.function.now.is_async;
+  is_async = c.function_view-function.result.is_async;
   directives = c.in_ok-directives_of.field-0;
   params = c.in_ok-graph.graph.params;
   context = c.new.result;
@@ -38,78 +24,100 @@ lowered c = record {
   instructions = c.in_ok-graph.graph.built.instructions;
 }
 
+pub lower_graph-requires-clause-room : goal.lower_graph-requires-clause-room
+lower_graph-requires-clause-room c =
+    let f = c.function_view-function in
+    lower_room _ _ _ _ (function_form _ f.result f.ensures) c.requires.symbols c.requires.room
+
+pub create_temporary_place-requires-clause-identifiers : goal.create_temporary_place-requires-clause-identifiers
+create_temporary_place-requires-clause-identifiers c =
+    let f = c.function_view-function in
+    identifiers_fit _ _ _ _ _ _ c.in_ok-graph.ensures.graph c.requires.distinct
+    (lower_room _ _ _ _ (function_form _ f.result f.ensures) c.requires.symbols c.requires.room)
+
+pub create_temporary_place-requires-clause-types : goal.create_temporary_place-requires-clause-types
+create_temporary_place-requires-clause-types c =
+    let f = c.function_view-function in
+    types_fit _ _ _ _ _ _ c.in_ok-graph.ensures.graph c.requires.distinct
+    (lower_room _ _ _ _ (function_form _ f.result f.ensures) c.requires.symbols c.requires.room)
+
 pub returns-clause-refused : goal.returns-clause-refused
 returns-clause-refused c =
+    let f = c.function_view-function in
     ap (λ (e : Environment). e.diagnostics) c.in_ok-returns.ensures.ok
-    ∙ lower_refused c.args.function.now c.args.semantic.now.symbols c.args.env.now _ c.in_ok-graph.graph.params c.in_ok-graph.graph.built c.requires.symbols c.requires.distinct c.in_ok-graph.ensures.graph
+    ∙ lower_refused _ _ _ _ _ _ _ (function_form _ f.result f.ensures) c.requires.symbols c.requires.distinct
+    c.in_ok-graph.ensures.graph
 
 pub returns-clause-closed : goal.returns-clause-closed
-returns-clause-closed c = graph_closed c.args.semantic.now.symbols (arrow_body c.args.function.now.body) c.args.env.now _ c.in_ok-graph.graph.params c.in_ok-graph.graph.built c.in_ok-graph.ensures.graph c.requires.distinct
+returns-clause-closed c = graph_closed _ _ _ _ _ _ c.in_ok-graph.ensures.graph c.requires.distinct
 
 pub returns-clause-same_runs : goal.returns-clause-same_runs
 returns-clause-same_runs c supported =
-    lower_same_runs c.args.function.now c.args.semantic.now.symbols c.args.env.now _ c.in_ok-graph.graph.params c.in_ok-graph.graph.built c.requires.symbols c.requires.distinct c.in_ok-graph.ensures.graph supported (lowered c) _ refl refl refl
+    let f = c.function_view-function in
+    lower_same_runs _ _ _ _ _ _ _ (function_form _ f.result f.ensures) c.requires.symbols c.requires.distinct c.in_ok-graph.ensures.graph
+    supported (lowered c) _ refl refl refl
 
 pub returns-clause-never_stuck : goal.returns-clause-never_stuck
 returns-clause-never_stuck c supported =
-    lower_never_stuck c.args.function.now c.args.semantic.now.symbols c.args.env.now _ c.in_ok-graph.graph.params c.in_ok-graph.graph.built c.requires.symbols c.requires.distinct c.in_ok-graph.ensures.graph supported (lowered c) _ refl refl refl
+    let f = c.function_view-function in
+    lower_never_stuck _ _ _ _ _ _ _ (function_form _ f.result f.ensures) c.requires.symbols c.requires.distinct c.in_ok-graph.ensures.graph
+    supported (lowered c) _ refl refl refl
 
 pub returns-clause-bounded : goal.returns-clause-bounded
 returns-clause-bounded c =
-    lower_bounded c.args.function.now c.args.semantic.now.symbols c.args.env.now _ c.in_ok-graph.graph.params c.in_ok-graph.graph.built c.requires.distinct c.in_ok-graph.ensures.graph (lowered c) refl refl
+    let f = c.function_view-function in
+    lower_bounded _ _ _ _ _ _ _ (function_form _ f.result f.ensures) c.requires.distinct c.in_ok-graph.ensures.graph
+    (lowered c) refl refl
 
 pub returns-clause-functions : goal.returns-clause-functions
 returns-clause-functions c =
     ap (λ (e : Environment). e.functions) c.in_ok-returns.ensures.ok
-    ∙ lower_functions c.args.semantic.now.symbols (arrow_body c.args.function.now.body) c.args.env.now _ c.in_ok-graph.graph.params c.in_ok-graph.graph.built c.requires.distinct c.in_ok-graph.ensures.graph
+    ∙ lower_functions _ _ _ _ _ _ c.requires.distinct c.in_ok-graph.ensures.graph
 
 pub returns-clause-fn_type : goal.returns-clause-fn_type
 returns-clause-fn_type c =
     ap (λ (e : Environment). e.fn_type) c.in_ok-returns.ensures.ok
-    ∙ lower_fn_type c.args.semantic.now.symbols (arrow_body c.args.function.now.body) c.args.env.now _ c.in_ok-graph.graph.params c.in_ok-graph.graph.built c.requires.distinct c.in_ok-graph.ensures.graph
+    ∙ lower_fn_type _ _ _ _ _ _ c.requires.distinct c.in_ok-graph.ensures.graph
 
 pub returns-clause-pairs : goal.returns-clause-pairs
 returns-clause-pairs c =
     ap (λ (e : Environment). e.pairs) c.in_ok-returns.ensures.ok
-    ∙ lower_pairs c.args.semantic.now.symbols (arrow_body c.args.function.now.body) c.args.env.now _ c.in_ok-graph.graph.params c.in_ok-graph.graph.built c.requires.distinct c.in_ok-graph.ensures.graph
+    ∙ lower_pairs _ _ _ _ _ _ c.requires.distinct c.in_ok-graph.ensures.graph
 
 pub returns-clause-identifiers : goal.returns-clause-identifiers
 returns-clause-identifiers c =
-    lower_identifiers c.args.semantic.now.symbols (arrow_body c.args.function.now.body) c.args.env.now _ c.create_temporary_place.new.env c.in_ok-graph.graph.params c.in_ok-graph.graph.built _ c.requires.distinct c.in_ok-graph.ensures.graph (ap (λ (e : Environment). e.identifiers) c.in_ok-returns.ensures.ok) refl
+    lower_identifiers _ _ _ _ c.create_temporary_place.new.env _ _ _ c.requires.distinct c.in_ok-graph.ensures.graph
+    (ap (λ (e : Environment). e.identifiers) c.in_ok-returns.ensures.ok) refl
 
 pub returns-clause-held : goal.returns-clause-held
 returns-clause-held c =
-    record {
-      table = lower_calls c.args.function.now c.args.semantic.now.symbols c.args.env.now _ c.in_ok-graph.graph.params c.in_ok-graph.graph.built c.requires.distinct c.in_ok-graph.ensures.graph (lowered c) refl;
-      blocks = lower_block_calls c.args.function.now c.args.semantic.now.symbols c.args.env.now _ c.in_ok-graph.graph.params c.in_ok-graph.graph.built c.requires.distinct c.in_ok-graph.ensures.graph (lowered c) refl refl;
-    }
+    let f = c.function_view-function in
+    lower_held _ _ _ _ _ _ _ (function_form _ f.result f.ensures) c.requires.distinct c.in_ok-graph.ensures.graph
+    (lowered c) refl refl
 
 pub returns-clause-numbered : goal.returns-clause-numbered
-returns-clause-numbered c =
-    graph_numbered c.args.semantic.now.symbols (arrow_body c.args.function.now.body) c.args.env.now _ c.in_ok-graph.graph.params c.in_ok-graph.graph.built
-    c.in_ok-graph.ensures.graph c.requires.distinct
+returns-clause-numbered c = graph_numbered _ _ _ _ _ _ c.in_ok-graph.ensures.graph c.requires.distinct
 
 pub returns-clause-linked : goal.returns-clause-linked
-returns-clause-linked c =
-    graph_linked c.args.semantic.now.symbols (arrow_body c.args.function.now.body) c.args.env.now _ c.in_ok-graph.graph.params c.in_ok-graph.graph.built
-    c.in_ok-graph.ensures.graph c.requires.distinct _ refl refl
+returns-clause-linked c = graph_linked _ _ _ _ _ _ c.in_ok-graph.ensures.graph c.requires.distinct _ refl refl
 
 pub returns-clause-places : goal.returns-clause-places
 returns-clause-places c =
-    function_places c.args.semantic.now.symbols (arrow_body c.args.function.now.body) c.args.env.now _
-    c.create_temporary_place.new.env c.in_ok-graph.graph.built _ _ c.in_ok-graph.ensures.sound
+    function_places _ _ _ _ c.create_temporary_place.new.env _ _ _ c.in_ok-graph.ensures.sound
     (ap (λ (e : Environment). e.identifiers) c.in_ok-returns.ensures.ok) refl refl c.in_ok-graph.ensures.graph.places
     c.new.ensures c.in_ok-returns.ensures.place
 
 pub returns-clause-writable : goal.returns-clause-writable
 returns-clause-writable c =
-    function_listed c.args.function.now c.args.semantic.now.symbols c.args.env.now _ c.in_ok-graph.graph.built (lowered c)
-    c.requires.symbols c.in_ok-graph.ensures.sound
-    refl refl c.in_ok-directives_of.ensures.texts refl refl c.in_ok-graph.ensures.graph.places c.new.ensures
-    c.in_ok-returns.ensures.place
+    let f = c.function_view-function in
+    function_listed _ _ _ _ _ _ (lowered c)
+    (function_form _ f.result f.ensures) c.requires.symbols c.in_ok-graph.ensures.sound
+    (ap (λ (t : Syntax). Some (span_of t)) f.ensures) refl c.in_ok-directives_of.ensures.texts refl refl
+    c.in_ok-graph.ensures.graph.places c.new.ensures c.in_ok-returns.ensures.place
 
 pub returns-clause-known : goal.returns-clause-known
 returns-clause-known c =
-    function_identifiers c.args.function.now c.args.semantic.now.symbols c.args.env.now _ c.create_temporary_place.new.env
-    c.in_ok-graph.graph.built c.requires.symbols c.in_ok-graph.ensures.sound
-    (ap (λ (e : Environment). e.identifiers) c.in_ok-returns.ensures.ok)
+    let f = c.function_view-function in
+    function_identifiers _ _ f.result.at.span _ _ _ c.create_temporary_place.new.env _
+    (function_form _ f.result f.ensures) (ap span_of f.ensures)
+    c.requires.symbols c.in_ok-graph.ensures.sound (ap (λ (e : Environment). e.identifiers) c.in_ok-returns.ensures.ok)
