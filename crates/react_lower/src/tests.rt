@@ -1,6 +1,8 @@
 //! Runs of the program over memory.
 
 mod base;
+mod hostile;
+mod interrupted;
 mod limits;
 mod listings;
 mod malformed;

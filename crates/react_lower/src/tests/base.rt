@@ -18,7 +18,7 @@ use std::test::Fail;
 fn line(alloc: Global, row: Row, word: &str) -> Result<Vec<u8>, OutOfMemory> {
     let diagnostic = Diagnostic::at(alloc, row, word, Span { start: 75, end: 90 })?;
     let mut out = Vec::new(alloc);
-    diagnostic.write_line(alloc, &mut out)?;
+    diagnostic.write_line(&mut out)?;
     Ok(out)
 }
 
@@ -82,7 +82,7 @@ fn line_of_two(alloc: Global) -> Result<Vec<u8>, OutOfMemory> {
         labels,
     };
     let mut out = Vec::new(alloc);
-    diagnostic.write_line(alloc, &mut out)?;
+    diagnostic.write_line(&mut out)?;
     Ok(out)
 }
 

@@ -2,8 +2,8 @@
 
 use super::function_of;
 use rl_ast::read::read_tree;
-use rl_ast::tree::{Expression, Statement};
 use rl_scope::semantic::Semantic;
+use rl_unit::unit::marked_function;
 use std::alloc::Global;
 use std::test::Fail;
 
@@ -11,15 +11,7 @@ use std::test::Fail;
 fn semantic_of(alloc: Global, names: &[&str]) -> Result<Semantic, Fail> {
     let text = function_of(alloc, names, "")?;
     let unit = read_tree(alloc, text.as_bytes())?;
-    match unit.program.body.get(0) {
-        Some(
-            Statement::Expression {
-                at: _,
-                expression: Expression::ArrowFunction(function),
-            },
-        ) => Ok(Semantic::of(alloc, function.get())?),
-        _ => Err(Fail::from("no function")),
-    }
+    Ok(Semantic::of(alloc, marked_function(&unit))?)
 }
 
 #[test]

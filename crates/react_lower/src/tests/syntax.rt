@@ -1,8 +1,16 @@
-//! The reader of units: ids and spans of nodes, units that are read, and texts that are refused.
+//! The reader and the writer of units: numbers of nodes, units that are read and written back, and texts that are refused.
 
 use rl_ast::numbered::At;
 use rl_ast::read::{TreeError, read_tree};
-use rl_ast::tree::{ArrowBody, ArrowFunction, Expression, Statement, Unit};
+use rl_ast::unit::Unit;
+use rl_ast::view::{
+    ArrowBody, Statement, StatementTree, binding_view, body_view, function_view, param_view,
+    params_view, program_view, statement_view,
+};
+use rl_ast::word::Word;
+use rl_ast::write::write_tree;
+use rl_base::ids::NodeId;
+use rl_unit::unit::marked_function;
 use std::alloc::{AllocError, Global};
 use std::test::Fail;
 
@@ -10,35 +18,24 @@ use std::test::Fail;
 const BODY: &[u8] =
     b"(unit [] (program [(expr (arrow y y (params [(param (bind \"p\" -) -)] -) (body [\"use strict\" \"use memo\"] [(expr (str \"x\")) (return (call n (id \"f\") [(binary \"<<\" (null) (id \"p\")) (num \"0x1F\")])) (return -)])))]))";
 
-/// The marked function of a unit.
-fn marked_of(unit: &Unit) -> Option<&ArrowFunction> {
-    match unit.program.body.get(0) {
-        Some(
-            Statement::Expression {
-                at: _,
-                expression: Expression::ArrowFunction(function),
-            },
-        ) => Some(function.get()),
-        _ => None,
-    }
+/// Ids, start and end of a node.
+fn numbers(at: At) -> (u32, u32, u32, u32) {
+    (at.id.0, at.end.0, at.span.start, at.span.end)
 }
 
-/// Id, start and end of a node.
-fn numbers(at: At) -> (u32, u32, u32) {
-    (at.id.0, at.span.start, at.span.end)
-}
-
-/// The places of a unit, its program, its function, the parameter list, the first parameter and its name.
-fn function_places(unit: &Unit) -> Option<[(u32, u32, u32); 6]> {
-    let function = marked_of(unit)?;
-    let param = function.params.items.get(0)?;
+/// The numbers of a unit, its program, its function, the parameter list, the first parameter and its name.
+fn function_numbers(unit: &Unit) -> Option<[(u32, u32, u32, u32); 6]> {
+    let function = function_view(marked_function(unit));
+    let params = params_view(function.params);
+    let (param, _rest) = params.items.split_first()?;
+    let param = param_view(param);
     Some([
-        numbers(unit.at),
-        numbers(unit.program.at),
+        numbers(unit.view().at),
+        numbers(program_view(unit.view().program).at),
         numbers(function.at),
-        numbers(function.params.at),
+        numbers(params.at),
         numbers(param.at),
-        numbers(param.pattern.at),
+        numbers(binding_view(param.pattern).at),
     ])
 }
 
@@ -46,43 +43,41 @@ fn function_places(unit: &Unit) -> Option<[(u32, u32, u32); 6]> {
 fn reads_a_function(rt: HostRuntime) -> Result<(), Fail> {
     let unit = read_tree(rt.alloc(), BODY)?;
     assert_eq!(rt;
-        function_places(&unit),
+        function_numbers(&unit),
         Some([
-            (0, 0, 211),
-            (1, 9, 210),
-            (3, 25, 207),
-            (4, 36, 71),
-            (5, 45, 67),
-            (6, 52, 64)
+            (0, 18, 0, 211),
+            (1, 18, 9, 210),
+            (3, 18, 25, 207),
+            (4, 7, 36, 71),
+            (5, 7, 45, 67),
+            (6, 7, 52, 64)
         ])
     );
     Ok(())
 }
 
-/// Id, start and end of a statement.
-fn statement_numbers(statement: &Statement) -> (u32, u32, u32) {
-    match statement {
-        Statement::Expression { at, expression: _ } => numbers(*at),
-        Statement::Return { at, argument: _ } => numbers(*at),
+/// The numbers of a statement.
+fn statement_numbers(statement: StatementTree<'_>) -> (u32, u32, u32, u32) {
+    match statement_view(statement) {
+        Statement::Expression { at, expression: _ } => numbers(at),
+        Statement::Return { at, argument: _ } => numbers(at),
     }
 }
 
-/// The places of a body of three statements: of itself and of each of them.
-fn body_places(unit: &Unit) -> Option<[(u32, u32, u32); 4]> {
-    match &marked_of(unit)?.body {
+/// The numbers of a body of statements, and of the first two of them.
+fn body_numbers(unit: &Unit) -> Option<[(u32, u32, u32, u32); 3]> {
+    match body_view(function_view(marked_function(unit)).body) {
         ArrowBody::Statements {
             at,
             directives: _,
             statements,
         } => {
-            let [first, second, third] = statements.as_slice() else {
-                return None;
-            };
+            let (first, rest) = statements.split_first()?;
+            let (second, _rest) = rest.split_first()?;
             Some([
-                numbers(*at),
+                numbers(at),
                 statement_numbers(first),
                 statement_numbers(second),
-                statement_numbers(third),
             ])
         }
         ArrowBody::Expression(_) => None,
@@ -93,9 +88,29 @@ fn body_places(unit: &Unit) -> Option<[(u32, u32, u32); 4]> {
 fn reads_a_body(rt: HostRuntime) -> Result<(), Fail> {
     let unit = read_tree(rt.alloc(), BODY)?;
     assert_eq!(rt;
-        body_places(&unit),
-        Some([(7, 72, 206), (8, 105, 121), (10, 122, 193), (17, 194, 204)])
+        body_numbers(&unit),
+        Some([(7, 18, 72, 206), (8, 10, 105, 121), (10, 17, 122, 193)])
     );
+    Ok(())
+}
+
+#[test]
+fn lists_nodes(rt: HostRuntime) -> Result<(), Fail> {
+    let unit = read_tree(rt.alloc(), BODY)?;
+    assert_eq!(rt; unit.nodes.len(), 18);
+    let wanted = [
+        (0, Word::Unit, None),
+        (5, Word::Param, Some(4)),
+        (11, Word::Call, Some(10)),
+        (13, Word::Binary, Some(11)),
+        (17, Word::Return, Some(7)),
+    ];
+    for (id, word, parent) in wanted {
+        let entry = unit.nodes.get(id).copied();
+        assert_eq!(rt; entry.map(|node| node.word), Some(word));
+        assert_eq!(rt; entry.map(|node| node.at.id), Some(NodeId(id as u32)));
+        assert_eq!(rt; entry.and_then(|node| node.parent), parent.map(NodeId));
+    }
     Ok(())
 }
 
@@ -119,7 +134,7 @@ fn error_of(alloc: Global, params: &str, body: &str) -> Result<Option<TreeError>
 }
 
 #[test]
-fn reads_bodies(rt: HostRuntime) -> Result<(), Fail> {
+fn reads_and_writes_bodies(rt: HostRuntime) -> Result<(), Fail> {
     let bodies = [
         "(null)",
         "(bool y)",
@@ -133,11 +148,10 @@ fn reads_bodies(rt: HostRuntime) -> Result<(), Fail> {
         "(body [\"a\" \"\"] [(return -) (return (null)) (expr (null))])",
     ];
     for body in bodies {
-        assert_eq!(rt;
-            error_of(rt.alloc(), "(params [] -)", body)?,
-            None,
-            "{body}"
-        );
+        let text = unit_with(rt.alloc(), "(params [] -)", body)?;
+        let unit = read_tree(rt.alloc(), text.as_bytes())?;
+        let written = write_tree(rt.alloc(), &unit)?;
+        assert_eq!(rt; written.as_slice(), text.as_bytes());
     }
     Ok(())
 }

@@ -1,18 +1,23 @@
 //! The reader, the writer and the measure of the notation.
 
+use super::push_copies;
 use rl_text::measure::measure;
 use rl_text::read::{TextError, read_raw};
 use rl_text::write::write_raw;
+use std::alloc::{AllocError, Global};
 use std::test::Fail;
 
 #[test]
 fn reads_and_writes_trees(rt: HostRuntime) -> Result<(), Fail> {
-    let texts: [&[u8]; 9] = [
+    let texts: [&[u8]; 12] = [
         b"(a \"x\\0a\" [1 y -] [])",
         b"[]",
         b"(abc)",
         b"9007199254740992",
         b"0",
+        b"9",
+        b"10",
+        b"4294967295",
         b"n",
         b"\"\\22\\5c\\00 \"",
         b"\"\xc3\xa4\"",
@@ -54,6 +59,50 @@ fn refuses_what_spells_no_tree(rt: HostRuntime) -> Result<(), Fail> {
         match read_raw(rt.alloc(), text) {
             Err(error) => assert_eq!(rt; error, TextError::Malformed),
             Ok(_) => assert!(rt; false, "read {text:?}"),
+        }
+    }
+    Ok(())
+}
+
+/// `count` letters, then `piece`, and then a letter, in quotes.
+fn quoted(alloc: Global, count: usize, piece: &str) -> Result<String, AllocError> {
+    let mut text = String::from_str(alloc, "\"")?;
+    push_copies(&mut text, "a", count)?;
+    text.push_str(piece)?;
+    text.push_str("z\"")?;
+    Ok(text)
+}
+
+#[test]
+fn reads_and_writes_runs_and_escapes(rt: HostRuntime) -> Result<(), Fail> {
+    let pieces = [
+        "\\0a",
+        "\\22\\5c",
+        "\\1fz\\00",
+        "\u{e9}",
+        "\u{20ac}",
+        "\u{1f600}\\0a",
+    ];
+    for count in 0..50 {
+        for piece in pieces {
+            let text = quoted(rt.alloc(), count, piece)?;
+            let raw = read_raw(rt.alloc(), text.as_bytes())?;
+            let written = write_raw(rt.alloc(), &raw)?;
+            assert_eq!(rt; written.as_slice(), text.as_bytes());
+        }
+    }
+    Ok(())
+}
+
+#[test]
+fn refuses_escapes_cut_short(rt: HostRuntime) -> Result<(), Fail> {
+    for count in 0..50 {
+        for piece in ["\\", "\\0", "\\0z", "\\61", "\n"] {
+            let text = quoted(rt.alloc(), count, piece)?;
+            match read_raw(rt.alloc(), text.as_bytes()) {
+                Err(error) => assert_eq!(rt; error, TextError::Malformed),
+                Ok(_) => assert!(rt; false, "read {text}"),
+            }
         }
     }
     Ok(())
