@@ -7,7 +7,7 @@ use Rattle.rl_text.specs.Nodes.{count, count_of, depth, depth_of}
 use Rattle.rl_text.specs.Measure.{nodes_in, deepest_in}
 use Rattle.rl_text.proofs.Measures.{nodes_in-spelling, deepest_in-spelling}
 use Rattle.rl_ast.specs.Limits.{IsTooLarge}
-use Rattle.rl_ast.specs.Syntax.{Syntax, Node, Listed, Said, Count, Flag, Absent, Pieces, End, Then, plain, plain_parts, width, nodes, nodes_of, is_item, are_few, is_shaped, are_shaped, are_items}
+use Rattle.rl_ast.specs.Syntax.{Syntax, Node, Listed, Said, Count, Flag, Absent, Pieces, End, Then, plain, plain_parts, nodes, nodes_of, is_item, are_few, is_shaped, are_shaped, are_items}
 
 mutual
   -- The nodes of syntax are those of its tree of the notation.
@@ -24,9 +24,6 @@ mutual
   count_of_plain (Then s p) = λ i. count_plain s i + count_of_plain p i
 
 module _ (bytes : List ℕ) (s : Syntax) (spells : notation.Spells bytes (plain s)) where
-  pub bytes_measured : length bytes ≡ width s
-  bytes_measured = ap length spells.spelled
-
   pub nodes_measured : nodes_in bytes ≡ nodes s
   nodes_measured = ap nodes_in spells.spelled ∙ nodes_in-spelling (plain s) spells.writable ∙ count_plain s
 

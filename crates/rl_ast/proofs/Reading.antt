@@ -1,5 +1,5 @@
 -- The reader of bytes, the limits and the grammar together.
-use Rattle.std.proofs.Common.{◌≡◌, ℕ, ◌^◌, ◌<◌, ◌≤◌, true, false, List, length, ap, sym, ◌∙◌, inl, arith}
+use Rattle.std.proofs.Common.{◌≡◌, ℕ, ◌≤◌, true, false, List, ap, sym, ◌∙◌}
 use Rattle.rl_text.specs.Notation as notation
 use Rattle.rl_text.specs.Notation.{height}
 use Rattle.rl_ast.specs.Grammar.{fits}
@@ -8,13 +8,8 @@ use Rattle.rl_ast.specs.Syntax.{Syntax, plain, IsPlaced, is_shaped}
 use Rattle.rl_ast.specs.Units.{Spells}
 use Rattle.rl_ast.specs.declared.grammar.Field.TheVariants as field
 use Rattle.rl_ast.specs.declared.grammar.Kind.TheVariants as kind
-use Rattle.rl_ast.proofs.Measured.{small_low}
+use Rattle.rl_ast.proofs.Measured.{small_low, small_short}
 use Rattle.rl_ast.proofs.Shaped.{shaped}
-
-pub short : (bytes : List ℕ) → (IsTooLarge bytes → ⊥) → length bytes < 2 ^ 32
-short bytes small =
-    let within : 16777216 < length bytes → ⊥ = λ more. small (inl more) in
-    omega arith
 
 -- a unit within the limits is spelled by no bytes that no low, shaped tree is spelled by
 pub none_low : (bytes : List ℕ) (v : Syntax) → (IsTooLarge bytes → ⊥) → ((s : Syntax) → is_shaped s ≡ true → height (plain s) ≤ 513 → notation.Spells bytes (plain s) → ⊥) → Spells bytes v → ⊥
@@ -29,4 +24,4 @@ none_fits bytes v t unique refused spells =
     let accepted : fits (field.One kind.Unit) t ≡ true = sym (ap (fits (field.One kind.Unit)) same) ∙ spells.grammar in
     cc
 
-pub ruleset reading = (short, none_low, none_fits)
+pub ruleset reading = (small_short, none_low, none_fits)

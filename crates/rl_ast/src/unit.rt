@@ -31,7 +31,9 @@ pub struct Unit {
 /// The outermost node of a unit.
 #[derive(Clone, Copy)]
 pub struct UnitNode<'b> {
+    /// Ids and span of the node: id 0, and the whole text.
     pub at: At,
+    /// The program.
     pub program: ProgramTree<'b>,
 }
 

@@ -103,7 +103,7 @@ pub enum Expression<'b> {
     },
 }
 
-/// The view of an expression.
+/// One level of an expression's tree.
 #[tactic(auto, using(crate::proofs::Viewing::viewing))]
 pub fn expression_view(tree: ExpressionTree<'_>) -> Expression<'_>
     ensures { seen_expression result ≡ syntax tree.entry.tree.now }
@@ -182,7 +182,7 @@ pub enum Statement<'b> {
     },
 }
 
-/// The view of a statement.
+/// One level of a statement's tree.
 #[tactic(auto, using(crate::proofs::Viewing::viewing))]
 pub fn statement_view(tree: StatementTree<'_>) -> Statement<'_>
     ensures { seen_statement result ≡ syntax tree.entry.tree.now }
@@ -242,10 +242,13 @@ pub fn body_view(tree: BodyTree<'_>) -> ArrowBody<'_>
 /// The marked function, an arrow function: `(arrow y ASYNC PARAMS BODY)` (ECMA-262, 15.3).
 #[derive(Clone, Copy)]
 pub struct ArrowFunction<'b> {
+    /// Ids and span of the node.
     pub at: At,
     /// True of an `async` arrow function (ECMA-262, 15.9).
     pub is_async: bool,
+    /// The parameter list.
     pub params: ParamsTree<'b>,
+    /// The statements, or the expression whose value is returned.
     pub body: BodyTree<'b>,
 }
 
@@ -272,7 +275,9 @@ pub fn function_view(tree: FunctionTree<'_>) -> ArrowFunction<'_>
 /// The parameters of a function: `(params [PARAM ..] -)`.
 #[derive(Clone, Copy)]
 pub struct Params<'b> {
+    /// Ids and span of the node.
     pub at: At,
+    /// The parameters, in order.
     pub items: ParamTrees<'b>,
 }
 
@@ -297,7 +302,9 @@ pub fn params_view(tree: ParamsTree<'_>) -> Params<'_>
 /// A parameter without a default: `(param BIND -)`.
 #[derive(Clone, Copy)]
 pub struct FormalParameter<'b> {
+    /// Ids and span of the node.
     pub at: At,
+    /// The name that the parameter binds.
     pub pattern: BindingTree<'b>,
 }
 
@@ -322,7 +329,9 @@ pub fn param_view(tree: ParamTree<'_>) -> FormalParameter<'_>
 /// The name that a parameter binds, without a type: `(bind TEXT -)`.
 #[derive(Clone, Copy)]
 pub struct BindingIdentifier<'b> {
+    /// Ids and span of the node.
     pub at: At,
+    /// The name's value, in UTF-8.
     pub name: &'b Text,
 }
 
@@ -355,7 +364,9 @@ pub fn text_view(tree: TextTree<'_>) -> &Text
 /// The statement of the marked function: `(expr FUNCTION)`.
 #[derive(Clone, Copy)]
 pub struct MarkedStatement<'b> {
+    /// Ids and span of the node.
     pub at: At,
+    /// The function to lower.
     pub function: FunctionTree<'b>,
 }
 
@@ -380,7 +391,9 @@ pub fn marked_view(tree: MarkedTree<'_>) -> MarkedStatement<'_>
 /// A program, whose one statement is the marked function's: `(program [MARKED])`.
 #[derive(Clone, Copy)]
 pub struct Program<'b> {
+    /// Ids and span of the node.
     pub at: At,
+    /// The one statement.
     pub marked: MarkedTree<'b>,
 }
 

@@ -1,10 +1,10 @@
 -- Laws of decimal numbers.
-use Rattle.std.proofs.Common.{◌≡◌, ℕ, ◌+◌, ◌-◌, ◌*◌, ◌/◌, ◌%◌, ◌^◌, ◌<◌, ◌≤◌, true, List, [], ◌∷◌, length, get_or, ap, sym, ◌∙◌, suc, zero, rules, arith, length-append}
+use Rattle.std.proofs.Common.{◌≡◌, ℕ, ◌+◌, ◌-◌, ◌*◌, ◌^◌, ◌<◌, ◌≤◌, true, List, [], ◌∷◌, length, get_or, ap, sym, ◌∙◌, suc, zero, rules, arith}
 use Rattle.std.specs.List.{list_all}
 use Rattle.std.specs.Char.{is_ascii_digit}
 use Rattle.std.specs.Fmt.{decimal}
 use Rattle.std.proofs.lemmas.Str.Parse.{IsNumeralModel, numerals_by_fold}
-use Rattle.std.proofs.lemmas.Fmt.{decimal-digits_value, digits_decimal, digits_value-decimal, decimal_nonempty, first_decimal, decimal_digit, decimal_step, length-decimal-le}
+use Rattle.std.proofs.lemmas.Fmt.{decimal-digits_value, digits_decimal, digits_value-decimal, decimal_nonempty, first_decimal, decimal_digit}
 use Rattle.rl_text.specs.Number.{largest, IsNumeral}
 
 -- the number that digits write behind those of another number
@@ -52,12 +52,3 @@ numeral-some s n h = omega (arith, ap length h.written, decimal_nonempty n (larg
 
 pub numeral-no_zero : (s : List ℕ) (n : ℕ) → IsNumeral s n → get_or s 0 0 ≡ 48 → length s ≡ 1
 numeral-no_zero s n h z = ap length h.written ∙ decimal-no_zero n h.bounded (sym (ap (λ (l : List ℕ). get_or l 0 0) h.written) ∙ z)
-
-pub length-decimal-digit : (n : ℕ) → n < 10 → length (decimal n) ≡ 1
-length-decimal-digit n h = ap length (decimal_digit n h)
-
-pub length-decimal-step : (n : ℕ) → 10 ≤ n → n < 2 ^ 64 → length (decimal n) ≡ length (decimal (n / 10)) + 1
-length-decimal-step n h small = ap length (decimal_step n h small) ∙ length-append (decimal (n / 10)) ((48 + n % 10) ∷ [])
-
-pub length-decimal-most : (n : ℕ) → n < 2 ^ 64 → length (decimal n) ≤ 20
-length-decimal-most n small = length-decimal-le 20 n (omega arith) (omega arith) small

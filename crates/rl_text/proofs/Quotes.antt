@@ -1,5 +1,5 @@
 -- Laws of quoted texts.
-use Rattle.std.proofs.Common.{◌≡◌, ℕ, ◌+◌, ◌-◌, ◌*◌, ◌/◌, ◌%◌, ◌<◌, Bool, true, false, not, cond, List, [], ◌∷◌, ◌++◌, length, take, drop, get_or, ap, sym, ◌∙◌, refl, arith, true≢false, append_assoc, length-append, ◌⊎◌, inl, inr}
+use Rattle.std.proofs.Common.{◌≡◌, ℕ, ◌+◌, ◌-◌, ◌*◌, ◌/◌, ◌%◌, ◌<◌, Bool, true, false, not, cond, List, [], ◌∷◌, ◌++◌, length, take, drop, get_or, ap, sym, ◌∙◌, refl, arith, true≢false, append_assoc, ◌⊎◌, inl, inr}
 use Rattle.std.proofs.lemmas.List.{drop_more}
 use Rattle.std.proofs.lemmas.Bool.Decides.{nat_tests}
 use Rattle.std.specs.List.{list_all}
@@ -140,11 +140,3 @@ text-stopped bytes at place text reads no_quote no_byte any rest e = let r = rea
     go : (r : List ℕ) → drop place bytes ≡ quoted_rest r ++ rest → ⊥
     go [] d = no_quote rest d
     go (x ∷ r) d = no_byte x (quoted_rest r ++ rest) (d ∙ append_assoc (escape x) (quoted_rest r) rest)
-
-pub length-quoted_rest-some : (text : List ℕ) → 0 < length (quoted_rest text)
-length-quoted_rest-some [] = omega arith
-length-quoted_rest-some (byte ∷ text) = omega (arith, length-append (escape byte) (quoted_rest text), length-quoted_rest-some text)
-
--- the number of bytes of a text's spelling from a given byte of the text on
-pub length-quoted_rest-more : (text : List ℕ) (i : ℕ) → i < length text → length (quoted_rest (drop i text)) ≡ length (escape (get_or text i 0)) + length (quoted_rest (drop (i + 1) text))
-length-quoted_rest-more text i lt = ap (λ t. length (quoted_rest t)) (drop_more text i 0 lt) ∙ length-append (escape (get_or text i 0)) (quoted_rest (drop (i + 1) text))

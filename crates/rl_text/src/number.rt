@@ -1,7 +1,7 @@
 //! Numbers of the notation: decimal digits, with no leading zero, up to 2^53.
 
-ghost use Rattle.std.specs.Prelude.{◌≡◌, ℕ, IfSome, IfNone, Some, None, if◌then◌else◌, length};
-ghost use Rattle.rl_text.specs.Number.{IsNumeral, numeral};
+ghost use Rattle.std.specs.Prelude.{◌≡◌, ℕ, IfSome, IfNone, Some, None, if◌then◌else◌};
+ghost use Rattle.rl_text.specs.Number.{IsNumeral};
 ghost use Rattle.rl_text.specs.Numeral.{is_numeral, number_of};
 
 /// The largest number of the notation, 2^53. Each integer up to it is a value of the Number type (ECMA-262, 6.1.6.1).
@@ -37,17 +37,4 @@ fn read_digits(text: &[u8]) -> Option<u64>
         }
     }
     Some(value)
-}
-
-/// Number of decimal digits of `number`, at least one.
-pub fn number_len(number: u64) -> usize
-    ensures { result ≡ length (numeral number) }
-{
-    let mut count = 1;
-    let mut front = number;
-    'digits: while front >= 10 {
-        front /= 10;
-        count += 1;
-    }
-    count
 }

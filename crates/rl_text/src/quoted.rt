@@ -1,6 +1,6 @@
 //! Texts in quotes, with their escapes: a backslash and two hexadecimal digits in lower case.
 
-ghost use Rattle.std.specs.Prelude.{◌≡◌, ℕ, ◌+◌, ◌-◌, ◌^◌, ◌<◌, ◌≤◌, true, List, ◌∷◌, ◌++◌, take, drop, length, IfSome, IfNone, IfOk, OnOk};
+ghost use Rattle.std.specs.Prelude.{◌≡◌, ℕ, ◌+◌, ◌-◌, ◌<◌, ◌≤◌, true, List, ◌∷◌, ◌++◌, take, drop, length, IfSome, IfNone, IfOk, OnOk};
 ghost use Rattle.rl_text.specs.Quoted.{hexadecimal, is_escaped, is_plain, escape, quoted_rest, quoted};
 ghost use Rattle.rl_text.specs.Places.{StopsAt, IsRun};
 
@@ -37,25 +37,6 @@ fn hexadecimal_value(byte: u8) -> Option<u8>
         b'a'..=b'f' => Some(byte - b'a' + 10),
         _ => None,
     }
-}
-
-/// Number of bytes that spell `byte` in a quoted text, 1 or 3.
-fn escape_len(byte: u8) -> usize
-    ensures { result ≡ length (escape byte) }
-{
-    if needs_escape(byte) { 3 } else { 1 }
-}
-
-/// Number of bytes that spell `text` in quotes, with its escapes and both quotes.
-pub fn quoted_len(text: &[u8]) -> usize
-    requires { length (quoted text.now) < 2 ^ 64 }
-    ensures { result ≡ length (quoted text.now) }
-{
-    let mut count = 2;
-    'counting: for byte in text {
-        count += escape_len(*byte);
-    }
-    count
 }
 
 /// The bytes that need no escape.
