@@ -1,6 +1,6 @@
 //! Trees by their sorts: the compiler tells an expression's tree from a statement's.
 
-ghost use Rattle.std.specs.Prelude.{◌≡◌, true, map, MatchOption};
+ghost use Rattle.std.specs.Prelude.{⊤, ◌≡◌, true, map, MatchOption};
 ghost use Rattle.rl_ast.specs.Grammar.{fits, every, single};
 ghost use Rattle.rl_ast.specs.Syntax.{Absent, End, Then, pieces_of, syntax};
 ghost use Rattle.rl_ast.specs.declared.grammar.Field.{Field};
@@ -107,6 +107,10 @@ pub struct Tree<'b, K: Sort> {
 }
 
 impl<'b, K: Sort> Clone for Tree<'b, K> {
+    ghost is_clone = { λ x y. y ≡ x };
+
+    ghost is_infallible = { λ _. ⊤ };
+
     fn clone(&self) -> Result<Self, AllocError> {
         Ok(*self)
     }
@@ -158,6 +162,10 @@ pub struct Trees<'b, K: Sort> {
 }
 
 impl<'b, K: Sort> Clone for Trees<'b, K> {
+    ghost is_clone = { λ x y. y ≡ x };
+
+    ghost is_infallible = { λ _. ⊤ };
+
     fn clone(&self) -> Result<Self, AllocError> {
         Ok(*self)
     }
