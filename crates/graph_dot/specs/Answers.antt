@@ -1,8 +1,8 @@
 -- Statuses of the program, by what was read and written.
 use Rattle.std.specs.Prelude.{◌≡◌, ℕ, List, [], ◌∷◌, ◌++◌, Option, IfSome}
 use Rattle.std.specs.Io.KnownBytes.{Keeps, Appends}
-use Rattle.rl_ast.specs.Limits.{IsTooLarge}
-use Rattle.rl_ast.specs.Syntax.{Syntax}
+use Rattle.rl_syntax.specs.Limits.{IsTooLarge}
+use Rattle.rl_syntax.specs.Syntax.{Syntax}
 use Rattle.rl_base.specs.Pieces.{AppendsPrefix}
 use Rattle.rl_hir.specs.declared.function.Lowered.{Lowered}
 use Rattle.rl_model.specs.Headline.{IsLowered}

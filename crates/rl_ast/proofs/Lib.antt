@@ -1,14 +1,2 @@
-pub mod Counts
-pub mod Fitting
-pub mod Layers
-pub mod Listing
-pub mod Measured
-pub mod Pieces
-pub mod Placement
-pub mod ReadForms
 pub mod Reading
-pub mod Shaped
 pub mod Units
-pub mod Viewing
-pub mod Words
-pub mod Written

@@ -2,14 +2,14 @@
 use Rattle.std.proofs.Common.{◌≡◌, ℕ, ◌≤◌, true, false, List, ap, sym, ◌∙◌}
 use Rattle.rl_text.specs.Notation as notation
 use Rattle.rl_text.specs.Notation.{height}
-use Rattle.rl_ast.specs.Grammar.{fits}
-use Rattle.rl_ast.specs.Limits.{IsTooLarge}
-use Rattle.rl_ast.specs.Syntax.{Syntax, plain, IsPlaced, is_shaped}
+use Rattle.rl_grammar.specs.Grammar.{fits}
+use Rattle.rl_syntax.specs.Limits.{IsTooLarge}
+use Rattle.rl_syntax.specs.Syntax.{Syntax, plain, IsPlaced, is_shaped}
 use Rattle.rl_ast.specs.Units.{Spells}
-use Rattle.rl_ast.specs.declared.grammar.Field.TheVariants as field
-use Rattle.rl_ast.specs.declared.grammar.Kind.TheVariants as kind
-use Rattle.rl_ast.proofs.Measured.{small_low, small_short}
-use Rattle.rl_ast.proofs.Shaped.{shaped}
+use Rattle.rl_grammar.specs.declared.kind.Field.TheVariants as field
+use Rattle.rl_grammar.specs.declared.kind.Kind.TheVariants as kind
+use Rattle.rl_syntax.proofs.Measured.{small_low, small_short}
+use Rattle.rl_grammar.proofs.Shaped.{shaped}
 
 -- a unit within the limits is spelled by no bytes that no low, shaped tree is spelled by
 pub none_low : (bytes : List ℕ) (v : Syntax) → (IsTooLarge bytes → ⊥) → ((s : Syntax) → is_shaped s ≡ true → height (plain s) ≤ 513 → notation.Spells bytes (plain s) → ⊥) → Spells bytes v → ⊥

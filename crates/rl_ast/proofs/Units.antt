@@ -1,16 +1,16 @@
 -- The form of a unit of the grammar, and that bytes spell one unit at most.
 use Rattle.std.proofs.Common.{◌≡◌, ℕ, true, List, refl, ap, ◌∙◌}
 use Rattle.rl_text.proofs.Spellings.{Spells-one}
-use Rattle.rl_ast.specs.Forms.{is_one, is_two}
-use Rattle.rl_ast.specs.Grammar.{fits}
-use Rattle.rl_ast.specs.Syntax.{Syntax, Node, Listed, Pieces, End, Then, plain}
-use Rattle.rl_ast.specs.declared.grammar.Field.TheVariants as field
-use Rattle.rl_ast.specs.declared.grammar.Kind.TheVariants as kind
-use Rattle.rl_ast.specs.declared.numbered.At.{At}
-use Rattle.rl_ast.specs.declared.word.Word.TheVariants as word
+use Rattle.rl_syntax.specs.Forms.{is_one, is_two}
+use Rattle.rl_grammar.specs.Grammar.{fits}
+use Rattle.rl_syntax.specs.Syntax.{Syntax, Node, Listed, Pieces, End, Then, plain}
+use Rattle.rl_grammar.specs.declared.kind.Field.TheVariants as field
+use Rattle.rl_grammar.specs.declared.kind.Kind.TheVariants as kind
+use Rattle.rl_syntax.specs.declared.numbered.At.{At}
+use Rattle.rl_syntax.specs.declared.word.Word.TheVariants as word
 use Rattle.rl_ast.specs.Units.{Spells}
-use Rattle.rl_ast.proofs.Placement.{placed-one}
-use Rattle.rl_ast.proofs.Viewing.{arity_one, arity_two, of_empty, one_fits, single_counted, single_fits, two_fit}
+use Rattle.rl_syntax.proofs.Placement.{placed-one}
+use Rattle.rl_grammar.proofs.Viewing.{arity_one, arity_two, of_empty, one_fits, single_counted, single_fits, two_fit}
 
 -- The tree `s` is a statement of the marked function `function`.
 pub record IsMarked (s function : Syntax) : Type 0 where

@@ -1,10 +1,10 @@
 -- Units as plain trees, and the bytes that spell them.
 use Rattle.std.specs.Prelude.{◌≡◌, ℕ, true, List}
 use Rattle.rl_text.specs.Notation as notation
-use Rattle.rl_ast.specs.Grammar.{fits}
-use Rattle.rl_ast.specs.Syntax.{Syntax, plain, IsPlaced}
-use Rattle.rl_ast.specs.declared.grammar.Field.TheVariants as field
-use Rattle.rl_ast.specs.declared.grammar.Kind.TheVariants as kind
+use Rattle.rl_grammar.specs.Grammar.{fits}
+use Rattle.rl_syntax.specs.Syntax.{Syntax, plain, IsPlaced}
+use Rattle.rl_grammar.specs.declared.kind.Field.TheVariants as field
+use Rattle.rl_grammar.specs.declared.kind.Kind.TheVariants as kind
 
 -- The tree is a unit of the grammar.
 abbrev pub IsOfGrammar : Syntax → Type 0

@@ -1,14 +1,17 @@
-//! Units as syntax trees: words of nodes, numbered trees, the grammar, and typed views.
+//! Units as syntax trees: their reader and writer, and typed views of every kind of node.
 #![tactic(auto)]
 
-pub mod grammar;
-pub mod nodes;
-pub mod numbered;
-mod parts;
+pub mod binding;
+pub mod class;
+pub mod expression;
+pub mod expression_part;
+pub mod function;
+pub mod function_node;
+pub mod jsx;
+pub mod program;
 pub mod read;
-mod reader;
-pub mod tree;
+pub mod statement;
+pub mod statement_part;
+pub mod target;
 pub mod unit;
-pub mod view;
-pub mod word;
 pub mod write;

@@ -1,12 +1,12 @@
 //! The reader of units: limits, the numbered tree, and the grammar, in this order.
 
 ghost use Rattle.std.specs.Prelude.{◌≡◌, ◌↔◌, IfOk, IsErrOf, IsTrue};
-ghost use Rattle.rl_ast.specs.Limits.{IsTooLarge};
-ghost use Rattle.rl_ast.specs.Syntax.{Syntax, syntax};
+ghost use Rattle.rl_syntax.specs.Limits.{IsTooLarge};
+ghost use Rattle.rl_syntax.specs.Syntax.{Syntax, syntax};
 ghost use Rattle.rl_ast.specs.Units.{Spells};
 
 use crate::grammar::{Field, Kind, fits};
-use crate::nodes::table_of;
+use rl_syntax::nodes::table_of;
 use crate::reader::read_numbered;
 use crate::unit::Unit;
 use rl_base::error::OutOfMemory;

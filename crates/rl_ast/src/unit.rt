@@ -1,20 +1,20 @@
 //! Units: the tree of a program with one marked function, and the table of its nodes.
 
 ghost use Rattle.std.specs.Prelude.{◌≡◌, true};
-ghost use Rattle.rl_ast.specs.Grammar.{fits};
-ghost use Rattle.rl_ast.specs.Syntax.{syntax};
+ghost use Rattle.rl_grammar.specs.Grammar.{fits};
+ghost use Rattle.rl_syntax.specs.Syntax.{syntax};
 ghost use Rattle.rl_ast.specs.Views.{seen_unit};
-ghost use Rattle.rl_ast.specs.declared.grammar.Field.{Field};
-ghost use Rattle.rl_ast.specs.declared.grammar.Field.TheVariants as field;
-ghost use Rattle.rl_ast.specs.declared.grammar.Kind.TheVariants as kind;
-ghost use Rattle.rl_ast.specs.Nodes.{entries};
+ghost use Rattle.rl_grammar.specs.declared.kind.Field.{Field};
+ghost use Rattle.rl_grammar.specs.declared.kind.Field.TheVariants as field;
+ghost use Rattle.rl_grammar.specs.declared.kind.Kind.TheVariants as kind;
+ghost use Rattle.rl_syntax.specs.Nodes.{entries};
 
-use crate::nodes::NodeEntry;
-use crate::numbered::{At, Numbered};
-use crate::parts::{node, two};
-use crate::tree::Tree;
+use rl_syntax::nodes::NodeEntry;
+use rl_syntax::numbered::{At, Numbered};
+use rl_grammar::parts::{node, two};
+use rl_grammar::tree::Tree;
 use crate::view::ProgramTree;
-use crate::word::Word;
+use rl_syntax::word::Word;
 use rl_base::list::List;
 
 /// A program with one marked function: `(unit [] PROGRAM)`. Its tree fits the grammar.
@@ -39,7 +39,7 @@ pub struct UnitNode<'b> {
 
 impl Unit {
     /// The view of the outermost node.
-    #[tactic(auto, using(crate::proofs::Viewing::viewing))]
+    #[tactic(auto, using(rl_grammar::proofs::Viewing::viewing))]
     pub fn view(&self) -> UnitNode<'_>
         ensures { seen_unit result ≡ syntax self.now.tree }
     {

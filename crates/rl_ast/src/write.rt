@@ -1,15 +1,12 @@
 //! The writer of units.
 
-ghost use Rattle.std.specs.Prelude.{◌≡◌, ◌++◌, map, IfOk, OnOk};
+ghost use Rattle.std.specs.Prelude.{◌≡◌, IfOk};
 ghost use Rattle.rl_text.specs.Notation.{spelling};
-ghost use Rattle.rl_text.specs.Places.{spelled_parts};
-ghost use Rattle.rl_ast.specs.Syntax.{pieces_of, plain, plain_parts, syntax};
+ghost use Rattle.rl_syntax.specs.Syntax.{plain, syntax};
 
-use crate::numbered::Numbered;
 use crate::unit::Unit;
 use rl_base::error::OutOfMemory;
-use rl_text::quoted::write_quoted;
-use rl_text::write::{write_byte, write_number};
+use rl_syntax::write::write_numbered;
 use std::alloc::Global;
 
 /// The bytes that spell a unit: those that it was read from. On `OutOfMemory`, an allocation failed.
@@ -19,48 +16,4 @@ pub fn write_tree(alloc: Global, unit: &Unit) -> Result<Vec<u8>, OutOfMemory>
     let mut out = Vec::new(alloc);
     write_numbered(&unit.tree, &mut out)?;
     Ok(out)
-}
-
-/// Appends the spelling of a tree. On `OutOfMemory`, an allocation failed, and `out` may hold a part of it.
-#[cycle(writing)]
-#[tactic(auto, using(crate::proofs::Written::by_form, crate::proofs::Layers::by_layer))]
-fn write_numbered(tree: &Numbered, out: &mut Vec<u8>) -> Result<(), OutOfMemory>
-    ensures { OnOk result (out.new.items ≡ out.old.items ++ spelling (plain (syntax tree.now))) }
-{
-    match tree {
-        Numbered::Node(_, word, parts) => {
-            out.push(b'(')?;
-            out.extend_from_slice(word.text().as_bytes())?;
-            write_pieces(parts.as_slice(), true, b')', out)
-        }
-        Numbered::List(parts) => {
-            out.push(b'[')?;
-            write_pieces(parts.as_slice(), false, b']', out)
-        }
-        Numbered::Text(text) => write_quoted(text.as_bytes(), out),
-        Numbered::Number(number) => write_number(*number, out),
-        Numbered::Flag(flag) => write_byte(if *flag { b'y' } else { b'n' }, out),
-        Numbered::Absent => write_byte(b'-', out),
-    }
-}
-
-/// Appends parts with a space between them, and a space before the first if `apart`, and then the bracket `close`.
-#[cycle(writing)]
-fn write_pieces(
-    parts: &[Numbered],
-    apart: bool,
-    close: u8,
-    out: &mut Vec<u8>,
-) -> Result<(), OutOfMemory>
-    ensures { OnOk result (out.new.items ≡ out.old.items ++ spelled_parts apart close (plain_parts (pieces_of (map syntax parts.now)))) }
-{
-    let mut spaced = apart;
-    'parts: for part in parts {
-        if spaced {
-            out.push(b' ')?;
-        }
-        spaced = true;
-        write_numbered(part, out)?;
-    }
-    write_byte(close, out)
 }

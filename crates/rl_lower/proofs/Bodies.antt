@@ -7,13 +7,13 @@ use Rattle.rl_hir.specs.declared.function.BlockKind.{BlockKind}
 use Rattle.rl_hir.specs.declared.terminal.ReturnVariant.TheVariants as returns
 use Rattle.rl_builder.specs.Builder.{State, reserved, new_block, completed_by}
 use Rattle.rl_builder.specs.declared.builder.WipBlock.{WipBlock}
-use Rattle.rl_ast.specs.declared.numbered.At.{At}
-use Rattle.rl_ast.specs.declared.word.Word.TheVariants as word
-use Rattle.rl_ast.specs.Grammar.{every, fits}
-use Rattle.rl_ast.specs.Syntax.{Syntax, Node, Listed, Said, Pieces, End, Then, nodes, nodes_of}
-use Rattle.rl_ast.specs.declared.grammar.Field.TheVariants as field
-use Rattle.rl_ast.specs.declared.grammar.Kind.TheVariants as sort
-use Rattle.rl_ast.proofs.Viewing.{rest_fit}
+use Rattle.rl_syntax.specs.declared.numbered.At.{At}
+use Rattle.rl_syntax.specs.declared.word.Word.TheVariants as word
+use Rattle.rl_grammar.specs.Grammar.{every, fits}
+use Rattle.rl_syntax.specs.Syntax.{Syntax, Node, Listed, Said, Pieces, End, Then, nodes, nodes_of}
+use Rattle.rl_grammar.specs.declared.kind.Field.TheVariants as field
+use Rattle.rl_grammar.specs.declared.kind.Kind.TheVariants as sort
+use Rattle.rl_grammar.proofs.Viewing.{rest_fit}
 use Rattle.rl_model.specs.declared.trace.Answer.{Answer}
 use Rattle.rl_scope.specs.declared.semantic.Symbol.{Symbol}
 use Rattle.rl_model.specs.Held.{calls_in, calls_among, calls_of, live_in_body}

@@ -5,7 +5,7 @@ use Rattle.rl_hir.specs.declared.function.NumberedBlock.{NumberedBlock}
 use Rattle.rl_builder.specs.Builder.{State, placeholder}
 use Rattle.rl_builder.specs.Order.{orders_of, reached_blocks}
 use Rattle.rl_builder.specs.Temporaries.{temporary}
-use Rattle.rl_ast.specs.Syntax.{Syntax, nodes}
+use Rattle.rl_syntax.specs.Syntax.{Syntax, nodes}
 use Rattle.rl_scope.specs.declared.semantic.Symbol.{Symbol}
 use Rattle.rl_lower.specs.Listed.{AreBelow, IsListed}
 use Rattle.rl_lower.specs.Lowering.{HasRoom, Preserves, LowersBody}

@@ -1,6 +1,6 @@
 -- A builder whose body was lowered and whose end returns Undefined is closed off.
 use Rattle.std.proofs.Common.{◌≡◌, ◌+◌, ◌*◌, ◌<◌, ◌^◌, None, All, List, length, ap, sym, ◌∙◌, subst}
-use Rattle.rl_ast.specs.Syntax.{Syntax, nodes}
+use Rattle.rl_syntax.specs.Syntax.{Syntax, nodes}
 use Rattle.rl_hir.specs.declared.environment.Environment.{Environment}
 use Rattle.rl_hir.specs.declared.function.BlockKind.TheVariants as kinds
 use Rattle.rl_hir.specs.declared.function.Param.{Param}

@@ -5,16 +5,16 @@ use Rattle.rl_base.specs.declared.diagnostic.Diagnostic.{Diagnostic}
 use Rattle.rl_base.specs.declared.row.Row.TheVariants as row
 use Rattle.rl_base.specs.declared.span.Span.{Span}
 use Rattle.rl_text.specs.Notation.{IsWritable}
-use Rattle.rl_ast.specs.Forms.{is_two}
-use Rattle.rl_ast.specs.Grammar.{fits, every}
-use Rattle.rl_ast.specs.Syntax.{Syntax, Node, Listed, Said, Flag, Absent, Pieces, End, Then, pieces_of, nodes, nodes_of, span_of, syntax}
-use Rattle.rl_ast.specs.declared.grammar.Field.TheVariants as field
-use Rattle.rl_ast.specs.declared.grammar.Kind.TheVariants as kind
-use Rattle.rl_ast.specs.declared.numbered.At.{At}
+use Rattle.rl_syntax.specs.Forms.{is_two}
+use Rattle.rl_grammar.specs.Grammar.{fits, every}
+use Rattle.rl_syntax.specs.Syntax.{Syntax, Node, Listed, Said, Flag, Absent, Pieces, End, Then, pieces_of, nodes, nodes_of, span_of, syntax}
+use Rattle.rl_grammar.specs.declared.kind.Field.TheVariants as field
+use Rattle.rl_grammar.specs.declared.kind.Kind.TheVariants as kind
+use Rattle.rl_syntax.specs.declared.numbered.At.{At}
 use Rattle.rl_ast.specs.Views.{seen_function}
 use Rattle.rl_ast.specs.declared.view.ArrowFunction.{ArrowFunction}
-use Rattle.rl_ast.specs.declared.word.Word.TheVariants as word
-use Rattle.rl_ast.proofs.Viewing.{arity_two, first_fits, of_never, rest_fit, two_fit}
+use Rattle.rl_syntax.specs.declared.word.Word.TheVariants as word
+use Rattle.rl_grammar.proofs.Viewing.{arity_two, first_fits, of_never, rest_fit, two_fit}
 use Rattle.rl_hir.specs.Listing as listing
 use Rattle.rl_scope.specs.declared.semantic.Symbol.{Symbol}
 use Rattle.rl_scope.specs.Symbols.{declared_in, symbols_of}

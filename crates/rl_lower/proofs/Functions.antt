@@ -25,7 +25,7 @@ use Rattle.rl_model.specs.declared.trace.Trace.{Trace}
 use Rattle.rl_model.specs.Traces.{Store, ValueCont, ExprMeaning, StmtMeaning, returned, threw, unset}
 use Rattle.rl_model.specs.Machine.{Ends, Code, Notes, no_notes, code_in, set_by, take_arguments, trace_by}
 use Rattle.rl_model.specs.Source.{source_trace}
-use Rattle.rl_ast.specs.Syntax.{Syntax}
+use Rattle.rl_syntax.specs.Syntax.{Syntax}
 use Rattle.rl_hir.specs.declared.function.Hir.{Hir}
 use Rattle.rl_hir.specs.declared.instruction.Instruction.{Instruction}
 use Rattle.rl_lower.specs.Simulation.{Agrees, AreMade, IsCompleted, IsCurrentOrCompleted, Extends, IsContainedIn, UniqueIds, AreEnded, PreservesBlocks, TracesAt, TracesFrom, Throws, RunsExpression, RunsStatement}

@@ -15,9 +15,9 @@ use Rattle.rl_hir.specs.declared.instruction.InstructionValue.TheVariants as val
 use Rattle.rl_builder.specs.Builder.{State, recorded}
 use Rattle.rl_builder.specs.Names.{fbt, fbt_diagnostic, is_named, name_of, refused_name, resolved, resolved_by, IsStopped}
 use Rattle.rl_builder.specs.Temporaries.{temporary, with_value}
-use Rattle.rl_ast.specs.declared.numbered.At.{At}
-use Rattle.rl_ast.specs.declared.word.Word.TheVariants as word
-use Rattle.rl_ast.specs.Syntax.{Node, Said, End, Then}
+use Rattle.rl_syntax.specs.declared.numbered.At.{At}
+use Rattle.rl_syntax.specs.declared.word.Word.TheVariants as word
+use Rattle.rl_syntax.specs.Syntax.{Node, Said, End, Then}
 use Rattle.rl_scope.specs.declared.semantic.Symbol.{Symbol}
 use Rattle.rl_scope.specs.Symbols.{symbol_from, symbol_named}
 use Rattle.rl_model.specs.Rows.{declaration_in, refusal, said_of_name}

@@ -7,7 +7,7 @@ use Rattle.rl_base.specs.declared.ids.InstructionId.{InstructionId}
 use Rattle.rl_base.specs.declared.span.Span.{Span}
 use Rattle.rl_text.specs.Notation.{IsWritable}
 use Rattle.rl_text.specs.Number.{largest}
-use Rattle.rl_ast.specs.Syntax.{Syntax, nodes, span_of}
+use Rattle.rl_syntax.specs.Syntax.{Syntax, nodes, span_of}
 use Rattle.rl_hir.specs.Identifiers.{named_identifier}
 use Rattle.rl_hir.specs.Listing as listing
 use Rattle.rl_hir.specs.declared.environment.Environment.{Environment}

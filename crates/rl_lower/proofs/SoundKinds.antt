@@ -8,10 +8,10 @@ use Rattle.rl_base.specs.declared.ids.IdentifierId.{IdentifierId}
 use Rattle.rl_base.specs.declared.operator.BinaryOperator.{BinaryOperator}
 use Rattle.rl_base.specs.declared.span.Span.{Span}
 use Rattle.rl_text.specs.Notation.{IsWritable}
-use Rattle.rl_ast.specs.Syntax.{Syntax, Node, Listed, Said, Flag, Absent, Pieces, End, Then}
-use Rattle.rl_ast.specs.declared.numbered.At.{At}
-use Rattle.rl_ast.specs.declared.word.Word.{Word}
-use Rattle.rl_ast.specs.declared.word.Word.TheVariants as word
+use Rattle.rl_syntax.specs.Syntax.{Syntax, Node, Listed, Said, Flag, Absent, Pieces, End, Then}
+use Rattle.rl_syntax.specs.declared.numbered.At.{At}
+use Rattle.rl_syntax.specs.declared.word.Word.{Word}
+use Rattle.rl_syntax.specs.declared.word.Word.TheVariants as word
 use Rattle.rl_hir.specs.Instructions.{argument_place}
 use Rattle.rl_hir.specs.Listing as listing
 use Rattle.rl_hir.specs.Pairs.{identifier_of}

@@ -3,7 +3,7 @@ use Rattle.std.proofs.Common.{◌≡◌, ℕ, ◌≤◌, Bool, true, false, ◌&
 use Rattle.std.proofs.lemmas.Bool.{leb-true}
 use Rattle.rl_text.specs.Number.{largest}
 use Rattle.rl_text.specs.Numeral.{is_numeral, number_of}
-use Rattle.rl_ast.specs.Syntax.{Syntax, Pieces, Then}
+use Rattle.rl_syntax.specs.Syntax.{Syntax, Pieces, Then}
 use Rattle.rl_lower.specs.Sound.{AreSmallTrees, IsSmallTree}
 
 -- The first of small trees is small, and so are the others.

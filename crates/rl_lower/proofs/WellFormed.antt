@@ -1,6 +1,6 @@
 -- The graph of a function is numbered and linked.
 use Rattle.std.proofs.Common.{◌≡◌, true, List, length, sym, ap, ◌∙◌, subst}
-use Rattle.rl_ast.specs.Syntax.{Syntax}
+use Rattle.rl_syntax.specs.Syntax.{Syntax}
 use Rattle.rl_builder.specs.Builder.{State, started}
 use Rattle.rl_builder.specs.Order.{reached_blocks}
 use Rattle.rl_builder.specs.declared.builder.Built.{Built}

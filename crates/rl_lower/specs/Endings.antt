@@ -15,7 +15,7 @@ use Rattle.rl_hir.specs.declared.function.BlockKind.{BlockKind}
 use Rattle.rl_builder.specs.Temporaries.{temporary, with_value}
 use Rattle.rl_builder.specs.Build.{built_of}
 use Rattle.rl_builder.specs.declared.builder.Built.{Built}
-use Rattle.rl_ast.specs.Syntax.{Syntax}
+use Rattle.rl_syntax.specs.Syntax.{Syntax}
 use Rattle.rl_hir.specs.declared.function.Param.{Param}
 use Rattle.rl_scope.specs.declared.semantic.Symbol.{Symbol}
 use Rattle.rl_lower.specs.Lowering.{LowersBody}

@@ -4,8 +4,8 @@ use Rattle.rl_base.specs.declared.diagnostic.Diagnostic.{Diagnostic}
 use Rattle.rl_base.specs.declared.span.Span.{Span}
 use Rattle.rl_hir.specs.declared.terminal.ReturnVariant.TheVariants as returns
 use Rattle.rl_builder.specs.Builder.{State}
-use Rattle.rl_ast.specs.declared.word.Word.TheVariants as word
-use Rattle.rl_ast.specs.Syntax.{Syntax, Node, Listed, Pieces, End, Then, nodes, nodes_of}
+use Rattle.rl_syntax.specs.declared.word.Word.TheVariants as word
+use Rattle.rl_syntax.specs.Syntax.{Syntax, Node, Listed, Pieces, End, Then, nodes, nodes_of}
 use Rattle.rl_scope.specs.declared.semantic.Symbol.{Symbol}
 use Rattle.rl_model.specs.Fields.{AddsUnnamed}
 use Rattle.rl_model.specs.Held.{can_complete, calls_in, calls_among, calls_of, live_calls, live_in_body}

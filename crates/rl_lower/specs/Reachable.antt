@@ -1,8 +1,8 @@
 -- The calls that the entry block lists, and whether the builder still stands in it: no other block is reachable.
 use Rattle.std.specs.Prelude.{◌≡◌, ◌<◌, ◌≤◌, ◌&&◌, nat_eq, Bool, true, false, if◌then◌else◌, Option, List, [], ◌++◌}
 use Rattle.rl_base.specs.declared.span.Span.{Span}
-use Rattle.rl_ast.specs.declared.word.Word.TheVariants as word
-use Rattle.rl_ast.specs.Syntax.{Syntax, Node, Listed, Pieces, End, Then}
+use Rattle.rl_syntax.specs.declared.word.Word.TheVariants as word
+use Rattle.rl_syntax.specs.Syntax.{Syntax, Node, Listed, Pieces, End, Then}
 use Rattle.rl_builder.specs.Builder.{State}
 use Rattle.rl_builder.specs.Order.{reached_blocks}
 use Rattle.rl_model.specs.Held.{can_complete, graph_calls, listed_calls}

@@ -4,7 +4,7 @@ use Rattle.std.specs.Str.{IsUtf8}
 use Rattle.rl_base.specs.declared.span.Span.{Span}
 use Rattle.rl_text.specs.Notation.{IsWritable, AreWritable}
 use Rattle.rl_text.specs.Number.{largest}
-use Rattle.rl_ast.specs.Syntax.{Syntax, Node, Listed, Said, Count, Flag, Absent, Pieces, End, Then, plain, plain_parts}
+use Rattle.rl_syntax.specs.Syntax.{Syntax, Node, Listed, Said, Count, Flag, Absent, Pieces, End, Then, plain, plain_parts}
 use Rattle.rl_hir.specs.Instructions.{argument_place}
 use Rattle.rl_hir.specs.Listing as listing
 use Rattle.rl_hir.specs.declared.environment.Environment.{Environment}

@@ -1,7 +1,7 @@
 //! Lowering of expressions: each leaves its value in a temporary.
 
 ghost use Rattle.std.specs.Prelude.{◌≡◌, ◌*◌, true, map, List, None, OnOk, IfOk};
-ghost use Rattle.rl_ast.specs.Syntax.{Node, Said, End, Then, nodes, nodes_of, pieces_of, syntax};
+ghost use Rattle.rl_syntax.specs.Syntax.{Node, Said, End, Then, nodes, nodes_of, pieces_of, syntax};
 ghost use Rattle.rl_builder.specs.Builder.{state_of, recorded};
 ghost use Rattle.rl_builder.specs.Temporaries.{temporary, with_value};
 ghost use Rattle.rl_lower.specs.Lowering.{HasRoom, LowersExpression, LowersArguments};
@@ -11,9 +11,9 @@ ghost use Rattle.rl_model.specs.Rows.{refusal};
 ghost use Rattle.rl_scope.specs.declared.semantic.Symbol.{Symbol};
 ghost use Rattle.rl_scope.specs.Symbols.{symbol_named};
 
-use rl_ast::numbered::At;
+use rl_syntax::numbered::At;
 use rl_ast::view::{Expression, ExpressionTree, ExpressionTrees, expression_view};
-use rl_ast::word::Word;
+use rl_syntax::word::Word;
 use rl_base::diagnostic::Diagnostic;
 use rl_base::error::OutOfMemory;
 use rl_base::ids::EvaluationOrder;

@@ -3,7 +3,7 @@
 ghost use Rattle.std.specs.Prelude.{◌≡◌, ◌+◌, ◌*◌, ◌≤◌, true, false, ◌++◌, map, OnOk, IfOk, IfErr, None, Some, [], All, codes, length};
 ghost use Rattle.std.specs.Option.{option_copied};
 ghost use Rattle.std.specs.Str.{IsUtf8};
-ghost use Rattle.rl_ast.specs.Syntax.{nodes, pieces_of, span_of, syntax};
+ghost use Rattle.rl_syntax.specs.Syntax.{nodes, pieces_of, span_of, syntax};
 ghost use Rattle.rl_base.specs.Reserved.{is_reserved};
 ghost use Rattle.rl_base.specs.declared.diagnostic.Diagnostic.{Diagnostic as Said};
 ghost use Rattle.rl_builder.specs.Builder.{state_of, started};

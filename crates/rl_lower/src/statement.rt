@@ -1,7 +1,7 @@
 //! Lowering of statements, and of lists of them.
 
 ghost use Rattle.std.specs.Prelude.{◌≡◌, ◌*◌, map, OnOk, Some};
-ghost use Rattle.rl_ast.specs.Syntax.{nodes, nodes_of, pieces_of, syntax};
+ghost use Rattle.rl_syntax.specs.Syntax.{nodes, nodes_of, pieces_of, syntax};
 ghost use Rattle.rl_builder.specs.Builder.{state_of};
 ghost use Rattle.rl_lower.specs.Endings.{returned_from};
 ghost use Rattle.rl_lower.specs.Lowering.{HasRoom, LowersStatement, LowersStatements};

@@ -1,8 +1,8 @@
 -- The definitions, tried on small functions: what their runs, the runs of their graphs, their calls and their rows come to.
 use Rattle.std.proofs.Common.{◌≡◌, ℕ, ◌+◌, true, false, Some, None, List, [], ◌∷◌, map, codes, refl}
-use Rattle.rl_ast.specs.Syntax.{Syntax, Node, Listed, Said, Flag, Absent, pieces_of}
-use Rattle.rl_ast.specs.declared.word.Word.{Word}
-use Rattle.rl_ast.specs.declared.word.Word.TheVariants as word
+use Rattle.rl_syntax.specs.Syntax.{Syntax, Node, Listed, Said, Flag, Absent, pieces_of}
+use Rattle.rl_syntax.specs.declared.word.Word.{Word}
+use Rattle.rl_syntax.specs.declared.word.Word.TheVariants as word
 use Rattle.rl_base.specs.declared.row.Row.TheVariants as row
 use Rattle.rl_base.specs.declared.span.Span.{Span}
 use Rattle.rl_hir.specs.declared.function.BlockKind.TheVariants as kinds

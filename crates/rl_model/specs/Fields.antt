@@ -1,7 +1,7 @@
 -- The fields of a result that runs do not read: those of the function, and the identifiers of its parameters.
 use Rattle.std.specs.Prelude.{◌≡◌, ℕ, ◌+◌, Bool, false, Some, None, List, [], ◌∷◌, ◌++◌, All, length}
-use Rattle.rl_ast.specs.Syntax.{Syntax, Node, Listed, Said, Flag, Absent, Pieces, End, Then, span_of}
-use Rattle.rl_ast.specs.declared.word.Word.TheVariants as word
+use Rattle.rl_syntax.specs.Syntax.{Syntax, Node, Listed, Said, Flag, Absent, Pieces, End, Then, span_of}
+use Rattle.rl_syntax.specs.declared.word.Word.TheVariants as word
 use Rattle.rl_hir.specs.Identifiers.{named_identifier}
 use Rattle.rl_hir.specs.Pairs.{pair}
 use Rattle.rl_hir.specs.declared.function.HirFunction.{HirFunction}

@@ -1,6 +1,6 @@
 -- The promises of a result: of each graph, and of the result as a whole.
 use Rattle.std.specs.Prelude.{◌≡◌, ℕ, ◌*◌, ◌≤◌, List, [], length}
-use Rattle.rl_ast.specs.Syntax.{Syntax, nodes}
+use Rattle.rl_syntax.specs.Syntax.{Syntax, nodes}
 use Rattle.rl_base.specs.Distinct.{AreDistinct}
 use Rattle.rl_hir.specs.Listing.{lowered}
 use Rattle.rl_hir.specs.Numbered.{IsNumbered}

@@ -1,6 +1,6 @@
 -- Well-formed units.
 use Rattle.std.specs.Prelude.{◌≡◌, ℕ, true, List}
-use Rattle.rl_ast.specs.Syntax.{Syntax}
+use Rattle.rl_syntax.specs.Syntax.{Syntax}
 use Rattle.rl_ast.specs.Units.{Spells}
 use Rattle.rl_scope.specs.Symbols.{are_distinct, symbols_of}
 use Rattle.rl_model.specs.Source.{marked}

@@ -1,8 +1,8 @@
 -- The symbols of a function are those of its parameters.
 use Rattle.std.proofs.Common.{◌≡◌, ℕ, List, [], ◌∷◌, ◌++◌, sym, ap, ◌∙◌}
-use Rattle.rl_ast.specs.Syntax.{Syntax, Node, Listed, Said, Absent, Pieces, End, Then}
-use Rattle.rl_ast.specs.declared.numbered.At.{At}
-use Rattle.rl_ast.specs.declared.word.Word.TheVariants as word
+use Rattle.rl_syntax.specs.Syntax.{Syntax, Node, Listed, Said, Absent, Pieces, End, Then}
+use Rattle.rl_syntax.specs.declared.numbered.At.{At}
+use Rattle.rl_syntax.specs.declared.word.Word.TheVariants as word
 use Rattle.rl_scope.specs.Symbols.{declared_by, declared_in, symbols_of}
 use Rattle.rl_scope.specs.declared.semantic.Symbol.{Symbol}
 

@@ -2,7 +2,7 @@
 
 ghost use Rattle.std.specs.Prelude.{◌≡◌, ◌<◌, ◌^◌, ℕ, [], ◌∷◌, true, false, length, map, slice_get, Some, IfOk, IfErr, IfSome};
 ghost use Rattle.std.specs.Option.{option_map};
-ghost use Rattle.rl_ast.specs.Syntax.{pieces_of, syntax};
+ghost use Rattle.rl_syntax.specs.Syntax.{pieces_of, syntax};
 ghost use Rattle.rl_scope.specs.Symbols.{are_distinct, declared_by, declared_in, symbol_named, symbols_of};
 
 use crate::symbols::Symbols;

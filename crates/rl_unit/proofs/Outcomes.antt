@@ -2,7 +2,7 @@
 use Rattle.std.proofs.Common.{◌≡◌, ℕ, List, Option, Some, None, IfSome, refl, sym, subst, take}
 use Rattle.std.specs.declared.vec.Vec.{Vec}
 use Rattle.std.specs.declared.alloc.Global.{Global}
-use Rattle.rl_ast.specs.Limits.{IsTooLarge, most_read}
+use Rattle.rl_syntax.specs.Limits.{IsTooLarge, most_read}
 use Rattle.rl_hir.specs.declared.function.Lowered.{Lowered}
 use Rattle.rl_model.specs.Headline.{LowersTo}
 use Rattle.rl_model.specs.Units.{IsUnit}

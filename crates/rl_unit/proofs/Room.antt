@@ -1,11 +1,11 @@
 -- The marked function of a unit within the limits leaves room for its graph.
 use Rattle.std.proofs.Common.{◌≡◌, ℕ, ◌+◌, ◌*◌, ◌<◌, ◌≤◌, inl, inr, List, [], ◌++◌, length, length-append, ap, arith}
 use Rattle.rl_text.specs.Measure.{nodes_in}
-use Rattle.rl_ast.specs.declared.word.Word.TheVariants as word
-use Rattle.rl_ast.specs.Limits.{IsTooLarge}
-use Rattle.rl_ast.specs.Syntax.{Syntax, Node, Listed, Said, Pieces, End, Then, nodes, nodes_of}
+use Rattle.rl_syntax.specs.declared.word.Word.TheVariants as word
+use Rattle.rl_syntax.specs.Limits.{IsTooLarge}
+use Rattle.rl_syntax.specs.Syntax.{Syntax, Node, Listed, Said, Pieces, End, Then, nodes, nodes_of}
 use Rattle.rl_ast.specs.Units.{Spells}
-use Rattle.rl_ast.proofs.Measured.{nodes_measured}
+use Rattle.rl_syntax.proofs.Measured.{nodes_measured}
 use Rattle.rl_model.specs.Source.{function_in, marked}
 use Rattle.rl_hir.specs.declared.environment.Environment.{Environment}
 use Rattle.rl_hir.specs.declared.function.Identifier.{Identifier}

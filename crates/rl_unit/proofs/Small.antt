@@ -3,10 +3,10 @@ use Rattle.std.proofs.Common.{◌≡◌, ℕ, suc, ◌+◌, ◌<◌, ◌≤◌, 
 use Rattle.rl_text.specs.Notation as notation
 use Rattle.rl_text.specs.Notation.{AreWritable, IsWritable, spelled_on, spelling}
 use Rattle.rl_text.specs.Raw.{parts_of}
-use Rattle.rl_ast.specs.Syntax.{Syntax, Node, Listed, Said, Count, Flag, Absent, Pieces, End, Then, IsPlaced, ArePlaced, nodes, plain, plain_parts, width}
+use Rattle.rl_syntax.specs.Syntax.{Syntax, Node, Listed, Said, Count, Flag, Absent, Pieces, End, Then, IsPlaced, ArePlaced, nodes, plain, plain_parts, width}
 use Rattle.rl_ast.specs.Units.{Spells}
-use Rattle.rl_ast.specs.Words.{word_text}
-use Rattle.rl_ast.specs.declared.word.Word.TheVariants as word
+use Rattle.rl_syntax.specs.Words.{word_text}
+use Rattle.rl_syntax.specs.declared.word.Word.TheVariants as word
 use Rattle.rl_hir.specs.Listing.{lowered, function, identifier, inner, pair}
 use Rattle.rl_hir.specs.declared.function.InnerFunction.{InnerFunction}
 use Rattle.rl_hir.specs.declared.function.Lowered.{Lowered}

@@ -5,8 +5,8 @@ use Rattle.std.specs.Io.KnownBytes.{Consumes, Keeps, Appends}
 use Rattle.rl_base.specs.Pieces.{AppendsPrefix}
 use Rattle.rl_text.specs.Notation.{spelling}
 use Rattle.rl_hir.specs.Listing.{lowered}
-use Rattle.rl_ast.specs.Limits.{IsTooLarge, most_read}
-use Rattle.rl_ast.specs.Syntax.{Syntax}
+use Rattle.rl_syntax.specs.Limits.{IsTooLarge, most_read}
+use Rattle.rl_syntax.specs.Syntax.{Syntax}
 use Rattle.rl_base.specs.Diagnostics.{line_of}
 use Rattle.rl_base.specs.declared.diagnostic.Diagnostic.{Diagnostic}
 use Rattle.rl_model.specs.Rows.{IsSupported, refusals_of, stop_of}

@@ -1,7 +1,7 @@
 -- Outcomes of units that were read, and the program's output for them.
 use Rattle.std.specs.Prelude.{ℕ, List, Option, IfSome}
-use Rattle.rl_ast.specs.Limits.{IsTooLarge}
-use Rattle.rl_ast.specs.Syntax.{Syntax}
+use Rattle.rl_syntax.specs.Limits.{IsTooLarge}
+use Rattle.rl_syntax.specs.Syntax.{Syntax}
 use Rattle.rl_model.specs.Headline.{IsLowered}
 use Rattle.rl_model.specs.Units.{IsUnit}
 use Rattle.rl_unit.specs.Answers.{IsReportOf, output}

@@ -1,11 +1,11 @@
 //! Units, from their bytes to their results.
 
 ghost use Rattle.std.specs.Prelude.{◌≡◌, ◌↔◌, true, List, IfErr, IfOk, IsErrOf};
-ghost use Rattle.rl_ast.specs.Syntax.{syntax};
+ghost use Rattle.rl_syntax.specs.Syntax.{syntax};
 ghost use Rattle.rl_model.specs.Source.{marked};
 ghost use Rattle.rl_model.specs.Headline.{LowersTo};
 ghost use Rattle.rl_unit.specs.Answers.{IsMalformed, IsRefused, IsStopped};
-ghost use Rattle.rl_ast.specs.Limits.{IsTooLarge};
+ghost use Rattle.rl_syntax.specs.Limits.{IsTooLarge};
 ghost use Rattle.rl_base.specs.declared.diagnostic.Diagnostic.{Diagnostic};
 
 use rl_ast::read::{TreeError, read_tree};

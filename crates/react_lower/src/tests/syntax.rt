@@ -1,13 +1,13 @@
 //! The reader and the writer of units: numbers of nodes, units that are read and written back, and texts that are refused.
 
-use rl_ast::numbered::At;
+use rl_syntax::numbered::At;
 use rl_ast::read::{TreeError, read_tree};
 use rl_ast::unit::Unit;
 use rl_ast::view::{
     ArrowBody, Statement, StatementTree, binding_view, body_view, function_view, param_view,
     params_view, program_view, statement_view,
 };
-use rl_ast::word::Word;
+use rl_syntax::word::Word;
 use rl_ast::write::write_tree;
 use rl_base::ids::NodeId;
 use rl_unit::unit::marked_function;

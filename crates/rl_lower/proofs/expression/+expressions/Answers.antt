@@ -1,7 +1,7 @@
 use Rattle.std.proofs.Common.{◌≡◌, ◌+◌, ◌++◌, [], ◌∷◌, map, append-nil, refl, ap, sym, ◌∙◌, subst, arith}
 use Rattle.std.specs.Str.{IsUtf8}
 use Rattle.rl_ast.specs.declared.view.Expression.{Expression}
-use Rattle.rl_ast.specs.Syntax.{Syntax, Pieces, End, Then, nodes, nodes_of, pieces_of, syntax}
+use Rattle.rl_syntax.specs.Syntax.{Syntax, Pieces, End, Then, nodes, nodes_of, pieces_of, syntax}
 use Rattle.rl_ast.specs.Views.{seen_expression}
 use Rattle.rl_hir.specs.Instructions.{argument_shape}
 use Rattle.rl_builder.specs.Builder.{State, state_of}

@@ -1,7 +1,7 @@
 use Rattle.std.proofs.Common.{◌≡◌, ◌+◌, ◌*◌, ◌≤◌, ◌++◌, ℕ, List, map}
-use Rattle.rl_ast.specs.Sizes.{size_of}
-use Rattle.rl_ast.specs.Syntax.{Pieces, nodes, nodes_of, pieces_of, syntax}
-use Rattle.rl_ast.specs.declared.numbered.Numbered.{Numbered}
+use Rattle.rl_syntax.specs.Sizes.{size_of}
+use Rattle.rl_syntax.specs.Syntax.{Pieces, nodes, nodes_of, pieces_of, syntax}
+use Rattle.rl_syntax.specs.declared.numbered.Numbered.{Numbered}
 use Rattle.rl_hir.specs.Instructions.{argument_shape}
 use Rattle.rl_builder.specs.Builder.{State, state_of}
 use Rattle.rl_model.specs.Source.{shape_of}

@@ -1,7 +1,7 @@
 use Rattle.std.proofs.Common.{All, map, subst, sym}
 use Rattle.std.specs.Str.{IsUtf8}
 use Rattle.std.proofs.lemmas.List.Elements.{All-nil, All-cons, All-same}
-use Rattle.rl_ast.specs.Syntax.{Said, Pieces, Then, pieces_of, syntax}
+use Rattle.rl_syntax.specs.Syntax.{Said, Pieces, Then, pieces_of, syntax}
 use Rattle.rl_model.specs.Fields.{texts_in}
 use Rattle.rl_lower.specs.Sound.{AreSmallTrees, IsSmallTree}
 use Rattle.rl_lower.proofs.Answering.{ok_so}

@@ -1,5 +1,5 @@
 use Rattle.std.proofs.Common.{None, Some, false, ap, ◌∙◌, refl}
-use Rattle.rl_ast.specs.Syntax.{Syntax, span_of}
+use Rattle.rl_syntax.specs.Syntax.{Syntax, span_of}
 use Rattle.rl_hir.specs.declared.environment.Environment.{Environment}
 use Rattle.rl_hir.specs.declared.function.HirFunction.{HirFunction}
 use Rattle.rl_lower.proofs.FunctionGraphs.{graph_closed, identifiers_fit, types_fit, lower_bounded, lower_never_stuck, lower_fn_type, lower_functions, lower_held, lower_identifiers, lower_pairs, lower_refused, lower_room, lower_same_runs}

@@ -1,5 +1,5 @@
 use Rattle.std.proofs.Common.{None, map, sym, subst}
-use Rattle.rl_ast.specs.Syntax.{Listed, Pieces, pieces_of, syntax}
+use Rattle.rl_syntax.specs.Syntax.{Listed, Pieces, pieces_of, syntax}
 use Rattle.rl_hir.specs.declared.function.BlockKind.TheVariants as kinds
 use Rattle.rl_builder.specs.Builder.{State}
 use Rattle.rl_lower.specs.Named.{IsNamed}

@@ -1,5 +1,5 @@
 use Rattle.std.proofs.Common.{rules, ◌+◌, ◌*◌, length, ap, sym, ◌∙◌, subst, arith}
-use Rattle.rl_ast.specs.Syntax.{nodes, syntax}
+use Rattle.rl_syntax.specs.Syntax.{nodes, syntax}
 use Rattle.rl_hir.specs.declared.function.BlockKind.TheVariants as kinds
 use Rattle.rl_builder.specs.Builder.{State, started}
 use Rattle.rl_lower.specs.Named.{IsNamed}

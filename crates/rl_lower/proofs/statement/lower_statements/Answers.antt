@@ -1,5 +1,5 @@
 use Rattle.std.proofs.Common.{◌≡◌, ◌+◌, ◌*◌, map, ap, sym, ◌∙◌, subst, arith}
-use Rattle.rl_ast.specs.Syntax.{Syntax, Pieces, Then, pieces_of, nodes, nodes_of, syntax}
+use Rattle.rl_syntax.specs.Syntax.{Syntax, Pieces, Then, pieces_of, nodes, nodes_of, syntax}
 use Rattle.rl_builder.specs.Builder.{State, state_of}
 use Rattle.rl_lower.specs.Lowering.{LowersStatements}
 use Rattle.rl_lower.specs.Sound.{AreSmallTrees, IsSmallTree}

@@ -1,6 +1,6 @@
 use Rattle.std.proofs.Common.{◌≡◌, ◌*◌, map}
-use Rattle.rl_ast.specs.Sizes.{size_of}
-use Rattle.rl_ast.specs.Syntax.{nodes_of, pieces_of, syntax}
+use Rattle.rl_syntax.specs.Sizes.{size_of}
+use Rattle.rl_syntax.specs.Syntax.{nodes_of, pieces_of, syntax}
 use Rattle.rl_builder.specs.Builder.{State, state_of}
 use Rattle.rl_lower.specs.Lowering.{HasRoom, LowersStatements}
 use Rattle.rl_lower.specs.Named.{IsNamed}

@@ -1,5 +1,5 @@
 use Rattle.std.proofs.Common.{◌≡◌, ℕ, Bool, true, false, true≢false, List, [], ◌∷◌, ◌++◌, not, is_some, if◌then◌else◌, map, refl, sym, ap, ◌∙◌, append_assoc}
-use Rattle.rl_ast.specs.Syntax.{pieces_of, syntax}
+use Rattle.rl_syntax.specs.Syntax.{pieces_of, syntax}
 use Rattle.rl_scope.proofs.Declaring.{next_declared}
 use Rattle.rl_scope.proofs.Distinct.{distinct-push, not_distinct-append}
 use Rattle.rl_scope.proofs.semantic.declare_all.Goals as goal

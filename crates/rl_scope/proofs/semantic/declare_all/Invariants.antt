@@ -1,6 +1,6 @@
 use Rattle.std.proofs.Common.{◌≡◌, ◌++◌, map, true}
-use Rattle.rl_ast.specs.Sizes.{size_of}
-use Rattle.rl_ast.specs.Syntax.{pieces_of, syntax}
+use Rattle.rl_syntax.specs.Sizes.{size_of}
+use Rattle.rl_syntax.specs.Syntax.{pieces_of, syntax}
 use Rattle.rl_scope.specs.Symbols.{are_distinct, declared_in}
 use Rattle.rl_scope.proofs.semantic.declare_all.Given as goal
 

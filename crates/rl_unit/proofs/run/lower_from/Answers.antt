@@ -1,5 +1,5 @@
 use Rattle.std.proofs.Common.{ℕ, List, Some, subst}
-use Rattle.rl_ast.specs.Limits.{IsTooLarge}
+use Rattle.rl_syntax.specs.Limits.{IsTooLarge}
 use Rattle.rl_unit.specs.Answers.{RefusesKnown}
 use Rattle.rl_unit.specs.Outcomes.{ComesTo}
 use Rattle.rl_unit.proofs.Answering.{reads_whole, refuses_left}

@@ -1,6 +1,6 @@
 use Rattle.std.proofs.Common.{◌≡◌, ◌≤◌, ◌*◌, ◌++◌, ℕ, true, false, List, [], length, map, Err, ap, sym, subst, refl, ◌∙◌, All, arith}
-use Rattle.rl_ast.specs.Limits.{IsTooLarge}
-use Rattle.rl_ast.specs.Syntax.{Syntax, nodes, syntax}
+use Rattle.rl_syntax.specs.Limits.{IsTooLarge}
+use Rattle.rl_syntax.specs.Syntax.{Syntax, nodes, syntax}
 use Rattle.rl_ast.specs.Units.{Spells}
 use Rattle.rl_ast.proofs.Units.{one_unit}
 use Rattle.rl_hir.specs.Listing.{identifier, pair}

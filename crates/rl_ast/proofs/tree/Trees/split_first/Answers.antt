@@ -1,5 +1,0 @@
-use Rattle.rl_ast.proofs.Viewing.{first_fits}
-use Rattle.rl_ast.proofs.tree.Trees.split_first.Goals as goal
-
-pub new-requires : goal.new-requires
-new-requires g c = first_fits _ _ _ _ c.in_ok-first.ensures c.args.self.fit

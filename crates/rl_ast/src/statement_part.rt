@@ -1,0 +1,189 @@
+//! Written by tools/syntax.py from tools/grammar.txt.
+
+ghost use Rattle.std.specs.Prelude.{◌≡◌};
+ghost use Rattle.rl_syntax.specs.Syntax.{syntax};
+ghost use Rattle.rl_ast.specs.StatementPartViews.{seen_block_statement, seen_catch_clause, seen_export_default, seen_for_head, seen_for_init, seen_switch_case, seen_variable_declaration, seen_variable_declarator};
+
+use rl_base::variable_kind::VariableKind;
+use rl_grammar::kind::Kind;
+use rl_grammar::parts::{closed_of, items_of, node_of, none, one, two};
+use rl_grammar::rules::rule;
+use rl_grammar::sort::{AssignmentTargetTree, BindingPatternTree, BlockStatementTree, CatchClauseTree, ExportDefaultTree, ExpressionTree, ForHeadTree, ForInitTree, StatementTree, StatementTrees, SwitchCaseTree, VariableDeclarationTree, VariableDeclaratorTree, VariableDeclaratorTrees};
+use rl_grammar::tree::{Tree, Trees};
+use rl_syntax::numbered::At;
+use rl_syntax::word::Word;
+
+/// A tree of the sort `BlockStatement`. `(block [STATEMENT])`
+#[derive(Clone, Copy)]
+pub struct BlockStatement<'b> {
+    /// Ids and span of the node.
+    pub at: At,
+    /// A list: a tree of the sort `Statement`.
+    pub body: StatementTrees<'b>,
+}
+
+/// One level of a tree of the sort `BlockStatement`.
+#[tactic(auto, using(rl_grammar::proofs::Viewing::viewing))]
+pub fn block_statement_view(tree: BlockStatementTree<'_>) -> BlockStatement<'_>
+    ensures { seen_block_statement result ≡ syntax tree.entry.tree.now }
+{
+    let (at, word, parts) = node_of(tree.tree);
+    match word {
+        Word::Block => { let body = one(parts); BlockStatement { at, body: Trees::new(items_of(body)) } }
+        _ => unreachable!(),
+    }
+}
+
+/// A tree of the sort `SwitchCase`. `(case EXPRESSION? [STATEMENT])`
+#[derive(Clone, Copy)]
+pub struct SwitchCase<'b> {
+    /// Ids and span of the node.
+    pub at: At,
+    /// A tree of the sort `Expression`, or none.
+    pub test: Option<ExpressionTree<'b>>,
+    /// A list: a tree of the sort `Statement`.
+    pub consequent: StatementTrees<'b>,
+}
+
+/// One level of a tree of the sort `SwitchCase`.
+#[tactic(auto, using(rl_grammar::proofs::Viewing::viewing))]
+pub fn switch_case_view(tree: SwitchCaseTree<'_>) -> SwitchCase<'_>
+    ensures { seen_switch_case result ≡ syntax tree.entry.tree.now }
+{
+    let (at, word, parts) = node_of(tree.tree);
+    match word {
+        Word::Case => { let (test, consequent) = two(parts); SwitchCase { at, test: Tree::optional(test), consequent: Trees::new(items_of(consequent)) } }
+        _ => unreachable!(),
+    }
+}
+
+/// A tree of the sort `CatchClause`. `(catch BINDINGPATTERN? BLOCKSTATEMENT)`
+#[derive(Clone, Copy)]
+pub struct CatchClause<'b> {
+    /// Ids and span of the node.
+    pub at: At,
+    /// A tree of the sort `BindingPattern`, or none.
+    pub param: Option<BindingPatternTree<'b>>,
+    /// A tree of the sort `BlockStatement`.
+    pub body: BlockStatementTree<'b>,
+}
+
+/// One level of a tree of the sort `CatchClause`.
+#[tactic(auto, using(rl_grammar::proofs::Viewing::viewing))]
+pub fn catch_clause_view(tree: CatchClauseTree<'_>) -> CatchClause<'_>
+    ensures { seen_catch_clause result ≡ syntax tree.entry.tree.now }
+{
+    let (at, word, parts) = node_of(tree.tree);
+    match word {
+        Word::Catch => { let (param, body) = two(parts); CatchClause { at, param: Tree::optional(param), body: Tree::new(body) } }
+        _ => unreachable!(),
+    }
+}
+
+/// A tree of the sort `VariableDeclaration`. `(var VARIABLEKIND [VARIABLEDECLARATOR])`
+#[derive(Clone, Copy)]
+pub struct VariableDeclaration<'b> {
+    /// Ids and span of the node.
+    pub at: At,
+    /// The kind of a variable declaration.
+    pub kind: VariableKind,
+    /// A list: a tree of the sort `VariableDeclarator`.
+    pub declarators: VariableDeclaratorTrees<'b>,
+}
+
+/// One level of a tree of the sort `VariableDeclaration`.
+#[tactic(auto, using(rl_grammar::proofs::Viewing::viewing))]
+pub fn variable_declaration_view(tree: VariableDeclarationTree<'_>) -> VariableDeclaration<'_>
+    ensures { seen_variable_declaration result ≡ syntax tree.entry.tree.now }
+{
+    let (at, word, parts) = node_of(tree.tree);
+    match word {
+        Word::Var => { let (kind, declarators) = two(parts); VariableDeclaration { at, kind: closed_of(kind), declarators: Trees::new(items_of(declarators)) } }
+        _ => unreachable!(),
+    }
+}
+
+/// A tree of the sort `VariableDeclarator`. `(declarator BINDINGPATTERN EXPRESSION?)`
+#[derive(Clone, Copy)]
+pub struct VariableDeclarator<'b> {
+    /// Ids and span of the node.
+    pub at: At,
+    /// A tree of the sort `BindingPattern`.
+    pub pattern: BindingPatternTree<'b>,
+    /// A tree of the sort `Expression`, or none.
+    pub init: Option<ExpressionTree<'b>>,
+}
+
+/// One level of a tree of the sort `VariableDeclarator`.
+#[tactic(auto, using(rl_grammar::proofs::Viewing::viewing))]
+pub fn variable_declarator_view(tree: VariableDeclaratorTree<'_>) -> VariableDeclarator<'_>
+    ensures { seen_variable_declarator result ≡ syntax tree.entry.tree.now }
+{
+    let (at, word, parts) = node_of(tree.tree);
+    match word {
+        Word::Declarator => { let (pattern, init) = two(parts); VariableDeclarator { at, pattern: Tree::new(pattern), init: Tree::optional(init) } }
+        _ => unreachable!(),
+    }
+}
+
+/// A tree of the sort `ForInit`.
+#[derive(Clone, Copy)]
+pub enum ForInit<'b> {
+    /// A tree of the sort `VariableDeclaration`.
+    Variables(VariableDeclarationTree<'b>),
+    /// A tree of the sort `Expression`.
+    Expression(ExpressionTree<'b>),
+}
+
+/// One level of a tree of the sort `ForInit`.
+#[tactic(auto, using(rl_grammar::proofs::Viewing::viewing))]
+pub fn for_init_view(tree: ForInitTree<'_>) -> ForInit<'_>
+    ensures { seen_for_init result ≡ syntax tree.entry.tree.now }
+{
+    let (at, word, parts) = node_of(tree.tree);
+    match word {
+        Word::Var => ForInit::Variables(Tree::new(tree.tree)),
+        _ => ForInit::Expression(Tree::new(tree.tree)),
+    }
+}
+
+/// A tree of the sort `ForHead`.
+#[derive(Clone, Copy)]
+pub enum ForHead<'b> {
+    /// A tree of the sort `VariableDeclaration`.
+    Variables(VariableDeclarationTree<'b>),
+    /// A tree of the sort `AssignmentTarget`.
+    Target(AssignmentTargetTree<'b>),
+}
+
+/// One level of a tree of the sort `ForHead`.
+#[tactic(auto, using(rl_grammar::proofs::Viewing::viewing))]
+pub fn for_head_view(tree: ForHeadTree<'_>) -> ForHead<'_>
+    ensures { seen_for_head result ≡ syntax tree.entry.tree.now }
+{
+    let (at, word, parts) = node_of(tree.tree);
+    match word {
+        Word::Var => ForHead::Variables(Tree::new(tree.tree)),
+        _ => ForHead::Target(Tree::new(tree.tree)),
+    }
+}
+
+/// A tree of the sort `ExportDefault`.
+#[derive(Clone, Copy)]
+pub enum ExportDefault<'b> {
+    /// A tree of the sort `Statement`.
+    Statement(StatementTree<'b>),
+    /// A tree of the sort `Expression`.
+    Expression(ExpressionTree<'b>),
+}
+
+/// One level of a tree of the sort `ExportDefault`.
+#[tactic(auto, using(rl_grammar::proofs::Viewing::viewing))]
+pub fn export_default_view(tree: ExportDefaultTree<'_>) -> ExportDefault<'_>
+    ensures { seen_export_default result ≡ syntax tree.entry.tree.now }
+{
+    let (at, word, parts) = node_of(tree.tree);
+    match word {
+        _ => match rule(Kind::Statement, word) { Some(_) => ExportDefault::Statement(Tree::new(tree.tree)), None => ExportDefault::Expression(Tree::new(tree.tree)) },
+    }
+}

@@ -1,0 +1,5 @@
+pub mod Counts
+pub mod FewFields
+pub mod Fitting
+pub mod Shaped
+pub mod Viewing

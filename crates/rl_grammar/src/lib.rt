@@ -1,0 +1,9 @@
+//! The grammar of units: one table, the test of a tree by it, and typed trees.
+#![tactic(auto)]
+
+pub mod fits;
+pub mod kind;
+pub mod parts;
+pub mod rules;
+pub mod sort;
+pub mod tree;

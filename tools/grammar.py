@@ -1,0 +1,96 @@
+"""The table of the grammar, read from grammar.txt."""
+import dataclasses
+import pathlib
+import re
+
+
+@dataclasses.dataclass
+class Field:
+    """A part of a node: its name, its kind, and its form (One, Maybe or Many)."""
+
+    name: str
+    kind: str
+    form: str
+
+
+@dataclasses.dataclass
+class Line:
+    """A kind of node of a sort (`word` and `fields`), or another sort that the sort takes in (`inner`)."""
+
+    sort: str
+    variant: str
+    word: str | None
+    fields: list[Field]
+    inner: str | None
+    meaning: str
+
+
+@dataclasses.dataclass
+class Grammar:
+    """The lines of each sort, the sorts of each module, what each sort is, and the words that make a scope."""
+
+    sorts: dict[str, list[Line]]
+    modules: dict[str, list[str]]
+    meanings: dict[str, str]
+    scopes: list[str]
+
+    def words(self):
+        """All words, in the order of the table."""
+        return list(dict.fromkeys(line.word for lines in self.sorts.values() for line in lines if line.word))
+
+    def is_struct(self, sort):
+        """True of a sort of one kind of node."""
+        return len(self.sorts[sort]) == 1 and self.sorts[sort][0].word is not None
+
+    def parts(self, word):
+        """The largest number of parts of a node of this word."""
+        return max(len(line.fields) for lines in self.sorts.values() for line in lines if line.word == word)
+
+
+def field_of(text):
+    name, kind = text.split(":")
+    form = "Many" if kind[0] == "[" else "Maybe" if kind[-1] == "?" else "One"
+    return Field(name, kind.strip("[]?"), form)
+
+
+def line_of(text):
+    row, _, meaning = text.partition(" -- ")
+    sort, variant, word, *rest = row.split()
+    if word == "=":
+        return Line(sort, variant, None, [], rest[0], meaning.strip())
+    return Line(sort, variant, word, [field_of(it) for it in rest], None, meaning.strip())
+
+
+def read_grammar():
+    """The table; it ends the script where a sort has one word twice, or a word is spelled otherwise than in letters."""
+    grammar = Grammar({}, {}, {}, [])
+    module = None
+    for text in (pathlib.Path(__file__).resolve().parent / "grammar.txt").read_text().splitlines():
+        if text.startswith("== "):
+            module = text[3:].strip()
+            grammar.modules[module] = []
+        elif text.startswith("@"):
+            sort, _, meaning = text[1:].partition(" ")
+            grammar.meanings[sort] = meaning.strip()
+        elif text.startswith("!scopes "):
+            grammar.scopes = text.split()[1:]
+        elif text.strip() and not text.startswith("#"):
+            line = line_of(text)
+            if line.sort not in grammar.sorts:
+                grammar.modules[module].append(line.sort)
+            grammar.sorts.setdefault(line.sort, []).append(line)
+    check(grammar)
+    return grammar
+
+
+def words_of(grammar, sort):
+    """The words of a sort, those of the sorts that it takes in included."""
+    for line in grammar.sorts[sort]:
+        yield from [line.word] if line.word else words_of(grammar, line.inner)
+
+
+def check(grammar):
+    for sort in grammar.sorts:
+        words = list(words_of(grammar, sort))
+        assert len(words) == len(set(words)), f"a word stands twice in {sort}"
+    assert all(re.fullmatch("[a-z]+", word) for word in grammar.words())
