@@ -20,8 +20,8 @@ NOTE = "Written by tools/syntax.py from tools/grammar.txt."
 # The leaves: of each kind the form of its plain tree, its type in a view, the function that reads it, its plain tree in a
 # definition, and what it is.
 CLOSED = {
-    "VariableKind": ("variable_kind_text", "The kind of a variable declaration"),
-    "TypeKind": ("type_kind_text", "The kind of a type"),
+    "VariableKind": ("variable_text", "The kind of a variable declaration"),
+    "TypeKind": ("type_text", "The kind of a type"),
     "UnaryOperator": ("unary_text", "A unary operator"),
     "UpdateOperator": ("update_text", "An update operator"),
     "BinaryOperator": ("operator_text", "A binary operator"),
@@ -312,8 +312,8 @@ def view_spec(module):
     body = "\n".join(view(sort)[1] for sort in sorts)
     texts = {text for text, _ in CLOSED.values()}
     lines = [f"-- The trees that views show, one level each. {NOTE}"]
-    imports = [("Rattle.std.specs.Prelude", used(["map"], body)), ("Rattle.rl_base.specs.Operators", used([t for t in texts if "kind" not in t], body)),
-               ("Rattle.rl_base.specs.ClosedTexts", used([t for t in texts if "kind" in t], body)), ("Rattle.rl_grammar.specs.Fields", used(["maybe"], body)),
+    imports = [("Rattle.std.specs.Prelude", used(["map"], body)), ("Rattle.rl_base.specs.Operators", used(sorted(texts - {"type_text", "variable_text"}), body)),
+               ("Rattle.rl_base.specs.TypeKinds", used(["type_text"], body)), ("Rattle.rl_base.specs.VariableKinds", used(["variable_text"], body)), ("Rattle.rl_grammar.specs.Fields", used(["maybe"], body)),
                ("Rattle.rl_syntax.specs.Syntax", ["Syntax", *used(["Node", "Listed", "Said", "Count", "Flag", "End", "Then", "pieces_of", "syntax"], body)])]
     lines += [f"use {path}.{{{', '.join(names)}}}" for path, names in imports if names]
     for sort in sorts:

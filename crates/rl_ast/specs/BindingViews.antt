@@ -1,6 +1,6 @@
 -- The trees that views show, one level each. Written by tools/syntax.py from tools/grammar.txt.
 use Rattle.std.specs.Prelude.{map}
-use Rattle.rl_base.specs.ClosedTexts.{type_kind_text}
+use Rattle.rl_base.specs.TypeKinds.{type_text}
 use Rattle.rl_grammar.specs.Fields.{maybe}
 use Rattle.rl_syntax.specs.Syntax.{Syntax, End, Flag, Listed, Node, Said, Then, pieces_of, syntax}
 use Rattle.rl_ast.specs.declared.binding.BindingIdentifier.{BindingIdentifier}
@@ -21,7 +21,7 @@ abbrev pub seen_binding_identifier : BindingIdentifier → Syntax
 seen_binding_identifier v = Node v.at word.Bind (Then (Said v.name.now) (Then (maybe v.annotation (λ t. syntax t.tree.now)) End))
 
 abbrev pub seen_type_annotation : TypeAnnotation → Syntax
-seen_type_annotation v = Node v.at word.Type (Then (Said (type_kind_text v.kind)) (Then (Listed (pieces_of (map syntax v.names.trees.now))) End))
+seen_type_annotation v = Node v.at word.Type (Then (Said (type_text v.kind)) (Then (Listed (pieces_of (map syntax v.names.trees.now))) End))
 
 abbrev pub seen_identifier_reference : IdentifierReference → Syntax
 seen_identifier_reference v = Node v.at word.Id (Then (Said v.name.now) End)

@@ -1,6 +1,6 @@
 -- The trees that views show, one level each. Written by tools/syntax.py from tools/grammar.txt.
 use Rattle.std.specs.Prelude.{map}
-use Rattle.rl_base.specs.ClosedTexts.{variable_kind_text}
+use Rattle.rl_base.specs.VariableKinds.{variable_text}
 use Rattle.rl_grammar.specs.Fields.{maybe}
 use Rattle.rl_syntax.specs.Syntax.{Syntax, End, Listed, Node, Said, Then, pieces_of, syntax}
 use Rattle.rl_ast.specs.declared.statement_part.BlockStatement.{BlockStatement}
@@ -26,7 +26,7 @@ abbrev pub seen_catch_clause : CatchClause → Syntax
 seen_catch_clause v = Node v.at word.Catch (Then (maybe v.param (λ t. syntax t.tree.now)) (Then (syntax v.body.tree.now) End))
 
 abbrev pub seen_variable_declaration : VariableDeclaration → Syntax
-seen_variable_declaration v = Node v.at word.Var (Then (Said (variable_kind_text v.kind)) (Then (Listed (pieces_of (map syntax v.declarators.trees.now))) End))
+seen_variable_declaration v = Node v.at word.Var (Then (Said (variable_text v.kind)) (Then (Listed (pieces_of (map syntax v.declarators.trees.now))) End))
 
 abbrev pub seen_variable_declarator : VariableDeclarator → Syntax
 seen_variable_declarator v = Node v.at word.Declarator (Then (syntax v.pattern.tree.now) (Then (maybe v.init (λ t. syntax t.tree.now)) End))

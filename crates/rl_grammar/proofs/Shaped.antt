@@ -1,7 +1,9 @@
 -- A tree that fits the grammar is shaped: its lists hold nodes and texts alone, and its nodes have at most 8 parts.
 use Rattle.std.proofs.Common.{◌≡◌, Bool, true, ◌&&◌, nat_le, Option, Some, None, List, [], ◌∷◌, length, refl, arith}
 use Rattle.std.proofs.lemmas.Bool.{and_parts}
-use Rattle.rl_grammar.specs.Grammar.{fits, each, every, single, rule}
+use Rattle.rl_grammar.specs.Grammar.{fits, each, every}
+use Rattle.rl_grammar.specs.Rules.{rule}
+use Rattle.rl_grammar.proofs.FewFields.{few_fields, rule_few}
 use Rattle.rl_syntax.specs.Syntax.{Syntax, Node, Listed, Said, Count, Flag, Absent, Pieces, End, Then, part_count, is_item, are_few, is_shaped, are_shaped, are_items}
 use Rattle.rl_grammar.specs.declared.kind.Field.{Field}
 use Rattle.rl_grammar.specs.declared.kind.Field.TheVariants as field
@@ -9,17 +11,6 @@ use Rattle.rl_grammar.specs.declared.kind.Kind.{Kind}
 use Rattle.rl_grammar.specs.declared.kind.Kind.TheVariants as kind
 use Rattle.rl_syntax.specs.declared.word.Word.{Word}
 use Rattle.rl_syntax.specs.declared.word.Word.TheVariants as word
-
--- At most 8 fields.
-abbrev few_fields : Option (List Field) → Bool
-few_fields None = true
-few_fields (Some fields) = nat_le (length fields) 8
-
--- Every rule, by computation: the first two clauses tell all kinds and all words apart.
-rule_few : (k : Kind) (w : Word) → few_fields (rule k w) ≡ true
-rule_few kind.Text word.Unit = refl
-rule_few _ word.Unit = refl
-rule_few _ _ = refl
 
 -- Parts that fit fields are as many as the fields.
 each_count : (fields : List Field) (ps : Pieces) → each (Some fields) ps ≡ true → part_count ps ≡ length fields
@@ -39,16 +30,9 @@ mutual
   shaped (field.One k) (Node at w parts) h = node_shaped (rule k w) parts (rule_few k w) h (each_shaped (rule k w) parts h)
   shaped (field.Maybe k) (Node at w parts) h = node_shaped (rule k w) parts (rule_few k w) h (each_shaped (rule k w) parts h)
   shaped (field.Many k) (Node at w parts) h = absurd (cc)
-  shaped (field.Single k) (Node at w parts) h = absurd (cc)
-  shaped field.Empty (Node at w parts) h = absurd (cc)
-  shaped field.Never (Node at w parts) h = absurd (cc)
   shaped (field.Many k) (Listed parts) h = every_shaped k parts h
-  shaped (field.Single k) (Listed parts) h = single_shaped k parts h
-  shaped field.Empty (Listed End) h = refl
-  shaped field.Empty (Listed (Then part parts)) h = absurd (cc)
   shaped (field.One k) (Listed parts) h = absurd (cc)
   shaped (field.Maybe k) (Listed parts) h = absurd (cc)
-  shaped field.Never (Listed parts) h = absurd (cc)
   shaped f (Said text) h = refl
   shaped f (Count number) h = refl
   shaped f (Flag flag) h = refl
@@ -73,10 +57,3 @@ mutual
       let rest : are_items ps ≡ true = every_shaped k ps whole.1 in
       rw (both.0, first, rest) refl
 
-  single_shaped : (k : Kind) (ps : Pieces) → single k ps ≡ true → are_items ps ≡ true
-  single_shaped k End h = absurd (cc)
-  single_shaped k (Then p End) h =
-      let both = and_parts (is_item p) (fits (field.One k) p) h in
-      let first : is_shaped p ≡ true = shaped (field.One k) p both.1 in
-      rw (both.0, first) refl
-  single_shaped k (Then p (Then q ps)) h = absurd (cc)

@@ -1,9 +1,12 @@
 -- The parts of a tree that fits.
-use Rattle.std.proofs.Common.{◌≡◌, true, false, ◌&&◌, Some, List, [], ◌∷◌, refl, sym, ap, ◌∙◌}
+use Rattle.std.proofs.Common.{◌≡◌, ℕ, ◌^◌, ◌<◌, Bool, true, false, ◌&&◌, Some, List, [], ◌∷◌, refl, sym, ap, ◌∙◌}
 use Rattle.std.proofs.lemmas.Bool.{and_parts}
-use Rattle.rl_base.proofs.Operators.{is_operator-text, operator-unknown}
-use Rattle.rl_syntax.specs.Forms.{is_node, is_text, is_flag, is_list, is_absent, is_none, is_one, is_two, is_three, is_four}
-use Rattle.rl_grammar.specs.Grammar.{fits, each, every, single}
+use Rattle.rl_base.specs.Operators.{operator_text, operators, logical_text, logical_operators, unary_text, unary_operators, update_text, update_operators, assignment_text, assignment_operators}
+use Rattle.rl_base.specs.TypeKinds.{type_text, type_kinds}
+use Rattle.rl_base.specs.VariableKinds.{variable_text, variable_kinds}
+use Rattle.rl_syntax.specs.Forms.{is_node, is_text, is_flag, is_number, is_list, is_absent, is_none, is_one, is_two, is_three, is_four, is_five, is_six}
+use Rattle.rl_grammar.specs.Fields.{writes}
+use Rattle.rl_grammar.specs.Grammar.{fits, each, every, text_fits, takes_flags, number_fits, is_leaf}
 use Rattle.rl_syntax.specs.Syntax.{Syntax, Node, Listed, Said, Count, Flag, Absent, Pieces, End, Then, is_item}
 use Rattle.rl_grammar.specs.declared.kind.Field.{Field}
 use Rattle.rl_grammar.specs.declared.kind.Field.TheVariants as field
@@ -42,6 +45,14 @@ pub arity_four : (f g i j : Field) (ps : Pieces) → each (Some (f ∷ g ∷ i �
 arity_four f g i j End h = absurd (cc)
 arity_four f g i j (Then a ps) h = arity_three g i j ps (behind f (g ∷ i ∷ j ∷ []) a ps h)
 
+pub arity_five : (f0 f1 f2 f3 f4 : Field) (ps : Pieces) → each (Some (f0 ∷ f1 ∷ f2 ∷ f3 ∷ f4 ∷ [])) ps ≡ true → is_five ps ≡ true
+arity_five f0 f1 f2 f3 f4 End h = absurd (cc)
+arity_five f0 f1 f2 f3 f4 (Then a ps) h = arity_four f1 f2 f3 f4 ps (behind f0 (f1 ∷ f2 ∷ f3 ∷ f4 ∷ []) a ps h)
+
+pub arity_six : (f0 f1 f2 f3 f4 f5 : Field) (ps : Pieces) → each (Some (f0 ∷ f1 ∷ f2 ∷ f3 ∷ f4 ∷ f5 ∷ [])) ps ≡ true → is_six ps ≡ true
+arity_six f0 f1 f2 f3 f4 f5 End h = absurd (cc)
+arity_six f0 f1 f2 f3 f4 f5 (Then a ps) h = arity_five f1 f2 f3 f4 f5 ps (behind f0 (f1 ∷ f2 ∷ f3 ∷ f4 ∷ f5 ∷ []) a ps h)
+
 -- the parts, one for each field
 pub one_fits : (ps : Pieces) (a : Syntax) → ps ≡ Then a End → (f : Field) → each (Some (f ∷ [])) ps ≡ true → fits f a ≡ true
 one_fits ps a is f h = front f [] a End (sym (ap (each (Some (f ∷ []))) is) ∙ h)
@@ -60,11 +71,29 @@ three_in f g i a b c h =
 pub three_fit : (ps : Pieces) (a b c : Syntax) → ps ≡ Then a (Then b (Then c End)) → (f g i : Field) → each (Some (f ∷ g ∷ i ∷ [])) ps ≡ true → (fits f a ≡ true) × (fits g b ≡ true) × (fits i c ≡ true)
 three_fit ps a b c is f g i h = three_in f g i a b c (sym (ap (each (Some (f ∷ g ∷ i ∷ []))) is) ∙ h)
 
+four_in : (f0 f1 f2 f3 : Field) (a b c d : Syntax) → each (Some (f0 ∷ f1 ∷ f2 ∷ f3 ∷ [])) (Then a (Then b (Then c (Then d End)))) ≡ true → (fits f0 a ≡ true) × (fits f1 b ≡ true) × (fits f2 c ≡ true) × (fits f3 d ≡ true)
+four_in f0 f1 f2 f3 a b c d h =
+    let tail = Then b (Then c (Then d End)) in
+    let rest = three_in f1 f2 f3 b c d (behind f0 (f1 ∷ f2 ∷ f3 ∷ []) a tail h) in
+    (front f0 (f1 ∷ f2 ∷ f3 ∷ []) a tail h, rest.0, rest.1, rest.2)
+
 pub four_fit : (ps : Pieces) (a b c d : Syntax) → ps ≡ Then a (Then b (Then c (Then d End))) → (f g i j : Field) → each (Some (f ∷ g ∷ i ∷ j ∷ [])) ps ≡ true → (fits f a ≡ true) × (fits g b ≡ true) × (fits i c ≡ true) × (fits j d ≡ true)
-four_fit ps a b c d is f g i j h =
-    let whole = sym (ap (each (Some (f ∷ g ∷ i ∷ j ∷ []))) is) ∙ h in
-    let rest = three_in g i j b c d (behind f (g ∷ i ∷ j ∷ []) a (Then b (Then c (Then d End))) whole) in
-    (front f (g ∷ i ∷ j ∷ []) a (Then b (Then c (Then d End))) whole, rest.0, rest.1, rest.2)
+four_fit ps a b c d is f g i j h = four_in f g i j a b c d (sym (ap (each (Some (f ∷ g ∷ i ∷ j ∷ []))) is) ∙ h)
+
+five_in : (f0 f1 f2 f3 f4 : Field) (a b c d e : Syntax) → each (Some (f0 ∷ f1 ∷ f2 ∷ f3 ∷ f4 ∷ [])) (Then a (Then b (Then c (Then d (Then e End))))) ≡ true → (fits f0 a ≡ true) × (fits f1 b ≡ true) × (fits f2 c ≡ true) × (fits f3 d ≡ true) × (fits f4 e ≡ true)
+five_in f0 f1 f2 f3 f4 a b c d e h =
+    let tail = Then b (Then c (Then d (Then e End))) in
+    let rest = four_in f1 f2 f3 f4 b c d e (behind f0 (f1 ∷ f2 ∷ f3 ∷ f4 ∷ []) a tail h) in
+    (front f0 (f1 ∷ f2 ∷ f3 ∷ f4 ∷ []) a tail h, rest.0, rest.1, rest.2, rest.3)
+
+six_in : (f0 f1 f2 f3 f4 f5 : Field) (a b c d e f : Syntax) → each (Some (f0 ∷ f1 ∷ f2 ∷ f3 ∷ f4 ∷ f5 ∷ [])) (Then a (Then b (Then c (Then d (Then e (Then f End)))))) ≡ true → (fits f0 a ≡ true) × (fits f1 b ≡ true) × (fits f2 c ≡ true) × (fits f3 d ≡ true) × (fits f4 e ≡ true) × (fits f5 f ≡ true)
+six_in f0 f1 f2 f3 f4 f5 a b c d e f h =
+    let tail = Then b (Then c (Then d (Then e (Then f End)))) in
+    let rest = five_in f1 f2 f3 f4 f5 b c d e f (behind f0 (f1 ∷ f2 ∷ f3 ∷ f4 ∷ f5 ∷ []) a tail h) in
+    (front f0 (f1 ∷ f2 ∷ f3 ∷ f4 ∷ f5 ∷ []) a tail h, rest.0, rest.1, rest.2, rest.3, rest.4)
+
+pub six_fit : (ps : Pieces) (a b c d e f : Syntax) → ps ≡ Then a (Then b (Then c (Then d (Then e (Then f End))))) → (f0 f1 f2 f3 f4 f5 : Field) → each (Some (f0 ∷ f1 ∷ f2 ∷ f3 ∷ f4 ∷ f5 ∷ [])) ps ≡ true → (fits f0 a ≡ true) × (fits f1 b ≡ true) × (fits f2 c ≡ true) × (fits f3 d ≡ true) × (fits f4 e ≡ true) × (fits f5 f ≡ true)
+six_fit ps a b c d e f is f0 f1 f2 f3 f4 f5 h = six_in f0 f1 f2 f3 f4 f5 a b c d e f (sym (ap (each (Some (f0 ∷ f1 ∷ f2 ∷ f3 ∷ f4 ∷ f5 ∷ []))) is) ∙ h)
 
 -- the items of a list
 item_parts : (k : Kind) (a : Syntax) (ps : Pieces) → every k (Then a ps) ≡ true → (fits (field.One k) a ≡ true) × (every k ps ≡ true)
@@ -85,77 +114,70 @@ pub of_text : (t : Syntax) → fits (field.One kind.Text) t ≡ true → is_text
 of_text (Said text) h = refl
 of_text _ h = absurd (cc)
 
-pub of_operator : (t : Syntax) → fits (field.One kind.BinaryOperator) t ≡ true → is_text t ≡ true
-of_operator (Said text) h = refl
-of_operator _ h = absurd (cc)
-
 pub of_flag : (t : Syntax) → fits (field.One kind.Flag) t ≡ true → is_flag t ≡ true
 of_flag (Flag flag) h = refl
 of_flag _ h = absurd (cc)
 
-pub of_no : (t : Syntax) → fits (field.One kind.No) t ≡ true → t ≡ Flag false
-of_no (Flag false) h = refl
-of_no _ h = absurd (cc)
+pub of_number : (t : Syntax) → fits (field.One kind.ScalarValue) t ≡ true → is_number t ≡ true
+of_number (Count number) h = refl
+of_number _ h = absurd (cc)
 
-pub of_yes : (t : Syntax) → fits (field.One kind.Yes) t ≡ true → t ≡ Flag true
-of_yes (Flag true) h = refl
-of_yes _ h = absurd (cc)
-
-pub of_never : (t : Syntax) → fits field.Never t ≡ true → t ≡ Absent
-of_never Absent h = refl
-of_never _ h = absurd (cc)
+pub of_scalar : (t : Syntax) (n : ℕ) → t ≡ Count n → fits (field.One kind.ScalarValue) t ≡ true → n < 2 ^ 32
+of_scalar (Count number) n is h = {!!}
+of_scalar _ n is h = absurd (cc)
 
 pub of_many : (k : Kind) (t : Syntax) → fits (field.Many k) t ≡ true → is_list t ≡ true
 of_many k (Listed parts) h = refl
 of_many k _ h = absurd (cc)
 
-pub of_expression : (t : Syntax) → fits (field.One kind.Expression) t ≡ true → is_node t ≡ true
-of_expression (Node at word parts) h = refl
-of_expression _ h = absurd (cc)
+pub of_variable_kind : (t : Syntax) → fits (field.One kind.VariableKind) t ≡ true → writes variable_text variable_kinds t ≡ true
+of_variable_kind (Said text) h = h
+of_variable_kind _ h = absurd (cc)
 
-pub of_statement : (t : Syntax) → fits (field.One kind.Statement) t ≡ true → is_node t ≡ true
-of_statement (Node at word parts) h = refl
-of_statement _ h = absurd (cc)
+pub of_type_kind : (t : Syntax) → fits (field.One kind.TypeKind) t ≡ true → writes type_text type_kinds t ≡ true
+of_type_kind (Said text) h = h
+of_type_kind _ h = absurd (cc)
 
-pub of_body : (t : Syntax) → fits (field.One kind.Body) t ≡ true → is_node t ≡ true
-of_body (Node at word parts) h = refl
-of_body _ h = absurd (cc)
+pub of_unary_operator : (t : Syntax) → fits (field.One kind.UnaryOperator) t ≡ true → writes unary_text unary_operators t ≡ true
+of_unary_operator (Said text) h = h
+of_unary_operator _ h = absurd (cc)
 
-pub of_binding : (t : Syntax) → fits (field.One kind.Binding) t ≡ true → is_node t ≡ true
-of_binding (Node at word parts) h = refl
-of_binding _ h = absurd (cc)
+pub of_update_operator : (t : Syntax) → fits (field.One kind.UpdateOperator) t ≡ true → writes update_text update_operators t ≡ true
+of_update_operator (Said text) h = h
+of_update_operator _ h = absurd (cc)
 
-pub of_param : (t : Syntax) → fits (field.One kind.Param) t ≡ true → is_node t ≡ true
-of_param (Node at word parts) h = refl
-of_param _ h = absurd (cc)
+pub of_binary_operator : (t : Syntax) → fits (field.One kind.BinaryOperator) t ≡ true → writes operator_text operators t ≡ true
+of_binary_operator (Said text) h = h
+of_binary_operator _ h = absurd (cc)
 
-pub of_params : (t : Syntax) → fits (field.One kind.Params) t ≡ true → is_node t ≡ true
-of_params (Node at word parts) h = refl
-of_params _ h = absurd (cc)
+pub of_logical_operator : (t : Syntax) → fits (field.One kind.LogicalOperator) t ≡ true → writes logical_text logical_operators t ≡ true
+of_logical_operator (Said text) h = h
+of_logical_operator _ h = absurd (cc)
 
-pub of_function : (t : Syntax) → fits (field.One kind.Function) t ≡ true → is_node t ≡ true
-of_function (Node at word parts) h = refl
-of_function _ h = absurd (cc)
+pub of_assignment_operator : (t : Syntax) → fits (field.One kind.AssignmentOperator) t ≡ true → writes assignment_text assignment_operators t ≡ true
+of_assignment_operator (Said text) h = h
+of_assignment_operator _ h = absurd (cc)
 
-pub of_marked : (t : Syntax) → fits (field.One kind.Marked) t ≡ true → is_node t ≡ true
-of_marked (Node at word parts) h = refl
-of_marked _ h = absurd (cc)
+-- the texts, flags and numbers of a kind whose trees are nodes: none
+no_text : (k : Kind) (text : List ℕ) → is_leaf k ≡ false → text_fits k text ≡ false
+no_text kind.Text text h = absurd (cc)
+no_text _ text h = refl
 
-pub of_program : (t : Syntax) → fits (field.One kind.Program) t ≡ true → is_node t ≡ true
-of_program (Node at word parts) h = refl
-of_program _ h = absurd (cc)
+no_flag : (k : Kind) → is_leaf k ≡ false → takes_flags k ≡ false
+no_flag kind.Flag h = absurd (cc)
+no_flag _ h = refl
 
-pub of_unit : (t : Syntax) → fits (field.One kind.Unit) t ≡ true → is_node t ≡ true
-of_unit (Node at word parts) h = refl
-of_unit _ h = absurd (cc)
+no_number : (k : Kind) (number : ℕ) → is_leaf k ≡ false → number_fits k number ≡ false
+no_number kind.ScalarValue number h = absurd (cc)
+no_number _ number h = refl
 
-pub of_single : (k : Kind) (t : Syntax) → fits (field.Single k) t ≡ true → is_list t ≡ true
-of_single k (Listed parts) h = refl
-of_single k _ h = absurd (cc)
-
-pub of_empty : (t : Syntax) → fits field.Empty t ≡ true → t ≡ Listed End
-of_empty (Listed End) h = refl
-of_empty _ h = absurd (cc)
+pub of_sort : (k : Kind) (t : Syntax) → is_leaf k ≡ false → fits (field.One k) t ≡ true → is_node t ≡ true
+of_sort k (Node at word parts) leaf h = refl
+of_sort k (Said text) leaf h = let none = no_text k text leaf in cc
+of_sort k (Flag flag) leaf h = let none = no_flag k leaf in cc
+of_sort k (Count number) leaf h = let none = no_number k number leaf in cc
+of_sort k (Listed parts) leaf h = absurd (cc)
+of_sort k Absent leaf h = absurd (cc)
 
 -- a part that may be absent
 pub present_fits : (k : Kind) (t : Syntax) → is_absent t ≡ false → fits (field.Maybe k) t ≡ true → fits (field.One k) t ≡ true
@@ -170,19 +192,9 @@ pub absent_is : (t : Syntax) → is_absent t ≡ true → t ≡ Absent
 absent_is Absent h = refl
 absent_is _ h = absurd (cc)
 
-pub ruleset optional = (present_fits, absent_is)
+pub ruleset optional = (present_fits, absent_is, of_text)
 
--- the one item of a list
-pub single_counted : (k : Kind) (ps : Pieces) → single k ps ≡ true → is_one ps ≡ true
-single_counted k (Then a End) h = refl
-single_counted k _ h = absurd (cc)
-
-pub single_fits : (k : Kind) (ps : Pieces) (a : Syntax) → ps ≡ Then a End → single k ps ≡ true → fits (field.One k) a ≡ true
-single_fits k ps a is h = (and_parts (is_item a) (fits (field.One k) a) (sym (ap (single k) is) ∙ h)).1
-
-pub ruleset singles = (single_counted, single_fits)
-
-pub ruleset operators = (is_operator-text, operator-unknown, of_operator)
+pub ruleset scalars = (of_number, of_scalar)
 
 pub ruleset viewing = (
   syntax_node,
@@ -196,22 +208,17 @@ pub ruleset viewing = (
   arity_two,
   arity_three,
   arity_four,
+  arity_six,
   of_text,
   of_flag,
-  of_no,
-  of_yes,
-  of_never,
+  of_number,
   of_many,
-  of_single,
-  of_empty,
-  of_expression,
-  of_statement,
-  of_body,
-  of_binding,
-  of_param,
-  of_params,
-  of_function,
-  of_marked,
-  of_program,
-  of_unit,
+  of_variable_kind,
+  of_type_kind,
+  of_unary_operator,
+  of_update_operator,
+  of_binary_operator,
+  of_logical_operator,
+  of_assignment_operator,
+  of_sort,
 )

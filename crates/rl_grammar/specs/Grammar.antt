@@ -1,90 +1,55 @@
--- The grammar of units: one table, from the kind of a part and the word of a node to the parts that the node has.
-use Rattle.std.specs.Prelude.{ℕ, Bool, true, false, not, ◌&&◌, Option, Some, None, List, [], ◌∷◌}
-use Rattle.rl_base.specs.Operators.{is_operator}
-use Rattle.rl_syntax.specs.Syntax.{Syntax, Node, Listed, Said, Flag, Absent, Pieces, End, Then, is_item}
+-- Trees that fit the grammar: the table of rules, applied to every node.
+use Rattle.std.specs.Prelude.{ℕ, Bool, true, false, ◌&&◌, Option, Some, None, List, [], ◌∷◌}
+use Rattle.rl_base.specs.ClosedTexts.{is_written}
+use Rattle.rl_base.specs.Operators.{is_operator, is_logical, is_unary, is_update, is_assignment}
+use Rattle.rl_base.specs.Scalars.{is_scalar_value}
+use Rattle.rl_base.specs.TypeKinds.{type_text, type_kinds}
+use Rattle.rl_base.specs.VariableKinds.{variable_text, variable_kinds}
+use Rattle.rl_grammar.specs.Rules.{rule}
+use Rattle.rl_syntax.specs.Syntax.{Syntax, Node, Listed, Said, Count, Flag, Absent, Pieces, End, Then, is_item}
 use Rattle.rl_grammar.specs.declared.kind.Field.{Field}
 use Rattle.rl_grammar.specs.declared.kind.Field.TheVariants as field
 use Rattle.rl_grammar.specs.declared.kind.Kind.{Kind}
 use Rattle.rl_grammar.specs.declared.kind.Kind.TheVariants as kind
-use Rattle.rl_syntax.specs.declared.word.Word.{Word}
-use Rattle.rl_syntax.specs.declared.word.Word.TheVariants as word
 
--- `(null)`, `(bool FLAG)`, `(num TEXT)`, `(str TEXT)`, `(paren EXPRESSION)`, `(id TEXT)`,
--- `(binary OPERATOR EXPRESSION EXPRESSION)`, `(call n EXPRESSION [EXPRESSION ..])`
-abbrev pub expression_rule : Word → Option (List Field)
-expression_rule word.Null = Some []
-expression_rule word.Bool = Some (field.One kind.Flag ∷ [])
-expression_rule word.Num = Some (field.One kind.Text ∷ [])
-expression_rule word.Str = Some (field.One kind.Text ∷ [])
-expression_rule word.Paren = Some (field.One kind.Expression ∷ [])
-expression_rule word.Id = Some (field.One kind.Text ∷ [])
-expression_rule word.Binary = Some (field.One kind.BinaryOperator ∷ field.One kind.Expression ∷ field.One kind.Expression ∷ [])
-expression_rule word.Call = Some (field.One kind.No ∷ field.One kind.Expression ∷ field.Many kind.Expression ∷ [])
-expression_rule _ = None
-
--- `(expr EXPRESSION)`, `(return EXPRESSION)`, `(return -)`
-abbrev pub statement_rule : Word → Option (List Field)
-statement_rule word.Expr = Some (field.One kind.Expression ∷ [])
-statement_rule word.Return = Some (field.Maybe kind.Expression ∷ [])
-statement_rule _ = None
-
--- `(body [TEXT ..] [STATEMENT ..])`, or an expression
-abbrev pub body_rule : Word → Option (List Field)
-body_rule word.Body = Some (field.Many kind.Text ∷ field.Many kind.Statement ∷ [])
-body_rule w = expression_rule w
-
--- The parts of a function, and of a unit: `(bind TEXT -)`, `(param BINDING -)`, `(params [PARAM ..] -)`, the marked function
--- `(arrow y ASYNC PARAMS BODY)` and its statement `(expr FUNCTION)`, `(program [MARKED])`, `(unit [] PROGRAM)`
-abbrev pub outer_rule : Kind → Word → Option (List Field)
-outer_rule kind.Binding word.Bind = Some (field.One kind.Text ∷ field.Never ∷ [])
-outer_rule kind.Param word.Param = Some (field.One kind.Binding ∷ field.Never ∷ [])
-outer_rule kind.Params word.Params = Some (field.Many kind.Param ∷ field.Never ∷ [])
-outer_rule kind.Function word.Arrow = Some (field.One kind.Yes ∷ field.One kind.Flag ∷ field.One kind.Params ∷ field.One kind.Body ∷ [])
-outer_rule kind.Marked word.Expr = Some (field.One kind.Function ∷ [])
-outer_rule kind.Program word.Program = Some (field.Single kind.Marked ∷ [])
-outer_rule kind.Unit word.Unit = Some (field.Empty ∷ field.One kind.Program ∷ [])
-outer_rule _ _ = None
-
--- The parts of a node, by the kind that is asked for and the node's word; `None` if no node of this word is of the kind.
-abbrev pub rule : Kind → Word → Option (List Field)
-rule kind.Expression w = expression_rule w
-rule kind.Statement w = statement_rule w
-rule kind.Body w = body_rule w
-rule k w = outer_rule k w
-
--- The texts of a kind.
+-- The texts of a kind: any, or those that write an operator or a kind of declaration or of type.
 abbrev pub text_fits : Kind → List ℕ → Bool
 text_fits kind.Text text = true
+text_fits kind.VariableKind text = is_written variable_text variable_kinds text
+text_fits kind.TypeKind text = is_written type_text type_kinds text
+text_fits kind.UnaryOperator text = is_unary text
+text_fits kind.UpdateOperator text = is_update text
 text_fits kind.BinaryOperator text = is_operator text
+text_fits kind.LogicalOperator text = is_logical text
+text_fits kind.AssignmentOperator text = is_assignment text
 text_fits _ text = false
 
--- The flags of a kind.
-abbrev pub flag_fits : Kind → Bool → Bool
-flag_fits kind.Flag flag = true
-flag_fits kind.No flag = not flag
-flag_fits kind.Yes flag = flag
-flag_fits _ flag = false
+-- True of the kind of flags.
+abbrev pub takes_flags : Kind → Bool
+takes_flags kind.Flag = true
+takes_flags _ = false
+
+-- The numbers of a kind.
+abbrev pub number_fits : Kind → ℕ → Bool
+number_fits kind.ScalarValue number = is_scalar_value number
+number_fits _ number = false
 
 abbrev mutual
   -- True of a tree that may stand in the field.
   pub fits : Field → Syntax → Bool
   fits (field.One k) (Node at w parts) = each (rule k w) parts
   fits (field.One k) (Said text) = text_fits k text
-  fits (field.One k) (Flag flag) = flag_fits k flag
+  fits (field.One k) (Flag flag) = takes_flags k
+  fits (field.One k) (Count number) = number_fits k number
   fits (field.One k) _ = false
   fits (field.Maybe k) (Node at w parts) = each (rule k w) parts
   fits (field.Maybe k) (Said text) = text_fits k text
-  fits (field.Maybe k) (Flag flag) = flag_fits k flag
+  fits (field.Maybe k) (Flag flag) = takes_flags k
+  fits (field.Maybe k) (Count number) = number_fits k number
   fits (field.Maybe k) Absent = true
   fits (field.Maybe k) _ = false
   fits (field.Many k) (Listed parts) = every k parts
   fits (field.Many k) _ = false
-  fits (field.Single k) (Listed parts) = single k parts
-  fits (field.Single k) _ = false
-  fits field.Empty (Listed End) = true
-  fits field.Empty _ = false
-  fits field.Never Absent = true
-  fits field.Never _ = false
 
   -- True of parts that may stand in the fields, one in each.
   pub each : Option (List Field) → Pieces → Bool
@@ -92,12 +57,21 @@ abbrev mutual
   each (Some (f ∷ fields)) (Then part parts) = fits f part && each (Some fields) parts
   each _ _ = false
 
-  -- True of one item of a kind.
-  pub single : Kind → Pieces → Bool
-  single k (Then part End) = is_item part && fits (field.One k) part
-  single k _ = false
-
   -- True of items of a kind. Lists hold nodes and texts alone.
   pub every : Kind → Pieces → Bool
   every k End = true
   every k (Then part parts) = is_item part && fits (field.One k) part && every k parts
+
+-- True of the kinds of texts, flags and numbers; the trees of every other kind are nodes.
+abbrev pub is_leaf : Kind → Bool
+is_leaf kind.Text = true
+is_leaf kind.Flag = true
+is_leaf kind.ScalarValue = true
+is_leaf kind.VariableKind = true
+is_leaf kind.TypeKind = true
+is_leaf kind.UnaryOperator = true
+is_leaf kind.UpdateOperator = true
+is_leaf kind.BinaryOperator = true
+is_leaf kind.LogicalOperator = true
+is_leaf kind.AssignmentOperator = true
+is_leaf _ = false

@@ -1,101 +1,21 @@
 //! Trees by their sorts: the compiler tells an expression's tree from a statement's.
 
 ghost use Rattle.std.specs.Prelude.{⊤, ◌≡◌, true, map, MatchOption};
-ghost use Rattle.rl_grammar.specs.Grammar.{fits, every, single};
-ghost use Rattle.rl_syntax.specs.Syntax.{Absent, End, Then, pieces_of, syntax};
+ghost use Rattle.rl_grammar.specs.Grammar.{fits, every};
+ghost use Rattle.rl_grammar.specs.Fields.{maybe};
+ghost use Rattle.rl_syntax.specs.Syntax.{End, Then, pieces_of, syntax};
 ghost use Rattle.rl_grammar.specs.declared.kind.Field.{Field};
 ghost use Rattle.rl_grammar.specs.declared.kind.Field.TheVariants as field;
 ghost use Rattle.rl_grammar.specs.declared.kind.Kind.{Kind};
-ghost use Rattle.rl_grammar.specs.declared.kind.Kind.TheVariants as kind;
 
 use rl_syntax::numbered::Numbered;
-use crate::parts::{is_absent, one, split_first};
+use rl_syntax::parts::{is_absent, split_first};
 use std::alloc::AllocError;
 use std::marker::PhantomData;
 
 /// A sort of trees: those of one kind of the grammar.
 pub trait Sort {
     ghost kind: { Kind };
-}
-
-/// The sort of expressions.
-#[derive(Clone, Copy)]
-pub struct ExpressionSort;
-
-impl Sort for ExpressionSort {
-    ghost kind = { kind.Expression };
-}
-
-/// The sort of statements.
-#[derive(Clone, Copy)]
-pub struct StatementSort;
-
-impl Sort for StatementSort {
-    ghost kind = { kind.Statement };
-}
-
-/// The sort of bodies of functions.
-#[derive(Clone, Copy)]
-pub struct BodySort;
-
-impl Sort for BodySort {
-    ghost kind = { kind.Body };
-}
-
-/// The sort of names that parameters bind.
-#[derive(Clone, Copy)]
-pub struct BindingSort;
-
-impl Sort for BindingSort {
-    ghost kind = { kind.Binding };
-}
-
-/// The sort of parameters.
-#[derive(Clone, Copy)]
-pub struct ParamSort;
-
-impl Sort for ParamSort {
-    ghost kind = { kind.Param };
-}
-
-/// The sort of lists of parameters.
-#[derive(Clone, Copy)]
-pub struct ParamsSort;
-
-impl Sort for ParamsSort {
-    ghost kind = { kind.Params };
-}
-
-/// The sort of marked functions.
-#[derive(Clone, Copy)]
-pub struct FunctionSort;
-
-impl Sort for FunctionSort {
-    ghost kind = { kind.Function };
-}
-
-/// The sort of statements of marked functions.
-#[derive(Clone, Copy)]
-pub struct MarkedSort;
-
-impl Sort for MarkedSort {
-    ghost kind = { kind.Marked };
-}
-
-/// The sort of programs.
-#[derive(Clone, Copy)]
-pub struct ProgramSort;
-
-impl Sort for ProgramSort {
-    ghost kind = { kind.Program };
-}
-
-/// The sort of texts.
-#[derive(Clone, Copy)]
-pub struct TextSort;
-
-impl Sort for TextSort {
-    ghost kind = { kind.Text };
 }
 
 /// A tree of a sort.
@@ -120,7 +40,7 @@ impl<'b, K: Sort> Copy for Tree<'b, K> {}
 
 impl<'b, K: Sort> Tree<'b, K> {
     /// The tree as one of the sort.
-    pub(crate) fn new(tree: &'b Numbered) -> Self
+    pub fn new(tree: &'b Numbered) -> Self
         requires { fits (field.One K.kind) (syntax tree.now) ≡ true }
         ensures { syntax result.tree.now ≡ syntax tree.now }
     {
@@ -130,20 +50,11 @@ impl<'b, K: Sort> Tree<'b, K> {
         }
     }
 
-    /// The one item of a list as a tree of the sort.
-    #[tactic(auto, using(crate::proofs::Viewing::singles))]
-    pub(crate) fn single(items: &'b [Numbered]) -> Self
-        requires { single K.kind (pieces_of (map syntax items.now)) ≡ true }
-        ensures { pieces_of (map syntax items.now) ≡ Then (syntax result.tree.now) End }
-    {
-        Tree::new(one(items))
-    }
-
     /// The tree as one of the sort. `None` at `-`.
     #[tactic(auto, using(crate::proofs::Viewing::optional))]
-    pub(crate) fn optional(tree: &'b Numbered) -> Option<Self>
+    pub fn optional(tree: &'b Numbered) -> Option<Self>
         requires { fits (field.Maybe K.kind) (syntax tree.now) ≡ true }
-        ensures { MatchOption result (syntax tree.now ≡ Absent) (λ t. syntax t.tree.now ≡ syntax tree.now) }
+        ensures { maybe result (λ t. syntax t.tree.now) ≡ syntax tree.now }
     {
         if is_absent(tree) {
             None
@@ -175,7 +86,7 @@ impl<'b, K: Sort> Copy for Trees<'b, K> {}
 
 impl<'b, K: Sort> Trees<'b, K> {
     /// The items as ones of the sort.
-    pub(crate) fn new(trees: &'b [Numbered]) -> Self
+    pub fn new(trees: &'b [Numbered]) -> Self
         requires { every K.kind (pieces_of (map syntax trees.now)) ≡ true }
         ensures { result.trees.now ≡ trees.now }
     {

@@ -27,6 +27,16 @@ abbrev pub is_four : Pieces → Bool
 is_four End = false
 is_four (Then piece pieces) = is_three pieces
 
+-- True of five parts.
+abbrev pub is_five : Pieces → Bool
+is_five End = false
+is_five (Then piece pieces) = is_four pieces
+
+-- True of six parts.
+abbrev pub is_six : Pieces → Bool
+is_six End = false
+is_six (Then piece pieces) = is_five pieces
+
 -- True of a list.
 abbrev pub is_list : Syntax → Bool
 is_list (Listed parts) = true

@@ -14,9 +14,6 @@ decreases-fits_one l = 4 * size (syntax l.tree.now)
 abbrev pub decreases-each : goal.decreases-each
 decreases-each l = 4 * size_of (pieces_of (map syntax l.parts.now)) + 2
 
-abbrev pub decreases-single : goal.decreases-single
-decreases-single l = 4 * size_of (pieces_of (map syntax l.items.now)) + 2
-
 abbrev pub decreases-every : goal.decreases-every
 decreases-every l = 4 * size_of (pieces_of (map syntax l.items.now)) + 2
 
