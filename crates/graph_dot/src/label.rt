@@ -1,5 +1,6 @@
 //! Lines of a block's label: instructions and terminals in a short form.
 
+use rl_base::closed_text::ClosedText;
 use rl_base::error::OutOfMemory;
 use rl_hir::instruction::{
     Instruction, InstructionValue, NonLocalBinding, PlaceOrSpread, PrimitiveValue,

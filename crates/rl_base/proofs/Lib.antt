@@ -1,3 +1,4 @@
+pub mod ClosedTexts
 pub mod KnownBytes
 pub mod Lines
 pub mod NameTables

@@ -1,10 +1,15 @@
+pub mod ClosedTexts
 pub mod Diagnostics
 pub mod Distinct
 pub mod Faults
+pub mod FoundOperators
 pub mod NameTables
 pub mod Operators
 pub mod Pieces
 pub mod Reserved
 pub mod Rows
+pub mod Scalars
 pub mod Templates
+pub mod TypeKinds
+pub mod VariableKinds
 pub mod formers

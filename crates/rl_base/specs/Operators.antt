@@ -1,7 +1,6 @@
 -- Operators, and the text that writes each.
-use Rattle.std.specs.Prelude.{ℕ, Bool, Option, List, [], ◌∷◌, codes}
-use Rattle.std.specs.List.{find, list_any}
-use Rattle.std.specs.Str.{bytes_eq}
+use Rattle.std.specs.Prelude.{ℕ, Bool, List, [], ◌∷◌, codes}
+use Rattle.rl_base.specs.ClosedTexts.{is_written}
 use Rattle.rl_base.specs.declared.operator.BinaryOperator.{BinaryOperator}
 use Rattle.rl_base.specs.declared.operator.LogicalOperator.{LogicalOperator}
 use Rattle.rl_base.specs.declared.operator.UnaryOperator.{UnaryOperator}
@@ -12,14 +11,6 @@ use Rattle.rl_base.specs.declared.operator.LogicalOperator.TheVariants as logica
 use Rattle.rl_base.specs.declared.operator.UnaryOperator.TheVariants as unary
 use Rattle.rl_base.specs.declared.operator.UpdateOperator.TheVariants as update
 use Rattle.rl_base.specs.declared.operator.AssignmentOperator.TheVariants as assignment
-
--- The first of `operators` that `text` writes.
-abbrev pub written_in : {X : Type 0} → (text_of : X → List ℕ) → (operators : List X) → (text : List ℕ) → Option X
-written_in text_of operators text = find (λ operator. bytes_eq (text_of operator) text) operators
-
--- True if `text` writes one of `operators`.
-abbrev pub is_written : {X : Type 0} → (text_of : X → List ℕ) → (operators : List X) → (text : List ℕ) → Bool
-is_written text_of operators text = list_any (λ operator. bytes_eq (text_of operator) text) operators
 
 -- Binary operators.
 abbrev pub operator_text : BinaryOperator → List ℕ

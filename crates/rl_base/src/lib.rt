@@ -1,8 +1,9 @@
-//! The base of the front end: spans, ids, texts and lists that contracts see as plain data, operators, rows, diagnostics,
-//! and byte streams.
+//! The base of the front end: spans, ids, texts and lists that contracts see as plain data, operators and kinds by
+//! their texts, rows, diagnostics, and byte streams.
 #![tactic(auto)]
 
 pub mod boxed;
+pub mod closed_text;
 mod copy;
 pub mod decimal;
 pub mod diagnostic;
@@ -16,8 +17,11 @@ pub mod name_table;
 pub mod number;
 pub mod operator;
 pub mod row;
+pub mod scalar;
 pub mod span;
 pub mod stop;
 pub mod streams;
 mod template;
 pub mod text;
+pub mod type_kind;
+pub mod variable_kind;

@@ -1,29 +1,9 @@
 //! Operators, by the names that oxc_syntax gives them.
 
-ghost use Rattle.std.specs.Prelude.{◌≡◌, ℕ, List, IfSome, IfNone};
-ghost use Rattle.rl_base.specs.Operators.{written_in, operator_text, logical_text, unary_text, update_text, assignment_text};
+ghost use Rattle.rl_base.specs.Operators.{operator_text, logical_text, unary_text, update_text, assignment_text, operators, logical_operators, unary_operators, update_operators, assignment_operators};
+ghost use Rattle.rl_base.specs.FoundOperators.{operators_found, logical_operators_found, unary_operators_found, update_operators_found, assignment_operators_found};
 
-/// A kind of operators, each with a text of its own.
-trait Written: Copy {
-    /// The text that writes an operator.
-    ghost text: { Self → List ℕ };
-
-    /// The text that writes the operator.
-    fn written(self) -> &'static str
-        ensures { result.now ≡ text self };
-}
-
-/// The first of the operators that `text` writes. `None` if it writes none of them.
-fn find_written<O: Written>(operators: &[O], text: &str) -> Option<O>
-    ensures { result ≡ written_in O.text operators.now text.now }
-{
-    for operator in operators {
-        if operator.written() == text {
-            return Some(*operator);
-        }
-    }
-    None
-}
+use crate::closed_text::ClosedText;
 
 /// An operator that takes the values of both operands: `BinaryOperator` of oxc_syntax, and sections 13.6 to 13.12 of
 /// ECMA-262.
@@ -101,11 +81,14 @@ const BINARY_OPERATORS: [BinaryOperator; 22] = [
     BinaryOperator::Instanceof,
 ];
 
-impl BinaryOperator {
-    /// The text that writes the operator.
-    pub fn as_str(self) -> &'static str
-        ensures { result.now ≡ operator_text self }
-    {
+impl ClosedText for BinaryOperator {
+    ghost text = { operator_text };
+
+    ghost values = { operators };
+
+    ghost complete = { operators_found };
+
+    fn as_str(self) -> &'static str {
         match self {
             BinaryOperator::Equality => "==",
             BinaryOperator::Inequality => "!=",
@@ -132,20 +115,8 @@ impl BinaryOperator {
         }
     }
 
-    /// The operator that `text` writes. `None` if it writes none.
-    pub fn from_text(text: &str) -> Option<BinaryOperator>
-        ensures found { IfSome result (λ operator. operator_text operator ≡ text.now) }
-        ensures none { IfNone result ((operator : BinaryOperator) → operator_text operator ≡ text.now → ⊥) }
-    {
-        find_written(&BINARY_OPERATORS, text)
-    }
-}
-
-impl Written for BinaryOperator {
-    ghost text = { operator_text };
-
-    fn written(self) -> &'static str {
-        self.as_str()
+    fn every() -> &'static [BinaryOperator] {
+        &BINARY_OPERATORS
     }
 }
 
@@ -168,11 +139,14 @@ const LOGICAL_OPERATORS: [LogicalOperator; 3] = [
     LogicalOperator::Coalesce,
 ];
 
-impl LogicalOperator {
-    /// The text that writes the operator.
-    pub fn as_str(self) -> &'static str
-        ensures { result.now ≡ logical_text self }
-    {
+impl ClosedText for LogicalOperator {
+    ghost text = { logical_text };
+
+    ghost values = { logical_operators };
+
+    ghost complete = { logical_operators_found };
+
+    fn as_str(self) -> &'static str {
         match self {
             LogicalOperator::Or => "||",
             LogicalOperator::And => "&&",
@@ -180,20 +154,8 @@ impl LogicalOperator {
         }
     }
 
-    /// The operator that `text` writes. `None` if it writes none.
-    pub fn from_text(text: &str) -> Option<LogicalOperator>
-        ensures found { IfSome result (λ operator. logical_text operator ≡ text.now) }
-        ensures none { IfNone result ((operator : LogicalOperator) → logical_text operator ≡ text.now → ⊥) }
-    {
-        find_written(&LOGICAL_OPERATORS, text)
-    }
-}
-
-impl Written for LogicalOperator {
-    ghost text = { logical_text };
-
-    fn written(self) -> &'static str {
-        self.as_str()
+    fn every() -> &'static [LogicalOperator] {
+        &LOGICAL_OPERATORS
     }
 }
 
@@ -227,11 +189,14 @@ const UNARY_OPERATORS: [UnaryOperator; 7] = [
     UnaryOperator::Delete,
 ];
 
-impl UnaryOperator {
-    /// The text that writes the operator.
-    pub fn as_str(self) -> &'static str
-        ensures { result.now ≡ unary_text self }
-    {
+impl ClosedText for UnaryOperator {
+    ghost text = { unary_text };
+
+    ghost values = { unary_operators };
+
+    ghost complete = { unary_operators_found };
+
+    fn as_str(self) -> &'static str {
         match self {
             UnaryOperator::UnaryNegation => "-",
             UnaryOperator::UnaryPlus => "+",
@@ -243,20 +208,8 @@ impl UnaryOperator {
         }
     }
 
-    /// The operator that `text` writes. `None` if it writes none.
-    pub fn from_text(text: &str) -> Option<UnaryOperator>
-        ensures found { IfSome result (λ operator. unary_text operator ≡ text.now) }
-        ensures none { IfNone result ((operator : UnaryOperator) → unary_text operator ≡ text.now → ⊥) }
-    {
-        find_written(&UNARY_OPERATORS, text)
-    }
-}
-
-impl Written for UnaryOperator {
-    ghost text = { unary_text };
-
-    fn written(self) -> &'static str {
-        self.as_str()
+    fn every() -> &'static [UnaryOperator] {
+        &UNARY_OPERATORS
     }
 }
 
@@ -276,31 +229,22 @@ const UPDATE_OPERATORS: [UpdateOperator; 2] = [
     UpdateOperator::Decrement,
 ];
 
-impl UpdateOperator {
-    /// The text that writes the operator.
-    pub fn as_str(self) -> &'static str
-        ensures { result.now ≡ update_text self }
-    {
+impl ClosedText for UpdateOperator {
+    ghost text = { update_text };
+
+    ghost values = { update_operators };
+
+    ghost complete = { update_operators_found };
+
+    fn as_str(self) -> &'static str {
         match self {
             UpdateOperator::Increment => "++",
             UpdateOperator::Decrement => "--",
         }
     }
 
-    /// The operator that `text` writes. `None` if it writes none.
-    pub fn from_text(text: &str) -> Option<UpdateOperator>
-        ensures found { IfSome result (λ operator. update_text operator ≡ text.now) }
-        ensures none { IfNone result ((operator : UpdateOperator) → update_text operator ≡ text.now → ⊥) }
-    {
-        find_written(&UPDATE_OPERATORS, text)
-    }
-}
-
-impl Written for UpdateOperator {
-    ghost text = { update_text };
-
-    fn written(self) -> &'static str {
-        self.as_str()
+    fn every() -> &'static [UpdateOperator] {
+        &UPDATE_OPERATORS
     }
 }
 
@@ -361,11 +305,14 @@ const ASSIGNMENT_OPERATORS: [AssignmentOperator; 16] = [
     AssignmentOperator::LogicalNullish,
 ];
 
-impl AssignmentOperator {
-    /// The text that writes the operator.
-    pub fn as_str(self) -> &'static str
-        ensures { result.now ≡ assignment_text self }
-    {
+impl ClosedText for AssignmentOperator {
+    ghost text = { assignment_text };
+
+    ghost values = { assignment_operators };
+
+    ghost complete = { assignment_operators_found };
+
+    fn as_str(self) -> &'static str {
         match self {
             AssignmentOperator::Assign => "=",
             AssignmentOperator::Addition => "+=",
@@ -386,19 +333,7 @@ impl AssignmentOperator {
         }
     }
 
-    /// The operator that `text` writes. `None` if it writes none.
-    pub fn from_text(text: &str) -> Option<AssignmentOperator>
-        ensures found { IfSome result (λ operator. assignment_text operator ≡ text.now) }
-        ensures none { IfNone result ((operator : AssignmentOperator) → assignment_text operator ≡ text.now → ⊥) }
-    {
-        find_written(&ASSIGNMENT_OPERATORS, text)
-    }
-}
-
-impl Written for AssignmentOperator {
-    ghost text = { assignment_text };
-
-    fn written(self) -> &'static str {
-        self.as_str()
+    fn every() -> &'static [AssignmentOperator] {
+        &ASSIGNMENT_OPERATORS
     }
 }

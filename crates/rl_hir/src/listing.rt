@@ -13,6 +13,7 @@ use crate::instruction::{
     Instruction, InstructionValue, NonLocalBinding, Place, PlaceOrSpread, PrimitiveValue,
 };
 use crate::terminal::{ReturnVariant, Terminal};
+use rl_base::closed_text::ClosedText;
 use rl_base::error::OutOfMemory;
 use rl_text::raw::Raw;
 use rl_text::written::{

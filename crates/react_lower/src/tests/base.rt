@@ -1,5 +1,6 @@
 //! Diagnostics, operators and streams over memory.
 
+use rl_base::closed_text::ClosedText;
 use rl_base::diagnostic::Diagnostic;
 use rl_base::error::{Failed, OutOfMemory};
 use rl_base::io::{Sink, Source};
