@@ -1,6 +1,6 @@
 -- Trees by their form, and parts by their number.
 use Rattle.std.specs.Prelude.{Bool, true, false}
-use Rattle.rl_syntax.specs.Syntax.{Syntax, Node, Listed, Said, Flag, Absent, Pieces, End, Then}
+use Rattle.rl_syntax.specs.Syntax.{Syntax, Node, Listed, Said, Count, Flag, Absent, Pieces, End, Then}
 
 -- True of no parts.
 abbrev pub is_none : Pieces → Bool
@@ -51,6 +51,11 @@ is_absent _ = false
 abbrev pub is_text : Syntax → Bool
 is_text (Said text) = true
 is_text _ = false
+
+-- True of a number.
+abbrev pub is_number : Syntax → Bool
+is_number (Count number) = true
+is_number _ = false
 
 -- True of a flag.
 abbrev pub is_flag : Syntax → Bool

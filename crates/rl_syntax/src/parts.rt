@@ -69,6 +69,69 @@ pub fn node_of(tree: &Numbered) -> (At, Word, &[Numbered])
     }
 }
 
+/// The value of a text.
+#[tactic(auto, using(crate::proofs::Layers::by_layer))]
+pub fn text_of(tree: &Numbered) -> &Text
+    requires { forms.is_text (syntax tree.now) ≡ true }
+    ensures { syntax tree.now ≡ Said result.now }
+{
+    match tree {
+        Numbered::Text(text) => text,
+        Numbered::Node(_, _, _) => unreachable!(),
+        Numbered::List(_) => unreachable!(),
+        Numbered::Number(_) => unreachable!(),
+        Numbered::Flag(_) => unreachable!(),
+        Numbered::Absent => unreachable!(),
+    }
+}
+
+/// The value of a number.
+#[tactic(auto, using(crate::proofs::Layers::by_layer))]
+pub fn number_of(tree: &Numbered) -> u64
+    requires { forms.is_number (syntax tree.now) ≡ true }
+    ensures { syntax tree.now ≡ Count result }
+{
+    match tree {
+        Numbered::Number(number) => *number,
+        Numbered::Node(_, _, _) => unreachable!(),
+        Numbered::List(_) => unreachable!(),
+        Numbered::Text(_) => unreachable!(),
+        Numbered::Flag(_) => unreachable!(),
+        Numbered::Absent => unreachable!(),
+    }
+}
+
+/// The value of a flag: true of `y`.
+#[tactic(auto, using(crate::proofs::Layers::by_layer))]
+pub fn flag_of(tree: &Numbered) -> bool
+    requires { forms.is_flag (syntax tree.now) ≡ true }
+    ensures { syntax tree.now ≡ Flag result }
+{
+    match tree {
+        Numbered::Flag(flag) => *flag,
+        Numbered::Node(_, _, _) => unreachable!(),
+        Numbered::List(_) => unreachable!(),
+        Numbered::Text(_) => unreachable!(),
+        Numbered::Number(_) => unreachable!(),
+        Numbered::Absent => unreachable!(),
+    }
+}
+
+/// The value of a number. `None` at any other tree.
+#[tactic(auto, using(crate::proofs::Layers::by_layer))]
+pub fn as_number(tree: &Numbered) -> Option<u64>
+    ensures { MatchOption result (forms.is_number (syntax tree.now) ≡ false) (λ number. syntax tree.now ≡ Count number) }
+{
+    match tree {
+        Numbered::Number(number) => Some(*number),
+        Numbered::Node(_, _, _) => None,
+        Numbered::List(_) => None,
+        Numbered::Text(_) => None,
+        Numbered::Flag(_) => None,
+        Numbered::Absent => None,
+    }
+}
+
 /// The first part and those behind it. `None` if there is none.
 pub fn split_first(parts: &[Numbered]) -> Option<(&Numbered, &[Numbered])>
     ensures { MatchOption result (pieces_of (map syntax parts.now) ≡ End) (λ p. pieces_of (map syntax parts.now) ≡ Then (syntax p.0.now) (pieces_of (map syntax p.1.now))) }
@@ -78,4 +141,3 @@ pub fn split_first(parts: &[Numbered]) -> Option<(&Numbered, &[Numbered])>
         [first, rest @ ..] => Some((first, rest)),
     }
 }
-
