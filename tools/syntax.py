@@ -47,7 +47,12 @@ def snake(name):
 
 def used(names, text):
     """The names that stand in a text, in order."""
-    return sorted(name for name in names if re.search(rf"(?<![\w.]){name}(?!\w)", text))
+    return sorted(name for name in names if re.search(rf"(?<![\w.]){name}(?![\w])", text))
+
+
+def called(names, text):
+    """The functions that a text calls, in order."""
+    return sorted(name for name in names if re.search(rf"(?<![\w.]){name}\(", text))
 
 
 def row(line, shown=lambda kind: kind.upper()):
@@ -292,13 +297,13 @@ def view_file(module):
     sorts = views_of(module)
     body = "\n".join(view(sort)[0] for sort in sorts)
     own = {f"{kind}{end}" for kind in [*SORTS, "Text"] for end in ("Tree", "Trees")}
-    readers = ["node_of", "items_of", "text_of", "flag_of", "scalar_value_of", "closed_of", "optional_text", *COUNTS]
+    readers = ["items_of", "scalar_value_of", "closed_of", "optional_text", *COUNTS]
     lines = [f"//! {NOTE}", "", "ghost use Rattle.std.specs.Prelude.{◌≡◌};", "ghost use Rattle.rl_syntax.specs.Syntax.{syntax};",
              f"ghost use Rattle.rl_ast.specs.{camel_module(module)}Views.{{{', '.join(sorted('seen_' + snake(sort) for sort in sorts))}}};", ""]
     imports = [("rl_base::operator", used([k for k in CLOSED if k.endswith("Operator")], body)), ("rl_base::text", used(["Text"], body)),
                ("rl_base::type_kind", used(["TypeKind"], body)), ("rl_base::variable_kind", used(["VariableKind"], body)),
-               ("rl_grammar::kind", used(["Kind"], body)), ("rl_grammar::parts", used(readers, body)), ("rl_grammar::rules", used(["rule"], body)),
-               ("rl_grammar::sort", used(own, body)), ("rl_grammar::tree", used(["Tree", "Trees"], body)), ("rl_syntax::numbered", ["At"]), ("rl_syntax::word", ["Word"])]
+               ("rl_grammar::kind", used(["Kind"], body)), ("rl_grammar::parts", called(readers, body)), ("rl_grammar::rules", called(["rule"], body)),
+               ("rl_grammar::sort", used(own, body)), ("rl_grammar::tree", used(["Tree", "Trees"], body)), ("rl_syntax::numbered", ["At"]), ("rl_syntax::parts", called(["flag_of", "node_of", "text_of"], body)), ("rl_syntax::word", ["Word"])]
     lines += [f"use {path}::{names[0] if len(names) == 1 else '{' + ', '.join(names) + '}'};" for path, names in imports if names]
     return "\n".join(lines) + "\n\n" + body
 

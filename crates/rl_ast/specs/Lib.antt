@@ -2,10 +2,12 @@ pub mod BindingViews
 pub mod ClassViews
 pub mod ExpressionPartViews
 pub mod ExpressionViews
+pub mod FunctionNodes
 pub mod FunctionViews
 pub mod JsxViews
 pub mod ProgramViews
 pub mod StatementPartViews
 pub mod StatementViews
 pub mod TargetViews
+pub mod UnitViews
 pub mod Units

@@ -6,10 +6,11 @@ ghost use Rattle.rl_ast.specs.BindingViews.{seen_binding_identifier, seen_bindin
 
 use rl_base::text::Text;
 use rl_base::type_kind::TypeKind;
-use rl_grammar::parts::{closed_of, flag_of, items_of, node_of, none, one, text_of, three, two};
+use rl_grammar::parts::{closed_of, items_of, one, three, two};
 use rl_grammar::sort::{BindingIdentifierTree, BindingPatternElementTree, BindingPatternElementTrees, BindingPatternMaybeDefaultTree, BindingPatternTree, BindingPropertyTree, BindingPropertyTrees, BindingRestElementTree, ExpressionTree, IdentifierReferenceTree, IdentifierReferenceTrees, PropertyKeyTree, TypeAnnotationTree};
 use rl_grammar::tree::{Tree, Trees};
 use rl_syntax::numbered::At;
+use rl_syntax::parts::{flag_of, node_of, text_of};
 use rl_syntax::word::Word;
 
 /// A tree of the sort `BindingIdentifier`. `(bind TEXT TYPEANNOTATION?)`

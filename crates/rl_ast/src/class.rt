@@ -5,10 +5,11 @@ ghost use Rattle.rl_syntax.specs.Syntax.{syntax};
 ghost use Rattle.rl_ast.specs.ClassViews.{seen_class_element, seen_import_specifier};
 
 use rl_base::text::Text;
-use rl_grammar::parts::{items_of, node_of, one, text_of, two};
+use rl_grammar::parts::{items_of, one, two};
 use rl_grammar::sort::{BindingIdentifierTree, ClassElementTree, ExpressionTree, FunctionExpressionTree, ImportSpecifierTree, StatementTrees};
 use rl_grammar::tree::{Tree, Trees};
 use rl_syntax::numbered::At;
+use rl_syntax::parts::{node_of, text_of};
 use rl_syntax::word::Word;
 
 /// A tree of the sort `ClassElement`.

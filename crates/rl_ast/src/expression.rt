@@ -6,10 +6,11 @@ ghost use Rattle.rl_ast.specs.ExpressionViews.{seen_expression};
 
 use rl_base::operator::{AssignmentOperator, BinaryOperator, LogicalOperator, UnaryOperator, UpdateOperator};
 use rl_base::text::Text;
-use rl_grammar::parts::{closed_of, flag_of, items_of, node_of, one, text_of, three, two};
+use rl_grammar::parts::{closed_of, items_of, one, three, two};
 use rl_grammar::sort::{ArgumentTrees, ArrayElementTrees, ArrowTree, AssignmentTargetTree, BindingIdentifierTree, ClassElementTrees, ExpressionTree, ExpressionTrees, FunctionExpressionTree, IdentifierReferenceTree, IdentifierReferenceTrees, JsxElementTree, JsxFragmentTree, ObjectPropertyTrees, TemplateLiteralTree, TypeAnnotationTree};
 use rl_grammar::tree::{Tree, Trees};
 use rl_syntax::numbered::At;
+use rl_syntax::parts::{flag_of, node_of, text_of};
 use rl_syntax::word::Word;
 
 /// A tree of the sort `Expression`.

@@ -5,10 +5,11 @@ ghost use Rattle.rl_syntax.specs.Syntax.{syntax};
 ghost use Rattle.rl_ast.specs.ExpressionPartViews.{seen_argument, seen_array_element, seen_object_property, seen_template_element, seen_template_literal};
 
 use rl_base::text::Text;
-use rl_grammar::parts::{flag_of, items_of, node_of, none, one, optional_text, text_of, three, two};
+use rl_grammar::parts::{items_of, one, optional_text, three, two};
 use rl_grammar::sort::{ArgumentTree, ArrayElementTree, ExpressionTree, ExpressionTrees, FunctionExpressionTree, ObjectPropertyTree, PropertyKeyTree, TemplateElementTree, TemplateElementTrees, TemplateLiteralTree};
 use rl_grammar::tree::{Tree, Trees};
 use rl_syntax::numbered::At;
+use rl_syntax::parts::{flag_of, node_of, text_of};
 use rl_syntax::word::Word;
 
 /// A tree of the sort `TemplateLiteral`. `(template [TEMPLATEELEMENT] [EXPRESSION])`

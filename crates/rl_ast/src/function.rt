@@ -4,10 +4,11 @@ ghost use Rattle.std.specs.Prelude.{◌≡◌};
 ghost use Rattle.rl_syntax.specs.Syntax.{syntax};
 ghost use Rattle.rl_ast.specs.FunctionViews.{seen_arrow, seen_arrow_body, seen_binding_rest_element, seen_formal_parameter, seen_formal_parameters, seen_function_body};
 
-use rl_grammar::parts::{flag_of, four, items_of, node_of, none, one, two};
+use rl_grammar::parts::{four, items_of, one, two};
 use rl_grammar::sort::{ArrowBodyTree, ArrowTree, BindingPatternTree, BindingRestElementTree, ExpressionTree, FormalParameterTree, FormalParameterTrees, FormalParametersTree, FunctionBodyTree, StatementTrees, TextTrees};
 use rl_grammar::tree::{Tree, Trees};
 use rl_syntax::numbered::At;
+use rl_syntax::parts::{flag_of, node_of};
 use rl_syntax::word::Word;
 
 /// A tree of the sort `Arrow`. `(arrow FLAG FLAG FORMALPARAMETERS ARROWBODY)`

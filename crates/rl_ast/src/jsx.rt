@@ -5,10 +5,11 @@ ghost use Rattle.rl_syntax.specs.Syntax.{syntax};
 ghost use Rattle.rl_ast.specs.JsxViews.{seen_jsx_attribute, seen_jsx_attribute_name, seen_jsx_attribute_value, seen_jsx_child, seen_jsx_closing_element, seen_jsx_element, seen_jsx_element_name, seen_jsx_fragment, seen_jsx_opening_element};
 
 use rl_base::text::Text;
-use rl_grammar::parts::{items_of, node_of, none, one, text_of, three, two};
+use rl_grammar::parts::{items_of, one, three, two};
 use rl_grammar::sort::{ExpressionTree, IdentifierReferenceTree, JsxAttributeNameTree, JsxAttributeTree, JsxAttributeTrees, JsxAttributeValueTree, JsxChildTree, JsxChildTrees, JsxClosingElementTree, JsxElementNameTree, JsxElementTree, JsxFragmentTree, JsxOpeningElementTree};
 use rl_grammar::tree::{Tree, Trees};
 use rl_syntax::numbered::At;
+use rl_syntax::parts::{node_of, text_of};
 use rl_syntax::word::Word;
 
 /// A tree of the sort `JsxElement`. `(element JSXOPENINGELEMENT [JSXCHILD] JSXCLOSINGELEMENT?)`

@@ -5,10 +5,11 @@ ghost use Rattle.rl_syntax.specs.Syntax.{syntax};
 ghost use Rattle.rl_ast.specs.ProgramViews.{seen_entity, seen_program};
 
 use rl_base::text::Text;
-use rl_grammar::parts::{items_of, node_of, one, scalar_value_of, text_of, two};
+use rl_grammar::parts::{items_of, one, scalar_value_of, two};
 use rl_grammar::sort::{EntityTree, ProgramTree, StatementTrees};
 use rl_grammar::tree::Trees;
 use rl_syntax::numbered::At;
+use rl_syntax::parts::{node_of, text_of};
 use rl_syntax::word::Word;
 
 /// A tree of the sort `Entity`. `(entity TEXT SCALARVALUE)`

@@ -5,11 +5,12 @@ ghost use Rattle.rl_syntax.specs.Limits.{IsTooLarge};
 ghost use Rattle.rl_syntax.specs.Syntax.{Syntax, syntax};
 ghost use Rattle.rl_ast.specs.Units.{Spells};
 
-use crate::grammar::{Field, Kind, fits};
-use rl_syntax::nodes::table_of;
-use crate::reader::read_numbered;
 use crate::unit::Unit;
 use rl_base::error::OutOfMemory;
+use rl_grammar::fits::fits;
+use rl_grammar::kind::{Field, Kind};
+use rl_syntax::nodes::table_of;
+use rl_syntax::reader::read_numbered;
 use rl_text::measure::measure;
 use std::alloc::Global;
 use thiserror::Error;

@@ -5,10 +5,11 @@ ghost use Rattle.rl_syntax.specs.Syntax.{syntax};
 ghost use Rattle.rl_ast.specs.StatementViews.{seen_statement};
 
 use rl_base::text::Text;
-use rl_grammar::parts::{flag_of, four, items_of, node_of, one, optional_text, text_of, three, two};
+use rl_grammar::parts::{four, items_of, one, optional_text, three, two};
 use rl_grammar::sort::{BindingIdentifierTree, BlockStatementTree, CatchClauseTree, ClassElementTrees, ExportDefaultTree, ExpressionTree, ForHeadTree, ForInitTree, FunctionDeclarationTree, IdentifierReferenceTrees, ImportSpecifierTrees, StatementTree, SwitchCaseTrees, TypeAnnotationTree, VariableDeclarationTree};
 use rl_grammar::tree::{Tree, Trees};
 use rl_syntax::numbered::At;
+use rl_syntax::parts::{flag_of, node_of, text_of};
 use rl_syntax::word::Word;
 
 /// A tree of the sort `Statement`.

@@ -6,11 +6,12 @@ ghost use Rattle.rl_ast.specs.StatementPartViews.{seen_block_statement, seen_cat
 
 use rl_base::variable_kind::VariableKind;
 use rl_grammar::kind::Kind;
-use rl_grammar::parts::{closed_of, items_of, node_of, none, one, two};
+use rl_grammar::parts::{closed_of, items_of, one, two};
 use rl_grammar::rules::rule;
 use rl_grammar::sort::{AssignmentTargetTree, BindingPatternTree, BlockStatementTree, CatchClauseTree, ExportDefaultTree, ExpressionTree, ForHeadTree, ForInitTree, StatementTree, StatementTrees, SwitchCaseTree, VariableDeclarationTree, VariableDeclaratorTree, VariableDeclaratorTrees};
 use rl_grammar::tree::{Tree, Trees};
 use rl_syntax::numbered::At;
+use rl_syntax::parts::node_of;
 use rl_syntax::word::Word;
 
 /// A tree of the sort `BlockStatement`. `(block [STATEMENT])`

@@ -5,10 +5,11 @@ ghost use Rattle.rl_syntax.specs.Syntax.{syntax};
 ghost use Rattle.rl_ast.specs.TargetViews.{seen_assignment_target, seen_assignment_target_element, seen_assignment_target_maybe_default, seen_assignment_target_property, seen_assignment_target_rest};
 
 use rl_base::text::Text;
-use rl_grammar::parts::{flag_of, items_of, node_of, one, text_of, three, two};
+use rl_grammar::parts::{items_of, one, three, two};
 use rl_grammar::sort::{AssignmentTargetElementTree, AssignmentTargetElementTrees, AssignmentTargetMaybeDefaultTree, AssignmentTargetPropertyTree, AssignmentTargetPropertyTrees, AssignmentTargetRestTree, AssignmentTargetTree, ExpressionTree, IdentifierReferenceTree, PropertyKeyTree, TypeAnnotationTree};
 use rl_grammar::tree::{Tree, Trees};
 use rl_syntax::numbered::At;
+use rl_syntax::parts::{flag_of, node_of, text_of};
 use rl_syntax::word::Word;
 
 /// A tree of the sort `AssignmentTarget`.

@@ -1,23 +1,23 @@
-//! Units: the tree of a program with one marked function, and the table of its nodes.
+//! Units: the tree of a program, and the table of its nodes.
 
 ghost use Rattle.std.specs.Prelude.{◌≡◌, true};
 ghost use Rattle.rl_grammar.specs.Grammar.{fits};
+ghost use Rattle.rl_syntax.specs.Nodes.{entries};
 ghost use Rattle.rl_syntax.specs.Syntax.{syntax};
-ghost use Rattle.rl_ast.specs.Views.{seen_unit};
-ghost use Rattle.rl_grammar.specs.declared.kind.Field.{Field};
+ghost use Rattle.rl_ast.specs.UnitViews.{seen_unit};
 ghost use Rattle.rl_grammar.specs.declared.kind.Field.TheVariants as field;
 ghost use Rattle.rl_grammar.specs.declared.kind.Kind.TheVariants as kind;
-ghost use Rattle.rl_syntax.specs.Nodes.{entries};
 
+use rl_base::list::List;
+use rl_grammar::parts::{items_of, two};
+use rl_grammar::sort::{EntityTrees, ProgramTree};
+use rl_grammar::tree::{Tree, Trees};
 use rl_syntax::nodes::NodeEntry;
 use rl_syntax::numbered::{At, Numbered};
-use rl_grammar::parts::{node, two};
-use rl_grammar::tree::Tree;
-use crate::view::ProgramTree;
+use rl_syntax::parts::node_of;
 use rl_syntax::word::Word;
-use rl_base::list::List;
 
-/// A program with one marked function: `(unit [] PROGRAM)`. Its tree fits the grammar.
+/// A unit, whose tree fits the grammar: `(unit [ENTITY] PROGRAM)`.
 #[derive(Drop)]
 pub struct Unit {
     /// The tree of the unit.
@@ -33,6 +33,8 @@ pub struct Unit {
 pub struct UnitNode<'b> {
     /// Ids and span of the node: id 0, and the whole text.
     pub at: At,
+    /// The entities of JSX texts that the unit brings; the first of a name counts.
+    pub entities: EntityTrees<'b>,
     /// The program.
     pub program: ProgramTree<'b>,
 }
@@ -43,12 +45,13 @@ impl Unit {
     pub fn view(&self) -> UnitNode<'_>
         ensures { seen_unit result ≡ syntax self.now.tree }
     {
-        let (at, word, parts) = node(&self.tree);
+        let (at, word, parts) = node_of(&self.tree);
         match word {
             Word::Unit => {
-                let (_entities, program) = two(parts);
+                let (entities, program) = two(parts);
                 UnitNode {
                     at,
+                    entities: Trees::new(items_of(entities)),
                     program: Tree::new(program),
                 }
             }

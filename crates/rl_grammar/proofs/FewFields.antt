@@ -8,7 +8,7 @@ use Rattle.rl_syntax.specs.declared.word.Word.{Word}
 use Rattle.rl_syntax.specs.declared.word.Word.TheVariants as word
 
 -- At most 8 fields.
-pub few_fields : Option (List Field) → Bool
+abbrev pub few_fields : Option (List Field) → Bool
 few_fields None = true
 few_fields (Some fields) = nat_le (length fields) 8
 

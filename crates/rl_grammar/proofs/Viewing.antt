@@ -1,7 +1,9 @@
 -- The parts of a tree that fits.
-use Rattle.std.proofs.Common.{◌≡◌, ℕ, ◌^◌, ◌<◌, Bool, true, false, ◌&&◌, Some, List, [], ◌∷◌, refl, sym, ap, ◌∙◌}
-use Rattle.std.proofs.lemmas.Bool.{and_parts}
+use Rattle.std.proofs.Common.{◌≡◌, ℕ, ◌^◌, ◌<◌, ◌≤◌, Bool, true, false, ◌&&◌, not, nat_le, Some, List, [], ◌∷◌, refl, sym, ap, ◌∙◌, arith}
+use Rattle.std.proofs.lemmas.Bool.{and_parts, leb-true}
 use Rattle.rl_base.specs.Operators.{operator_text, operators, logical_text, logical_operators, unary_text, unary_operators, update_text, update_operators, assignment_text, assignment_operators}
+use Rattle.rl_base.specs.ClosedTexts.{is_written}
+use Rattle.rl_base.specs.Scalars.{is_scalar_value}
 use Rattle.rl_base.specs.TypeKinds.{type_text, type_kinds}
 use Rattle.rl_base.specs.VariableKinds.{variable_text, variable_kinds}
 use Rattle.rl_syntax.specs.Forms.{is_node, is_text, is_flag, is_number, is_list, is_absent, is_none, is_one, is_two, is_three, is_four, is_five, is_six}
@@ -122,9 +124,13 @@ pub of_number : (t : Syntax) → fits (field.One kind.ScalarValue) t ≡ true �
 of_number (Count number) h = refl
 of_number _ h = absurd (cc)
 
+scalar_small : (n : ℕ) → is_scalar_value n ≡ true → n < 2 ^ 32
+scalar_small n h =
+    let low : n ≤ 1114111 = leb-true n 1114111 (and_parts (nat_le n 1114111) (not (nat_le 55296 n && nat_le n 57343)) h).0 in
+    omega (arith, low)
+
 pub of_scalar : (t : Syntax) (n : ℕ) → t ≡ Count n → fits (field.One kind.ScalarValue) t ≡ true → n < 2 ^ 32
-of_scalar (Count number) n is h = {!!}
-of_scalar _ n is h = absurd (cc)
+of_scalar t n is h = scalar_small n (sym (ap (fits (field.One kind.ScalarValue)) is) ∙ h)
 
 pub of_many : (k : Kind) (t : Syntax) → fits (field.Many k) t ≡ true → is_list t ≡ true
 of_many k (Listed parts) h = refl
@@ -158,9 +164,26 @@ pub of_assignment_operator : (t : Syntax) → fits (field.One kind.AssignmentOpe
 of_assignment_operator (Said text) h = h
 of_assignment_operator _ h = absurd (cc)
 
+-- a text that writes a value
+pub writes_text : {X : Type 0} (text_of : X → List ℕ) (values : List X) (t : Syntax) → writes text_of values t ≡ true → is_text t ≡ true
+writes_text text_of values (Said text) h = refl
+writes_text text_of values _ h = absurd (cc)
+
+pub writes_value : {X : Type 0} (text_of : X → List ℕ) (values : List X) (t : Syntax) (text : List ℕ) → t ≡ Said text → writes text_of values t ≡ true → is_written text_of values text ≡ true
+writes_value text_of values t text is h = sym (ap (writes text_of values) is) ∙ h
+
+pub ruleset closed = (writes_text, writes_value)
+
 -- the texts, flags and numbers of a kind whose trees are nodes: none
 no_text : (k : Kind) (text : List ℕ) → is_leaf k ≡ false → text_fits k text ≡ false
 no_text kind.Text text h = absurd (cc)
+no_text kind.VariableKind text h = absurd (cc)
+no_text kind.TypeKind text h = absurd (cc)
+no_text kind.UnaryOperator text h = absurd (cc)
+no_text kind.UpdateOperator text h = absurd (cc)
+no_text kind.BinaryOperator text h = absurd (cc)
+no_text kind.LogicalOperator text h = absurd (cc)
+no_text kind.AssignmentOperator text h = absurd (cc)
 no_text _ text h = refl
 
 no_flag : (k : Kind) → is_leaf k ≡ false → takes_flags k ≡ false

@@ -15,6 +15,58 @@ use rl_base::text::Text;
 use rl_syntax::numbered::Numbered;
 use rl_syntax::parts::{as_items, is_absent, number_of, text_of};
 
+/// The one part.
+#[tactic(auto, using(crate::proofs::Counts::counts, crate::proofs::Viewing::one_fits))]
+pub fn one(parts: &[Numbered]) -> &Numbered
+    requires { is_one (pieces_of (map syntax parts.now)) ≡ true }
+    ensures parts { pieces_of (map syntax parts.now) ≡ Then (syntax result.now) End }
+    ensures fit { (f : Field) → each (Some (f ∷ [])) (pieces_of (map syntax parts.now)) ≡ true → fits f (syntax result.now) ≡ true }
+{
+    let [a] = parts else {
+        unreachable!();
+    };
+    a
+}
+
+/// The two parts.
+#[tactic(auto, using(crate::proofs::Counts::counts, crate::proofs::Viewing::two_fit))]
+pub fn two(parts: &[Numbered]) -> (&Numbered, &Numbered)
+    requires { is_two (pieces_of (map syntax parts.now)) ≡ true }
+    ensures parts { pieces_of (map syntax parts.now) ≡ Then (syntax result.0.now) (Then (syntax result.1.now) End) }
+    ensures fit { (f g : Field) → each (Some (f ∷ g ∷ [])) (pieces_of (map syntax parts.now)) ≡ true → (fits f (syntax result.0.now) ≡ true) × (fits g (syntax result.1.now) ≡ true) }
+{
+    let [a, b] = parts else {
+        unreachable!();
+    };
+    (a, b)
+}
+
+/// The three parts.
+#[tactic(auto, using(crate::proofs::Counts::counts, crate::proofs::Viewing::three_fit))]
+pub fn three(parts: &[Numbered]) -> (&Numbered, &Numbered, &Numbered)
+    requires { is_three (pieces_of (map syntax parts.now)) ≡ true }
+    ensures parts { pieces_of (map syntax parts.now) ≡ Then (syntax result.0.now) (Then (syntax result.1.now) (Then (syntax result.2.now) End)) }
+    ensures fit { (f g h : Field) → each (Some (f ∷ g ∷ h ∷ [])) (pieces_of (map syntax parts.now)) ≡ true → (fits f (syntax result.0.now) ≡ true) × (fits g (syntax result.1.now) ≡ true) × (fits h (syntax result.2.now) ≡ true) }
+{
+    let [a, b, c] = parts else {
+        unreachable!();
+    };
+    (a, b, c)
+}
+
+/// The four parts.
+#[tactic(auto, using(crate::proofs::Counts::counts, crate::proofs::Viewing::four_fit))]
+pub fn four(parts: &[Numbered]) -> (&Numbered, &Numbered, &Numbered, &Numbered)
+    requires { is_four (pieces_of (map syntax parts.now)) ≡ true }
+    ensures parts { pieces_of (map syntax parts.now) ≡ Then (syntax result.0.now) (Then (syntax result.1.now) (Then (syntax result.2.now) (Then (syntax result.3.now) End))) }
+    ensures fit { (f g h i : Field) → each (Some (f ∷ g ∷ h ∷ i ∷ [])) (pieces_of (map syntax parts.now)) ≡ true → (fits f (syntax result.0.now) ≡ true) × (fits g (syntax result.1.now) ≡ true) × (fits h (syntax result.2.now) ≡ true) × (fits i (syntax result.3.now) ≡ true) }
+{
+    let [a, b, c, d] = parts else {
+        unreachable!();
+    };
+    (a, b, c, d)
+}
+
 /// The six parts.
 #[tactic(auto, using(crate::proofs::Counts::counts, crate::proofs::Viewing::six_fit))]
 pub fn six(parts: &[Numbered]) -> (&Numbered, &Numbered, &Numbered, &Numbered, &Numbered, &Numbered)
