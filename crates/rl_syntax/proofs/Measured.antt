@@ -1,13 +1,14 @@
 -- The measure of bytes that spell syntax, and its height.
-use Rattle.std.proofs.Common.{◌≡◌, ℕ, ◌+◌, ◌*◌, ◌^◌, ◌≤◌, ◌<◌, true, ◌&&◌, List, length, ap, ◌∙◌, refl, inl, inr, arith}
+use Rattle.std.proofs.Common.{◌≡◌, ℕ, ◌+◌, ◌*◌, ◌^◌, ◌≤◌, ◌<◌, Bool, true, false, ◌&&◌, if◌then◌else◌, List, length, ap, ◌∙◌, refl, inl, inr, arith}
 use Rattle.std.proofs.lemmas.Bool.{and_parts}
 use Rattle.rl_text.specs.Notation as notation
 use Rattle.rl_text.specs.Notation.{height, height_of}
 use Rattle.rl_text.specs.Nodes.{count, count_of, depth, depth_of}
 use Rattle.rl_text.specs.Measure.{nodes_in, deepest_in}
 use Rattle.rl_text.proofs.Measures.{nodes_in-spelling, deepest_in-spelling}
+use Rattle.rl_syntax.specs.declared.word.Word.{Word}
 use Rattle.rl_syntax.specs.Limits.{IsTooLarge}
-use Rattle.rl_syntax.specs.Syntax.{Syntax, Node, Listed, Said, Count, Flag, Absent, Pieces, End, Then, plain, plain_parts, nodes, nodes_of, is_item, are_few, is_shaped, are_shaped, are_items}
+use Rattle.rl_syntax.specs.Syntax.{Syntax, Node, Listed, Said, Count, Flag, Absent, Pieces, End, Then, plain, plain_parts, nodes, nodes_of, one_if, tally, tally_of, is_item, are_few, is_shaped, are_shaped, are_items}
 
 mutual
   -- The nodes of syntax are those of its tree of the notation.
@@ -22,6 +23,27 @@ mutual
   pub count_of_plain : (p : Pieces) → count_of (plain_parts p) ≡ nodes_of p
   count_of_plain End = refl
   count_of_plain (Then s p) = λ i. count_plain s i + count_of_plain p i
+
+one_low : (counted : Word → Bool) (word : Word) → one_if counted word ≤ 1
+one_low counted word = go (counted word)
+  where
+    go : (b : Bool) → (if b then 1 else 0) ≤ 1
+    go true = omega arith
+    go false = omega arith
+
+mutual
+  -- No more of a tree's nodes are counted than it has.
+  pub tally_low : (counted : Word → Bool) (s : Syntax) → tally counted s ≤ nodes s
+  tally_low counted (Node at word parts) = let rest = tally_of_low counted parts in let one = one_low counted word in omega arith
+  tally_low counted (Listed parts) = tally_of_low counted parts
+  tally_low counted (Said text) = omega arith
+  tally_low counted (Count number) = omega arith
+  tally_low counted (Flag flag) = omega arith
+  tally_low counted Absent = omega arith
+
+  pub tally_of_low : (counted : Word → Bool) (p : Pieces) → tally_of counted p ≤ nodes_of p
+  tally_of_low counted End = omega arith
+  tally_of_low counted (Then s p) = let first = tally_low counted s in let rest = tally_of_low counted p in omega arith
 
 module _ (bytes : List ℕ) (s : Syntax) (spells : notation.Spells bytes (plain s)) where
   pub nodes_measured : nodes_in bytes ≡ nodes s

@@ -8,31 +8,35 @@ use Rattle.rl_text.specs.Places.{Begins, GoesOn, IsBracket}
 use Rattle.rl_text.proofs.Runs.{heads}
 use Rattle.rl_text.proofs.Spellings.{spellings-apart}
 use Rattle.rl_text.proofs.Worded.{bracket-no_space, no_digit-on, ends-from_no_digit}
-use Rattle.rl_syntax.specs.Syntax.{Syntax, Pieces, End, Then, pieces_of, syntax, plain, plain_parts, width, nodes, nodes_of, part_count, is_item, is_shaped, are_items, are_shaped, IsPlaced, ArePlaced}
-use Rattle.rl_syntax.specs.Reads.{IsRead, AddsRead, NoneAdds, may_stand, may_hold, are_parts}
+use Rattle.rl_syntax.specs.Syntax.{Syntax, Pieces, End, Then, pieces_of, syntax, plain, plain_parts, width, nodes_of, scopes_of, references_of, part_count, is_item, is_shaped, are_items, are_shaped, next_byte, behind, IsPlaced, ArePlaced}
+use Rattle.rl_syntax.specs.Reads.{IsLow, IsRead, behind_all, AddsRead, NoneAdds, may_stand, may_hold, are_parts}
+use Rattle.rl_syntax.specs.declared.numbered.Position.{Position}
 use Rattle.rl_syntax.specs.declared.numbered.Numbered.{Numbered}
 
 -- One more piece behind others.
-nodes_behind : (ss : List Syntax) (s : Syntax) → nodes_of (pieces_of (ss ++ s ∷ [])) ≡ nodes_of (pieces_of ss) + nodes s
-nodes_behind [] s = omega arith
-nodes_behind (first ∷ ss) s = let more : nodes_of (pieces_of (ss ++ s ∷ [])) ≡ nodes_of (pieces_of ss) + nodes s = nodes_behind ss s in omega arith
-
 count_behind : (ss : List Syntax) (s : Syntax) → part_count (pieces_of (ss ++ s ∷ [])) ≡ part_count (pieces_of ss) + 1
 count_behind [] s = refl
 count_behind (first ∷ ss) s = ap (λ n. n + 1) (count_behind ss s)
 
--- The number of bytes of the pieces, each behind a space, and of a bracket.
-abbrev pub length_on : Pieces → ℕ
-length_on pieces = length (spelled_on 41 (plain_parts pieces))
+behind_behind : (from : Position) (ss : List Syntax) (s : Syntax) → behind_all from (pieces_of (ss ++ s ∷ [])) ≡ behind (next_byte (behind_all from (pieces_of ss))) s
+behind_behind from [] s = refl
+behind_behind from (first ∷ ss) s = behind_behind (behind (next_byte from) first) ss s
 
-length_behind : (ss : List Syntax) (s : Syntax) → length_on (pieces_of (ss ++ s ∷ [])) ≡ length_on (pieces_of ss) + 1 + width s
-length_behind [] s = simp length-append (omega arith)
-length_behind (first ∷ ss) s = let more : length_on (pieces_of (ss ++ s ∷ [])) ≡ length_on (pieces_of ss) + 1 + width s = length_behind ss s in simp length-append (omega arith)
+placed_behind : (from : Position) (ss : List Syntax) (s : Syntax) → ArePlaced from (pieces_of ss) → IsPlaced (next_byte (behind_all from (pieces_of ss))) s → ArePlaced from (pieces_of (ss ++ s ∷ []))
+placed_behind from [] s before placed = (placed, tt)
+placed_behind from (first ∷ ss) s before placed = (before.0, placed_behind (behind (next_byte from) first) ss s before.1 placed)
 
-placed_behind : (node byte n b : ℕ) (ss : List Syntax) (s : Syntax) → n ≡ node + nodes_of (pieces_of ss) → b ≡ byte + length_on (pieces_of ss) → ArePlaced node byte (pieces_of ss) → IsPlaced n b s → ArePlaced node byte (pieces_of (ss ++ s ∷ []))
-placed_behind node byte n b [] s en eb before placed = (subst (λ m. IsPlaced m (byte + 1) s) (let e : n ≡ node = omega arith in e) (subst (λ m. IsPlaced n m s) eb placed), tt)
-placed_behind node byte n b (first ∷ ss) s en eb before placed =
-    (before.0, placed_behind (node + nodes first) (byte + 1 + width first) n b ss s (omega arith) (eb ∙ simp length-append (omega arith)) before.1 placed)
+-- Behind pieces the counters are larger by their nodes, scopes and references.
+pub record AddsUp (from next : Position) (p : Pieces) : Type 0 where
+  pub node : next.node ≡ from.node + nodes_of p
+  pub scope : next.scope ≡ from.scope + scopes_of p
+  pub reference : next.reference ≡ from.reference + references_of p
+
+pub adds_up : (from next : Position) (p : Pieces) → next ≡ next_byte (behind_all from p) → AddsUp from next p
+adds_up from next End e = record { node = omega (arith, ap (λ p. p.node) e); scope = omega (arith, ap (λ p. p.scope) e); reference = omega (arith, ap (λ p. p.reference) e) }
+adds_up from next (Then s p) e =
+    let rest = adds_up (behind (next_byte from) s) next p e in
+    record { node = omega (arith, rest.node); scope = omega (arith, rest.scope); reference = omega (arith, rest.reference) }
 
 -- The offset behind a tree is its own and its width.
 pub read-width : (depth at next : ℕ) (bytes : List ℕ) (s : Syntax) → at ≤ next → next ≤ length bytes → Begins depth (plain s) (drop at bytes) (drop next bytes) → next ≡ at + width s
@@ -181,60 +185,56 @@ module _ (close depth : ℕ) (bytes : List ℕ) where
         let one : part_count m.0 ≡ part_count f.more + 1 = ap part_count f.is in
         true≢false (sym (hold-fewer (close == 93) (part_count (pieces_of ss) + 1) (part_count p) (omega (arith, m.1, one)) few) ∙ full)
 
--- `new` is `old` followed by the parts between the offsets `at` and `place`, `parts` of them.
-pub record HasRead (close depth node at place after parts : ℕ) (bytes : List ℕ) (old new : List Numbered) : Type 0 where
+-- `new` is `old` followed by the parts between the positions `from` and `now`, `parts` of them.
+pub record HasRead (close depth : ℕ) (from now : Position) (parts : ℕ) (bytes : List ℕ) (old new : List Numbered) : Type 0 where
   pub more : List Numbered
   pub added : new ≡ old ++ more
-  pub forward : at ≤ place
-  pub within : place ≤ length bytes
-  pub reads : ReadsPieces close depth bytes at place (map syntax more)
-  pub placed : ArePlaced node at (pieces_of (map syntax more))
-  pub count : after ≡ node + nodes_of (pieces_of (map syntax more))
-  pub wide : place + 1 ≡ at + length_on (pieces_of (map syntax more))
-  pub low : after ≤ place
+  pub forward : from.byte ≤ now.byte
+  pub within : now.byte ≤ length bytes
+  pub reads : ReadsPieces close depth bytes from.byte now.byte (map syntax more)
+  pub placed : ArePlaced from (pieces_of (map syntax more))
+  pub passed : now ≡ behind_all from (pieces_of (map syntax more))
+  pub low : IsLow now
   pub number : parts ≡ part_count (pieces_of (map syntax more))
   pub few : may_hold (close == 93) parts ≡ true
-  pub short : parts ≤ place
+  pub short : parts ≤ now.byte
 
-pub has-begun : (close depth node at : ℕ) (bytes : List ℕ) (old : List Numbered) → at ≤ length bytes → node ≤ at → HasRead close depth node at at node 0 bytes old old
-has-begun close depth node at bytes old within low = record {
+pub has-begun : (close depth : ℕ) (from : Position) (bytes : List ℕ) (old : List Numbered) → from.byte ≤ length bytes → IsLow from → HasRead close depth from from 0 bytes old old
+has-begun close depth from bytes old within low = record {
   more = [];
   added = sym (append-nil old);
   forward = omega arith;
   within = within;
-  reads = pieces-begun close depth bytes at;
+  reads = pieces-begun close depth bytes from.byte;
   placed = tt;
-  count = omega arith;
-  wide = omega arith;
+  passed = refl;
   low = low;
   number = refl;
   few = hold-none (close == 93);
   short = omega arith;
 }
 
-pub has-more : (close depth node at place after parts next behind : ℕ) (bytes : List ℕ) (old now new : List Numbered) (part : Numbered) → IsBracket close → HasRead close depth node at place after parts bytes old now → may_hold (close == 93) (parts + 1) ≡ true → drop place bytes ≡ 32 ∷ drop (place + 1) bytes → may_stand (close == 93) (syntax part) ≡ true → IsRead depth after (place + 1) bytes (syntax part) next behind → new ≡ now ++ part ∷ [] → HasRead close depth node at next behind (parts + 1) bytes old new
-has-more close depth node at place after parts next behind bytes old now new part bracket h few space allowed read pushed =
+pub has-more : (close depth : ℕ) (from now : Position) (parts : ℕ) (next : Position) (bytes : List ℕ) (old before new : List Numbered) (part : Numbered) → IsBracket close → HasRead close depth from now parts bytes old before → may_hold (close == 93) (parts + 1) ≡ true → drop now.byte bytes ≡ 32 ∷ drop (now.byte + 1) bytes → may_stand (close == 93) (syntax part) ≡ true → IsRead depth (next_byte now) bytes (syntax part) next → new ≡ before ++ part ∷ [] → HasRead close depth from next (parts + 1) bytes old new
+has-more close depth from now parts next bytes old before new part bracket h few space allowed read pushed =
     let listed : map syntax (h.more ++ part ∷ []) ≡ map syntax h.more ++ syntax part ∷ [] = map-append syntax h.more (part ∷ []) in
-    let wide : next ≡ place + 1 + width (syntax part) = read-width depth (place + 1) next bytes (syntax part) (omega (arith, read.forward)) read.within read.begins in
     record {
       more = h.more ++ part ∷ [];
       added = pushed ∙ ap (λ l. l ++ part ∷ []) h.added ∙ append_assoc old h.more (part ∷ []);
       forward = omega (arith, h.forward, read.forward);
       within = read.within;
-      reads = subst (λ ss. ReadsPieces close depth bytes at next ss) (sym listed)
-          (pieces-more close depth bytes at place (map syntax h.more) bracket h.reads (syntax part) next space allowed read.shaped read.begins);
-      placed = rw listed (placed_behind node at after (place + 1) (map syntax h.more) (syntax part) h.count h.wide h.placed read.placed);
-      count = rw listed (omega (arith, nodes_behind (map syntax h.more) (syntax part), h.count, read.count));
-      wide = rw listed (omega (arith, length_behind (map syntax h.more) (syntax part), h.wide));
+      reads = subst (λ ss. ReadsPieces close depth bytes from.byte next.byte ss) (sym listed)
+          (pieces-more close depth bytes from.byte now.byte (map syntax h.more) bracket h.reads (syntax part) next.byte space allowed read.shaped read.begins);
+      placed = rw listed (placed_behind from (map syntax h.more) (syntax part) h.placed (subst (λ p. IsPlaced (next_byte p) (syntax part)) h.passed read.placed));
+      passed = rw listed (read.passed ∙ ap (λ p. behind (next_byte p) (syntax part)) h.passed ∙ sym (behind_behind from (map syntax h.more) (syntax part)));
       low = read.low;
       number = rw listed (omega (arith, count_behind (map syntax h.more) (syntax part), h.number));
       few = few;
       short = omega (arith, h.short, read.forward);
     }
 
-pub has-closed : (close depth node at place after parts : ℕ) (bytes : List ℕ) (old new : List Numbered) → IsBracket close → HasRead close depth node at place after parts bytes old new → place < length bytes → drop place bytes ≡ close ∷ drop (place + 1) bytes → AddsRead close depth node at bytes old new (place + 1) after
-has-closed close depth node at place after parts bytes old new bracket h lt here =
-    let c = pieces-closed close depth bytes at place (map syntax h.more) bracket h.reads here in record {
+pub has-closed : (close depth : ℕ) (from now : Position) (parts : ℕ) (bytes : List ℕ) (old new : List Numbered) → IsBracket close → HasRead close depth from now parts bytes old new → now.byte < length bytes → drop now.byte bytes ≡ close ∷ drop (now.byte + 1) bytes → AddsRead close depth from bytes old new (next_byte now)
+has-closed close depth from now parts bytes old new bracket h lt here =
+    let c = pieces-closed close depth bytes from.byte now.byte (map syntax h.more) bracket h.reads here in record {
       more = h.more;
       added = h.added;
       forward = omega (arith, h.forward);
@@ -243,6 +243,6 @@ has-closed close depth node at place after parts bytes old new bracket h lt here
       few = subst (λ n. may_hold (close == 93) n ≡ true) h.number h.few;
       shaped = c.shaped;
       placed = h.placed;
-      count = h.count;
-      low = omega (arith, h.low);
+      passed = ap (λ p. next_byte p) h.passed;
+      low = (omega (arith, h.low.0), h.low.1, h.low.2);
     }

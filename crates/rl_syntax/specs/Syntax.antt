@@ -1,10 +1,12 @@
 -- Syntax as plain trees: nodes with ids, spans and known words.
-use Rattle.std.specs.Prelude.{◌≡◌, ℕ, ◌+◌, Bool, true, false, ◌&&◌, nat_le, List, [], ◌∷◌, length}
+use Rattle.std.specs.Prelude.{◌≡◌, ℕ, ◌+◌, if◌then◌else◌, Bool, true, false, ◌&&◌, nat_le, List, [], ◌∷◌, length}
 use Rattle.rl_text.specs.Notation as notation
 use Rattle.rl_base.specs.declared.span.Span.{Span}
-use Rattle.rl_syntax.specs.Words.{word_text}
+use Rattle.rl_syntax.specs.Words.{word_text, makes_scope}
 use Rattle.rl_syntax.specs.declared.word.Word.{Word}
+use Rattle.rl_syntax.specs.declared.word.Word.TheVariants as word
 use Rattle.rl_syntax.specs.declared.numbered.At.{At}
+use Rattle.rl_syntax.specs.declared.numbered.Position.{Position}
 use Rattle.rl_syntax.specs.declared.numbered.Numbered.{Numbered}
 use Rattle.rl_syntax.specs.declared.numbered.Numbered.TheOpen as numbered
 use Rattle.rl_syntax.specs.declared.numbered.Numbered.TheFolds.{fold-Numbered}
@@ -67,6 +69,7 @@ abbrev mutual
   nodes (Flag flag) = 0
   nodes Absent = 0
 
+  -- As `nodes`, for parts.
   pub nodes_of : Pieces → ℕ
   nodes_of End = 0
   nodes_of (Then piece pieces) = nodes piece + nodes_of pieces
@@ -76,12 +79,70 @@ abbrev pub span_of : Syntax → Span
 span_of (Node at word parts) = at.span
 span_of _ = record { start = 0; end = 0 }
 
--- The node has the id `node` and `count` nodes in its subtree, and stands at the byte offset `byte` in `bytes` bytes.
-pub record StandsAt (at : At) (node count byte bytes : ℕ) : Type 0 where
-  pub number : at.id.0 ≡ node
-  pub last : at.end.0 ≡ node + count
-  pub start : at.span.start ≡ byte
-  pub end : at.span.end ≡ byte + bytes
+-- True of the word of the nodes that are references.
+abbrev pub is_reference : Word → Bool
+is_reference word.Id = true
+is_reference _ = false
+
+-- 1 if the word is one of those that `counted` is true of.
+abbrev pub one_if : (counted : Word → Bool) → Word → ℕ
+one_if counted word = if counted word then 1 else 0
+
+abbrev mutual
+  -- The number of a tree's nodes of the words that `counted` is true of.
+  pub tally : (counted : Word → Bool) → Syntax → ℕ
+  tally counted (Node at word parts) = tally_of counted parts + one_if counted word
+  tally counted (Listed parts) = tally_of counted parts
+  tally counted (Said text) = 0
+  tally counted (Count number) = 0
+  tally counted (Flag flag) = 0
+  tally counted Absent = 0
+
+  -- As `tally`, for parts.
+  pub tally_of : (counted : Word → Bool) → Pieces → ℕ
+  tally_of counted End = 0
+  tally_of counted (Then piece pieces) = tally counted piece + tally_of counted pieces
+
+-- The number of a tree's nodes that make a scope.
+abbrev pub scopes : Syntax → ℕ
+scopes tree = tally makes_scope tree
+
+-- As `scopes`, for parts.
+abbrev pub scopes_of : Pieces → ℕ
+scopes_of pieces = tally_of makes_scope pieces
+
+-- The number of a tree's nodes that are references.
+abbrev pub references : Syntax → ℕ
+references tree = tally is_reference tree
+
+-- As `references`, for parts.
+abbrev pub references_of : Pieces → ℕ
+references_of pieces = tally_of is_reference pieces
+
+-- The position before a unit's text.
+abbrev pub outset : Position
+outset = record { byte = 0; node = 0; scope = 0; reference = 0 }
+
+-- The position one byte further, if no node opens in between.
+abbrev pub next_byte : (from : Position) → Position
+next_byte from = record { byte = from.byte + 1; node = from.node; scope = from.scope; reference = from.reference }
+
+-- The position behind `(` and the word of a node that opens at `from`.
+abbrev pub inside : (from : Position) → Word → Position
+inside from word = record { byte = from.byte + 1 + length (word_text word); node = from.node + 1; scope = from.scope + one_if makes_scope word; reference = from.reference + one_if is_reference word }
+
+-- The position behind a tree that begins at `from`.
+abbrev pub behind : (from : Position) → Syntax → Position
+behind from tree = record { byte = from.byte + width tree; node = from.node + nodes tree; scope = from.scope + scopes tree; reference = from.reference + references tree }
+
+-- A node that opens at the position `from` and closes before the position `next` has these ids and this span.
+pub record StandsAt (at : At) (from next : Position) : Type 0 where
+  pub number : at.id.0 ≡ from.node
+  pub last : at.end.0 ≡ next.node
+  pub scope : at.scope.0 ≡ from.scope
+  pub reference : at.reference.0 ≡ from.reference
+  pub start : at.span.start ≡ from.byte
+  pub end : at.span.end ≡ next.byte
 
 -- A node or a text: the trees that stand in lists.
 abbrev pub is_item : Syntax → Bool
@@ -119,16 +180,16 @@ abbrev mutual
   are_items (Then piece pieces) = is_item piece && is_shaped piece && are_items pieces
 
 abbrev mutual
-  -- Each node of the tree has its ids and its span, if the first to open has the id `node` and the text begins at the offset `byte`.
-  pub IsPlaced : (node byte : ℕ) → Syntax → Type 0
-  IsPlaced node byte (Node at word parts) = StandsAt at node (nodes (Node at word parts)) byte (width (Node at word parts)) × ArePlaced (node + 1) (byte + 1 + length (word_text word)) parts
-  IsPlaced node byte (Listed parts) = ArePlaced node byte parts
-  IsPlaced node byte (Said text) = Unit {0}
-  IsPlaced node byte (Count number) = Unit {0}
-  IsPlaced node byte (Flag flag) = Unit {0}
-  IsPlaced node byte Absent = Unit {0}
+  -- Each node of the tree has its ids and its span, if the tree begins at the position `from`.
+  pub IsPlaced : (from : Position) → Syntax → Type 0
+  IsPlaced from (Node at word parts) = StandsAt at from (behind from (Node at word parts)) × ArePlaced (inside from word) parts
+  IsPlaced from (Listed parts) = ArePlaced from parts
+  IsPlaced from (Said text) = Unit {0}
+  IsPlaced from (Count number) = Unit {0}
+  IsPlaced from (Flag flag) = Unit {0}
+  IsPlaced from Absent = Unit {0}
 
-  -- As `IsPlaced`, for parts, each behind one byte, of which the first stands at `byte`.
-  pub ArePlaced : (node byte : ℕ) → Pieces → Type 0
-  ArePlaced node byte End = Unit {0}
-  ArePlaced node byte (Then piece pieces) = IsPlaced node (byte + 1) piece × ArePlaced (node + nodes piece) (byte + 1 + width piece) pieces
+  -- As `IsPlaced`, for parts that stand from the position `from` on, each behind one byte.
+  pub ArePlaced : (from : Position) → Pieces → Type 0
+  ArePlaced from End = Unit {0}
+  ArePlaced from (Then piece pieces) = IsPlaced (next_byte from) piece × ArePlaced (behind (next_byte from) piece) pieces

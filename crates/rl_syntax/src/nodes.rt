@@ -18,7 +18,7 @@ pub struct NodeEntry {
     pub word: Word,
     /// The id of the innermost node around it. `None` for the unit itself.
     pub parent: Option<NodeId>,
-    /// Its id, the end of its subtree, and its span.
+    /// Its ids and its span.
     pub at: At,
 }
 

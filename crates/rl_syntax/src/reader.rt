@@ -5,15 +5,13 @@ ghost use Rattle.std.specs.Char.{is_ascii_digit};
 ghost use Rattle.rl_text.specs.Notation.{height};
 ghost use Rattle.rl_text.specs.Notation as notation;
 ghost use Rattle.rl_text.specs.Places.{Begins, IsBracket};
-ghost use Rattle.rl_syntax.specs.Syntax.{Syntax, syntax, plain, is_shaped, IsPlaced};
-ghost use Rattle.rl_syntax.specs.Reads.{IsRead, NoneIsRead, AddsRead, NoneAdds, may_stand, may_hold};
+ghost use Rattle.rl_syntax.specs.Syntax.{Syntax, syntax, plain, is_shaped, outset, IsPlaced};
+ghost use Rattle.rl_syntax.specs.Reads.{IsLow, IsRead, NoneIsRead, AddsRead, NoneAdds, may_stand, may_hold};
 
-use crate::numbered::{At, Numbered};
+use crate::numbered::{Numbered, Position};
 use crate::word::Word;
 use rl_base::error::OutOfMemory;
-use rl_base::ids::NodeId;
 use rl_base::list::List;
-use rl_base::span::Span;
 use rl_text::read::{read_number_at, read_text_at};
 use rl_text::scan::{has_byte, word_end};
 use std::alloc::Global;
@@ -21,50 +19,28 @@ use std::alloc::Global;
 /// The largest number of parts that a node of the language has.
 const MOST_PARTS: usize = 8;
 
-/// A position between trees.
-#[derive(Clone, Copy)]
-struct Place {
-    /// Byte offset in the unit's text.
-    byte: usize,
-    /// Id of the next node to open.
-    node: u32,
-}
-
-impl Place {
-    /// The ids and the span of the node that opens at `self` and closes before `next`.
-    fn up_to(self, next: Place) -> At
-        requires start { self.byte < 2 ^ 32 }
-        requires end { next.byte < 2 ^ 32 }
-        ensures { result ≡ record { id = record { 0 = self.node }; end = record { 0 = next.node }; span = record { start = self.byte; end = next.byte } } }
-    {
-        At {
-            id: NodeId(self.node),
-            end: NodeId(next.node),
-            span: Span {
-                start: self.byte as u32,
-                end: next.byte as u32,
-            },
-        }
-    }
-}
-
 /// A tree, and the position behind it.
-type Found = Option<(Numbered, Place)>;
+type Found = Option<(Numbered, Position)>;
 
-/// Reads the shaped tree that the whole of `bytes` spells, if at most `depth` nodes and lists are open at once in it. Its
-/// nodes have the ids from 0 on. `None` if the bytes spell no such tree. On `OutOfMemory`, an allocation failed. The
-/// recursion is at most `depth` deep.
+/// Reads the shaped tree that the whole of `bytes` spells, if at most `depth` nodes and lists are open at once in it. Nodes,
+/// scopes and references have the ids from 0 on. `None` if the bytes spell no such tree. On `OutOfMemory`, an allocation
+/// failed. The recursion is at most `depth` deep.
 pub fn read_numbered(
     alloc: Global,
     depth: usize,
     bytes: &[u8],
 ) -> Result<Option<Numbered>, OutOfMemory>
     requires { length bytes.now < 2 ^ 32 }
-    ensures found { IfOk result (λ r. IfSome r (λ n. notation.Spells bytes.now (plain (syntax n)) × IsPlaced 0 0 (syntax n) × (is_shaped (syntax n) ≡ true))) }
-    ensures unique { IfOk result (λ r. IfSome r (λ n. (s : Syntax) → notation.Spells bytes.now (plain s) → IsPlaced 0 0 s → s ≡ syntax n)) }
+    ensures found { IfOk result (λ r. IfSome r (λ n. notation.Spells bytes.now (plain (syntax n)) × IsPlaced outset (syntax n) × (is_shaped (syntax n) ≡ true))) }
+    ensures unique { IfOk result (λ r. IfSome r (λ n. (s : Syntax) → notation.Spells bytes.now (plain s) → IsPlaced outset s → s ≡ syntax n)) }
     ensures none { IfOk result (λ r. IfNone r ((s : Syntax) → is_shaped s ≡ true → height (plain s) ≤ depth → notation.Spells bytes.now (plain s) → ⊥)) }
 {
-    let start = Place { byte: 0, node: 0 };
+    let start = Position {
+        byte: 0,
+        node: 0,
+        scope: 0,
+        reference: 0,
+    };
     let Some((tree, next)) = read_at(alloc, depth, bytes, start)? else {
         return Ok(None);
     };
@@ -77,11 +53,11 @@ pub fn read_numbered(
 /// Reads a shaped tree at the position `at`, with at most `depth` nodes and lists open at once. `None` if no such tree
 /// begins there.
 #[cycle(reading)]
-fn read_at(alloc: Global, depth: usize, bytes: &[u8], at: Place) -> Result<Found, OutOfMemory>
+fn read_at(alloc: Global, depth: usize, bytes: &[u8], at: Position) -> Result<Found, OutOfMemory>
     requires within { at.byte ≤ length bytes.now }
     requires short { length bytes.now < 2 ^ 32 }
-    requires low { at.node ≤ at.byte }
-    ensures found { IfOk result (λ r. IfSome r (λ f. IsRead depth at.node at.byte bytes.now (syntax f.0) f.1.byte f.1.node)) }
+    requires low { IsLow at }
+    ensures found { IfOk result (λ r. IfSome r (λ f. IsRead depth at bytes.now (syntax f.0) f.1)) }
     ensures none { IfOk result (λ r. IfNone r (NoneIsRead depth (drop at.byte bytes.now))) }
 {
     if at.byte >= bytes.len() {
@@ -91,9 +67,9 @@ fn read_at(alloc: Global, depth: usize, bytes: &[u8], at: Place) -> Result<Found
     if byte.is_ascii_digit() {
         return Ok(read_number(bytes, at));
     }
-    let next = Place {
+    let next = Position {
         byte: at.byte + 1,
-        node: at.node,
+        ..at
     };
     match byte {
         b'(' => read_node(alloc, depth, bytes, at),
@@ -108,12 +84,12 @@ fn read_at(alloc: Global, depth: usize, bytes: &[u8], at: Place) -> Result<Found
 
 /// Reads a node whose `(` stands at the position `at`.
 #[cycle(reading)]
-fn read_node(alloc: Global, depth: usize, bytes: &[u8], at: Place) -> Result<Found, OutOfMemory>
+fn read_node(alloc: Global, depth: usize, bytes: &[u8], at: Position) -> Result<Found, OutOfMemory>
     requires within { at.byte < length bytes.now }
     requires short { length bytes.now < 2 ^ 32 }
-    requires low { at.node ≤ at.byte }
+    requires low { IsLow at }
     requires opened { drop at.byte bytes.now ≡ 40 ∷ drop (at.byte + 1) bytes.now }
-    ensures found { IfOk result (λ r. IfSome r (λ f. IsRead depth at.node at.byte bytes.now (syntax f.0) f.1.byte f.1.node)) }
+    ensures found { IfOk result (λ r. IfSome r (λ f. IsRead depth at bytes.now (syntax f.0) f.1)) }
     ensures none { IfOk result (λ r. IfNone r (NoneIsRead depth (drop at.byte bytes.now))) }
 {
     if depth == 0 {
@@ -127,10 +103,7 @@ fn read_node(alloc: Global, depth: usize, bytes: &[u8], at: Place) -> Result<Fou
     let Some(word) = Word::from_text(&bytes[start..end]) else {
         return Ok(None);
     };
-    let inside = Place {
-        byte: end,
-        node: at.node + 1,
-    };
+    let inside = at.inside(word, end);
     let mut parts = List::with_capacity(alloc, word.usual_parts())?;
     let Some(next) = read_parts(alloc, depth - 1, bytes, inside, b')', &mut parts)? else {
         return Ok(None);
@@ -140,26 +113,26 @@ fn read_node(alloc: Global, depth: usize, bytes: &[u8], at: Place) -> Result<Fou
 
 /// Reads a list whose `[` stands at the position `at`. Its parts are nodes and texts.
 #[cycle(reading)]
-fn read_list(alloc: Global, depth: usize, bytes: &[u8], at: Place) -> Result<Found, OutOfMemory>
+fn read_list(alloc: Global, depth: usize, bytes: &[u8], at: Position) -> Result<Found, OutOfMemory>
     requires within { at.byte < length bytes.now }
     requires short { length bytes.now < 2 ^ 32 }
-    requires low { at.node ≤ at.byte }
+    requires low { IsLow at }
     requires opened { drop at.byte bytes.now ≡ 91 ∷ drop (at.byte + 1) bytes.now }
-    ensures found { IfOk result (λ r. IfSome r (λ f. IsRead depth at.node at.byte bytes.now (syntax f.0) f.1.byte f.1.node)) }
+    ensures found { IfOk result (λ r. IfSome r (λ f. IsRead depth at bytes.now (syntax f.0) f.1)) }
     ensures none { IfOk result (λ r. IfNone r (NoneIsRead depth (drop at.byte bytes.now))) }
 {
     if depth == 0 {
         return Ok(None);
     }
-    let inside = Place {
+    let inside = Position {
         byte: at.byte + 1,
-        node: at.node,
+        ..at
     };
     let mut parts = List::new(alloc);
     if has_byte(bytes, inside.byte, b']') {
-        let next = Place {
+        let next = Position {
             byte: at.byte + 2,
-            node: at.node,
+            ..at
         };
         return Ok(Some((Numbered::List(parts), next)));
     }
@@ -183,37 +156,37 @@ fn read_parts(
     alloc: Global,
     depth: usize,
     bytes: &[u8],
-    at: Place,
+    at: Position,
     close: u8,
     parts: &mut List<Numbered>,
-) -> Result<Option<Place>, OutOfMemory>
+) -> Result<Option<Position>, OutOfMemory>
     requires within { at.byte ≤ length bytes.now }
     requires short { length bytes.now < 2 ^ 32 }
-    requires low { at.node ≤ at.byte }
+    requires low { IsLow at }
     requires bracket { IsBracket close }
-    ensures found { IfOk result (λ r. IfSome r (λ next. AddsRead close depth at.node at.byte bytes.now parts.old parts.new next.byte next.node)) }
+    ensures found { IfOk result (λ r. IfSome r (λ next. AddsRead close depth at bytes.now parts.old parts.new next)) }
     ensures none { IfOk result (λ r. IfNone r (NoneAdds close depth (drop at.byte bytes.now))) }
 {
-    let mut place = at;
+    let mut next = at;
     let mut count = 0;
-    'parts: while has_byte(bytes, place.byte, b' ') {
+    'parts: while has_byte(bytes, next.byte, b' ') {
         count += 1;
         if !may_hold(close, count) {
             return Ok(None);
         }
-        place.byte += 1;
-        if !is_part(bytes, place.byte, close) {
+        next.byte += 1;
+        if !is_part(bytes, next.byte, close) {
             return Ok(None);
         }
-        let Some((part, behind)) = read_at(alloc, depth, bytes, place)? else {
+        let Some((part, behind)) = read_at(alloc, depth, bytes, next)? else {
             return Ok(None);
         };
         parts.push(part)?;
-        place = behind;
+        next = behind;
     }
-    if has_byte(bytes, place.byte, close) {
-        place.byte += 1;
-        Ok(Some(place))
+    if has_byte(bytes, next.byte, close) {
+        next.byte += 1;
+        Ok(Some(next))
     } else {
         Ok(None)
     }
@@ -243,37 +216,31 @@ fn is_part(bytes: &[u8], at: usize, close: u8) -> bool
 }
 
 /// Reads a text whose opening quote stands at the position `at`.
-fn read_text(alloc: Global, bytes: &[u8], at: Place) -> Result<Found, OutOfMemory>
+fn read_text(alloc: Global, bytes: &[u8], at: Position) -> Result<Found, OutOfMemory>
     requires within { at.byte < length bytes.now }
-    requires low { at.node ≤ at.byte }
+    requires low { IsLow at }
     requires opened { drop at.byte bytes.now ≡ 34 ∷ drop (at.byte + 1) bytes.now }
-    ensures found { (depth : ℕ) → IfOk result (λ r. IfSome r (λ f. IsRead depth at.node at.byte bytes.now (syntax f.0) f.1.byte f.1.node)) }
+    ensures found { (depth : ℕ) → IfOk result (λ r. IfSome r (λ f. IsRead depth at bytes.now (syntax f.0) f.1)) }
     ensures none { (depth : ℕ) → IfOk result (λ r. IfNone r (NoneIsRead depth (drop at.byte bytes.now))) }
 {
     let Some((text, byte)) = read_text_at(alloc, bytes, at.byte)? else {
         return Ok(None);
     };
-    let next = Place {
-        byte,
-        node: at.node,
-    };
+    let next = Position { byte, ..at };
     Ok(Some((Numbered::Text(text), next)))
 }
 
 /// Reads a number whose first digit stands at the position `at`.
-fn read_number(bytes: &[u8], at: Place) -> Found
+fn read_number(bytes: &[u8], at: Position) -> Found
     requires within { at.byte < length bytes.now }
-    requires low { at.node ≤ at.byte }
+    requires low { IsLow at }
     requires digit { is_ascii_digit (slice_index bytes.now at.byte) ≡ true }
-    ensures found { (depth : ℕ) → IfSome result (λ f. IsRead depth at.node at.byte bytes.now (syntax f.0) f.1.byte f.1.node) }
+    ensures found { (depth : ℕ) → IfSome result (λ f. IsRead depth at bytes.now (syntax f.0) f.1) }
     ensures none { (depth : ℕ) → IfNone result (NoneIsRead depth (drop at.byte bytes.now)) }
 {
     let Some((number, byte)) = read_number_at(bytes, at.byte) else {
         return None;
     };
-    let next = Place {
-        byte,
-        node: at.node,
-    };
+    let next = Position { byte, ..at };
     Some((Numbered::Number(number), next))
 }

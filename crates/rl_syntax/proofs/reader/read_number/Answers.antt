@@ -13,4 +13,4 @@ returns-in_default-clause-none c depth =
 pub returns-clause-found : goal.returns-clause-found
 returns-clause-found c depth =
     let found = rw c.in-Some.is at c.read_number_at.ensures.found in
-    leaf-read depth c.args.at.node c.args.at.byte c.in-Some.byte c.args.bytes.now (numbered.Number c.in-Some.number) (Count c.in-Some.number) (syntax_number c.in-Some.number) refl refl tt found.0 found.1 c.requires.low found.2
+    leaf-read depth c.args.at c.in-Some.byte c.args.bytes.now (numbered.Number c.in-Some.number) (Count c.in-Some.number) (syntax_number c.in-Some.number) refl refl refl refl tt found.0 found.1 c.requires.low found.2

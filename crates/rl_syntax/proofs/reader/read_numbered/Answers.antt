@@ -2,7 +2,7 @@ use Rattle.std.proofs.Common.{[], drop, arith, length-drop}
 use Rattle.std.proofs.lemmas.List.{drop_all}
 use Rattle.rl_text.proofs.Spellings.{Spells-one}
 use Rattle.rl_text.proofs.Forms.{begins-whole, whole-spells, more-none}
-use Rattle.rl_syntax.specs.Syntax.{syntax, plain}
+use Rattle.rl_syntax.specs.Syntax.{syntax, plain, outset}
 use Rattle.rl_syntax.proofs.Placement.{placed-one}
 use Rattle.rl_syntax.proofs.reader.read_numbered.Goals as goal
 
@@ -26,4 +26,4 @@ returns-clause-found c =
 pub returns-clause-unique : goal.returns-clause-unique
 returns-clause-unique c s spells placed =
     let found = returns-clause-found c in
-    placed-one s (syntax c.in-Some.tree) 0 0 (Spells-one c.args.bytes.now (plain s) (plain (syntax c.in-Some.tree)) spells found.0) placed found.1
+    placed-one s (syntax c.in-Some.tree) outset (Spells-one c.args.bytes.now (plain s) (plain (syntax c.in-Some.tree)) spells found.0) placed found.1

@@ -13,4 +13,4 @@ returns-in_default-clause-none c depth =
 pub returns-clause-found : goal.returns-clause-found
 returns-clause-found c depth =
     let found = rw c.in-Some.is at c.in_ok-text.ensures.found in
-    leaf-read depth c.args.at.node c.args.at.byte c.in-Some.byte c.args.bytes.now (numbered.Text c.in-Some.text) (Said c.in-Some.text) (syntax_text c.in-Some.text) refl refl tt found.0 found.1 c.requires.low found.2
+    leaf-read depth c.args.at c.in-Some.byte c.args.bytes.now (numbered.Text c.in-Some.text) (Said c.in-Some.text) (syntax_text c.in-Some.text) refl refl refl refl tt found.0 found.1 c.requires.low found.2
