@@ -4,7 +4,7 @@ use Rattle.rl_text.specs.Notation as notation
 use Rattle.rl_text.specs.Notation.{height}
 use Rattle.rl_grammar.specs.Grammar.{fits}
 use Rattle.rl_syntax.specs.Limits.{IsTooLarge}
-use Rattle.rl_syntax.specs.Syntax.{Syntax, plain, IsPlaced, is_shaped}
+use Rattle.rl_syntax.specs.Syntax.{Syntax, plain, outset, IsPlaced, is_shaped}
 use Rattle.rl_ast.specs.Units.{Spells}
 use Rattle.rl_grammar.specs.declared.kind.Field.TheVariants as field
 use Rattle.rl_grammar.specs.declared.kind.Kind.TheVariants as kind
@@ -18,7 +18,7 @@ none_low bytes v small none spells =
     none v even (small_low bytes v even spells.spelled small) spells.spelled
 
 -- nor by those of a tree that is no unit of the grammar
-pub none_fits : (bytes : List ℕ) (v t : Syntax) → ((s : Syntax) → notation.Spells bytes (plain s) → IsPlaced 0 0 s → s ≡ t) → fits (field.One kind.Unit) t ≡ false → Spells bytes v → ⊥
+pub none_fits : (bytes : List ℕ) (v t : Syntax) → ((s : Syntax) → notation.Spells bytes (plain s) → IsPlaced outset s → s ≡ t) → fits (field.One kind.Unit) t ≡ false → Spells bytes v → ⊥
 none_fits bytes v t unique refused spells =
     let same : v ≡ t = unique v spells.spelled spells.numbers in
     let accepted : fits (field.One kind.Unit) t ≡ true = sym (ap (fits (field.One kind.Unit)) same) ∙ spells.grammar in

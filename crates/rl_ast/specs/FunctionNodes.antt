@@ -1,4 +1,5 @@
 -- The trees that views of functions show.
+use Rattle.rl_base.specs.declared.ids.ScopeId.{ScopeId}
 use Rattle.rl_grammar.specs.Fields.{maybe}
 use Rattle.rl_syntax.specs.Syntax.{Syntax, Node, Flag, End, Then, syntax}
 use Rattle.rl_ast.specs.FunctionViews.{seen_arrow}
@@ -20,3 +21,8 @@ seen_function v = Node v.at (function_word v.form) (Then (Flag v.marked) (Then (
 abbrev pub seen_function_node : FunctionNode → Syntax
 seen_function_node (function_node.Function inner) = seen_function inner
 seen_function_node (function_node.Arrow inner) = seen_arrow inner
+
+-- The scope that a node makes; number 0 at a tree that is no node.
+abbrev pub scope_of : Syntax → ScopeId
+scope_of (Node at word parts) = at.scope
+scope_of _ = record { 0 = 0 }

@@ -5,6 +5,7 @@ pub mod ExpressionViews
 pub mod FunctionNodes
 pub mod FunctionViews
 pub mod JsxViews
+pub mod Marked
 pub mod ProgramViews
 pub mod StatementPartViews
 pub mod StatementViews

@@ -1,10 +1,11 @@
 //! Functions of every form, by one view: declarations, expressions and arrow functions.
 
-ghost use Rattle.std.specs.Prelude.{◌≡◌};
+ghost use Rattle.std.specs.Prelude.{◌≡◌, Some};
 ghost use Rattle.rl_syntax.specs.Syntax.{syntax};
-ghost use Rattle.rl_ast.specs.FunctionNodes.{seen_function};
+ghost use Rattle.rl_ast.specs.FunctionNodes.{scope_of, seen_function, seen_function_node};
 
 use crate::function::Arrow;
+use rl_base::ids::ScopeId;
 use rl_grammar::parts::six;
 use rl_grammar::sort::{
     BindingIdentifierTree, FormalParametersTree, FunctionBodyTree, FunctionDeclarationTree,
@@ -101,4 +102,16 @@ pub enum FunctionNode<'b> {
     Function(Function<'b>),
     /// An arrow function.
     Arrow(Arrow<'b>),
+}
+
+impl FunctionNode<'_> {
+    /// The scope of the function's parameters and body (`scope_id` of oxc_ast). It is always there.
+    pub fn scope_id(&self) -> Option<ScopeId>
+        ensures { result ≡ Some (scope_of (seen_function_node self.now)) }
+    {
+        match self {
+            FunctionNode::Function(function) => Some(function.at.scope),
+            FunctionNode::Arrow(arrow) => Some(arrow.at.scope),
+        }
+    }
 }

@@ -1,4 +1,5 @@
 pub mod Closed
+pub mod Covered
 pub mod Events
 pub mod Fields
 pub mod Headline
