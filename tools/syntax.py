@@ -150,9 +150,14 @@ def rule_function(sort):
             f"    ensures {{ table_of result ≡ spec.{snake(sort)}_rule word }}\n{{\n    match word {{\n" + "\n".join(arms) + "\n    }\n}\n")
 
 
-def rules_file():
-    arms = "\n".join(f"        Kind::{sort} => {snake(sort)}_rule(word)," for sort in SORTS)
-    return filled("rules.rt", {"NOTE": NOTE, "RULES": "\n".join(rule_function(sort) for sort in SORTS), "ARMS": arms})
+def rules_files():
+    """The rules of expressions, targets and JSX, which take in no other sort, and in another file all others."""
+    inner = [sort for module in ("expression", "expression_part", "target", "jsx") for sort in GRAMMAR.modules[module]]
+    functions = lambda sorts: "\n".join(rule_function(sort) for sort in sorts)
+    values = {"NOTE": NOTE, "INNER": ", ".join(sorted(f"{snake(sort)}_rule" for sort in inner)),
+              "ARMS": "\n".join(f"        Kind::{sort} => {snake(sort)}_rule(word)," for sort in SORTS)}
+    own = filled("expression_rules.rt", {**values, "RULES": functions(inner).replace("\nfn ", "\npub(crate) fn ")})
+    return own, filled("rules.rt", {**values, "RULES": functions([sort for sort in SORTS if sort not in inner])})
 
 
 def rule_spec(sort):
@@ -351,7 +356,8 @@ def notation_file():
 def files():
     """Every file that is written, by its path."""
     out = {"crates/rl_syntax/src/word.rt": word_file(), "crates/rl_syntax/src/word_table.rt": table_file(), "crates/rl_syntax/specs/Words.antt": words_spec(),
-           "crates/rl_grammar/src/kind.rt": kind_file(), "crates/rl_grammar/src/rules.rt": rules_file(), "crates/rl_grammar/src/sort.rt": sort_file(),
+           "crates/rl_grammar/src/kind.rt": kind_file(), "crates/rl_grammar/src/expression_rules.rt": rules_files()[0], "crates/rl_grammar/src/rules.rt": rules_files()[1],
+           "crates/rl_grammar/src/sort.rt": sort_file(),
            "crates/rl_grammar/specs/Rules.antt": rules_spec(), "crates/rl_grammar/proofs/FewFields.antt": rules_proof(), "docs/NOTATION.md": notation_file()}
     for module in GRAMMAR.modules:
         if views_of(module):

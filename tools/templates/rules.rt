@@ -4,6 +4,7 @@ ghost use Rattle.std.specs.Prelude.{◌≡◌};
 ghost use Rattle.rl_grammar.specs.Fields.{table_of};
 ghost use Rattle.rl_grammar.specs.Rules as spec;
 
+use crate::expression_rules::{%INNER%};
 use crate::kind::{Field, Kind};
 use rl_syntax::word::Word;
 

@@ -56,4 +56,3 @@ mutual
       let first : is_shaped p ≡ true = shaped (field.One k) p both.1 in
       let rest : are_items ps ≡ true = every_shaped k ps whole.1 in
       rw (both.0, first, rest) refl
-

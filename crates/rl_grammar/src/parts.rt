@@ -69,7 +69,16 @@ pub fn four(parts: &[Numbered]) -> (&Numbered, &Numbered, &Numbered, &Numbered)
 
 /// The six parts.
 #[tactic(auto, using(crate::proofs::Counts::counts, crate::proofs::Viewing::six_fit))]
-pub fn six(parts: &[Numbered]) -> (&Numbered, &Numbered, &Numbered, &Numbered, &Numbered, &Numbered)
+pub fn six(
+    parts: &[Numbered],
+) -> (
+    &Numbered,
+    &Numbered,
+    &Numbered,
+    &Numbered,
+    &Numbered,
+    &Numbered,
+)
     requires { is_six (pieces_of (map syntax parts.now)) ≡ true }
     ensures parts { pieces_of (map syntax parts.now) ≡ Then (syntax result.0.now) (Then (syntax result.1.now) (Then (syntax result.2.now) (Then (syntax result.3.now) (Then (syntax result.4.now) (Then (syntax result.5.now) End))))) }
     ensures fit { (f0 f1 f2 f3 f4 f5 : Field) → each (Some (f0 ∷ f1 ∷ f2 ∷ f3 ∷ f4 ∷ f5 ∷ [])) (pieces_of (map syntax parts.now)) ≡ true → (fits f0 (syntax result.0.now) ≡ true) × (fits f1 (syntax result.1.now) ≡ true) × (fits f2 (syntax result.2.now) ≡ true) × (fits f3 (syntax result.3.now) ≡ true) × (fits f4 (syntax result.4.now) ≡ true) × (fits f5 (syntax result.5.now) ≡ true) }

@@ -4,6 +4,14 @@ ghost use Rattle.std.specs.Prelude.{◌≡◌};
 ghost use Rattle.rl_grammar.specs.Fields.{table_of};
 ghost use Rattle.rl_grammar.specs.Rules as spec;
 
+use crate::expression_rules::{
+    argument_rule, array_element_rule, assignment_target_element_rule,
+    assignment_target_maybe_default_rule, assignment_target_property_rule,
+    assignment_target_rest_rule, assignment_target_rule, expression_rule, jsx_attribute_name_rule,
+    jsx_attribute_rule, jsx_attribute_value_rule, jsx_child_rule, jsx_closing_element_rule,
+    jsx_element_name_rule, jsx_element_rule, jsx_fragment_rule, jsx_opening_element_rule,
+    object_property_rule, template_element_rule, template_literal_rule,
+};
 use crate::kind::{Field, Kind};
 use rl_syntax::word::Word;
 
@@ -48,22 +56,61 @@ fn statement_rule(word: Word) -> Option<&'static [Field]>
         Word::Return => Some(&[Field::Maybe(Kind::Expression)]),
         Word::Throw => Some(&[Field::One(Kind::Expression)]),
         Word::Block => Some(&[Field::Many(Kind::Statement)]),
-        Word::If => Some(&[Field::One(Kind::Expression), Field::One(Kind::Statement), Field::Maybe(Kind::Statement)]),
-        Word::For => Some(&[Field::Maybe(Kind::ForInit), Field::Maybe(Kind::Expression), Field::Maybe(Kind::Expression), Field::One(Kind::Statement)]),
+        Word::If => Some(&[
+            Field::One(Kind::Expression),
+            Field::One(Kind::Statement),
+            Field::Maybe(Kind::Statement),
+        ]),
+        Word::For => Some(&[
+            Field::Maybe(Kind::ForInit),
+            Field::Maybe(Kind::Expression),
+            Field::Maybe(Kind::Expression),
+            Field::One(Kind::Statement),
+        ]),
         Word::While => Some(&[Field::One(Kind::Expression), Field::One(Kind::Statement)]),
         Word::Dowhile => Some(&[Field::One(Kind::Statement), Field::One(Kind::Expression)]),
-        Word::Forin => Some(&[Field::One(Kind::ForHead), Field::One(Kind::Expression), Field::One(Kind::Statement)]),
-        Word::Forof => Some(&[Field::One(Kind::Flag), Field::One(Kind::ForHead), Field::One(Kind::Expression), Field::One(Kind::Statement)]),
+        Word::Forin => Some(&[
+            Field::One(Kind::ForHead),
+            Field::One(Kind::Expression),
+            Field::One(Kind::Statement),
+        ]),
+        Word::Forof => Some(&[
+            Field::One(Kind::Flag),
+            Field::One(Kind::ForHead),
+            Field::One(Kind::Expression),
+            Field::One(Kind::Statement),
+        ]),
         Word::Switch => Some(&[Field::One(Kind::Expression), Field::Many(Kind::SwitchCase)]),
-        Word::Try => Some(&[Field::One(Kind::BlockStatement), Field::Maybe(Kind::CatchClause), Field::Maybe(Kind::BlockStatement)]),
+        Word::Try => Some(&[
+            Field::One(Kind::BlockStatement),
+            Field::Maybe(Kind::CatchClause),
+            Field::Maybe(Kind::BlockStatement),
+        ]),
         Word::Break => Some(&[Field::Maybe(Kind::Text)]),
         Word::Continue => Some(&[Field::Maybe(Kind::Text)]),
         Word::Labeled => Some(&[Field::One(Kind::Text), Field::One(Kind::Statement)]),
         Word::With => Some(&[Field::One(Kind::Expression), Field::One(Kind::Statement)]),
-        Word::Var => Some(&[Field::One(Kind::VariableKind), Field::Many(Kind::VariableDeclarator)]),
-        Word::Fundecl => Some(&[Field::One(Kind::Flag), Field::One(Kind::Flag), Field::One(Kind::Flag), Field::Maybe(Kind::BindingIdentifier), Field::One(Kind::FormalParameters), Field::Maybe(Kind::FunctionBody)]),
-        Word::Classdecl => Some(&[Field::Maybe(Kind::BindingIdentifier), Field::Maybe(Kind::Expression), Field::Many(Kind::ClassElement)]),
-        Word::Typealias => Some(&[Field::One(Kind::BindingIdentifier), Field::One(Kind::TypeAnnotation)]),
+        Word::Var => Some(&[
+            Field::One(Kind::VariableKind),
+            Field::Many(Kind::VariableDeclarator),
+        ]),
+        Word::Fundecl => Some(&[
+            Field::One(Kind::Flag),
+            Field::One(Kind::Flag),
+            Field::One(Kind::Flag),
+            Field::Maybe(Kind::BindingIdentifier),
+            Field::One(Kind::FormalParameters),
+            Field::Maybe(Kind::FunctionBody),
+        ]),
+        Word::Classdecl => Some(&[
+            Field::Maybe(Kind::BindingIdentifier),
+            Field::Maybe(Kind::Expression),
+            Field::Many(Kind::ClassElement),
+        ]),
+        Word::Typealias => Some(&[
+            Field::One(Kind::BindingIdentifier),
+            Field::One(Kind::TypeAnnotation),
+        ]),
         Word::Interface => Some(&[Field::One(Kind::BindingIdentifier)]),
         Word::Enum => Some(&[Field::One(Kind::BindingIdentifier)]),
         Word::Namespace => Some(&[Field::One(Kind::BindingIdentifier)]),
@@ -101,7 +148,10 @@ fn catch_clause_rule(word: Word) -> Option<&'static [Field]>
     ensures { table_of result ≡ spec.catch_clause_rule word }
 {
     match word {
-        Word::Catch => Some(&[Field::Maybe(Kind::BindingPattern), Field::One(Kind::BlockStatement)]),
+        Word::Catch => Some(&[
+            Field::Maybe(Kind::BindingPattern),
+            Field::One(Kind::BlockStatement),
+        ]),
         _ => None,
     }
 }
@@ -111,7 +161,10 @@ fn variable_declaration_rule(word: Word) -> Option<&'static [Field]>
     ensures { table_of result ≡ spec.variable_declaration_rule word }
 {
     match word {
-        Word::Var => Some(&[Field::One(Kind::VariableKind), Field::Many(Kind::VariableDeclarator)]),
+        Word::Var => Some(&[
+            Field::One(Kind::VariableKind),
+            Field::Many(Kind::VariableDeclarator),
+        ]),
         _ => None,
     }
 }
@@ -121,7 +174,10 @@ fn variable_declarator_rule(word: Word) -> Option<&'static [Field]>
     ensures { table_of result ≡ spec.variable_declarator_rule word }
 {
     match word {
-        Word::Declarator => Some(&[Field::One(Kind::BindingPattern), Field::Maybe(Kind::Expression)]),
+        Word::Declarator => Some(&[
+            Field::One(Kind::BindingPattern),
+            Field::Maybe(Kind::Expression),
+        ]),
         _ => None,
     }
 }
@@ -131,7 +187,10 @@ fn for_init_rule(word: Word) -> Option<&'static [Field]>
     ensures { table_of result ≡ spec.for_init_rule word }
 {
     match word {
-        Word::Var => Some(&[Field::One(Kind::VariableKind), Field::Many(Kind::VariableDeclarator)]),
+        Word::Var => Some(&[
+            Field::One(Kind::VariableKind),
+            Field::Many(Kind::VariableDeclarator),
+        ]),
         _ => expression_rule(word),
     }
 }
@@ -141,7 +200,10 @@ fn for_head_rule(word: Word) -> Option<&'static [Field]>
     ensures { table_of result ≡ spec.for_head_rule word }
 {
     match word {
-        Word::Var => Some(&[Field::One(Kind::VariableKind), Field::Many(Kind::VariableDeclarator)]),
+        Word::Var => Some(&[
+            Field::One(Kind::VariableKind),
+            Field::Many(Kind::VariableDeclarator),
+        ]),
         _ => assignment_target_rule(word),
     }
 }
@@ -151,7 +213,10 @@ fn export_default_rule(word: Word) -> Option<&'static [Field]>
     ensures { table_of result ≡ spec.export_default_rule word }
 {
     match word {
-        _ => match statement_rule(word) { Some(fields) => Some(fields), None => expression_rule(word) },
+        _ => match statement_rule(word) {
+            Some(fields) => Some(fields),
+            None => expression_rule(word)
+        },
     }
 }
 
@@ -184,7 +249,12 @@ fn arrow_rule(word: Word) -> Option<&'static [Field]>
     ensures { table_of result ≡ spec.arrow_rule word }
 {
     match word {
-        Word::Arrow => Some(&[Field::One(Kind::Flag), Field::One(Kind::Flag), Field::One(Kind::FormalParameters), Field::One(Kind::ArrowBody)]),
+        Word::Arrow => Some(&[
+            Field::One(Kind::Flag),
+            Field::One(Kind::Flag),
+            Field::One(Kind::FormalParameters),
+            Field::One(Kind::ArrowBody),
+        ]),
         _ => None,
     }
 }
@@ -194,7 +264,14 @@ fn function_declaration_rule(word: Word) -> Option<&'static [Field]>
     ensures { table_of result ≡ spec.function_declaration_rule word }
 {
     match word {
-        Word::Fundecl => Some(&[Field::One(Kind::Flag), Field::One(Kind::Flag), Field::One(Kind::Flag), Field::Maybe(Kind::BindingIdentifier), Field::One(Kind::FormalParameters), Field::Maybe(Kind::FunctionBody)]),
+        Word::Fundecl => Some(&[
+            Field::One(Kind::Flag),
+            Field::One(Kind::Flag),
+            Field::One(Kind::Flag),
+            Field::Maybe(Kind::BindingIdentifier),
+            Field::One(Kind::FormalParameters),
+            Field::Maybe(Kind::FunctionBody),
+        ]),
         _ => None,
     }
 }
@@ -204,7 +281,14 @@ fn function_expression_rule(word: Word) -> Option<&'static [Field]>
     ensures { table_of result ≡ spec.function_expression_rule word }
 {
     match word {
-        Word::Funexpr => Some(&[Field::One(Kind::Flag), Field::One(Kind::Flag), Field::One(Kind::Flag), Field::Maybe(Kind::BindingIdentifier), Field::One(Kind::FormalParameters), Field::One(Kind::FunctionBody)]),
+        Word::Funexpr => Some(&[
+            Field::One(Kind::Flag),
+            Field::One(Kind::Flag),
+            Field::One(Kind::Flag),
+            Field::Maybe(Kind::BindingIdentifier),
+            Field::One(Kind::FormalParameters),
+            Field::One(Kind::FunctionBody),
+        ]),
         _ => None,
     }
 }
@@ -214,7 +298,10 @@ fn formal_parameters_rule(word: Word) -> Option<&'static [Field]>
     ensures { table_of result ≡ spec.formal_parameters_rule word }
 {
     match word {
-        Word::Params => Some(&[Field::Many(Kind::FormalParameter), Field::Maybe(Kind::BindingRestElement)]),
+        Word::Params => Some(&[
+            Field::Many(Kind::FormalParameter),
+            Field::Maybe(Kind::BindingRestElement),
+        ]),
         _ => None,
     }
 }
@@ -224,7 +311,10 @@ fn formal_parameter_rule(word: Word) -> Option<&'static [Field]>
     ensures { table_of result ≡ spec.formal_parameter_rule word }
 {
     match word {
-        Word::Param => Some(&[Field::One(Kind::BindingPattern), Field::Maybe(Kind::Expression)]),
+        Word::Param => Some(&[
+            Field::One(Kind::BindingPattern),
+            Field::Maybe(Kind::Expression),
+        ]),
         _ => None,
     }
 }
@@ -274,7 +364,10 @@ fn type_annotation_rule(word: Word) -> Option<&'static [Field]>
     ensures { table_of result ≡ spec.type_annotation_rule word }
 {
     match word {
-        Word::Type => Some(&[Field::One(Kind::TypeKind), Field::Many(Kind::IdentifierReference)]),
+        Word::Type => Some(&[
+            Field::One(Kind::TypeKind),
+            Field::Many(Kind::IdentifierReference),
+        ]),
         _ => None,
     }
 }
@@ -295,8 +388,14 @@ fn binding_pattern_rule(word: Word) -> Option<&'static [Field]>
 {
     match word {
         Word::Bind => Some(&[Field::One(Kind::Text), Field::Maybe(Kind::TypeAnnotation)]),
-        Word::Arraypat => Some(&[Field::Many(Kind::BindingPatternElement), Field::Maybe(Kind::BindingRestElement)]),
-        Word::Objectpat => Some(&[Field::Many(Kind::BindingProperty), Field::Maybe(Kind::BindingRestElement)]),
+        Word::Arraypat => Some(&[
+            Field::Many(Kind::BindingPatternElement),
+            Field::Maybe(Kind::BindingRestElement),
+        ]),
+        Word::Objectpat => Some(&[
+            Field::Many(Kind::BindingProperty),
+            Field::Maybe(Kind::BindingRestElement),
+        ]),
         _ => None,
     }
 }
@@ -306,7 +405,10 @@ fn binding_pattern_maybe_default_rule(word: Word) -> Option<&'static [Field]>
     ensures { table_of result ≡ spec.binding_pattern_maybe_default_rule word }
 {
     match word {
-        Word::Defaultpat => Some(&[Field::One(Kind::BindingPattern), Field::One(Kind::Expression)]),
+        Word::Defaultpat => Some(&[
+            Field::One(Kind::BindingPattern),
+            Field::One(Kind::Expression),
+        ]),
         _ => binding_pattern_rule(word),
     }
 }
@@ -326,7 +428,11 @@ fn binding_property_rule(word: Word) -> Option<&'static [Field]>
     ensures { table_of result ≡ spec.binding_property_rule word }
 {
     match word {
-        Word::Keyedpat => Some(&[Field::One(Kind::Flag), Field::One(Kind::PropertyKey), Field::One(Kind::BindingPatternMaybeDefault)]),
+        Word::Keyedpat => Some(&[
+            Field::One(Kind::Flag),
+            Field::One(Kind::PropertyKey),
+            Field::One(Kind::BindingPatternMaybeDefault),
+        ]),
         _ => None,
     }
 }
@@ -339,276 +445,6 @@ fn property_key_rule(word: Word) -> Option<&'static [Field]>
         Word::Name => Some(&[Field::One(Kind::Text)]),
         Word::Private => Some(&[Field::One(Kind::Text)]),
         _ => expression_rule(word),
-    }
-}
-
-/// The fields of the kind `Expression`, by the word of a node.
-fn expression_rule(word: Word) -> Option<&'static [Field]>
-    ensures { table_of result ≡ spec.expression_rule word }
-{
-    match word {
-        Word::Id => Some(&[Field::One(Kind::Text)]),
-        Word::Null => Some(&[]),
-        Word::Bool => Some(&[Field::One(Kind::Flag)]),
-        Word::Num => Some(&[Field::One(Kind::Text)]),
-        Word::Str => Some(&[Field::One(Kind::Text)]),
-        Word::Bigint => Some(&[Field::One(Kind::Text)]),
-        Word::Regexp => Some(&[Field::One(Kind::Text), Field::One(Kind::Text)]),
-        Word::Template => Some(&[Field::Many(Kind::TemplateElement), Field::Many(Kind::Expression)]),
-        Word::Tagged => Some(&[Field::One(Kind::Expression), Field::One(Kind::TemplateLiteral)]),
-        Word::Array => Some(&[Field::Many(Kind::ArrayElement)]),
-        Word::Object => Some(&[Field::Many(Kind::ObjectProperty)]),
-        Word::Unary => Some(&[Field::One(Kind::UnaryOperator), Field::One(Kind::Expression)]),
-        Word::Update => Some(&[Field::One(Kind::UpdateOperator), Field::One(Kind::Flag), Field::One(Kind::AssignmentTarget)]),
-        Word::Binary => Some(&[Field::One(Kind::BinaryOperator), Field::One(Kind::Expression), Field::One(Kind::Expression)]),
-        Word::Privatein => Some(&[Field::One(Kind::Text), Field::One(Kind::Expression)]),
-        Word::Logical => Some(&[Field::One(Kind::LogicalOperator), Field::One(Kind::Expression), Field::One(Kind::Expression)]),
-        Word::Cond => Some(&[Field::One(Kind::Expression), Field::One(Kind::Expression), Field::One(Kind::Expression)]),
-        Word::Assign => Some(&[Field::One(Kind::AssignmentOperator), Field::One(Kind::AssignmentTarget), Field::One(Kind::Expression)]),
-        Word::Seq => Some(&[Field::Many(Kind::Expression)]),
-        Word::New => Some(&[Field::One(Kind::Expression), Field::Many(Kind::Argument)]),
-        Word::Await => Some(&[Field::One(Kind::Expression)]),
-        Word::Yield => Some(&[Field::One(Kind::Flag), Field::Maybe(Kind::Expression)]),
-        Word::Importmeta => Some(&[]),
-        Word::Newtarget => Some(&[]),
-        Word::Super => Some(&[]),
-        Word::This => Some(&[]),
-        Word::Importcall => Some(&[Field::One(Kind::Expression), Field::Maybe(Kind::Expression)]),
-        Word::Paren => Some(&[Field::One(Kind::Expression)]),
-        Word::As => Some(&[Field::One(Kind::Expression), Field::One(Kind::TypeAnnotation)]),
-        Word::Satisfies => Some(&[Field::One(Kind::Expression), Field::One(Kind::TypeAnnotation)]),
-        Word::Assert => Some(&[Field::One(Kind::TypeAnnotation), Field::One(Kind::Expression)]),
-        Word::Nonnull => Some(&[Field::One(Kind::Expression)]),
-        Word::Instantiate => Some(&[Field::One(Kind::Expression), Field::Many(Kind::IdentifierReference)]),
-        Word::Arrow => Some(&[Field::One(Kind::Flag), Field::One(Kind::Flag), Field::One(Kind::FormalParameters), Field::One(Kind::ArrowBody)]),
-        Word::Funexpr => Some(&[Field::One(Kind::Flag), Field::One(Kind::Flag), Field::One(Kind::Flag), Field::Maybe(Kind::BindingIdentifier), Field::One(Kind::FormalParameters), Field::One(Kind::FunctionBody)]),
-        Word::Classexpr => Some(&[Field::Maybe(Kind::BindingIdentifier), Field::Maybe(Kind::Expression), Field::Many(Kind::ClassElement)]),
-        Word::Element => Some(&[Field::One(Kind::JsxOpeningElement), Field::Many(Kind::JsxChild), Field::Maybe(Kind::JsxClosingElement)]),
-        Word::Fragment => Some(&[Field::Many(Kind::JsxChild)]),
-        Word::Member => Some(&[Field::One(Kind::Flag), Field::One(Kind::Expression), Field::One(Kind::Text)]),
-        Word::Index => Some(&[Field::One(Kind::Flag), Field::One(Kind::Expression), Field::One(Kind::Expression)]),
-        Word::Privatemember => Some(&[Field::One(Kind::Flag), Field::One(Kind::Expression), Field::One(Kind::Text)]),
-        Word::Call => Some(&[Field::One(Kind::Flag), Field::One(Kind::Expression), Field::Many(Kind::Argument)]),
-        Word::Chain => Some(&[Field::One(Kind::Expression)]),
-        _ => None,
-    }
-}
-
-/// The fields of the kind `TemplateLiteral`, by the word of a node.
-fn template_literal_rule(word: Word) -> Option<&'static [Field]>
-    ensures { table_of result ≡ spec.template_literal_rule word }
-{
-    match word {
-        Word::Template => Some(&[Field::Many(Kind::TemplateElement), Field::Many(Kind::Expression)]),
-        _ => None,
-    }
-}
-
-/// The fields of the kind `TemplateElement`, by the word of a node.
-fn template_element_rule(word: Word) -> Option<&'static [Field]>
-    ensures { table_of result ≡ spec.template_element_rule word }
-{
-    match word {
-        Word::Quasi => Some(&[Field::One(Kind::Text), Field::Maybe(Kind::Text)]),
-        _ => None,
-    }
-}
-
-/// The fields of the kind `ArrayElement`, by the word of a node.
-fn array_element_rule(word: Word) -> Option<&'static [Field]>
-    ensures { table_of result ≡ spec.array_element_rule word }
-{
-    match word {
-        Word::Spread => Some(&[Field::One(Kind::Expression)]),
-        Word::Hole => Some(&[]),
-        _ => expression_rule(word),
-    }
-}
-
-/// The fields of the kind `Argument`, by the word of a node.
-fn argument_rule(word: Word) -> Option<&'static [Field]>
-    ensures { table_of result ≡ spec.argument_rule word }
-{
-    match word {
-        Word::Spread => Some(&[Field::One(Kind::Expression)]),
-        _ => expression_rule(word),
-    }
-}
-
-/// The fields of the kind `ObjectProperty`, by the word of a node.
-fn object_property_rule(word: Word) -> Option<&'static [Field]>
-    ensures { table_of result ≡ spec.object_property_rule word }
-{
-    match word {
-        Word::Prop => Some(&[Field::One(Kind::Flag), Field::One(Kind::PropertyKey), Field::One(Kind::Expression)]),
-        Word::Method => Some(&[Field::One(Kind::Flag), Field::One(Kind::PropertyKey), Field::One(Kind::FunctionExpression)]),
-        Word::Get => Some(&[Field::One(Kind::Flag), Field::One(Kind::PropertyKey), Field::One(Kind::FunctionExpression)]),
-        Word::Set => Some(&[Field::One(Kind::Flag), Field::One(Kind::PropertyKey), Field::One(Kind::FunctionExpression)]),
-        Word::Spread => Some(&[Field::One(Kind::Expression)]),
-        _ => None,
-    }
-}
-
-/// The fields of the kind `AssignmentTarget`, by the word of a node.
-fn assignment_target_rule(word: Word) -> Option<&'static [Field]>
-    ensures { table_of result ≡ spec.assignment_target_rule word }
-{
-    match word {
-        Word::Id => Some(&[Field::One(Kind::Text)]),
-        Word::Member => Some(&[Field::One(Kind::Flag), Field::One(Kind::Expression), Field::One(Kind::Text)]),
-        Word::Index => Some(&[Field::One(Kind::Flag), Field::One(Kind::Expression), Field::One(Kind::Expression)]),
-        Word::Privatemember => Some(&[Field::One(Kind::Flag), Field::One(Kind::Expression), Field::One(Kind::Text)]),
-        Word::Arraytarget => Some(&[Field::Many(Kind::AssignmentTargetElement), Field::Maybe(Kind::AssignmentTargetRest)]),
-        Word::Objecttarget => Some(&[Field::Many(Kind::AssignmentTargetProperty), Field::Maybe(Kind::AssignmentTargetRest)]),
-        Word::As => Some(&[Field::One(Kind::AssignmentTarget), Field::One(Kind::TypeAnnotation)]),
-        Word::Satisfies => Some(&[Field::One(Kind::AssignmentTarget), Field::One(Kind::TypeAnnotation)]),
-        Word::Assert => Some(&[Field::One(Kind::TypeAnnotation), Field::One(Kind::AssignmentTarget)]),
-        Word::Nonnull => Some(&[Field::One(Kind::AssignmentTarget)]),
-        _ => None,
-    }
-}
-
-/// The fields of the kind `AssignmentTargetMaybeDefault`, by the word of a node.
-fn assignment_target_maybe_default_rule(word: Word) -> Option<&'static [Field]>
-    ensures { table_of result ≡ spec.assignment_target_maybe_default_rule word }
-{
-    match word {
-        Word::Default => Some(&[Field::One(Kind::AssignmentTarget), Field::One(Kind::Expression)]),
-        _ => assignment_target_rule(word),
-    }
-}
-
-/// The fields of the kind `AssignmentTargetElement`, by the word of a node.
-fn assignment_target_element_rule(word: Word) -> Option<&'static [Field]>
-    ensures { table_of result ≡ spec.assignment_target_element_rule word }
-{
-    match word {
-        Word::Hole => Some(&[]),
-        _ => assignment_target_maybe_default_rule(word),
-    }
-}
-
-/// The fields of the kind `AssignmentTargetProperty`, by the word of a node.
-fn assignment_target_property_rule(word: Word) -> Option<&'static [Field]>
-    ensures { table_of result ≡ spec.assignment_target_property_rule word }
-{
-    match word {
-        Word::Short => Some(&[Field::One(Kind::IdentifierReference), Field::Maybe(Kind::Expression)]),
-        Word::Keyed => Some(&[Field::One(Kind::Flag), Field::One(Kind::PropertyKey), Field::One(Kind::AssignmentTargetMaybeDefault)]),
-        _ => None,
-    }
-}
-
-/// The fields of the kind `AssignmentTargetRest`, by the word of a node.
-fn assignment_target_rest_rule(word: Word) -> Option<&'static [Field]>
-    ensures { table_of result ≡ spec.assignment_target_rest_rule word }
-{
-    match word {
-        Word::Rest => Some(&[Field::One(Kind::AssignmentTarget)]),
-        _ => None,
-    }
-}
-
-/// The fields of the kind `JsxElement`, by the word of a node.
-fn jsx_element_rule(word: Word) -> Option<&'static [Field]>
-    ensures { table_of result ≡ spec.jsx_element_rule word }
-{
-    match word {
-        Word::Element => Some(&[Field::One(Kind::JsxOpeningElement), Field::Many(Kind::JsxChild), Field::Maybe(Kind::JsxClosingElement)]),
-        _ => None,
-    }
-}
-
-/// The fields of the kind `JsxFragment`, by the word of a node.
-fn jsx_fragment_rule(word: Word) -> Option<&'static [Field]>
-    ensures { table_of result ≡ spec.jsx_fragment_rule word }
-{
-    match word {
-        Word::Fragment => Some(&[Field::Many(Kind::JsxChild)]),
-        _ => None,
-    }
-}
-
-/// The fields of the kind `JsxOpeningElement`, by the word of a node.
-fn jsx_opening_element_rule(word: Word) -> Option<&'static [Field]>
-    ensures { table_of result ≡ spec.jsx_opening_element_rule word }
-{
-    match word {
-        Word::Opening => Some(&[Field::One(Kind::JsxElementName), Field::Many(Kind::JsxAttribute)]),
-        _ => None,
-    }
-}
-
-/// The fields of the kind `JsxClosingElement`, by the word of a node.
-fn jsx_closing_element_rule(word: Word) -> Option<&'static [Field]>
-    ensures { table_of result ≡ spec.jsx_closing_element_rule word }
-{
-    match word {
-        Word::Closing => Some(&[]),
-        _ => None,
-    }
-}
-
-/// The fields of the kind `JsxElementName`, by the word of a node.
-fn jsx_element_name_rule(word: Word) -> Option<&'static [Field]>
-    ensures { table_of result ≡ spec.jsx_element_name_rule word }
-{
-    match word {
-        Word::Tag => Some(&[Field::One(Kind::Text)]),
-        Word::Id => Some(&[Field::One(Kind::Text)]),
-        Word::This => Some(&[]),
-        Word::Tagmember => Some(&[Field::One(Kind::JsxElementName), Field::One(Kind::Text)]),
-        Word::Tagns => Some(&[Field::One(Kind::Text), Field::One(Kind::Text)]),
-        _ => None,
-    }
-}
-
-/// The fields of the kind `JsxAttribute`, by the word of a node.
-fn jsx_attribute_rule(word: Word) -> Option<&'static [Field]>
-    ensures { table_of result ≡ spec.jsx_attribute_rule word }
-{
-    match word {
-        Word::Attr => Some(&[Field::One(Kind::JsxAttributeName), Field::Maybe(Kind::JsxAttributeValue)]),
-        Word::Attrspread => Some(&[Field::One(Kind::Expression)]),
-        _ => None,
-    }
-}
-
-/// The fields of the kind `JsxAttributeName`, by the word of a node.
-fn jsx_attribute_name_rule(word: Word) -> Option<&'static [Field]>
-    ensures { table_of result ≡ spec.jsx_attribute_name_rule word }
-{
-    match word {
-        Word::Attrname => Some(&[Field::One(Kind::Text)]),
-        Word::Attrns => Some(&[Field::One(Kind::Text), Field::One(Kind::Text)]),
-        _ => None,
-    }
-}
-
-/// The fields of the kind `JsxAttributeValue`, by the word of a node.
-fn jsx_attribute_value_rule(word: Word) -> Option<&'static [Field]>
-    ensures { table_of result ≡ spec.jsx_attribute_value_rule word }
-{
-    match word {
-        Word::Str => Some(&[Field::One(Kind::Text)]),
-        Word::Container => Some(&[Field::Maybe(Kind::Expression)]),
-        Word::Element => Some(&[Field::One(Kind::JsxOpeningElement), Field::Many(Kind::JsxChild), Field::Maybe(Kind::JsxClosingElement)]),
-        Word::Fragment => Some(&[Field::Many(Kind::JsxChild)]),
-        _ => None,
-    }
-}
-
-/// The fields of the kind `JsxChild`, by the word of a node.
-fn jsx_child_rule(word: Word) -> Option<&'static [Field]>
-    ensures { table_of result ≡ spec.jsx_child_rule word }
-{
-    match word {
-        Word::Text => Some(&[Field::One(Kind::Text)]),
-        Word::Container => Some(&[Field::Maybe(Kind::Expression)]),
-        Word::Element => Some(&[Field::One(Kind::JsxOpeningElement), Field::Many(Kind::JsxChild), Field::Maybe(Kind::JsxClosingElement)]),
-        Word::Fragment => Some(&[Field::Many(Kind::JsxChild)]),
-        Word::Spreadchild => Some(&[Field::One(Kind::Expression)]),
-        _ => None,
     }
 }
 

@@ -12,5 +12,5 @@ returns-in_default-clause-malformed c _ =
     let bytes = c.args.bytes.now in
     let small : IsTooLarge bytes → ⊥ = λ large. false≢true (sym c.if-is_too_large.false ∙ c.is_too_large.ensures.1 large) in
     let none : (s : Syntax) → is_shaped s ≡ true → height (plain s) ≤ 513 → notation.Spells bytes (plain s) → ⊥ =
-        subst (λ r. IfNone r ((s : Syntax) → is_shaped s ≡ true → height (plain s) ≤ 513 → notation.Spells bytes (plain s) → ⊥)) c.in_default.is c.in_ok-tree.ensures.none in
+    subst (λ r. IfNone r ((s : Syntax) → is_shaped s ≡ true → height (plain s) ≤ 513 → notation.Spells bytes (plain s) → ⊥)) c.in_default.is c.in_ok-tree.ensures.none in
     (small, λ v spells. none_low bytes v small none spells)
