@@ -1,3 +1,4 @@
+pub mod Atoms
 pub mod Digits
 pub mod Forms
 pub mod Measures

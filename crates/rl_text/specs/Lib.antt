@@ -1,3 +1,4 @@
+pub mod Atoms
 pub mod Measure
 pub mod Nodes
 pub mod Notation
