@@ -3,6 +3,7 @@
 
 pub mod atom;
 mod flag;
+pub mod list;
 mod number;
 mod operator;
 mod text;
