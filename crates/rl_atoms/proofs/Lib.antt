@@ -1,3 +1,4 @@
 pub mod Entities
 pub mod ListLaws
 pub mod Rows
+pub mod Spelled

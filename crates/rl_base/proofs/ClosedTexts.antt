@@ -1,7 +1,12 @@
 -- Values are found by their texts. `text_of` gives the text of a value, and `values` lists every value.
-use Rattle.std.proofs.Common.{◌≡◌, ℕ, Bool, true, false, cond, ◌||◌, List, [], ◌∷◌, Option, Some, None, IfSome, IfNone, is_some, refl, sym, ap, ◌∙◌, subst, inl, inr, true≢false}
-use Rattle.std.specs.Str.{bytes_eq}
-use Rattle.std.proofs.lemmas.Bool.{cases_Bool}
+use Rattle.std.proofs.Common.{◌≡◌, ℕ, Bool, true, false, cond, ◌||◌, List, [], ◌∷◌, Option, Some, None, IfSome, IfNone, is_some, refl, sym, ap, ◌∙◌, subst, inl, inr, true≢false, ◌<◌, arith}
+use Rattle.std.specs.Char.{is_ascii}
+use Rattle.std.specs.List.{find, list_all}
+use Rattle.std.specs.Str.{bytes_eq, IsUtf8, IsAscii}
+use Rattle.std.proofs.lemmas.Bool.{cases_Bool, and_parts}
+use Rattle.std.proofs.lemmas.Bool.Decides.{nat_tests}
+use Rattle.std.proofs.lemmas.Str.{IsUtf8-from_ascii}
+use Rattle.std.proofs.lemmas.Str.Ascii.{IsAscii-nil, IsAscii-cons}
 use Rattle.std.proofs.lemmas.Slice.Eq.{bytes_eq-Decides}
 use Rattle.rl_base.specs.ClosedTexts.{written_in, is_written, AreFound}
 
@@ -91,3 +96,27 @@ pub value_back : {X : Type 0} (default : X) (text_of : X → List ℕ) (values :
     → (value : X) → value_of default text_of values (text_of value) ≡ value
 unfolding value_of some_or
 value_back default text_of values all value = ap (some_or default) (all value)
+
+-- An item that a search ends at passes a test that all pass.
+find_all : {X : Type 0} (wanted test : X → Bool) (items : List X) (item : X) → list_all test items ≡ true → find wanted items ≡ Some item → test item ≡ true
+find_all wanted test [] item all e = absurd (cc)
+find_all wanted test (first ∷ rest) item all e = elim (cases_Bool (wanted first)) [
+  | inl passes ↦
+      let at : Some first ≡ Some item = ap (λ b. cond b (Some first) (find wanted rest)) (sym passes) ∙ e in
+      let same : first ≡ item = cc in
+      ap test (sym same) ∙ (and_parts _ _ all).0
+  | inr fails ↦ find_all wanted test rest item (and_parts _ _ all).1 (ap (λ b. cond b (Some first) (find wanted rest)) (sym fails) ∙ e)
+]
+
+ascii_small : (byte : ℕ) → is_ascii byte ≡ true → byte < 128
+ascii_small byte h = grind (arith, nat_tests)
+
+ascii_text : (text : List ℕ) → list_all is_ascii text ≡ true → IsAscii text
+ascii_text [] h = IsAscii-nil
+ascii_text (byte ∷ text) h = let b = and_parts _ _ h in IsAscii-cons byte text (ascii_small byte b.0) (ascii_text text b.1)
+
+-- The text of each value is UTF-8, where all of them are ASCII.
+pub text_utf8 : {X : Type 0} (text_of : X → List ℕ) (values : List X) → AreFound text_of values
+    → list_all (λ value. list_all is_ascii (text_of value)) values ≡ true → (value : X) → IsUtf8 (text_of value)
+text_utf8 text_of values found all value =
+    IsUtf8-from_ascii (text_of value) (ascii_text (text_of value) (find_all _ (λ v. list_all is_ascii (text_of v)) values value all (found value)))

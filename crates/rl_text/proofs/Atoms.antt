@@ -6,12 +6,12 @@ use Rattle.std.proofs.lemmas.List.{append_cancel_left}
 use Rattle.std.specs.Char.{is_ascii_digit}
 use Rattle.rl_base.specs.ClosedTexts.{AreFound}
 use Rattle.rl_base.proofs.ClosedTexts.{one_text}
-use Rattle.rl_text.specs.Notation.{Tree, Said, Count, Flag, Spells, spelling, height}
+use Rattle.rl_text.specs.Notation.{Tree, Said, Count, Flag, Spells, IsWritable, spelling, height}
 use Rattle.rl_text.specs.Places.{NoDigit, Begins, NoneBegins}
 use Rattle.rl_text.specs.Atoms.{is_end, ends, StandsAt, NoneStandsAt, HasSpelling, AppendsSpelling, HaveOneSpelling, AreApart, NeverBegin, AreReadBack, SpelledAs, text_tree}
 use Rattle.rl_text.proofs.Digits.{numeral-first}
 use Rattle.rl_text.proofs.Spellings.{spellings-apart}
-use Rattle.rl_text.proofs.Worded.{form, form_of_byte, form_at_byte, formless, ends-from_no_digit}
+use Rattle.rl_text.proofs.Worded.{form, form_at_byte, formless, ends-from_no_digit}
 
 end_no_digit : (byte : ℕ) → is_end byte ≡ true → is_ascii_digit byte ≡ false
 end_no_digit byte h = grind (arith, nat_tests)
@@ -118,9 +118,9 @@ module _ {X : Type 0} (tree : X → Tree) where
   pub tree_appended : (old new : List ℕ) (x : X) → HasSpelling (SpelledAs tree) x → new ≡ old ++ spelling (tree x) → AppendsSpelling (SpelledAs tree) old new x
   tree_appended old new x has e = record { spelling = spelling (tree x); spelled = record { writable = has.1.writable; spelled = refl }; appended = e }
 
-  -- The first byte tells the form of the value's tree.
-  pub tree_form : (bytes : List ℕ) (at next byte : ℕ) (rest : List ℕ) (x : X) → drop at bytes ≡ byte ∷ rest → StandsAt (SpelledAs tree) bytes at x next → form_of_byte byte ≡ form (tree x)
-  tree_form bytes at next byte rest x e s = form_at_byte (tree x) byte rest (drop next bytes) (sym e ∙ s.there ∙ ap (λ l. l ++ drop next bytes) s.spelled.spelled)
+  -- A value whose tree the notation has, has a spelling.
+  pub tree_spelled : (x : X) → IsWritable (tree x) → HasSpelling (SpelledAs tree) x
+  tree_spelled x h = (spelling (tree x), record { writable = h; spelled = refl })
 
 -- Trees of one form are one where they hold one value.
 said : Tree → List ℕ
