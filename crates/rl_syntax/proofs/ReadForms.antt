@@ -113,19 +113,18 @@ module _ (depth : ℕ) (from : Position) (bytes : List ℕ) where
 
   -- Lists.
   module _ (opened : drop from.byte bytes ≡ 91 ∷ drop (from.byte + 1) bytes) where
-    pub list-empty : (parts : List Numbered) → 0 < depth → IsLow from → parts ≡ [] → from.byte + 1 < length bytes → drop (from.byte + 1) bytes ≡ 93 ∷ drop (from.byte + 1 + 1) bytes → IsRead depth from bytes (syntax (numbered.List parts)) (moved from (from.byte + 2))
+    pub list-empty : (parts : List Numbered) → 0 < depth → IsLow from → parts ≡ [] → from.byte + 1 < length bytes → drop (from.byte + 1) bytes ≡ 93 ∷ drop (from.byte + 1 + 1) bytes → IsRead depth from bytes (syntax (numbered.List parts)) (moved from (from.byte + 1 + 1))
     list-empty parts some low empty lt closed =
-        let two : from.byte + 1 + 1 ≡ from.byte + 2 = omega arith in
-        let all : IsRead depth from bytes (Listed End) (moved from (from.byte + 2)) = record {
+        let all : IsRead depth from bytes (Listed End) (moved from (from.byte + 1 + 1)) = record {
           forward = omega arith;
           within = omega arith;
-          begins = record { writable = tt; low = omega arith; ends = tt; spelled = opened ∙ ap (λ l. 91 ∷ l) (closed ∙ ap (λ n. 93 ∷ drop n bytes) two) };
+          begins = record { writable = tt; low = omega arith; ends = tt; spelled = opened ∙ ap (λ l. 91 ∷ l) closed };
           shaped = refl;
           placed = tt;
-          passed = position-one (moved from (from.byte + 2)) (behind from (Listed End)) (omega arith) (omega arith) (omega arith) (omega arith);
+          passed = position-one (moved from (from.byte + 1 + 1)) (behind from (Listed End)) (omega arith) (omega arith) (omega arith) (omega arith);
           low = (omega (arith, low.0), low.1, low.2);
         } in
-        subst (λ t. IsRead depth from bytes t (moved from (from.byte + 2))) (sym (ap (λ ps. syntax (numbered.List ps)) empty ∙ syntax_list [])) all
+        subst (λ t. IsRead depth from bytes t (moved from (from.byte + 1 + 1))) (sym (ap (λ ps. syntax (numbered.List ps)) empty ∙ syntax_list [])) all
 
     module _ (open_list : (u : List ℕ) → drop (from.byte + 1) bytes ≡ 93 ∷ u → ⊥) where
       -- A list that is not empty begins with a piece.

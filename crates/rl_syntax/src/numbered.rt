@@ -60,19 +60,17 @@ impl Position {
         }
     }
 
-    /// The position behind the word `word` of a node that opens at `self`, if the word ends before the byte offset `end`.
-    pub(crate) fn inside(self, word: Word, end: usize) -> Position
-        requires word { end ≡ self.byte + 1 + length (word_text word) }
-        requires short { self.byte + 1 < 2 ^ 32 }
-        requires low { IsLow self }
-        ensures { result ≡ inside self word }
+    /// Moves behind the word `word` of a node that opens at `self`, if the word ends before the byte offset `end`.
+    pub(crate) fn enter(&mut self, word: Word, end: usize)
+        requires word { end ≡ self.old.byte + 1 + length (word_text word) }
+        requires short { self.old.byte + 1 < 2 ^ 32 }
+        requires low { IsLow self.old }
+        ensures { self.new ≡ inside self.old word }
     {
-        Position {
-            byte: end,
-            node: self.node + 1,
-            scope: self.scope + u32::from(word.makes_scope()),
-            reference: self.reference + u32::from(is_reference(word)),
-        }
+        self.byte = end;
+        self.node += 1;
+        self.scope += u32::from(word.makes_scope());
+        self.reference += u32::from(is_reference(word));
     }
 }
 

@@ -1,6 +1,6 @@
 //! The reader of numbered trees, in one pass over the bytes. It is exact: bytes are read as the one tree that they spell.
 
-ghost use Rattle.std.specs.Prelude.{◌≡◌, ℕ, ◌+◌, ◌^◌, ◌<◌, ◌≤◌, ◌==◌, ◌∷◌, List as Items, length, drop, slice_index, true, IsTrue, IfOk, IfSome, IfNone};
+ghost use Rattle.std.specs.Prelude.{◌≡◌, ℕ, ◌+◌, ◌^◌, ◌<◌, ◌≤◌, ◌==◌, ◌∷◌, List as Items, length, drop, slice_index, true, false, IsTrue, IfOk, IfSome, IfNone};
 ghost use Rattle.std.specs.Char.{is_ascii_digit};
 ghost use Rattle.rl_text.specs.Notation.{height};
 ghost use Rattle.rl_text.specs.Notation as notation;
@@ -19,9 +19,6 @@ use std::alloc::Global;
 /// The largest number of parts that a node of the language has.
 const MOST_PARTS: usize = 8;
 
-/// A tree, and the position behind it.
-type Found = Option<(Numbered, Position)>;
-
 /// Reads the shaped tree that the whole of `bytes` spells, if at most `depth` nodes and lists are open at once in it. Nodes,
 /// scopes and references have the ids from 0 on. `None` if the bytes spell no such tree. On `OutOfMemory`, an allocation
 /// failed. The recursion is at most `depth` deep.
@@ -35,30 +32,35 @@ pub fn read_numbered(
     ensures unique { IfOk result (λ r. IfSome r (λ n. (s : Syntax) → notation.Spells bytes.now (plain s) → IsPlaced outset s → s ≡ syntax n)) }
     ensures none { IfOk result (λ r. IfNone r ((s : Syntax) → is_shaped s ≡ true → height (plain s) ≤ depth → notation.Spells bytes.now (plain s) → ⊥)) }
 {
-    let start = Position {
+    let mut at = Position {
         byte: 0,
         node: 0,
         scope: 0,
         reference: 0,
     };
-    let Some((tree, next)) = read_at(alloc, depth, bytes, start)? else {
+    let Some(tree) = read_at(alloc, depth, bytes, &mut at)? else {
         return Ok(None);
     };
-    if next.byte < bytes.len() {
+    if at.byte < bytes.len() {
         return Ok(None);
     }
     Ok(Some(tree))
 }
 
-/// Reads a shaped tree at the position `at`, with at most `depth` nodes and lists open at once. `None` if no such tree
-/// begins there.
+/// Reads a shaped tree at the position `at`, with at most `depth` nodes and lists open at once, and moves `at` behind it. `None`
+/// if no such tree begins there. On `None` and `OutOfMemory`, `at` may be anywhere.
 #[cycle(reading)]
-fn read_at(alloc: Global, depth: usize, bytes: &[u8], at: Position) -> Result<Found, OutOfMemory>
-    requires within { at.byte ≤ length bytes.now }
+fn read_at(
+    alloc: Global,
+    depth: usize,
+    bytes: &[u8],
+    at: &mut Position,
+) -> Result<Option<Numbered>, OutOfMemory>
+    requires within { at.old.byte ≤ length bytes.now }
     requires short { length bytes.now < 2 ^ 32 }
-    requires low { IsLow at }
-    ensures found { IfOk result (λ r. IfSome r (λ f. IsRead depth at bytes.now (syntax f.0) f.1)) }
-    ensures none { IfOk result (λ r. IfNone r (NoneIsRead depth (drop at.byte bytes.now))) }
+    requires low { IsLow at.old }
+    ensures found { IfOk result (λ r. IfSome r (λ n. IsRead depth at.old bytes.now (syntax n) at.new)) }
+    ensures none { IfOk result (λ r. IfNone r (NoneIsRead depth (drop at.old.byte bytes.now))) }
 {
     if at.byte >= bytes.len() {
         return Ok(None);
@@ -67,35 +69,46 @@ fn read_at(alloc: Global, depth: usize, bytes: &[u8], at: Position) -> Result<Fo
     if byte.is_ascii_digit() {
         return Ok(read_number(bytes, at));
     }
-    let next = Position {
-        byte: at.byte + 1,
-        ..at
-    };
     match byte {
         b'(' => read_node(alloc, depth, bytes, at),
         b'[' => read_list(alloc, depth, bytes, at),
         b'"' => read_text(alloc, bytes, at),
-        b'y' => Ok(Some((Numbered::Flag(true), next))),
-        b'n' => Ok(Some((Numbered::Flag(false), next))),
-        b'-' => Ok(Some((Numbered::Absent, next))),
+        b'y' => {
+            at.byte += 1;
+            Ok(Some(Numbered::Flag(true)))
+        }
+        b'n' => {
+            at.byte += 1;
+            Ok(Some(Numbered::Flag(false)))
+        }
+        b'-' => {
+            at.byte += 1;
+            Ok(Some(Numbered::Absent))
+        }
         _ => Ok(None),
     }
 }
 
-/// Reads a node whose `(` stands at the position `at`.
+/// Reads a node whose `(` stands at the position `at`, as `read_at`.
 #[cycle(reading)]
-fn read_node(alloc: Global, depth: usize, bytes: &[u8], at: Position) -> Result<Found, OutOfMemory>
-    requires within { at.byte < length bytes.now }
+fn read_node(
+    alloc: Global,
+    depth: usize,
+    bytes: &[u8],
+    at: &mut Position,
+) -> Result<Option<Numbered>, OutOfMemory>
+    requires within { at.old.byte < length bytes.now }
     requires short { length bytes.now < 2 ^ 32 }
-    requires low { IsLow at }
-    requires opened { drop at.byte bytes.now ≡ 40 ∷ drop (at.byte + 1) bytes.now }
-    ensures found { IfOk result (λ r. IfSome r (λ f. IsRead depth at bytes.now (syntax f.0) f.1)) }
-    ensures none { IfOk result (λ r. IfNone r (NoneIsRead depth (drop at.byte bytes.now))) }
+    requires low { IsLow at.old }
+    requires opened { drop at.old.byte bytes.now ≡ 40 ∷ drop (at.old.byte + 1) bytes.now }
+    ensures found { IfOk result (λ r. IfSome r (λ n. IsRead depth at.old bytes.now (syntax n) at.new)) }
+    ensures none { IfOk result (λ r. IfNone r (NoneIsRead depth (drop at.old.byte bytes.now))) }
 {
     if depth == 0 {
         return Ok(None);
     }
-    let start = at.byte + 1;
+    let from = *at;
+    let start = from.byte + 1;
     let end = word_end(bytes, start);
     if end == start {
         return Ok(None);
@@ -103,92 +116,94 @@ fn read_node(alloc: Global, depth: usize, bytes: &[u8], at: Position) -> Result<
     let Some(word) = Word::from_text(&bytes[start..end]) else {
         return Ok(None);
     };
-    let inside = at.inside(word, end);
+    at.enter(word, end);
     let mut parts = List::with_capacity(alloc, word.usual_parts())?;
-    let Some(next) = read_parts(alloc, depth - 1, bytes, inside, b')', &mut parts)? else {
-        return Ok(None);
-    };
-    Ok(Some((Numbered::Node(at.up_to(next), word, parts), next)))
+    let found = read_parts(alloc, depth - 1, bytes, at, b')', &mut parts)?;
+    if found {
+        Ok(Some(Numbered::Node(from.up_to(*at), word, parts)))
+    } else {
+        Ok(None)
+    }
 }
 
-/// Reads a list whose `[` stands at the position `at`. Its parts are nodes and texts.
+/// Reads a list whose `[` stands at the position `at`, as `read_at`. Its parts are nodes and texts.
 #[cycle(reading)]
-fn read_list(alloc: Global, depth: usize, bytes: &[u8], at: Position) -> Result<Found, OutOfMemory>
-    requires within { at.byte < length bytes.now }
+fn read_list(
+    alloc: Global,
+    depth: usize,
+    bytes: &[u8],
+    at: &mut Position,
+) -> Result<Option<Numbered>, OutOfMemory>
+    requires within { at.old.byte < length bytes.now }
     requires short { length bytes.now < 2 ^ 32 }
-    requires low { IsLow at }
-    requires opened { drop at.byte bytes.now ≡ 91 ∷ drop (at.byte + 1) bytes.now }
-    ensures found { IfOk result (λ r. IfSome r (λ f. IsRead depth at bytes.now (syntax f.0) f.1)) }
-    ensures none { IfOk result (λ r. IfNone r (NoneIsRead depth (drop at.byte bytes.now))) }
+    requires low { IsLow at.old }
+    requires opened { drop at.old.byte bytes.now ≡ 91 ∷ drop (at.old.byte + 1) bytes.now }
+    ensures found { IfOk result (λ r. IfSome r (λ n. IsRead depth at.old bytes.now (syntax n) at.new)) }
+    ensures none { IfOk result (λ r. IfNone r (NoneIsRead depth (drop at.old.byte bytes.now))) }
 {
     if depth == 0 {
         return Ok(None);
     }
-    let inside = Position {
-        byte: at.byte + 1,
-        ..at
-    };
+    at.byte += 1;
     let mut parts = List::new(alloc);
-    if has_byte(bytes, inside.byte, b']') {
-        let next = Position {
-            byte: at.byte + 2,
-            ..at
-        };
-        return Ok(Some((Numbered::List(parts), next)));
+    if has_byte(bytes, at.byte, b']') {
+        at.byte += 1;
+        return Ok(Some(Numbered::List(parts)));
     }
-    if !is_part(bytes, inside.byte, b']') {
+    if !is_part(bytes, at.byte, b']') {
         return Ok(None);
     }
-    let Some((first, behind)) = read_at(alloc, depth - 1, bytes, inside)? else {
+    let Some(first) = read_at(alloc, depth - 1, bytes, at)? else {
         return Ok(None);
     };
     parts.push(first)?;
-    let Some(next) = read_parts(alloc, depth - 1, bytes, behind, b']', &mut parts)? else {
-        return Ok(None);
-    };
-    Ok(Some((Numbered::List(parts), next)))
+    let found = read_parts(alloc, depth - 1, bytes, at, b']', &mut parts)?;
+    if found {
+        Ok(Some(Numbered::List(parts)))
+    } else {
+        Ok(None)
+    }
 }
 
-/// Reads parts from the position `at` on, each behind a space, up to the bracket `close`. Appends them to `parts`, and
-/// returns the position behind the bracket. Parts before `]` are nodes and texts; before `)` there are at most `MOST_PARTS`.
+/// Reads parts from the position `at` on, each behind a space, up to the bracket `close`. Appends them to `parts`, and moves
+/// `at` behind the bracket. Parts before `]` are nodes and texts; before `)` there are at most `MOST_PARTS`. False if no such
+/// parts stand there. On false and `OutOfMemory`, `at` may be anywhere, and `parts` may hold some of them.
 #[cycle(reading)]
 fn read_parts(
     alloc: Global,
     depth: usize,
     bytes: &[u8],
-    at: Position,
+    at: &mut Position,
     close: u8,
     parts: &mut List<Numbered>,
-) -> Result<Option<Position>, OutOfMemory>
-    requires within { at.byte ≤ length bytes.now }
+) -> Result<bool, OutOfMemory>
+    requires within { at.old.byte ≤ length bytes.now }
     requires short { length bytes.now < 2 ^ 32 }
-    requires low { IsLow at }
+    requires low { IsLow at.old }
     requires bracket { IsBracket close }
-    ensures found { IfOk result (λ r. IfSome r (λ next. AddsRead close depth at bytes.now parts.old parts.new next)) }
-    ensures none { IfOk result (λ r. IfNone r (NoneAdds close depth (drop at.byte bytes.now))) }
+    ensures found { IfOk result (λ r. r ≡ true → AddsRead close depth at.old bytes.now parts.old parts.new at.new) }
+    ensures none { IfOk result (λ r. r ≡ false → NoneAdds close depth (drop at.old.byte bytes.now)) }
 {
-    let mut next = at;
     let mut count = 0;
-    'parts: while has_byte(bytes, next.byte, b' ') {
+    'parts: while has_byte(bytes, at.byte, b' ') {
         count += 1;
         if !may_hold(close, count) {
-            return Ok(None);
+            return Ok(false);
         }
-        next.byte += 1;
-        if !is_part(bytes, next.byte, close) {
-            return Ok(None);
+        at.byte += 1;
+        if !is_part(bytes, at.byte, close) {
+            return Ok(false);
         }
-        let Some((part, behind)) = read_at(alloc, depth, bytes, next)? else {
-            return Ok(None);
+        let Some(part) = read_at(alloc, depth, bytes, at)? else {
+            return Ok(false);
         };
         parts.push(part)?;
-        next = behind;
     }
-    if has_byte(bytes, next.byte, close) {
-        next.byte += 1;
-        Ok(Some(next))
+    if has_byte(bytes, at.byte, close) {
+        at.byte += 1;
+        Ok(true)
     } else {
-        Ok(None)
+        Ok(false)
     }
 }
 
@@ -215,32 +230,36 @@ fn is_part(bytes: &[u8], at: usize, close: u8) -> bool
     has_byte(bytes, at, b'"')
 }
 
-/// Reads a text whose opening quote stands at the position `at`.
-fn read_text(alloc: Global, bytes: &[u8], at: Position) -> Result<Found, OutOfMemory>
-    requires within { at.byte < length bytes.now }
-    requires low { IsLow at }
-    requires opened { drop at.byte bytes.now ≡ 34 ∷ drop (at.byte + 1) bytes.now }
-    ensures found { (depth : ℕ) → IfOk result (λ r. IfSome r (λ f. IsRead depth at bytes.now (syntax f.0) f.1)) }
-    ensures none { (depth : ℕ) → IfOk result (λ r. IfNone r (NoneIsRead depth (drop at.byte bytes.now))) }
+/// Reads a text whose opening quote stands at the position `at`, as `read_at`.
+fn read_text(
+    alloc: Global,
+    bytes: &[u8],
+    at: &mut Position,
+) -> Result<Option<Numbered>, OutOfMemory>
+    requires within { at.old.byte < length bytes.now }
+    requires low { IsLow at.old }
+    requires opened { drop at.old.byte bytes.now ≡ 34 ∷ drop (at.old.byte + 1) bytes.now }
+    ensures found { (depth : ℕ) → IfOk result (λ r. IfSome r (λ n. IsRead depth at.old bytes.now (syntax n) at.new)) }
+    ensures none { (depth : ℕ) → IfOk result (λ r. IfNone r (NoneIsRead depth (drop at.old.byte bytes.now))) }
 {
-    let Some((text, byte)) = read_text_at(alloc, bytes, at.byte)? else {
+    let Some((text, end)) = read_text_at(alloc, bytes, at.byte)? else {
         return Ok(None);
     };
-    let next = Position { byte, ..at };
-    Ok(Some((Numbered::Text(text), next)))
+    at.byte = end;
+    Ok(Some(Numbered::Text(text)))
 }
 
-/// Reads a number whose first digit stands at the position `at`.
-fn read_number(bytes: &[u8], at: Position) -> Found
-    requires within { at.byte < length bytes.now }
-    requires low { IsLow at }
-    requires digit { is_ascii_digit (slice_index bytes.now at.byte) ≡ true }
-    ensures found { (depth : ℕ) → IfSome result (λ f. IsRead depth at bytes.now (syntax f.0) f.1) }
-    ensures none { (depth : ℕ) → IfNone result (NoneIsRead depth (drop at.byte bytes.now)) }
+/// Reads a number whose first digit stands at the position `at`, as `read_at`.
+fn read_number(bytes: &[u8], at: &mut Position) -> Option<Numbered>
+    requires within { at.old.byte < length bytes.now }
+    requires low { IsLow at.old }
+    requires digit { is_ascii_digit (slice_index bytes.now at.old.byte) ≡ true }
+    ensures found { (depth : ℕ) → IfSome result (λ n. IsRead depth at.old bytes.now (syntax n) at.new) }
+    ensures none { (depth : ℕ) → IfNone result (NoneIsRead depth (drop at.old.byte bytes.now)) }
 {
-    let Some((number, byte)) = read_number_at(bytes, at.byte) else {
+    let Some((number, end)) = read_number_at(bytes, at.byte) else {
         return None;
     };
-    let next = Position { byte, ..at };
-    Some((Numbered::Number(number), next))
+    at.byte = end;
+    Some(Numbered::Number(number))
 }

@@ -15,7 +15,7 @@ abbrev pub decreases-read_parts : goal.decreases-read_parts
 decreases-read_parts l = 3 * l.depth + 2
 
 abbrev pub invariant-read_parts-parts : goal.invariant-read_parts-parts
-invariant-read_parts-parts l = HasRead l.close l.depth l.fn.at l.next l.count l.bytes l.initial.parts l.parts
+invariant-read_parts-parts l = HasRead l.close l.depth l.initial.at l.at l.count l.bytes l.initial.parts l.parts
 
 abbrev pub decreases-read_parts-parts : goal.decreases-read_parts-parts
-decreases-read_parts-parts l = length l.bytes - l.next.byte
+decreases-read_parts-parts l = length l.bytes - l.at.byte
