@@ -1,5 +1,6 @@
 """The table of the grammar, read from grammar.txt."""
 import dataclasses
+import itertools
 import pathlib
 import re
 
@@ -27,12 +28,19 @@ class Line:
 
 @dataclasses.dataclass
 class Grammar:
-    """The lines of each sort, the sorts of each module, what each sort is, and the words that make a scope."""
+    """The lines of each sort; the sorts and the title of each module; what each sort and each field is, fields by their name or
+    by WORD.NAME; and the words that make a scope."""
 
     sorts: dict[str, list[Line]]
     modules: dict[str, list[str]]
+    titles: dict[str, str]
     meanings: dict[str, str]
+    fields: dict[str, str]
     scopes: list[str]
+
+    def field_meaning(self, line, field):
+        """What a field is; without a full stop, it is to be followed by what the field's sort is."""
+        return self.fields.get(f"{line.word}.{field.name}") or self.fields.get(field.name)
 
     def words(self):
         """All words, in the order of the table."""
@@ -62,16 +70,17 @@ def line_of(text):
 
 
 def read_grammar():
-    """The table; it ends the script where a sort has one word twice, or a word is spelled otherwise than in letters."""
-    grammar = Grammar({}, {}, {}, [])
+    """The table; it ends the script where a sort has one word twice, a word is spelled otherwise than in letters, or something
+    has no meaning."""
+    grammar = Grammar({}, {}, {}, {}, {}, [])
     module = None
     for text in (pathlib.Path(__file__).resolve().parent / "grammar.txt").read_text().splitlines():
         if text.startswith("== "):
-            module = text[3:].strip()
-            grammar.modules[module] = []
-        elif text.startswith("@"):
-            sort, _, meaning = text[1:].partition(" ")
-            grammar.meanings[sort] = meaning.strip()
+            module, _, title = text[3:].partition(" ")
+            grammar.titles[module], grammar.modules[module] = title, []
+        elif text[:1] in ("@", "."):
+            name, _, meaning = text[1:].partition(" ")
+            (grammar.meanings if text[0] == "@" else grammar.fields)[name] = meaning.strip()
         elif text.startswith("!scopes "):
             grammar.scopes = text.split()[1:]
         elif text.strip() and not text.startswith("#"):
@@ -93,4 +102,8 @@ def check(grammar):
     for sort in grammar.sorts:
         words = list(words_of(grammar, sort))
         assert len(words) == len(set(words)), f"a word stands twice in {sort}"
+        assert sort in grammar.meanings, f"the sort {sort} has no meaning"
     assert all(re.fullmatch("[a-z]+", word) for word in grammar.words())
+    for line in itertools.chain(*grammar.sorts.values()):
+        assert line.meaning, f"{line.variant} of {line.sort} has no meaning"
+        assert all(grammar.field_meaning(line, field) for field in line.fields), f"a field of {line.word} has no meaning"

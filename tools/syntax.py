@@ -55,10 +55,21 @@ def called(names, text):
     return sorted(name for name in names if re.search(rf"(?<![\w.]){name}\(", text))
 
 
-def row(line, shown=lambda kind: kind.upper()):
-    """The form of a node in the notation."""
+def shown(kind):
+    """A kind of part in a spelling: a sort's name, or one capital word for a leaf."""
+    return kind if kind in SORTS else "NUMBER" if kind == "ScalarValue" else re.findall("[A-Z][a-z]+", kind)[-1].upper()
+
+
+def row(line):
+    """The spelling of a node."""
     forms = {"One": "{}", "Maybe": "{}?", "Many": "[{}]"}
     return "(" + " ".join([line.word, *(forms[f.form].format(shown(f.kind)) for f in line.fields)]) + ")"
+
+
+def comment(text, spelled="", indent=""):
+    """A doc comment; the spelling of a node has a line of its own where the first line is full."""
+    joined = f"{indent}/// {text} `{spelled}`" if spelled else f"{indent}/// {text}"
+    return joined if len(joined) <= 130 else f"{indent}/// {text}\n{indent}/// `{spelled}`"
 
 
 # Words.
@@ -121,12 +132,13 @@ def words_spec():
 
 def kind_file():
     leaves = "\n".join(f"    /// {doc[3]}.\n    {kind}," for kind, doc in LEAVES.items())
-    sorts = "\n".join(f"    /// {meaning(sort)}\n    {sort}," for sort in SORTS)
+    sorts = "\n".join(f"    /// {GRAMMAR.meanings[sort]}\n    {sort}," for sort in SORTS)
     return filled("kind.rt", {"NOTE": NOTE, "KINDS": leaves + "\n" + sorts})
 
 
 def meaning(sort):
-    return GRAMMAR.meanings.get(sort) or f"A tree of the sort `{sort}`."
+    """What a sort is; of a sort of one kind of node, what that kind is too."""
+    return " ".join([GRAMMAR.meanings[sort], *([SORTS[sort][0].meaning] if GRAMMAR.is_struct(sort) else [])])
 
 
 def inner_sorts(sort):
@@ -161,7 +173,7 @@ def rules_files():
 
 
 def rule_spec(sort):
-    lines = [f"abbrev pub {snake(sort)}_rule : Word → Option (List Field)"]
+    lines = [f"-- The fields of the kind `{sort}`, by the word of a node.\nabbrev pub {snake(sort)}_rule : Word → Option (List Field)"]
     for line in own_lines(sort):
         fields = "".join(f"field.{f.form} kind.{f.kind} ∷ " for f in line.fields) + "[]"
         lines.append(f"{snake(sort)}_rule word.{camel(line.word)} = Some " + (f"({fields})" if line.fields else fields))
@@ -179,7 +191,7 @@ def behind_inner():
 
 
 def rules_spec():
-    return filled("Rules.antt", {"NOTE": NOTE, "RULES": "\n".join(f"-- {meaning(sort)}\n{rule_spec(sort)}" for sort in behind_inner()),
+    return filled("Rules.antt", {"NOTE": NOTE, "RULES": "\n".join(rule_spec(sort) for sort in behind_inner()),
                                  "ARMS": "\n".join(f"rule kind.{sort} w = {snake(sort)}_rule w" for sort in SORTS)})
 
 
@@ -191,8 +203,8 @@ def rules_proof():
 
 def sort_file():
     text = lambda sort, doc: (f"/// The sort of `Kind::{sort}`.\n#[derive(Clone, Copy)]\npub struct {sort}Sort;\n\nimpl Sort for {sort}Sort {{\n    ghost kind = {{ kind.{sort} }};\n}}\n\n"
-                              f"/// {doc}\npub type {sort}Tree<'b> = Tree<'b, {sort}Sort>;\n\n/// A list of trees of that sort.\npub type {sort}Trees<'b> = Trees<'b, {sort}Sort>;\n")
-    return filled("sort.rt", {"NOTE": NOTE, "SORTS": "\n".join([text("Text", "A text."), *(text(sort, meaning(sort)) for sort in SORTS)])})
+                              f"/// {doc}\npub type {sort}Tree<'b> = Tree<'b, {sort}Sort>;\n\n/// Trees of the sort `{sort}`, as the items of a list.\npub type {sort}Trees<'b> = Trees<'b, {sort}Sort>;\n")
+    return filled("sort.rt", {"NOTE": NOTE, "SORTS": "\n".join([text("Text", "A text."), *(text(sort, GRAMMAR.meanings[sort]) for sort in SORTS)])})
 
 
 # Views.
@@ -237,9 +249,23 @@ def has_lifetime(sort):
     return any(line.inner or any(refers(field) for field in line.fields) for line in SORTS[sort])
 
 
-def field_doc(field):
-    doc = LEAVES[field.kind][3] + "." if field.kind in LEAVES else meaning(field.kind)
-    return {"One": doc, "Maybe": doc[:-1] + ", or none.", "Many": "A list: " + doc[0].lower() + doc[1:]}[field.form]
+def noun(sort):
+    """What a tree of a sort is, in a few words: the beginning of the sort's meaning."""
+    text = re.split("[(,:;.]", GRAMMAR.meanings[sort])[0].strip()
+    return text[0].lower() + text[1:]
+
+
+def field_doc(line, field):
+    text = GRAMMAR.field_meaning(line, field)
+    whole = text if text.endswith(".") else f"{text}, {noun(field.kind)}."
+    return whole[:-1] + ", or none." if field.form == "Maybe" else whole
+
+
+def fields_of(line, public, indent):
+    """The fields of a view, with their doc comments."""
+    at = ("Ids and span of the node.", "at", "At")
+    docs = [at, *((field_doc(line, f), f.name, view_type(f)) for f in line.fields)]
+    return "\n".join(f"{comment(doc, '', indent)}\n{indent}{public}{name}: {kind}," for doc, name, kind in docs)
 
 
 def build_arm(line, made):
@@ -252,29 +278,23 @@ def build_arm(line, made):
     return f"        Word::{camel(line.word)} => {{ let {taken} = {COUNTS[len(names)]}(parts); {made} {{ at{values} }} }}"
 
 
-def line_doc(line):
-    return (line.meaning + " " if line.meaning else "") + f"`{row(line)}`"
-
-
 def struct_view(sort, life):
     line = SORTS[sort][0]
-    fields = [f"    /// {field_doc(f)}\n    pub {f.name}: {view_type(f)}," for f in line.fields]
-    rust = [f"/// {meaning(sort)} `{row(line)}`\n#[derive(Clone, Copy)]\npub struct {sort}{life} {{\n    /// Ids and span of the node.\n    pub at: At,", *fields, "}\n"]
+    rust = [f"{comment(meaning(sort), row(line))}\n#[derive(Clone, Copy)]\npub struct {sort}{life} {{\n{fields_of(line, 'pub ', '    ')}\n}}\n"]
     seen = [f"seen_{snake(sort)} v = {node_text(line, 'v.at', 'v.')}"]
     return rust, [build_arm(line, sort), "        _ => unreachable!(),"], seen
 
 
 def enum_view(sort, life):
-    rust, arms, seen, name = [f"/// {meaning(sort)}\n#[derive(Clone, Copy)]\npub enum {sort}{life} {{"], [], [], snake(sort)
+    rust, arms, seen, name = [f"{comment(meaning(sort))}\n#[derive(Clone, Copy)]\npub enum {sort}{life} {{"], [], [], snake(sort)
     for line in SORTS[sort]:
         if line.inner:
-            rust.append(f"    /// {line.meaning or meaning(line.inner)}\n    {line.variant}({line.inner}Tree<'b>),")
+            rust.append(f"{comment(line.meaning, '', '    ')}\n    {line.variant}({line.inner}Tree<'b>),")
             seen.append(f"seen_{name} ({name}.{line.variant} inner) = syntax inner.tree.now")
             if GRAMMAR.is_struct(line.inner):
                 arms.append(f"        Word::{camel(SORTS[line.inner][0].word)} => {sort}::{line.variant}(Tree::new(tree.tree)),")
             continue
-        fields = "".join(f" {f.name}: {view_type(f)}," for f in line.fields)
-        rust.append(f"    /// {line_doc(line)}\n    {line.variant} {{ at: At,{fields} }},")
+        rust.append(f"{comment(line.meaning, row(line), '    ')}\n    {line.variant} {{\n{fields_of(line, '', '        ')}\n    }},")
         arms.append(build_arm(line, f"{sort}::{line.variant}"))
         seen.append(f"seen_{name} ({name}.{' '.join([line.variant, 'at', *(f.name for f in line.fields)])}) = {node_text(line)}")
     inner = [(line.inner, f"{sort}::{line.variant}(Tree::new(tree.tree))") for line in inner_sorts(sort)]
@@ -303,7 +323,7 @@ def view_file(module):
     body = "\n".join(view(sort)[0] for sort in sorts)
     own = {f"{kind}{end}" for kind in [*SORTS, "Text"] for end in ("Tree", "Trees")}
     readers = ["items_of", "scalar_value_of", "closed_of", "optional_text", *COUNTS]
-    lines = [f"//! {NOTE}", "", "ghost use Rattle.std.specs.Prelude.{◌≡◌};", "ghost use Rattle.rl_syntax.specs.Syntax.{syntax};",
+    lines = [f"//! {GRAMMAR.titles[module]}: views of one level. Types in backquotes are those of oxc_ast. {NOTE}", "", "ghost use Rattle.std.specs.Prelude.{◌≡◌};", "ghost use Rattle.rl_syntax.specs.Syntax.{syntax};",
              f"ghost use Rattle.rl_ast.specs.{camel_module(module)}Views.{{{', '.join(sorted('seen_' + snake(sort) for sort in sorts))}}};", ""]
     imports = [("rl_base::operator", used([k for k in CLOSED if k.endswith("Operator")], body)), ("rl_base::text", used(["Text"], body)),
                ("rl_base::type_kind", used(["TypeKind"], body)), ("rl_base::variable_kind", used(["VariableKind"], body)),
@@ -337,20 +357,27 @@ def view_spec(module):
 # The table in docs/NOTATION.md.
 
 
-def notation_table():
-    shown = lambda kind: {"Text": "TEXT", "Flag": "FLAG", "ScalarValue": "NUMBER"}.get(kind, kind if kind in SORTS else snake(kind).replace("_", " ").upper())
-    lines = ["| Sort | Spelling | Fields | Meaning |", "|---|---|---|---|"]
-    for sort, rows in SORTS.items():
-        for i, line in enumerate(rows):
-            spelled = f"`{row(line, shown)}`" if line.word else line.inner
-            fields = ", ".join(field.name for field in line.fields)
-            lines.append(f"| {sort if i == 0 else ''} | {spelled} | {fields} | {line.meaning or (meaning(sort) if line.word and i == 0 else '')} |")
-    return "\n".join(lines) + "\n"
+def notation_rows(sort):
+    """The rows of a sort: one of a sort of one kind of node, or else one for the sort and one for each of its lines."""
+    rows = [] if GRAMMAR.is_struct(sort) else [(f"**{sort}**", "", "", meaning(sort))]
+    for line in SORTS[sort]:
+        name, text = (f"**{sort}**", meaning(sort)) if GRAMMAR.is_struct(sort) else ("", line.meaning)
+        rows.append((name, f"`{row(line)}`" if line.word else line.inner, ", ".join(field.name for field in line.fields), text))
+    return ["| " + " | ".join(cell.replace("|", "\\|") for cell in cells) + " |" for cells in rows]
+
+
+def notation_tables():
+    """A table for each module, under its title."""
+    tables = []
+    for module, sorts in GRAMMAR.modules.items():
+        rows = [line for sort in sorts for line in notation_rows(sort)]
+        tables.append("\n".join([f"### {GRAMMAR.titles[module]}", "| Sort | Spelling | Fields | Meaning |", "|---|---|---|---|", *rows]))
+    return "\n\n".join(tables) + "\n"
 
 
 def notation_file():
     text = (ROOT / "docs/NOTATION.md").read_text()
-    return re.sub(r"(?s)(<!-- grammar -->\n).*?(<!-- end -->)", lambda m: m[1] + notation_table() + m[2], text)
+    return re.sub(r"(?s)(<!-- grammar -->\n).*?(<!-- end -->)", lambda m: m[1] + notation_tables() + m[2], text)
 
 
 def files():

@@ -1,4 +1,4 @@
-//! Written by tools/syntax.py from tools/grammar.txt.
+//! Names, types and patterns: views of one level. Types in backquotes are those of oxc_ast. Written by tools/syntax.py from tools/grammar.txt.
 
 ghost use Rattle.std.specs.Prelude.{◌≡◌};
 ghost use Rattle.rl_syntax.specs.Syntax.{syntax};
@@ -7,20 +7,26 @@ ghost use Rattle.rl_ast.specs.BindingViews.{seen_binding_identifier, seen_bindin
 use rl_base::text::Text;
 use rl_base::type_kind::TypeKind;
 use rl_grammar::parts::{closed_of, items_of, one, three, two};
-use rl_grammar::sort::{BindingIdentifierTree, BindingPatternElementTree, BindingPatternElementTrees, BindingPatternMaybeDefaultTree, BindingPatternTree, BindingPropertyTree, BindingPropertyTrees, BindingRestElementTree, ExpressionTree, IdentifierReferenceTree, IdentifierReferenceTrees, PropertyKeyTree, TypeAnnotationTree};
+use rl_grammar::sort::{
+    BindingIdentifierTree, BindingPatternElementTree, BindingPatternElementTrees,
+    BindingPatternMaybeDefaultTree, BindingPatternTree, BindingPropertyTree, BindingPropertyTrees,
+    BindingRestElementTree, ExpressionTree, IdentifierReferenceTree, IdentifierReferenceTrees,
+    PropertyKeyTree, TypeAnnotationTree,
+};
 use rl_grammar::tree::{Tree, Trees};
 use rl_syntax::numbered::At;
 use rl_syntax::parts::{flag_of, node_of, text_of};
 use rl_syntax::word::Word;
 
-/// A tree of the sort `BindingIdentifier`. `(bind TEXT TYPEANNOTATION?)`
+/// A name that is declared (ECMA-262, 13.1). In a parameter or variable with its type, if one is written.
+/// `(bind TEXT TypeAnnotation?)`
 #[derive(Clone, Copy)]
 pub struct BindingIdentifier<'b> {
     /// Ids and span of the node.
     pub at: At,
-    /// A text.
+    /// The name.
     pub name: &'b Text,
-    /// A tree of the sort `TypeAnnotation`, or none.
+    /// The type, or none.
     pub annotation: Option<TypeAnnotationTree<'b>>,
 }
 
@@ -31,19 +37,27 @@ pub fn binding_identifier_view(tree: BindingIdentifierTree<'_>) -> BindingIdenti
 {
     let (at, word, parts) = node_of(tree.tree);
     match word {
-        Word::Bind => { let (name, annotation) = two(parts); BindingIdentifier { at, name: text_of(name), annotation: Tree::optional(annotation) } }
+        Word::Bind => {
+            let (name, annotation) = two(parts);
+            BindingIdentifier {
+                at,
+                name: text_of(name),
+                annotation: Tree::optional(annotation),
+            }
+        }
         _ => unreachable!(),
     }
 }
 
-/// A tree of the sort `TypeAnnotation`. `(type TYPEKIND [IDENTIFIERREFERENCE])`
+/// A type: `TSType`. Its kind `array`, `primitive` or `other`, and the identifiers that it mentions.
+/// `(type KIND [IdentifierReference])`
 #[derive(Clone, Copy)]
 pub struct TypeAnnotation<'b> {
     /// Ids and span of the node.
     pub at: At,
-    /// The kind of a type.
+    /// The kind of type: `array`, `primitive` or `other`.
     pub kind: TypeKind,
-    /// A list: a tree of the sort `IdentifierReference`.
+    /// The identifiers that the type mentions, in order.
     pub names: IdentifierReferenceTrees<'b>,
 }
 
@@ -54,17 +68,24 @@ pub fn type_annotation_view(tree: TypeAnnotationTree<'_>) -> TypeAnnotation<'_>
 {
     let (at, word, parts) = node_of(tree.tree);
     match word {
-        Word::Type => { let (kind, names) = two(parts); TypeAnnotation { at, kind: closed_of(kind), names: Trees::new(items_of(names)) } }
+        Word::Type => {
+            let (kind, names) = two(parts);
+            TypeAnnotation {
+                at,
+                kind: closed_of(kind),
+                names: Trees::new(items_of(names)),
+            }
+        }
         _ => unreachable!(),
     }
 }
 
-/// A tree of the sort `IdentifierReference`. `(id TEXT)`
+/// A name that is used (ECMA-262, 13.1). The node has a reference id. `(id TEXT)`
 #[derive(Clone, Copy)]
 pub struct IdentifierReference<'b> {
     /// Ids and span of the node.
     pub at: At,
-    /// A text.
+    /// The name.
     pub name: &'b Text,
 }
 
@@ -75,20 +96,40 @@ pub fn identifier_reference_view(tree: IdentifierReferenceTree<'_>) -> Identifie
 {
     let (at, word, parts) = node_of(tree.tree);
     match word {
-        Word::Id => { let name = one(parts); IdentifierReference { at, name: text_of(name) } }
+        Word::Id => {
+            let name = one(parts);
+            IdentifierReference {
+                at,
+                name: text_of(name),
+            }
+        }
         _ => unreachable!(),
     }
 }
 
-/// A tree of the sort `BindingPattern`.
+/// A binding pattern, the part of a declaration that binds names (ECMA-262, 14.3.3).
 #[derive(Clone, Copy)]
 pub enum BindingPattern<'b> {
-    /// A tree of the sort `BindingIdentifier`.
+    /// A name.
     Identifier(BindingIdentifierTree<'b>),
-    /// `(arraypat [BINDINGPATTERNELEMENT] BINDINGRESTELEMENT?)`
-    Array { at: At, items: BindingPatternElementTrees<'b>, rest: Option<BindingRestElementTree<'b>>, },
-    /// `(objectpat [BINDINGPROPERTY] BINDINGRESTELEMENT?)`
-    Object { at: At, properties: BindingPropertyTrees<'b>, rest: Option<BindingRestElementTree<'b>>, },
+    /// An array pattern: `ArrayPattern` (ECMA-262, 14.3.3). `(arraypat [BindingPatternElement] BindingRestElement?)`
+    Array {
+        /// Ids and span of the node.
+        at: At,
+        /// The elements before the rest, in order.
+        items: BindingPatternElementTrees<'b>,
+        /// The rest element, or none.
+        rest: Option<BindingRestElementTree<'b>>,
+    },
+    /// An object pattern: `ObjectPattern` (ECMA-262, 14.3.3). `(objectpat [BindingProperty] BindingRestElement?)`
+    Object {
+        /// Ids and span of the node.
+        at: At,
+        /// The properties, in order.
+        properties: BindingPropertyTrees<'b>,
+        /// The rest element, or none.
+        rest: Option<BindingRestElementTree<'b>>,
+    },
 }
 
 /// One level of a tree of the sort `BindingPattern`.
@@ -99,45 +140,80 @@ pub fn binding_pattern_view(tree: BindingPatternTree<'_>) -> BindingPattern<'_>
     let (at, word, parts) = node_of(tree.tree);
     match word {
         Word::Bind => BindingPattern::Identifier(Tree::new(tree.tree)),
-        Word::Arraypat => { let (items, rest) = two(parts); BindingPattern::Array { at, items: Trees::new(items_of(items)), rest: Tree::optional(rest) } }
-        Word::Objectpat => { let (properties, rest) = two(parts); BindingPattern::Object { at, properties: Trees::new(items_of(properties)), rest: Tree::optional(rest) } }
+        Word::Arraypat => {
+            let (items, rest) = two(parts);
+            BindingPattern::Array {
+                at,
+                items: Trees::new(items_of(items)),
+                rest: Tree::optional(rest),
+            }
+        }
+        Word::Objectpat => {
+            let (properties, rest) = two(parts);
+            BindingPattern::Object {
+                at,
+                properties: Trees::new(items_of(properties)),
+                rest: Tree::optional(rest),
+            }
+        }
         _ => unreachable!(),
     }
 }
 
-/// A tree of the sort `BindingPatternMaybeDefault`.
+/// A binding pattern, with a default or without (ECMA-262, 14.3.3).
 #[derive(Clone, Copy)]
 pub enum BindingPatternMaybeDefault<'b> {
-    /// A tree of the sort `BindingPattern`.
+    /// A pattern without a default.
     Pattern(BindingPatternTree<'b>),
-    /// `(defaultpat BINDINGPATTERN EXPRESSION)`
-    Default { at: At, pattern: BindingPatternTree<'b>, default: ExpressionTree<'b>, },
+    /// A pattern with a default, `a = b`: `AssignmentPattern`. `(defaultpat BindingPattern Expression)`
+    Default {
+        /// Ids and span of the node.
+        at: At,
+        /// The names that are bound, a binding pattern.
+        pattern: BindingPatternTree<'b>,
+        /// The default, an expression.
+        default: ExpressionTree<'b>,
+    },
 }
 
 /// One level of a tree of the sort `BindingPatternMaybeDefault`.
 #[tactic(auto, using(rl_grammar::proofs::Viewing::viewing))]
-pub fn binding_pattern_maybe_default_view(tree: BindingPatternMaybeDefaultTree<'_>) -> BindingPatternMaybeDefault<'_>
+pub fn binding_pattern_maybe_default_view(
+    tree: BindingPatternMaybeDefaultTree<'_>,
+) -> BindingPatternMaybeDefault<'_>
     ensures { seen_binding_pattern_maybe_default result ≡ syntax tree.entry.tree.now }
 {
     let (at, word, parts) = node_of(tree.tree);
     match word {
-        Word::Defaultpat => { let (pattern, default) = two(parts); BindingPatternMaybeDefault::Default { at, pattern: Tree::new(pattern), default: Tree::new(default) } }
+        Word::Defaultpat => {
+            let (pattern, default) = two(parts);
+            BindingPatternMaybeDefault::Default {
+                at,
+                pattern: Tree::new(pattern),
+                default: Tree::new(default),
+            }
+        }
         _ => BindingPatternMaybeDefault::Pattern(Tree::new(tree.tree)),
     }
 }
 
-/// A tree of the sort `BindingPatternElement`.
+/// An element of an array pattern (ECMA-262, 14.3.3).
 #[derive(Clone, Copy)]
 pub enum BindingPatternElement<'b> {
-    /// A tree of the sort `BindingPatternMaybeDefault`.
+    /// A pattern, with a default or without.
     Pattern(BindingPatternMaybeDefaultTree<'b>),
-    /// `(hole)`
-    Hole { at: At, },
+    /// A position that binds nothing. `(hole)`
+    Hole {
+        /// Ids and span of the node.
+        at: At,
+    },
 }
 
 /// One level of a tree of the sort `BindingPatternElement`.
 #[tactic(auto, using(rl_grammar::proofs::Viewing::viewing))]
-pub fn binding_pattern_element_view(tree: BindingPatternElementTree<'_>) -> BindingPatternElement<'_>
+pub fn binding_pattern_element_view(
+    tree: BindingPatternElementTree<'_>,
+) -> BindingPatternElement<'_>
     ensures { seen_binding_pattern_element result ≡ syntax tree.entry.tree.now }
 {
     let (at, word, parts) = node_of(tree.tree);
@@ -147,16 +223,17 @@ pub fn binding_pattern_element_view(tree: BindingPatternElementTree<'_>) -> Bind
     }
 }
 
-/// A tree of the sort `BindingProperty`. `(keyedpat FLAG PROPERTYKEY BINDINGPATTERNMAYBEDEFAULT)`
+/// A property of an object pattern (ECMA-262, 14.3.3). `key: pattern`; `computed` is true of `[key]: pattern`.
+/// `(keyedpat FLAG PropertyKey BindingPatternMaybeDefault)`
 #[derive(Clone, Copy)]
 pub struct BindingProperty<'b> {
     /// Ids and span of the node.
     pub at: At,
-    /// A flag.
+    /// True of a computed key, `[key]`.
     pub computed: bool,
-    /// A tree of the sort `PropertyKey`.
+    /// The key.
     pub key: PropertyKeyTree<'b>,
-    /// A tree of the sort `BindingPatternMaybeDefault`.
+    /// The pattern that takes the property's value.
     pub value: BindingPatternMaybeDefaultTree<'b>,
 }
 
@@ -167,19 +244,37 @@ pub fn binding_property_view(tree: BindingPropertyTree<'_>) -> BindingProperty<'
 {
     let (at, word, parts) = node_of(tree.tree);
     match word {
-        Word::Keyedpat => { let (computed, key, value) = three(parts); BindingProperty { at, computed: flag_of(computed), key: Tree::new(key), value: Tree::new(value) } }
+        Word::Keyedpat => {
+            let (computed, key, value) = three(parts);
+            BindingProperty {
+                at,
+                computed: flag_of(computed),
+                key: Tree::new(key),
+                value: Tree::new(value),
+            }
+        }
         _ => unreachable!(),
     }
 }
 
-/// A tree of the sort `PropertyKey`.
+/// A property's key (ECMA-262, 13.2.5).
 #[derive(Clone, Copy)]
 pub enum PropertyKey<'b> {
-    /// `(name TEXT)`
-    Name { at: At, name: &'b Text, },
-    /// `(private TEXT)`
-    Private { at: At, name: &'b Text, },
-    /// A tree of the sort `Expression`.
+    /// A name that stands for itself: `IdentifierName` (ECMA-262, 12.7.1). `(name TEXT)`
+    Name {
+        /// Ids and span of the node.
+        at: At,
+        /// The name.
+        name: &'b Text,
+    },
+    /// A private name: `PrivateIdentifier` (ECMA-262, 12.7). `(private TEXT)`
+    Private {
+        /// Ids and span of the node.
+        at: At,
+        /// The name.
+        name: &'b Text,
+    },
+    /// An expression: a literal, or a computed key.
     Expression(ExpressionTree<'b>),
 }
 
@@ -190,8 +285,20 @@ pub fn property_key_view(tree: PropertyKeyTree<'_>) -> PropertyKey<'_>
 {
     let (at, word, parts) = node_of(tree.tree);
     match word {
-        Word::Name => { let name = one(parts); PropertyKey::Name { at, name: text_of(name) } }
-        Word::Private => { let name = one(parts); PropertyKey::Private { at, name: text_of(name) } }
+        Word::Name => {
+            let name = one(parts);
+            PropertyKey::Name {
+                at,
+                name: text_of(name),
+            }
+        }
+        Word::Private => {
+            let name = one(parts);
+            PropertyKey::Private {
+                at,
+                name: text_of(name),
+            }
+        }
         _ => PropertyKey::Expression(Tree::new(tree.tree)),
     }
 }

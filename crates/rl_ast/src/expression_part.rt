@@ -1,4 +1,4 @@
-//! Written by tools/syntax.py from tools/grammar.txt.
+//! Parts of expressions: views of one level. Types in backquotes are those of oxc_ast. Written by tools/syntax.py from tools/grammar.txt.
 
 ghost use Rattle.std.specs.Prelude.{◌≡◌};
 ghost use Rattle.rl_syntax.specs.Syntax.{syntax};
@@ -6,20 +6,25 @@ ghost use Rattle.rl_ast.specs.ExpressionPartViews.{seen_argument, seen_array_ele
 
 use rl_base::text::Text;
 use rl_grammar::parts::{items_of, one, optional_text, three, two};
-use rl_grammar::sort::{ArgumentTree, ArrayElementTree, ExpressionTree, ExpressionTrees, FunctionExpressionTree, ObjectPropertyTree, PropertyKeyTree, TemplateElementTree, TemplateElementTrees, TemplateLiteralTree};
+use rl_grammar::sort::{
+    ArgumentTree, ArrayElementTree, ExpressionTree, ExpressionTrees, FunctionExpressionTree,
+    ObjectPropertyTree, PropertyKeyTree, TemplateElementTree, TemplateElementTrees,
+    TemplateLiteralTree,
+};
 use rl_grammar::tree::{Tree, Trees};
 use rl_syntax::numbered::At;
 use rl_syntax::parts::{flag_of, node_of, text_of};
 use rl_syntax::word::Word;
 
-/// A tree of the sort `TemplateLiteral`. `(template [TEMPLATEELEMENT] [EXPRESSION])`
+/// A template literal (ECMA-262, 13.2.8). Texts, with an expression between each two of them.
+/// `(template [TemplateElement] [Expression])`
 #[derive(Clone, Copy)]
 pub struct TemplateLiteral<'b> {
     /// Ids and span of the node.
     pub at: At,
-    /// A list: a tree of the sort `TemplateElement`.
+    /// The texts around the expressions, in order.
     pub quasis: TemplateElementTrees<'b>,
-    /// A list: a tree of the sort `Expression`.
+    /// The expressions between the texts, in order.
     pub expressions: ExpressionTrees<'b>,
 }
 
@@ -30,19 +35,27 @@ pub fn template_literal_view(tree: TemplateLiteralTree<'_>) -> TemplateLiteral<'
 {
     let (at, word, parts) = node_of(tree.tree);
     match word {
-        Word::Template => { let (quasis, expressions) = two(parts); TemplateLiteral { at, quasis: Trees::new(items_of(quasis)), expressions: Trees::new(items_of(expressions)) } }
+        Word::Template => {
+            let (quasis, expressions) = two(parts);
+            TemplateLiteral {
+                at,
+                quasis: Trees::new(items_of(quasis)),
+                expressions: Trees::new(items_of(expressions)),
+            }
+        }
         _ => unreachable!(),
     }
 }
 
-/// A tree of the sort `TemplateElement`. `(quasi TEXT TEXT?)`
+/// A text of a template literal (ECMA-262, 12.9.6). `raw` is its source, `cooked` its value, absent where an escape is invalid.
+/// `(quasi TEXT TEXT?)`
 #[derive(Clone, Copy)]
 pub struct TemplateElement<'b> {
     /// Ids and span of the node.
     pub at: At,
-    /// A text.
+    /// The source text.
     pub raw: &'b Text,
-    /// A text, or none.
+    /// The value in UTF-8, its escapes decoded, or none.
     pub cooked: Option<&'b Text>,
 }
 
@@ -53,20 +66,35 @@ pub fn template_element_view(tree: TemplateElementTree<'_>) -> TemplateElement<'
 {
     let (at, word, parts) = node_of(tree.tree);
     match word {
-        Word::Quasi => { let (raw, cooked) = two(parts); TemplateElement { at, raw: text_of(raw), cooked: optional_text(cooked) } }
+        Word::Quasi => {
+            let (raw, cooked) = two(parts);
+            TemplateElement {
+                at,
+                raw: text_of(raw),
+                cooked: optional_text(cooked),
+            }
+        }
         _ => unreachable!(),
     }
 }
 
-/// A tree of the sort `ArrayElement`.
+/// An element of an array literal: `ArrayExpressionElement` (ECMA-262, 13.2.4).
 #[derive(Clone, Copy)]
 pub enum ArrayElement<'b> {
-    /// A tree of the sort `Expression`.
+    /// An expression.
     Expression(ExpressionTree<'b>),
-    /// `(spread EXPRESSION)`
-    Spread { at: At, argument: ExpressionTree<'b>, },
-    /// `(hole)`
-    Hole { at: At, },
+    /// `...a`: `SpreadElement` (ECMA-262, 13.2.4). `(spread Expression)`
+    Spread {
+        /// Ids and span of the node.
+        at: At,
+        /// The value that is spread, an expression.
+        argument: ExpressionTree<'b>,
+    },
+    /// A position without an element: `Elision` (ECMA-262, 13.2.4). `(hole)`
+    Hole {
+        /// Ids and span of the node.
+        at: At,
+    },
 }
 
 /// One level of a tree of the sort `ArrayElement`.
@@ -76,19 +104,30 @@ pub fn array_element_view(tree: ArrayElementTree<'_>) -> ArrayElement<'_>
 {
     let (at, word, parts) = node_of(tree.tree);
     match word {
-        Word::Spread => { let argument = one(parts); ArrayElement::Spread { at, argument: Tree::new(argument) } }
+        Word::Spread => {
+            let argument = one(parts);
+            ArrayElement::Spread {
+                at,
+                argument: Tree::new(argument),
+            }
+        }
         Word::Hole => ArrayElement::Hole { at },
         _ => ArrayElement::Expression(Tree::new(tree.tree)),
     }
 }
 
-/// A tree of the sort `Argument`.
+/// An argument (ECMA-262, 13.3.8).
 #[derive(Clone, Copy)]
 pub enum Argument<'b> {
-    /// A tree of the sort `Expression`.
+    /// An expression.
     Expression(ExpressionTree<'b>),
-    /// `(spread EXPRESSION)`
-    Spread { at: At, argument: ExpressionTree<'b>, },
+    /// `...a`: `SpreadElement` (ECMA-262, 13.3.8). `(spread Expression)`
+    Spread {
+        /// Ids and span of the node.
+        at: At,
+        /// The value that is spread, an expression.
+        argument: ExpressionTree<'b>,
+    },
 }
 
 /// One level of a tree of the sort `Argument`.
@@ -98,24 +137,73 @@ pub fn argument_view(tree: ArgumentTree<'_>) -> Argument<'_>
 {
     let (at, word, parts) = node_of(tree.tree);
     match word {
-        Word::Spread => { let argument = one(parts); Argument::Spread { at, argument: Tree::new(argument) } }
+        Word::Spread => {
+            let argument = one(parts);
+            Argument::Spread {
+                at,
+                argument: Tree::new(argument),
+            }
+        }
         _ => Argument::Expression(Tree::new(tree.tree)),
     }
 }
 
-/// A tree of the sort `ObjectProperty`.
+/// A property of an object literal: `ObjectPropertyKind` (ECMA-262, 13.2.5).
 #[derive(Clone, Copy)]
 pub enum ObjectProperty<'b> {
-    /// `(prop FLAG PROPERTYKEY EXPRESSION)`
-    Value { at: At, computed: bool, key: PropertyKeyTree<'b>, value: ExpressionTree<'b>, },
-    /// `(method FLAG PROPERTYKEY FUNCTIONEXPRESSION)`
-    Method { at: At, computed: bool, key: PropertyKeyTree<'b>, function: FunctionExpressionTree<'b>, },
-    /// `(get FLAG PROPERTYKEY FUNCTIONEXPRESSION)`
-    Get { at: At, computed: bool, key: PropertyKeyTree<'b>, function: FunctionExpressionTree<'b>, },
-    /// `(set FLAG PROPERTYKEY FUNCTIONEXPRESSION)`
-    Set { at: At, computed: bool, key: PropertyKeyTree<'b>, function: FunctionExpressionTree<'b>, },
-    /// `(spread EXPRESSION)`
-    Spread { at: At, argument: ExpressionTree<'b>, },
+    /// `key: value`; `computed` is true of `[key]: value`. `(prop FLAG PropertyKey Expression)`
+    Value {
+        /// Ids and span of the node.
+        at: At,
+        /// True of a computed key, `[key]`.
+        computed: bool,
+        /// The key.
+        key: PropertyKeyTree<'b>,
+        /// The value.
+        value: ExpressionTree<'b>,
+    },
+    /// A method, `key() {}` (ECMA-262, 15.4); `computed` is true of `[key]() {}`. `(method FLAG PropertyKey FunctionExpression)`
+    Method {
+        /// Ids and span of the node.
+        at: At,
+        /// True of a computed key, `[key]`.
+        computed: bool,
+        /// The key.
+        key: PropertyKeyTree<'b>,
+        /// The function.
+        function: FunctionExpressionTree<'b>,
+    },
+    /// A getter, `get key() {}` (ECMA-262, 15.4); `computed` is true of `get [key]() {}`.
+    /// `(get FLAG PropertyKey FunctionExpression)`
+    Get {
+        /// Ids and span of the node.
+        at: At,
+        /// True of a computed key, `[key]`.
+        computed: bool,
+        /// The key.
+        key: PropertyKeyTree<'b>,
+        /// The function.
+        function: FunctionExpressionTree<'b>,
+    },
+    /// A setter, `set key(a) {}` (ECMA-262, 15.4); `computed` is true of `set [key](a) {}`.
+    /// `(set FLAG PropertyKey FunctionExpression)`
+    Set {
+        /// Ids and span of the node.
+        at: At,
+        /// True of a computed key, `[key]`.
+        computed: bool,
+        /// The key.
+        key: PropertyKeyTree<'b>,
+        /// The function.
+        function: FunctionExpressionTree<'b>,
+    },
+    /// `...a`: `SpreadElement` (ECMA-262, 13.2.5). `(spread Expression)`
+    Spread {
+        /// Ids and span of the node.
+        at: At,
+        /// The value that is spread, an expression.
+        argument: ExpressionTree<'b>,
+    },
 }
 
 /// One level of a tree of the sort `ObjectProperty`.
@@ -125,11 +213,49 @@ pub fn object_property_view(tree: ObjectPropertyTree<'_>) -> ObjectProperty<'_>
 {
     let (at, word, parts) = node_of(tree.tree);
     match word {
-        Word::Prop => { let (computed, key, value) = three(parts); ObjectProperty::Value { at, computed: flag_of(computed), key: Tree::new(key), value: Tree::new(value) } }
-        Word::Method => { let (computed, key, function) = three(parts); ObjectProperty::Method { at, computed: flag_of(computed), key: Tree::new(key), function: Tree::new(function) } }
-        Word::Get => { let (computed, key, function) = three(parts); ObjectProperty::Get { at, computed: flag_of(computed), key: Tree::new(key), function: Tree::new(function) } }
-        Word::Set => { let (computed, key, function) = three(parts); ObjectProperty::Set { at, computed: flag_of(computed), key: Tree::new(key), function: Tree::new(function) } }
-        Word::Spread => { let argument = one(parts); ObjectProperty::Spread { at, argument: Tree::new(argument) } }
+        Word::Prop => {
+            let (computed, key, value) = three(parts);
+            ObjectProperty::Value {
+                at,
+                computed: flag_of(computed),
+                key: Tree::new(key),
+                value: Tree::new(value),
+            }
+        }
+        Word::Method => {
+            let (computed, key, function) = three(parts);
+            ObjectProperty::Method {
+                at,
+                computed: flag_of(computed),
+                key: Tree::new(key),
+                function: Tree::new(function),
+            }
+        }
+        Word::Get => {
+            let (computed, key, function) = three(parts);
+            ObjectProperty::Get {
+                at,
+                computed: flag_of(computed),
+                key: Tree::new(key),
+                function: Tree::new(function),
+            }
+        }
+        Word::Set => {
+            let (computed, key, function) = three(parts);
+            ObjectProperty::Set {
+                at,
+                computed: flag_of(computed),
+                key: Tree::new(key),
+                function: Tree::new(function),
+            }
+        }
+        Word::Spread => {
+            let argument = one(parts);
+            ObjectProperty::Spread {
+                at,
+                argument: Tree::new(argument),
+            }
+        }
         _ => unreachable!(),
     }
 }

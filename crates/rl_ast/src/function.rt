@@ -1,28 +1,33 @@
-//! Written by tools/syntax.py from tools/grammar.txt.
+//! Functions: views of one level. Types in backquotes are those of oxc_ast. Written by tools/syntax.py from tools/grammar.txt.
 
 ghost use Rattle.std.specs.Prelude.{◌≡◌};
 ghost use Rattle.rl_syntax.specs.Syntax.{syntax};
 ghost use Rattle.rl_ast.specs.FunctionViews.{seen_arrow, seen_arrow_body, seen_binding_rest_element, seen_formal_parameter, seen_formal_parameters, seen_function_body};
 
 use rl_grammar::parts::{four, items_of, one, two};
-use rl_grammar::sort::{ArrowBodyTree, ArrowTree, BindingPatternTree, BindingRestElementTree, ExpressionTree, FormalParameterTree, FormalParameterTrees, FormalParametersTree, FunctionBodyTree, StatementTrees, TextTrees};
+use rl_grammar::sort::{
+    ArrowBodyTree, ArrowTree, BindingPatternTree, BindingRestElementTree, ExpressionTree,
+    FormalParameterTree, FormalParameterTrees, FormalParametersTree, FunctionBodyTree,
+    StatementTrees, TextTrees,
+};
 use rl_grammar::tree::{Tree, Trees};
 use rl_syntax::numbered::At;
 use rl_syntax::parts::{flag_of, node_of};
 use rl_syntax::word::Word;
 
-/// A tree of the sort `Arrow`. `(arrow FLAG FLAG FORMALPARAMETERS ARROWBODY)`
+/// An arrow function: `ArrowFunctionExpression` (ECMA-262, 15.3 and 15.9). Its scope is that of its parameters and its body.
+/// `(arrow FLAG FLAG FormalParameters ArrowBody)`
 #[derive(Clone, Copy)]
 pub struct Arrow<'b> {
     /// Ids and span of the node.
     pub at: At,
-    /// A flag.
+    /// True of the function to lower.
     pub marked: bool,
-    /// A flag.
+    /// True of an `async` function.
     pub is_async: bool,
-    /// A tree of the sort `FormalParameters`.
+    /// The parameters.
     pub params: FormalParametersTree<'b>,
-    /// A tree of the sort `ArrowBody`.
+    /// The body.
     pub body: ArrowBodyTree<'b>,
 }
 
@@ -33,19 +38,29 @@ pub fn arrow_view(tree: ArrowTree<'_>) -> Arrow<'_>
 {
     let (at, word, parts) = node_of(tree.tree);
     match word {
-        Word::Arrow => { let (marked, is_async, params, body) = four(parts); Arrow { at, marked: flag_of(marked), is_async: flag_of(is_async), params: Tree::new(params), body: Tree::new(body) } }
+        Word::Arrow => {
+            let (marked, is_async, params, body) = four(parts);
+            Arrow {
+                at,
+                marked: flag_of(marked),
+                is_async: flag_of(is_async),
+                params: Tree::new(params),
+                body: Tree::new(body),
+            }
+        }
         _ => unreachable!(),
     }
 }
 
-/// A tree of the sort `FormalParameters`. `(params [FORMALPARAMETER] BINDINGRESTELEMENT?)`
+/// The parameters of a function (ECMA-262, 15.1). The parameters in order, and the rest parameter apart.
+/// `(params [FormalParameter] BindingRestElement?)`
 #[derive(Clone, Copy)]
 pub struct FormalParameters<'b> {
     /// Ids and span of the node.
     pub at: At,
-    /// A list: a tree of the sort `FormalParameter`.
+    /// The parameters before the rest, in order.
     pub items: FormalParameterTrees<'b>,
-    /// A tree of the sort `BindingRestElement`, or none.
+    /// The rest element, or none.
     pub rest: Option<BindingRestElementTree<'b>>,
 }
 
@@ -56,19 +71,26 @@ pub fn formal_parameters_view(tree: FormalParametersTree<'_>) -> FormalParameter
 {
     let (at, word, parts) = node_of(tree.tree);
     match word {
-        Word::Params => { let (items, rest) = two(parts); FormalParameters { at, items: Trees::new(items_of(items)), rest: Tree::optional(rest) } }
+        Word::Params => {
+            let (items, rest) = two(parts);
+            FormalParameters {
+                at,
+                items: Trees::new(items_of(items)),
+                rest: Tree::optional(rest),
+            }
+        }
         _ => unreachable!(),
     }
 }
 
-/// A tree of the sort `FormalParameter`. `(param BINDINGPATTERN EXPRESSION?)`
+/// A parameter (ECMA-262, 15.1). The name or pattern that is bound, and its default. `(param BindingPattern Expression?)`
 #[derive(Clone, Copy)]
 pub struct FormalParameter<'b> {
     /// Ids and span of the node.
     pub at: At,
-    /// A tree of the sort `BindingPattern`.
+    /// The names that are bound, a binding pattern.
     pub pattern: BindingPatternTree<'b>,
-    /// A tree of the sort `Expression`, or none.
+    /// The default, an expression, or none.
     pub default: Option<ExpressionTree<'b>>,
 }
 
@@ -79,17 +101,25 @@ pub fn formal_parameter_view(tree: FormalParameterTree<'_>) -> FormalParameter<'
 {
     let (at, word, parts) = node_of(tree.tree);
     match word {
-        Word::Param => { let (pattern, default) = two(parts); FormalParameter { at, pattern: Tree::new(pattern), default: Tree::optional(default) } }
+        Word::Param => {
+            let (pattern, default) = two(parts);
+            FormalParameter {
+                at,
+                pattern: Tree::new(pattern),
+                default: Tree::optional(default),
+            }
+        }
         _ => unreachable!(),
     }
 }
 
-/// A tree of the sort `BindingRestElement`. `(rest BINDINGPATTERN)`
+/// A rest parameter, or the rest of a pattern (ECMA-262, 14.3.3 and 15.1). `...`, and the name or pattern that takes the rest.
+/// `(rest BindingPattern)`
 #[derive(Clone, Copy)]
 pub struct BindingRestElement<'b> {
     /// Ids and span of the node.
     pub at: At,
-    /// A tree of the sort `BindingPattern`.
+    /// The names that are bound, a binding pattern.
     pub pattern: BindingPatternTree<'b>,
 }
 
@@ -100,19 +130,26 @@ pub fn binding_rest_element_view(tree: BindingRestElementTree<'_>) -> BindingRes
 {
     let (at, word, parts) = node_of(tree.tree);
     match word {
-        Word::Rest => { let pattern = one(parts); BindingRestElement { at, pattern: Tree::new(pattern) } }
+        Word::Rest => {
+            let pattern = one(parts);
+            BindingRestElement {
+                at,
+                pattern: Tree::new(pattern),
+            }
+        }
         _ => unreachable!(),
     }
 }
 
-/// A tree of the sort `FunctionBody`. `(body [TEXT] [STATEMENT])`
+/// A function's body in braces (ECMA-262, 15.2). Directives, as `"use strict"` (ECMA-262, 11.2.1), and then statements.
+/// `(body [TEXT] [Statement])`
 #[derive(Clone, Copy)]
 pub struct FunctionBody<'b> {
     /// Ids and span of the node.
     pub at: At,
-    /// A list: a text.
+    /// The directives, in order, each by its text.
     pub directives: TextTrees<'b>,
-    /// A list: a tree of the sort `Statement`.
+    /// The statements, in order.
     pub statements: StatementTrees<'b>,
 }
 
@@ -123,17 +160,24 @@ pub fn function_body_view(tree: FunctionBodyTree<'_>) -> FunctionBody<'_>
 {
     let (at, word, parts) = node_of(tree.tree);
     match word {
-        Word::Body => { let (directives, statements) = two(parts); FunctionBody { at, directives: Trees::new(items_of(directives)), statements: Trees::new(items_of(statements)) } }
+        Word::Body => {
+            let (directives, statements) = two(parts);
+            FunctionBody {
+                at,
+                directives: Trees::new(items_of(directives)),
+                statements: Trees::new(items_of(statements)),
+            }
+        }
         _ => unreachable!(),
     }
 }
 
-/// A tree of the sort `ArrowBody`.
+/// An arrow function's body (ECMA-262, 15.3).
 #[derive(Clone, Copy)]
 pub enum ArrowBody<'b> {
-    /// A tree of the sort `FunctionBody`.
+    /// A body in braces.
     Body(FunctionBodyTree<'b>),
-    /// A tree of the sort `Expression`.
+    /// An expression, whose value is returned.
     Expression(ExpressionTree<'b>),
 }
 

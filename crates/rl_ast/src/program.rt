@@ -1,4 +1,4 @@
-//! Written by tools/syntax.py from tools/grammar.txt.
+//! Units and programs: views of one level. Types in backquotes are those of oxc_ast. Written by tools/syntax.py from tools/grammar.txt.
 
 ghost use Rattle.std.specs.Prelude.{◌≡◌};
 ghost use Rattle.rl_syntax.specs.Syntax.{syntax};
@@ -12,14 +12,15 @@ use rl_syntax::numbered::At;
 use rl_syntax::parts::{node_of, text_of};
 use rl_syntax::word::Word;
 
-/// A tree of the sort `Entity`. `(entity TEXT SCALARVALUE)`
+/// An entity of JSX texts: the name between `&` and `;`, and the character that it stands for. The first entity of a name counts.
+/// `(entity TEXT NUMBER)`
 #[derive(Clone, Copy)]
 pub struct Entity<'b> {
     /// Ids and span of the node.
     pub at: At,
-    /// A text.
+    /// The name.
     pub name: &'b Text,
-    /// A Unicode scalar value.
+    /// The character, as a Unicode scalar value.
     pub value: u32,
 }
 
@@ -30,17 +31,24 @@ pub fn entity_view(tree: EntityTree<'_>) -> Entity<'_>
 {
     let (at, word, parts) = node_of(tree.tree);
     match word {
-        Word::Entity => { let (name, value) = two(parts); Entity { at, name: text_of(name), value: scalar_value_of(value) } }
+        Word::Entity => {
+            let (name, value) = two(parts);
+            Entity {
+                at,
+                name: text_of(name),
+                value: scalar_value_of(value),
+            }
+        }
         _ => unreachable!(),
     }
 }
 
-/// A tree of the sort `Program`. `(program [STATEMENT])`
+/// A program: `Program` (ECMA-262, 16). Its scope is scope 0. `(program [Statement])`
 #[derive(Clone, Copy)]
 pub struct Program<'b> {
     /// Ids and span of the node.
     pub at: At,
-    /// A list: a tree of the sort `Statement`.
+    /// The statements, in order.
     pub body: StatementTrees<'b>,
 }
 
@@ -51,7 +59,13 @@ pub fn program_view(tree: ProgramTree<'_>) -> Program<'_>
 {
     let (at, word, parts) = node_of(tree.tree);
     match word {
-        Word::Program => { let body = one(parts); Program { at, body: Trees::new(items_of(body)) } }
+        Word::Program => {
+            let body = one(parts);
+            Program {
+                at,
+                body: Trees::new(items_of(body)),
+            }
+        }
         _ => unreachable!(),
     }
 }

@@ -1,4 +1,4 @@
-//! Written by tools/syntax.py from tools/grammar.txt.
+//! Parts of statements: views of one level. Types in backquotes are those of oxc_ast. Written by tools/syntax.py from tools/grammar.txt.
 
 ghost use Rattle.std.specs.Prelude.{◌≡◌};
 ghost use Rattle.rl_syntax.specs.Syntax.{syntax};
@@ -8,18 +8,22 @@ use rl_base::variable_kind::VariableKind;
 use rl_grammar::kind::Kind;
 use rl_grammar::parts::{closed_of, items_of, one, two};
 use rl_grammar::rules::rule;
-use rl_grammar::sort::{AssignmentTargetTree, BindingPatternTree, BlockStatementTree, CatchClauseTree, ExportDefaultTree, ExpressionTree, ForHeadTree, ForInitTree, StatementTree, StatementTrees, SwitchCaseTree, VariableDeclarationTree, VariableDeclaratorTree, VariableDeclaratorTrees};
+use rl_grammar::sort::{
+    AssignmentTargetTree, BindingPatternTree, BlockStatementTree, CatchClauseTree,
+    ExportDefaultTree, ExpressionTree, ForHeadTree, ForInitTree, StatementTree, StatementTrees,
+    SwitchCaseTree, VariableDeclarationTree, VariableDeclaratorTree, VariableDeclaratorTrees,
+};
 use rl_grammar::tree::{Tree, Trees};
 use rl_syntax::numbered::At;
 use rl_syntax::parts::node_of;
 use rl_syntax::word::Word;
 
-/// A tree of the sort `BlockStatement`. `(block [STATEMENT])`
+/// A block (ECMA-262, 14.2). Statements in braces, in a scope of their own. `(block [Statement])`
 #[derive(Clone, Copy)]
 pub struct BlockStatement<'b> {
     /// Ids and span of the node.
     pub at: At,
-    /// A list: a tree of the sort `Statement`.
+    /// The statements, in order.
     pub body: StatementTrees<'b>,
 }
 
@@ -30,19 +34,25 @@ pub fn block_statement_view(tree: BlockStatementTree<'_>) -> BlockStatement<'_>
 {
     let (at, word, parts) = node_of(tree.tree);
     match word {
-        Word::Block => { let body = one(parts); BlockStatement { at, body: Trees::new(items_of(body)) } }
+        Word::Block => {
+            let body = one(parts);
+            BlockStatement {
+                at,
+                body: Trees::new(items_of(body)),
+            }
+        }
         _ => unreachable!(),
     }
 }
 
-/// A tree of the sort `SwitchCase`. `(case EXPRESSION? [STATEMENT])`
+/// A clause of a `switch` statement (ECMA-262, 14.12). `case`, or without a test `default`. `(case Expression? [Statement])`
 #[derive(Clone, Copy)]
 pub struct SwitchCase<'b> {
     /// Ids and span of the node.
     pub at: At,
-    /// A tree of the sort `Expression`, or none.
+    /// The value that is compared with the discriminant, an expression, or none.
     pub test: Option<ExpressionTree<'b>>,
-    /// A list: a tree of the sort `Statement`.
+    /// The statements of the clause, in order.
     pub consequent: StatementTrees<'b>,
 }
 
@@ -53,19 +63,27 @@ pub fn switch_case_view(tree: SwitchCaseTree<'_>) -> SwitchCase<'_>
 {
     let (at, word, parts) = node_of(tree.tree);
     match word {
-        Word::Case => { let (test, consequent) = two(parts); SwitchCase { at, test: Tree::optional(test), consequent: Trees::new(items_of(consequent)) } }
+        Word::Case => {
+            let (test, consequent) = two(parts);
+            SwitchCase {
+                at,
+                test: Tree::optional(test),
+                consequent: Trees::new(items_of(consequent)),
+            }
+        }
         _ => unreachable!(),
     }
 }
 
-/// A tree of the sort `CatchClause`. `(catch BINDINGPATTERN? BLOCKSTATEMENT)`
+/// A `catch` clause (ECMA-262, 14.15). Its scope is that of the parameter; the body is a block with a scope besides.
+/// `(catch BindingPattern? BlockStatement)`
 #[derive(Clone, Copy)]
 pub struct CatchClause<'b> {
     /// Ids and span of the node.
     pub at: At,
-    /// A tree of the sort `BindingPattern`, or none.
+    /// The parameter, a binding pattern, or none.
     pub param: Option<BindingPatternTree<'b>>,
-    /// A tree of the sort `BlockStatement`.
+    /// The block that is executed.
     pub body: BlockStatementTree<'b>,
 }
 
@@ -76,19 +94,27 @@ pub fn catch_clause_view(tree: CatchClauseTree<'_>) -> CatchClause<'_>
 {
     let (at, word, parts) = node_of(tree.tree);
     match word {
-        Word::Catch => { let (param, body) = two(parts); CatchClause { at, param: Tree::optional(param), body: Tree::new(body) } }
+        Word::Catch => {
+            let (param, body) = two(parts);
+            CatchClause {
+                at,
+                param: Tree::optional(param),
+                body: Tree::new(body),
+            }
+        }
         _ => unreachable!(),
     }
 }
 
-/// A tree of the sort `VariableDeclaration`. `(var VARIABLEKIND [VARIABLEDECLARATOR])`
+/// A declaration of variables (ECMA-262, 14.3). Declarators behind `var`, `let`, `const`, `using` or `await using`.
+/// `(var KIND [VariableDeclarator])`
 #[derive(Clone, Copy)]
 pub struct VariableDeclaration<'b> {
     /// Ids and span of the node.
     pub at: At,
-    /// The kind of a variable declaration.
+    /// The kind: `var`, `let`, `const`, `using` or `await using`.
     pub kind: VariableKind,
-    /// A list: a tree of the sort `VariableDeclarator`.
+    /// The declarators, in order.
     pub declarators: VariableDeclaratorTrees<'b>,
 }
 
@@ -99,19 +125,27 @@ pub fn variable_declaration_view(tree: VariableDeclarationTree<'_>) -> VariableD
 {
     let (at, word, parts) = node_of(tree.tree);
     match word {
-        Word::Var => { let (kind, declarators) = two(parts); VariableDeclaration { at, kind: closed_of(kind), declarators: Trees::new(items_of(declarators)) } }
+        Word::Var => {
+            let (kind, declarators) = two(parts);
+            VariableDeclaration {
+                at,
+                kind: closed_of(kind),
+                declarators: Trees::new(items_of(declarators)),
+            }
+        }
         _ => unreachable!(),
     }
 }
 
-/// A tree of the sort `VariableDeclarator`. `(declarator BINDINGPATTERN EXPRESSION?)`
+/// A declarator of variables (ECMA-262, 14.3). The name or pattern that is declared, and its initializer.
+/// `(declarator BindingPattern Expression?)`
 #[derive(Clone, Copy)]
 pub struct VariableDeclarator<'b> {
     /// Ids and span of the node.
     pub at: At,
-    /// A tree of the sort `BindingPattern`.
+    /// The names that are bound, a binding pattern.
     pub pattern: BindingPatternTree<'b>,
-    /// A tree of the sort `Expression`, or none.
+    /// The initializer, an expression, or none.
     pub init: Option<ExpressionTree<'b>>,
 }
 
@@ -122,17 +156,24 @@ pub fn variable_declarator_view(tree: VariableDeclaratorTree<'_>) -> VariableDec
 {
     let (at, word, parts) = node_of(tree.tree);
     match word {
-        Word::Declarator => { let (pattern, init) = two(parts); VariableDeclarator { at, pattern: Tree::new(pattern), init: Tree::optional(init) } }
+        Word::Declarator => {
+            let (pattern, init) = two(parts);
+            VariableDeclarator {
+                at,
+                pattern: Tree::new(pattern),
+                init: Tree::optional(init),
+            }
+        }
         _ => unreachable!(),
     }
 }
 
-/// A tree of the sort `ForInit`.
+/// The first part of a `for` head: `ForStatementInit` (ECMA-262, 14.7.4).
 #[derive(Clone, Copy)]
 pub enum ForInit<'b> {
-    /// A tree of the sort `VariableDeclaration`.
+    /// A declaration of variables.
     Variables(VariableDeclarationTree<'b>),
-    /// A tree of the sort `Expression`.
+    /// An expression.
     Expression(ExpressionTree<'b>),
 }
 
@@ -148,12 +189,12 @@ pub fn for_init_view(tree: ForInitTree<'_>) -> ForInit<'_>
     }
 }
 
-/// A tree of the sort `ForHead`.
+/// The left side of a `for`-`in` or `for`-`of` head: `ForStatementLeft` (ECMA-262, 14.7.5).
 #[derive(Clone, Copy)]
 pub enum ForHead<'b> {
-    /// A tree of the sort `VariableDeclaration`.
+    /// A declaration of variables.
     Variables(VariableDeclarationTree<'b>),
-    /// A tree of the sort `AssignmentTarget`.
+    /// An assignment target.
     Target(AssignmentTargetTree<'b>),
 }
 
@@ -169,12 +210,12 @@ pub fn for_head_view(tree: ForHeadTree<'_>) -> ForHead<'_>
     }
 }
 
-/// A tree of the sort `ExportDefault`.
+/// A default export's value: `ExportDefaultDeclarationKind` (ECMA-262, 16.2.3).
 #[derive(Clone, Copy)]
 pub enum ExportDefault<'b> {
-    /// A tree of the sort `Statement`.
+    /// A declaration of a function or a class, as a statement.
     Statement(StatementTree<'b>),
-    /// A tree of the sort `Expression`.
+    /// An expression.
     Expression(ExpressionTree<'b>),
 }
 
@@ -185,6 +226,9 @@ pub fn export_default_view(tree: ExportDefaultTree<'_>) -> ExportDefault<'_>
 {
     let (at, word, parts) = node_of(tree.tree);
     match word {
-        _ => match rule(Kind::Statement, word) { Some(_) => ExportDefault::Statement(Tree::new(tree.tree)), None => ExportDefault::Expression(Tree::new(tree.tree)) },
+        _ => match rule(Kind::Statement, word) {
+            Some(_) => ExportDefault::Statement(Tree::new(tree.tree)),
+            None => ExportDefault::Expression(Tree::new(tree.tree))
+        },
     }
 }

@@ -12,126 +12,126 @@ abbrev pub first_rule : Option (List Field) → Option (List Field) → Option (
 first_rule (Some fields) other = Some fields
 first_rule None other = other
 
--- A tree of the sort `Unit`.
+-- The fields of the kind `Unit`, by the word of a node.
 abbrev pub unit_rule : Word → Option (List Field)
 unit_rule word.Unit = Some (field.Many kind.Entity ∷ field.One kind.Program ∷ [])
 unit_rule _ = None
 
--- A tree of the sort `Entity`.
+-- The fields of the kind `Entity`, by the word of a node.
 abbrev pub entity_rule : Word → Option (List Field)
 entity_rule word.Entity = Some (field.One kind.Text ∷ field.One kind.ScalarValue ∷ [])
 entity_rule _ = None
 
--- A tree of the sort `Program`.
+-- The fields of the kind `Program`, by the word of a node.
 abbrev pub program_rule : Word → Option (List Field)
 program_rule word.Program = Some (field.Many kind.Statement ∷ [])
 program_rule _ = None
 
--- A tree of the sort `BlockStatement`.
+-- The fields of the kind `BlockStatement`, by the word of a node.
 abbrev pub block_statement_rule : Word → Option (List Field)
 block_statement_rule word.Block = Some (field.Many kind.Statement ∷ [])
 block_statement_rule _ = None
 
--- A tree of the sort `SwitchCase`.
+-- The fields of the kind `SwitchCase`, by the word of a node.
 abbrev pub switch_case_rule : Word → Option (List Field)
 switch_case_rule word.Case = Some (field.Maybe kind.Expression ∷ field.Many kind.Statement ∷ [])
 switch_case_rule _ = None
 
--- A tree of the sort `CatchClause`.
+-- The fields of the kind `CatchClause`, by the word of a node.
 abbrev pub catch_clause_rule : Word → Option (List Field)
 catch_clause_rule word.Catch = Some (field.Maybe kind.BindingPattern ∷ field.One kind.BlockStatement ∷ [])
 catch_clause_rule _ = None
 
--- A tree of the sort `VariableDeclaration`.
+-- The fields of the kind `VariableDeclaration`, by the word of a node.
 abbrev pub variable_declaration_rule : Word → Option (List Field)
 variable_declaration_rule word.Var = Some (field.One kind.VariableKind ∷ field.Many kind.VariableDeclarator ∷ [])
 variable_declaration_rule _ = None
 
--- A tree of the sort `VariableDeclarator`.
+-- The fields of the kind `VariableDeclarator`, by the word of a node.
 abbrev pub variable_declarator_rule : Word → Option (List Field)
 variable_declarator_rule word.Declarator = Some (field.One kind.BindingPattern ∷ field.Maybe kind.Expression ∷ [])
 variable_declarator_rule _ = None
 
--- A tree of the sort `ClassElement`.
+-- The fields of the kind `ClassElement`, by the word of a node.
 abbrev pub class_element_rule : Word → Option (List Field)
 class_element_rule word.Method = Some (field.One kind.FunctionExpression ∷ [])
 class_element_rule word.Field = Some (field.Maybe kind.Expression ∷ [])
 class_element_rule word.Static = Some (field.Many kind.Statement ∷ [])
 class_element_rule _ = None
 
--- A tree of the sort `ImportSpecifier`.
+-- The fields of the kind `ImportSpecifier`, by the word of a node.
 abbrev pub import_specifier_rule : Word → Option (List Field)
 import_specifier_rule word.Default = Some (field.One kind.BindingIdentifier ∷ [])
 import_specifier_rule word.Namespace = Some (field.One kind.BindingIdentifier ∷ [])
 import_specifier_rule word.Named = Some (field.One kind.Text ∷ field.One kind.BindingIdentifier ∷ [])
 import_specifier_rule _ = None
 
--- A tree of the sort `Arrow`.
+-- The fields of the kind `Arrow`, by the word of a node.
 abbrev pub arrow_rule : Word → Option (List Field)
 arrow_rule word.Arrow = Some (field.One kind.Flag ∷ field.One kind.Flag ∷ field.One kind.FormalParameters ∷ field.One kind.ArrowBody ∷ [])
 arrow_rule _ = None
 
--- A tree of the sort `FunctionDeclaration`.
+-- The fields of the kind `FunctionDeclaration`, by the word of a node.
 abbrev pub function_declaration_rule : Word → Option (List Field)
 function_declaration_rule word.Fundecl = Some (field.One kind.Flag ∷ field.One kind.Flag ∷ field.One kind.Flag ∷ field.Maybe kind.BindingIdentifier ∷ field.One kind.FormalParameters ∷ field.Maybe kind.FunctionBody ∷ [])
 function_declaration_rule _ = None
 
--- A tree of the sort `FunctionExpression`.
+-- The fields of the kind `FunctionExpression`, by the word of a node.
 abbrev pub function_expression_rule : Word → Option (List Field)
 function_expression_rule word.Funexpr = Some (field.One kind.Flag ∷ field.One kind.Flag ∷ field.One kind.Flag ∷ field.Maybe kind.BindingIdentifier ∷ field.One kind.FormalParameters ∷ field.One kind.FunctionBody ∷ [])
 function_expression_rule _ = None
 
--- A tree of the sort `FormalParameters`.
+-- The fields of the kind `FormalParameters`, by the word of a node.
 abbrev pub formal_parameters_rule : Word → Option (List Field)
 formal_parameters_rule word.Params = Some (field.Many kind.FormalParameter ∷ field.Maybe kind.BindingRestElement ∷ [])
 formal_parameters_rule _ = None
 
--- A tree of the sort `FormalParameter`.
+-- The fields of the kind `FormalParameter`, by the word of a node.
 abbrev pub formal_parameter_rule : Word → Option (List Field)
 formal_parameter_rule word.Param = Some (field.One kind.BindingPattern ∷ field.Maybe kind.Expression ∷ [])
 formal_parameter_rule _ = None
 
--- A tree of the sort `BindingRestElement`.
+-- The fields of the kind `BindingRestElement`, by the word of a node.
 abbrev pub binding_rest_element_rule : Word → Option (List Field)
 binding_rest_element_rule word.Rest = Some (field.One kind.BindingPattern ∷ [])
 binding_rest_element_rule _ = None
 
--- A tree of the sort `FunctionBody`.
+-- The fields of the kind `FunctionBody`, by the word of a node.
 abbrev pub function_body_rule : Word → Option (List Field)
 function_body_rule word.Body = Some (field.Many kind.Text ∷ field.Many kind.Statement ∷ [])
 function_body_rule _ = None
 
--- A tree of the sort `BindingIdentifier`.
+-- The fields of the kind `BindingIdentifier`, by the word of a node.
 abbrev pub binding_identifier_rule : Word → Option (List Field)
 binding_identifier_rule word.Bind = Some (field.One kind.Text ∷ field.Maybe kind.TypeAnnotation ∷ [])
 binding_identifier_rule _ = None
 
--- A tree of the sort `TypeAnnotation`.
+-- The fields of the kind `TypeAnnotation`, by the word of a node.
 abbrev pub type_annotation_rule : Word → Option (List Field)
 type_annotation_rule word.Type = Some (field.One kind.TypeKind ∷ field.Many kind.IdentifierReference ∷ [])
 type_annotation_rule _ = None
 
--- A tree of the sort `IdentifierReference`.
+-- The fields of the kind `IdentifierReference`, by the word of a node.
 abbrev pub identifier_reference_rule : Word → Option (List Field)
 identifier_reference_rule word.Id = Some (field.One kind.Text ∷ [])
 identifier_reference_rule _ = None
 
--- A tree of the sort `BindingProperty`.
+-- The fields of the kind `BindingProperty`, by the word of a node.
 abbrev pub binding_property_rule : Word → Option (List Field)
 binding_property_rule word.Keyedpat = Some (field.One kind.Flag ∷ field.One kind.PropertyKey ∷ field.One kind.BindingPatternMaybeDefault ∷ [])
 binding_property_rule _ = None
 
--- A tree of the sort `TemplateLiteral`.
+-- The fields of the kind `TemplateLiteral`, by the word of a node.
 abbrev pub template_literal_rule : Word → Option (List Field)
 template_literal_rule word.Template = Some (field.Many kind.TemplateElement ∷ field.Many kind.Expression ∷ [])
 template_literal_rule _ = None
 
--- A tree of the sort `TemplateElement`.
+-- The fields of the kind `TemplateElement`, by the word of a node.
 abbrev pub template_element_rule : Word → Option (List Field)
 template_element_rule word.Quasi = Some (field.One kind.Text ∷ field.Maybe kind.Text ∷ [])
 template_element_rule _ = None
 
--- A tree of the sort `ObjectProperty`.
+-- The fields of the kind `ObjectProperty`, by the word of a node.
 abbrev pub object_property_rule : Word → Option (List Field)
 object_property_rule word.Prop = Some (field.One kind.Flag ∷ field.One kind.PropertyKey ∷ field.One kind.Expression ∷ [])
 object_property_rule word.Method = Some (field.One kind.Flag ∷ field.One kind.PropertyKey ∷ field.One kind.FunctionExpression ∷ [])
@@ -140,50 +140,50 @@ object_property_rule word.Set = Some (field.One kind.Flag ∷ field.One kind.Pro
 object_property_rule word.Spread = Some (field.One kind.Expression ∷ [])
 object_property_rule _ = None
 
--- A tree of the sort `AssignmentTargetProperty`.
+-- The fields of the kind `AssignmentTargetProperty`, by the word of a node.
 abbrev pub assignment_target_property_rule : Word → Option (List Field)
 assignment_target_property_rule word.Short = Some (field.One kind.IdentifierReference ∷ field.Maybe kind.Expression ∷ [])
 assignment_target_property_rule word.Keyed = Some (field.One kind.Flag ∷ field.One kind.PropertyKey ∷ field.One kind.AssignmentTargetMaybeDefault ∷ [])
 assignment_target_property_rule _ = None
 
--- A tree of the sort `AssignmentTargetRest`.
+-- The fields of the kind `AssignmentTargetRest`, by the word of a node.
 abbrev pub assignment_target_rest_rule : Word → Option (List Field)
 assignment_target_rest_rule word.Rest = Some (field.One kind.AssignmentTarget ∷ [])
 assignment_target_rest_rule _ = None
 
--- A tree of the sort `JsxElement`.
+-- The fields of the kind `JsxElement`, by the word of a node.
 abbrev pub jsx_element_rule : Word → Option (List Field)
 jsx_element_rule word.Element = Some (field.One kind.JsxOpeningElement ∷ field.Many kind.JsxChild ∷ field.Maybe kind.JsxClosingElement ∷ [])
 jsx_element_rule _ = None
 
--- A tree of the sort `JsxFragment`.
+-- The fields of the kind `JsxFragment`, by the word of a node.
 abbrev pub jsx_fragment_rule : Word → Option (List Field)
 jsx_fragment_rule word.Fragment = Some (field.Many kind.JsxChild ∷ [])
 jsx_fragment_rule _ = None
 
--- A tree of the sort `JsxOpeningElement`.
+-- The fields of the kind `JsxOpeningElement`, by the word of a node.
 abbrev pub jsx_opening_element_rule : Word → Option (List Field)
 jsx_opening_element_rule word.Opening = Some (field.One kind.JsxElementName ∷ field.Many kind.JsxAttribute ∷ [])
 jsx_opening_element_rule _ = None
 
--- A tree of the sort `JsxClosingElement`.
+-- The fields of the kind `JsxClosingElement`, by the word of a node.
 abbrev pub jsx_closing_element_rule : Word → Option (List Field)
 jsx_closing_element_rule word.Closing = Some []
 jsx_closing_element_rule _ = None
 
--- A tree of the sort `JsxAttribute`.
+-- The fields of the kind `JsxAttribute`, by the word of a node.
 abbrev pub jsx_attribute_rule : Word → Option (List Field)
 jsx_attribute_rule word.Attr = Some (field.One kind.JsxAttributeName ∷ field.Maybe kind.JsxAttributeValue ∷ [])
 jsx_attribute_rule word.Attrspread = Some (field.One kind.Expression ∷ [])
 jsx_attribute_rule _ = None
 
--- A tree of the sort `JsxAttributeName`.
+-- The fields of the kind `JsxAttributeName`, by the word of a node.
 abbrev pub jsx_attribute_name_rule : Word → Option (List Field)
 jsx_attribute_name_rule word.Attrname = Some (field.One kind.Text ∷ [])
 jsx_attribute_name_rule word.Attrns = Some (field.One kind.Text ∷ field.One kind.Text ∷ [])
 jsx_attribute_name_rule _ = None
 
--- A tree of the sort `Statement`.
+-- The fields of the kind `Statement`, by the word of a node.
 abbrev pub statement_rule : Word → Option (List Field)
 statement_rule word.Empty = Some []
 statement_rule word.Debugger = Some []
@@ -217,14 +217,14 @@ statement_rule word.Exportlist = Some (field.Many kind.IdentifierReference ∷ [
 statement_rule word.Exportfrom = Some (field.One kind.Text ∷ [])
 statement_rule _ = None
 
--- A tree of the sort `BindingPattern`.
+-- The fields of the kind `BindingPattern`, by the word of a node.
 abbrev pub binding_pattern_rule : Word → Option (List Field)
 binding_pattern_rule word.Bind = Some (field.One kind.Text ∷ field.Maybe kind.TypeAnnotation ∷ [])
 binding_pattern_rule word.Arraypat = Some (field.Many kind.BindingPatternElement ∷ field.Maybe kind.BindingRestElement ∷ [])
 binding_pattern_rule word.Objectpat = Some (field.Many kind.BindingProperty ∷ field.Maybe kind.BindingRestElement ∷ [])
 binding_pattern_rule _ = None
 
--- A tree of the sort `Expression`.
+-- The fields of the kind `Expression`, by the word of a node.
 abbrev pub expression_rule : Word → Option (List Field)
 expression_rule word.Id = Some (field.One kind.Text ∷ [])
 expression_rule word.Null = Some []
@@ -271,7 +271,7 @@ expression_rule word.Call = Some (field.One kind.Flag ∷ field.One kind.Express
 expression_rule word.Chain = Some (field.One kind.Expression ∷ [])
 expression_rule _ = None
 
--- A tree of the sort `AssignmentTarget`.
+-- The fields of the kind `AssignmentTarget`, by the word of a node.
 abbrev pub assignment_target_rule : Word → Option (List Field)
 assignment_target_rule word.Id = Some (field.One kind.Text ∷ [])
 assignment_target_rule word.Member = Some (field.One kind.Flag ∷ field.One kind.Expression ∷ field.One kind.Text ∷ [])
@@ -285,7 +285,7 @@ assignment_target_rule word.Assert = Some (field.One kind.TypeAnnotation ∷ fie
 assignment_target_rule word.Nonnull = Some (field.One kind.AssignmentTarget ∷ [])
 assignment_target_rule _ = None
 
--- A tree of the sort `JsxElementName`.
+-- The fields of the kind `JsxElementName`, by the word of a node.
 abbrev pub jsx_element_name_rule : Word → Option (List Field)
 jsx_element_name_rule word.Tag = Some (field.One kind.Text ∷ [])
 jsx_element_name_rule word.Id = Some (field.One kind.Text ∷ [])
@@ -294,7 +294,7 @@ jsx_element_name_rule word.Tagmember = Some (field.One kind.JsxElementName ∷ f
 jsx_element_name_rule word.Tagns = Some (field.One kind.Text ∷ field.One kind.Text ∷ [])
 jsx_element_name_rule _ = None
 
--- A tree of the sort `JsxAttributeValue`.
+-- The fields of the kind `JsxAttributeValue`, by the word of a node.
 abbrev pub jsx_attribute_value_rule : Word → Option (List Field)
 jsx_attribute_value_rule word.Str = Some (field.One kind.Text ∷ [])
 jsx_attribute_value_rule word.Container = Some (field.Maybe kind.Expression ∷ [])
@@ -302,7 +302,7 @@ jsx_attribute_value_rule word.Element = Some (field.One kind.JsxOpeningElement �
 jsx_attribute_value_rule word.Fragment = Some (field.Many kind.JsxChild ∷ [])
 jsx_attribute_value_rule _ = None
 
--- A tree of the sort `JsxChild`.
+-- The fields of the kind `JsxChild`, by the word of a node.
 abbrev pub jsx_child_rule : Word → Option (List Field)
 jsx_child_rule word.Text = Some (field.One kind.Text ∷ [])
 jsx_child_rule word.Container = Some (field.Maybe kind.Expression ∷ [])
@@ -311,58 +311,58 @@ jsx_child_rule word.Fragment = Some (field.Many kind.JsxChild ∷ [])
 jsx_child_rule word.Spreadchild = Some (field.One kind.Expression ∷ [])
 jsx_child_rule _ = None
 
--- A tree of the sort `ForInit`.
+-- The fields of the kind `ForInit`, by the word of a node.
 abbrev pub for_init_rule : Word → Option (List Field)
 for_init_rule word.Var = Some (field.One kind.VariableKind ∷ field.Many kind.VariableDeclarator ∷ [])
 for_init_rule w = expression_rule w
 
--- A tree of the sort `ForHead`.
+-- The fields of the kind `ForHead`, by the word of a node.
 abbrev pub for_head_rule : Word → Option (List Field)
 for_head_rule word.Var = Some (field.One kind.VariableKind ∷ field.Many kind.VariableDeclarator ∷ [])
 for_head_rule w = assignment_target_rule w
 
--- A tree of the sort `ExportDefault`.
+-- The fields of the kind `ExportDefault`, by the word of a node.
 abbrev pub export_default_rule : Word → Option (List Field)
 export_default_rule w = first_rule (statement_rule w) (expression_rule w)
 
--- A tree of the sort `ArrowBody`.
+-- The fields of the kind `ArrowBody`, by the word of a node.
 abbrev pub arrow_body_rule : Word → Option (List Field)
 arrow_body_rule word.Body = Some (field.Many kind.Text ∷ field.Many kind.Statement ∷ [])
 arrow_body_rule w = expression_rule w
 
--- A tree of the sort `BindingPatternMaybeDefault`.
+-- The fields of the kind `BindingPatternMaybeDefault`, by the word of a node.
 abbrev pub binding_pattern_maybe_default_rule : Word → Option (List Field)
 binding_pattern_maybe_default_rule word.Defaultpat = Some (field.One kind.BindingPattern ∷ field.One kind.Expression ∷ [])
 binding_pattern_maybe_default_rule w = binding_pattern_rule w
 
--- A tree of the sort `PropertyKey`.
+-- The fields of the kind `PropertyKey`, by the word of a node.
 abbrev pub property_key_rule : Word → Option (List Field)
 property_key_rule word.Name = Some (field.One kind.Text ∷ [])
 property_key_rule word.Private = Some (field.One kind.Text ∷ [])
 property_key_rule w = expression_rule w
 
--- A tree of the sort `ArrayElement`.
+-- The fields of the kind `ArrayElement`, by the word of a node.
 abbrev pub array_element_rule : Word → Option (List Field)
 array_element_rule word.Spread = Some (field.One kind.Expression ∷ [])
 array_element_rule word.Hole = Some []
 array_element_rule w = expression_rule w
 
--- A tree of the sort `Argument`.
+-- The fields of the kind `Argument`, by the word of a node.
 abbrev pub argument_rule : Word → Option (List Field)
 argument_rule word.Spread = Some (field.One kind.Expression ∷ [])
 argument_rule w = expression_rule w
 
--- A tree of the sort `AssignmentTargetMaybeDefault`.
+-- The fields of the kind `AssignmentTargetMaybeDefault`, by the word of a node.
 abbrev pub assignment_target_maybe_default_rule : Word → Option (List Field)
 assignment_target_maybe_default_rule word.Default = Some (field.One kind.AssignmentTarget ∷ field.One kind.Expression ∷ [])
 assignment_target_maybe_default_rule w = assignment_target_rule w
 
--- A tree of the sort `BindingPatternElement`.
+-- The fields of the kind `BindingPatternElement`, by the word of a node.
 abbrev pub binding_pattern_element_rule : Word → Option (List Field)
 binding_pattern_element_rule word.Hole = Some []
 binding_pattern_element_rule w = binding_pattern_maybe_default_rule w
 
--- A tree of the sort `AssignmentTargetElement`.
+-- The fields of the kind `AssignmentTargetElement`, by the word of a node.
 abbrev pub assignment_target_element_rule : Word → Option (List Field)
 assignment_target_element_rule word.Hole = Some []
 assignment_target_element_rule w = assignment_target_maybe_default_rule w

@@ -23,105 +23,105 @@ pub enum Kind {
     LogicalOperator,
     /// An assignment operator.
     AssignmentOperator,
-    /// A tree of the sort `Unit`.
+    /// A unit: a program with one marked function, and the entities of its JSX texts.
     Unit,
-    /// A tree of the sort `Entity`.
+    /// An entity of JSX texts: the name between `&` and `;`, and the character that it stands for.
     Entity,
-    /// A tree of the sort `Program`.
+    /// A program: `Program` (ECMA-262, 16).
     Program,
-    /// A tree of the sort `Statement`.
+    /// A statement or a declaration (ECMA-262, 14).
     Statement,
-    /// A tree of the sort `BlockStatement`.
+    /// A block (ECMA-262, 14.2).
     BlockStatement,
-    /// A tree of the sort `SwitchCase`.
+    /// A clause of a `switch` statement (ECMA-262, 14.12).
     SwitchCase,
-    /// A tree of the sort `CatchClause`.
+    /// A `catch` clause (ECMA-262, 14.15).
     CatchClause,
-    /// A tree of the sort `VariableDeclaration`.
+    /// A declaration of variables (ECMA-262, 14.3).
     VariableDeclaration,
-    /// A tree of the sort `VariableDeclarator`.
+    /// A declarator of variables (ECMA-262, 14.3).
     VariableDeclarator,
-    /// A tree of the sort `ForInit`.
+    /// The first part of a `for` head: `ForStatementInit` (ECMA-262, 14.7.4).
     ForInit,
-    /// A tree of the sort `ForHead`.
+    /// The left side of a `for`-`in` or `for`-`of` head: `ForStatementLeft` (ECMA-262, 14.7.5).
     ForHead,
-    /// A tree of the sort `ExportDefault`.
+    /// A default export's value: `ExportDefaultDeclarationKind` (ECMA-262, 16.2.3).
     ExportDefault,
-    /// A tree of the sort `ClassElement`.
+    /// A member of a class (ECMA-262, 15.7); the names and keys of members are not kept.
     ClassElement,
-    /// A tree of the sort `ImportSpecifier`.
+    /// A binding of an import: `ImportDeclarationSpecifier` (ECMA-262, 16.2.2).
     ImportSpecifier,
-    /// A tree of the sort `Arrow`.
+    /// An arrow function: `ArrowFunctionExpression` (ECMA-262, 15.3 and 15.9).
     Arrow,
-    /// A tree of the sort `FunctionDeclaration`.
+    /// A function declaration: `Function` (ECMA-262, 15.2, 15.5, 15.6 and 15.8).
     FunctionDeclaration,
-    /// A tree of the sort `FunctionExpression`.
+    /// A function expression, or a method's function: `Function` (ECMA-262, 15.2, 15.4 to 15.6 and 15.8).
     FunctionExpression,
-    /// A tree of the sort `FormalParameters`.
+    /// The parameters of a function (ECMA-262, 15.1).
     FormalParameters,
-    /// A tree of the sort `FormalParameter`.
+    /// A parameter (ECMA-262, 15.1).
     FormalParameter,
-    /// A tree of the sort `BindingRestElement`.
+    /// A rest parameter, or the rest of a pattern (ECMA-262, 14.3.3 and 15.1).
     BindingRestElement,
-    /// A tree of the sort `FunctionBody`.
+    /// A function's body in braces (ECMA-262, 15.2).
     FunctionBody,
-    /// A tree of the sort `ArrowBody`.
+    /// An arrow function's body (ECMA-262, 15.3).
     ArrowBody,
-    /// A tree of the sort `BindingIdentifier`.
+    /// A name that is declared (ECMA-262, 13.1).
     BindingIdentifier,
-    /// A tree of the sort `TypeAnnotation`.
+    /// A type: `TSType`.
     TypeAnnotation,
-    /// A tree of the sort `IdentifierReference`.
+    /// A name that is used (ECMA-262, 13.1).
     IdentifierReference,
-    /// A tree of the sort `BindingPattern`.
+    /// A binding pattern, the part of a declaration that binds names (ECMA-262, 14.3.3).
     BindingPattern,
-    /// A tree of the sort `BindingPatternMaybeDefault`.
+    /// A binding pattern, with a default or without (ECMA-262, 14.3.3).
     BindingPatternMaybeDefault,
-    /// A tree of the sort `BindingPatternElement`.
+    /// An element of an array pattern (ECMA-262, 14.3.3).
     BindingPatternElement,
-    /// A tree of the sort `BindingProperty`.
+    /// A property of an object pattern (ECMA-262, 14.3.3).
     BindingProperty,
-    /// A tree of the sort `PropertyKey`.
+    /// A property's key (ECMA-262, 13.2.5).
     PropertyKey,
-    /// A tree of the sort `Expression`.
+    /// An expression (ECMA-262, 13).
     Expression,
-    /// A tree of the sort `TemplateLiteral`.
+    /// A template literal (ECMA-262, 13.2.8).
     TemplateLiteral,
-    /// A tree of the sort `TemplateElement`.
+    /// A text of a template literal (ECMA-262, 12.9.6).
     TemplateElement,
-    /// A tree of the sort `ArrayElement`.
+    /// An element of an array literal: `ArrayExpressionElement` (ECMA-262, 13.2.4).
     ArrayElement,
-    /// A tree of the sort `Argument`.
+    /// An argument (ECMA-262, 13.3.8).
     Argument,
-    /// A tree of the sort `ObjectProperty`.
+    /// A property of an object literal: `ObjectPropertyKind` (ECMA-262, 13.2.5).
     ObjectProperty,
-    /// A tree of the sort `AssignmentTarget`.
+    /// An assignment target (ECMA-262, 13.15).
     AssignmentTarget,
-    /// A tree of the sort `AssignmentTargetMaybeDefault`.
+    /// An assignment target, with a default or without (ECMA-262, 13.15.5).
     AssignmentTargetMaybeDefault,
-    /// A tree of the sort `AssignmentTargetElement`.
+    /// An element of an array of targets (ECMA-262, 13.15.5).
     AssignmentTargetElement,
-    /// A tree of the sort `AssignmentTargetProperty`.
+    /// A property of an object of targets (ECMA-262, 13.15.5).
     AssignmentTargetProperty,
-    /// A tree of the sort `AssignmentTargetRest`.
+    /// The rest of an array or object of targets (ECMA-262, 13.15.5).
     AssignmentTargetRest,
-    /// A tree of the sort `JsxElement`.
+    /// A JSX element: `JSXElement`.
     JsxElement,
-    /// A tree of the sort `JsxFragment`.
+    /// A JSX fragment: `JSXFragment`.
     JsxFragment,
-    /// A tree of the sort `JsxOpeningElement`.
+    /// An opening tag: `JSXOpeningElement`.
     JsxOpeningElement,
-    /// A tree of the sort `JsxClosingElement`.
+    /// A closing tag: `JSXClosingElement`.
     JsxClosingElement,
-    /// A tree of the sort `JsxElementName`.
+    /// The name of a JSX element: `JSXElementName`.
     JsxElementName,
-    /// A tree of the sort `JsxAttribute`.
+    /// An attribute of a JSX element: `JSXAttributeItem`.
     JsxAttribute,
-    /// A tree of the sort `JsxAttributeName`.
+    /// The name of a JSX attribute: `JSXAttributeName`.
     JsxAttributeName,
-    /// A tree of the sort `JsxAttributeValue`.
+    /// The value of a JSX attribute: `JSXAttributeValue`.
     JsxAttributeValue,
-    /// A tree of the sort `JsxChild`.
+    /// A child of a JSX element or fragment: `JSXChild`.
     JsxChild,
 }
 

@@ -15,7 +15,7 @@ impl Sort for TextSort {
 /// A text.
 pub type TextTree<'b> = Tree<'b, TextSort>;
 
-/// A list of trees of that sort.
+/// Trees of the sort `Text`, as the items of a list.
 pub type TextTrees<'b> = Trees<'b, TextSort>;
 
 /// The sort of `Kind::Unit`.
@@ -26,10 +26,10 @@ impl Sort for UnitSort {
     ghost kind = { kind.Unit };
 }
 
-/// A tree of the sort `Unit`.
+/// A unit: a program with one marked function, and the entities of its JSX texts.
 pub type UnitTree<'b> = Tree<'b, UnitSort>;
 
-/// A list of trees of that sort.
+/// Trees of the sort `Unit`, as the items of a list.
 pub type UnitTrees<'b> = Trees<'b, UnitSort>;
 
 /// The sort of `Kind::Entity`.
@@ -40,10 +40,10 @@ impl Sort for EntitySort {
     ghost kind = { kind.Entity };
 }
 
-/// A tree of the sort `Entity`.
+/// An entity of JSX texts: the name between `&` and `;`, and the character that it stands for.
 pub type EntityTree<'b> = Tree<'b, EntitySort>;
 
-/// A list of trees of that sort.
+/// Trees of the sort `Entity`, as the items of a list.
 pub type EntityTrees<'b> = Trees<'b, EntitySort>;
 
 /// The sort of `Kind::Program`.
@@ -54,10 +54,10 @@ impl Sort for ProgramSort {
     ghost kind = { kind.Program };
 }
 
-/// A tree of the sort `Program`.
+/// A program: `Program` (ECMA-262, 16).
 pub type ProgramTree<'b> = Tree<'b, ProgramSort>;
 
-/// A list of trees of that sort.
+/// Trees of the sort `Program`, as the items of a list.
 pub type ProgramTrees<'b> = Trees<'b, ProgramSort>;
 
 /// The sort of `Kind::Statement`.
@@ -68,10 +68,10 @@ impl Sort for StatementSort {
     ghost kind = { kind.Statement };
 }
 
-/// A tree of the sort `Statement`.
+/// A statement or a declaration (ECMA-262, 14).
 pub type StatementTree<'b> = Tree<'b, StatementSort>;
 
-/// A list of trees of that sort.
+/// Trees of the sort `Statement`, as the items of a list.
 pub type StatementTrees<'b> = Trees<'b, StatementSort>;
 
 /// The sort of `Kind::BlockStatement`.
@@ -82,10 +82,10 @@ impl Sort for BlockStatementSort {
     ghost kind = { kind.BlockStatement };
 }
 
-/// A tree of the sort `BlockStatement`.
+/// A block (ECMA-262, 14.2).
 pub type BlockStatementTree<'b> = Tree<'b, BlockStatementSort>;
 
-/// A list of trees of that sort.
+/// Trees of the sort `BlockStatement`, as the items of a list.
 pub type BlockStatementTrees<'b> = Trees<'b, BlockStatementSort>;
 
 /// The sort of `Kind::SwitchCase`.
@@ -96,10 +96,10 @@ impl Sort for SwitchCaseSort {
     ghost kind = { kind.SwitchCase };
 }
 
-/// A tree of the sort `SwitchCase`.
+/// A clause of a `switch` statement (ECMA-262, 14.12).
 pub type SwitchCaseTree<'b> = Tree<'b, SwitchCaseSort>;
 
-/// A list of trees of that sort.
+/// Trees of the sort `SwitchCase`, as the items of a list.
 pub type SwitchCaseTrees<'b> = Trees<'b, SwitchCaseSort>;
 
 /// The sort of `Kind::CatchClause`.
@@ -110,10 +110,10 @@ impl Sort for CatchClauseSort {
     ghost kind = { kind.CatchClause };
 }
 
-/// A tree of the sort `CatchClause`.
+/// A `catch` clause (ECMA-262, 14.15).
 pub type CatchClauseTree<'b> = Tree<'b, CatchClauseSort>;
 
-/// A list of trees of that sort.
+/// Trees of the sort `CatchClause`, as the items of a list.
 pub type CatchClauseTrees<'b> = Trees<'b, CatchClauseSort>;
 
 /// The sort of `Kind::VariableDeclaration`.
@@ -124,10 +124,10 @@ impl Sort for VariableDeclarationSort {
     ghost kind = { kind.VariableDeclaration };
 }
 
-/// A tree of the sort `VariableDeclaration`.
+/// A declaration of variables (ECMA-262, 14.3).
 pub type VariableDeclarationTree<'b> = Tree<'b, VariableDeclarationSort>;
 
-/// A list of trees of that sort.
+/// Trees of the sort `VariableDeclaration`, as the items of a list.
 pub type VariableDeclarationTrees<'b> = Trees<'b, VariableDeclarationSort>;
 
 /// The sort of `Kind::VariableDeclarator`.
@@ -138,10 +138,10 @@ impl Sort for VariableDeclaratorSort {
     ghost kind = { kind.VariableDeclarator };
 }
 
-/// A tree of the sort `VariableDeclarator`.
+/// A declarator of variables (ECMA-262, 14.3).
 pub type VariableDeclaratorTree<'b> = Tree<'b, VariableDeclaratorSort>;
 
-/// A list of trees of that sort.
+/// Trees of the sort `VariableDeclarator`, as the items of a list.
 pub type VariableDeclaratorTrees<'b> = Trees<'b, VariableDeclaratorSort>;
 
 /// The sort of `Kind::ForInit`.
@@ -152,10 +152,10 @@ impl Sort for ForInitSort {
     ghost kind = { kind.ForInit };
 }
 
-/// A tree of the sort `ForInit`.
+/// The first part of a `for` head: `ForStatementInit` (ECMA-262, 14.7.4).
 pub type ForInitTree<'b> = Tree<'b, ForInitSort>;
 
-/// A list of trees of that sort.
+/// Trees of the sort `ForInit`, as the items of a list.
 pub type ForInitTrees<'b> = Trees<'b, ForInitSort>;
 
 /// The sort of `Kind::ForHead`.
@@ -166,10 +166,10 @@ impl Sort for ForHeadSort {
     ghost kind = { kind.ForHead };
 }
 
-/// A tree of the sort `ForHead`.
+/// The left side of a `for`-`in` or `for`-`of` head: `ForStatementLeft` (ECMA-262, 14.7.5).
 pub type ForHeadTree<'b> = Tree<'b, ForHeadSort>;
 
-/// A list of trees of that sort.
+/// Trees of the sort `ForHead`, as the items of a list.
 pub type ForHeadTrees<'b> = Trees<'b, ForHeadSort>;
 
 /// The sort of `Kind::ExportDefault`.
@@ -180,10 +180,10 @@ impl Sort for ExportDefaultSort {
     ghost kind = { kind.ExportDefault };
 }
 
-/// A tree of the sort `ExportDefault`.
+/// A default export's value: `ExportDefaultDeclarationKind` (ECMA-262, 16.2.3).
 pub type ExportDefaultTree<'b> = Tree<'b, ExportDefaultSort>;
 
-/// A list of trees of that sort.
+/// Trees of the sort `ExportDefault`, as the items of a list.
 pub type ExportDefaultTrees<'b> = Trees<'b, ExportDefaultSort>;
 
 /// The sort of `Kind::ClassElement`.
@@ -194,10 +194,10 @@ impl Sort for ClassElementSort {
     ghost kind = { kind.ClassElement };
 }
 
-/// A tree of the sort `ClassElement`.
+/// A member of a class (ECMA-262, 15.7); the names and keys of members are not kept.
 pub type ClassElementTree<'b> = Tree<'b, ClassElementSort>;
 
-/// A list of trees of that sort.
+/// Trees of the sort `ClassElement`, as the items of a list.
 pub type ClassElementTrees<'b> = Trees<'b, ClassElementSort>;
 
 /// The sort of `Kind::ImportSpecifier`.
@@ -208,10 +208,10 @@ impl Sort for ImportSpecifierSort {
     ghost kind = { kind.ImportSpecifier };
 }
 
-/// A tree of the sort `ImportSpecifier`.
+/// A binding of an import: `ImportDeclarationSpecifier` (ECMA-262, 16.2.2).
 pub type ImportSpecifierTree<'b> = Tree<'b, ImportSpecifierSort>;
 
-/// A list of trees of that sort.
+/// Trees of the sort `ImportSpecifier`, as the items of a list.
 pub type ImportSpecifierTrees<'b> = Trees<'b, ImportSpecifierSort>;
 
 /// The sort of `Kind::Arrow`.
@@ -222,10 +222,10 @@ impl Sort for ArrowSort {
     ghost kind = { kind.Arrow };
 }
 
-/// A tree of the sort `Arrow`.
+/// An arrow function: `ArrowFunctionExpression` (ECMA-262, 15.3 and 15.9).
 pub type ArrowTree<'b> = Tree<'b, ArrowSort>;
 
-/// A list of trees of that sort.
+/// Trees of the sort `Arrow`, as the items of a list.
 pub type ArrowTrees<'b> = Trees<'b, ArrowSort>;
 
 /// The sort of `Kind::FunctionDeclaration`.
@@ -236,10 +236,10 @@ impl Sort for FunctionDeclarationSort {
     ghost kind = { kind.FunctionDeclaration };
 }
 
-/// A tree of the sort `FunctionDeclaration`.
+/// A function declaration: `Function` (ECMA-262, 15.2, 15.5, 15.6 and 15.8).
 pub type FunctionDeclarationTree<'b> = Tree<'b, FunctionDeclarationSort>;
 
-/// A list of trees of that sort.
+/// Trees of the sort `FunctionDeclaration`, as the items of a list.
 pub type FunctionDeclarationTrees<'b> = Trees<'b, FunctionDeclarationSort>;
 
 /// The sort of `Kind::FunctionExpression`.
@@ -250,10 +250,10 @@ impl Sort for FunctionExpressionSort {
     ghost kind = { kind.FunctionExpression };
 }
 
-/// A tree of the sort `FunctionExpression`.
+/// A function expression, or a method's function: `Function` (ECMA-262, 15.2, 15.4 to 15.6 and 15.8).
 pub type FunctionExpressionTree<'b> = Tree<'b, FunctionExpressionSort>;
 
-/// A list of trees of that sort.
+/// Trees of the sort `FunctionExpression`, as the items of a list.
 pub type FunctionExpressionTrees<'b> = Trees<'b, FunctionExpressionSort>;
 
 /// The sort of `Kind::FormalParameters`.
@@ -264,10 +264,10 @@ impl Sort for FormalParametersSort {
     ghost kind = { kind.FormalParameters };
 }
 
-/// A tree of the sort `FormalParameters`.
+/// The parameters of a function (ECMA-262, 15.1).
 pub type FormalParametersTree<'b> = Tree<'b, FormalParametersSort>;
 
-/// A list of trees of that sort.
+/// Trees of the sort `FormalParameters`, as the items of a list.
 pub type FormalParametersTrees<'b> = Trees<'b, FormalParametersSort>;
 
 /// The sort of `Kind::FormalParameter`.
@@ -278,10 +278,10 @@ impl Sort for FormalParameterSort {
     ghost kind = { kind.FormalParameter };
 }
 
-/// A tree of the sort `FormalParameter`.
+/// A parameter (ECMA-262, 15.1).
 pub type FormalParameterTree<'b> = Tree<'b, FormalParameterSort>;
 
-/// A list of trees of that sort.
+/// Trees of the sort `FormalParameter`, as the items of a list.
 pub type FormalParameterTrees<'b> = Trees<'b, FormalParameterSort>;
 
 /// The sort of `Kind::BindingRestElement`.
@@ -292,10 +292,10 @@ impl Sort for BindingRestElementSort {
     ghost kind = { kind.BindingRestElement };
 }
 
-/// A tree of the sort `BindingRestElement`.
+/// A rest parameter, or the rest of a pattern (ECMA-262, 14.3.3 and 15.1).
 pub type BindingRestElementTree<'b> = Tree<'b, BindingRestElementSort>;
 
-/// A list of trees of that sort.
+/// Trees of the sort `BindingRestElement`, as the items of a list.
 pub type BindingRestElementTrees<'b> = Trees<'b, BindingRestElementSort>;
 
 /// The sort of `Kind::FunctionBody`.
@@ -306,10 +306,10 @@ impl Sort for FunctionBodySort {
     ghost kind = { kind.FunctionBody };
 }
 
-/// A tree of the sort `FunctionBody`.
+/// A function's body in braces (ECMA-262, 15.2).
 pub type FunctionBodyTree<'b> = Tree<'b, FunctionBodySort>;
 
-/// A list of trees of that sort.
+/// Trees of the sort `FunctionBody`, as the items of a list.
 pub type FunctionBodyTrees<'b> = Trees<'b, FunctionBodySort>;
 
 /// The sort of `Kind::ArrowBody`.
@@ -320,10 +320,10 @@ impl Sort for ArrowBodySort {
     ghost kind = { kind.ArrowBody };
 }
 
-/// A tree of the sort `ArrowBody`.
+/// An arrow function's body (ECMA-262, 15.3).
 pub type ArrowBodyTree<'b> = Tree<'b, ArrowBodySort>;
 
-/// A list of trees of that sort.
+/// Trees of the sort `ArrowBody`, as the items of a list.
 pub type ArrowBodyTrees<'b> = Trees<'b, ArrowBodySort>;
 
 /// The sort of `Kind::BindingIdentifier`.
@@ -334,10 +334,10 @@ impl Sort for BindingIdentifierSort {
     ghost kind = { kind.BindingIdentifier };
 }
 
-/// A tree of the sort `BindingIdentifier`.
+/// A name that is declared (ECMA-262, 13.1).
 pub type BindingIdentifierTree<'b> = Tree<'b, BindingIdentifierSort>;
 
-/// A list of trees of that sort.
+/// Trees of the sort `BindingIdentifier`, as the items of a list.
 pub type BindingIdentifierTrees<'b> = Trees<'b, BindingIdentifierSort>;
 
 /// The sort of `Kind::TypeAnnotation`.
@@ -348,10 +348,10 @@ impl Sort for TypeAnnotationSort {
     ghost kind = { kind.TypeAnnotation };
 }
 
-/// A tree of the sort `TypeAnnotation`.
+/// A type: `TSType`.
 pub type TypeAnnotationTree<'b> = Tree<'b, TypeAnnotationSort>;
 
-/// A list of trees of that sort.
+/// Trees of the sort `TypeAnnotation`, as the items of a list.
 pub type TypeAnnotationTrees<'b> = Trees<'b, TypeAnnotationSort>;
 
 /// The sort of `Kind::IdentifierReference`.
@@ -362,10 +362,10 @@ impl Sort for IdentifierReferenceSort {
     ghost kind = { kind.IdentifierReference };
 }
 
-/// A tree of the sort `IdentifierReference`.
+/// A name that is used (ECMA-262, 13.1).
 pub type IdentifierReferenceTree<'b> = Tree<'b, IdentifierReferenceSort>;
 
-/// A list of trees of that sort.
+/// Trees of the sort `IdentifierReference`, as the items of a list.
 pub type IdentifierReferenceTrees<'b> = Trees<'b, IdentifierReferenceSort>;
 
 /// The sort of `Kind::BindingPattern`.
@@ -376,10 +376,10 @@ impl Sort for BindingPatternSort {
     ghost kind = { kind.BindingPattern };
 }
 
-/// A tree of the sort `BindingPattern`.
+/// A binding pattern, the part of a declaration that binds names (ECMA-262, 14.3.3).
 pub type BindingPatternTree<'b> = Tree<'b, BindingPatternSort>;
 
-/// A list of trees of that sort.
+/// Trees of the sort `BindingPattern`, as the items of a list.
 pub type BindingPatternTrees<'b> = Trees<'b, BindingPatternSort>;
 
 /// The sort of `Kind::BindingPatternMaybeDefault`.
@@ -390,10 +390,10 @@ impl Sort for BindingPatternMaybeDefaultSort {
     ghost kind = { kind.BindingPatternMaybeDefault };
 }
 
-/// A tree of the sort `BindingPatternMaybeDefault`.
+/// A binding pattern, with a default or without (ECMA-262, 14.3.3).
 pub type BindingPatternMaybeDefaultTree<'b> = Tree<'b, BindingPatternMaybeDefaultSort>;
 
-/// A list of trees of that sort.
+/// Trees of the sort `BindingPatternMaybeDefault`, as the items of a list.
 pub type BindingPatternMaybeDefaultTrees<'b> = Trees<'b, BindingPatternMaybeDefaultSort>;
 
 /// The sort of `Kind::BindingPatternElement`.
@@ -404,10 +404,10 @@ impl Sort for BindingPatternElementSort {
     ghost kind = { kind.BindingPatternElement };
 }
 
-/// A tree of the sort `BindingPatternElement`.
+/// An element of an array pattern (ECMA-262, 14.3.3).
 pub type BindingPatternElementTree<'b> = Tree<'b, BindingPatternElementSort>;
 
-/// A list of trees of that sort.
+/// Trees of the sort `BindingPatternElement`, as the items of a list.
 pub type BindingPatternElementTrees<'b> = Trees<'b, BindingPatternElementSort>;
 
 /// The sort of `Kind::BindingProperty`.
@@ -418,10 +418,10 @@ impl Sort for BindingPropertySort {
     ghost kind = { kind.BindingProperty };
 }
 
-/// A tree of the sort `BindingProperty`.
+/// A property of an object pattern (ECMA-262, 14.3.3).
 pub type BindingPropertyTree<'b> = Tree<'b, BindingPropertySort>;
 
-/// A list of trees of that sort.
+/// Trees of the sort `BindingProperty`, as the items of a list.
 pub type BindingPropertyTrees<'b> = Trees<'b, BindingPropertySort>;
 
 /// The sort of `Kind::PropertyKey`.
@@ -432,10 +432,10 @@ impl Sort for PropertyKeySort {
     ghost kind = { kind.PropertyKey };
 }
 
-/// A tree of the sort `PropertyKey`.
+/// A property's key (ECMA-262, 13.2.5).
 pub type PropertyKeyTree<'b> = Tree<'b, PropertyKeySort>;
 
-/// A list of trees of that sort.
+/// Trees of the sort `PropertyKey`, as the items of a list.
 pub type PropertyKeyTrees<'b> = Trees<'b, PropertyKeySort>;
 
 /// The sort of `Kind::Expression`.
@@ -446,10 +446,10 @@ impl Sort for ExpressionSort {
     ghost kind = { kind.Expression };
 }
 
-/// A tree of the sort `Expression`.
+/// An expression (ECMA-262, 13).
 pub type ExpressionTree<'b> = Tree<'b, ExpressionSort>;
 
-/// A list of trees of that sort.
+/// Trees of the sort `Expression`, as the items of a list.
 pub type ExpressionTrees<'b> = Trees<'b, ExpressionSort>;
 
 /// The sort of `Kind::TemplateLiteral`.
@@ -460,10 +460,10 @@ impl Sort for TemplateLiteralSort {
     ghost kind = { kind.TemplateLiteral };
 }
 
-/// A tree of the sort `TemplateLiteral`.
+/// A template literal (ECMA-262, 13.2.8).
 pub type TemplateLiteralTree<'b> = Tree<'b, TemplateLiteralSort>;
 
-/// A list of trees of that sort.
+/// Trees of the sort `TemplateLiteral`, as the items of a list.
 pub type TemplateLiteralTrees<'b> = Trees<'b, TemplateLiteralSort>;
 
 /// The sort of `Kind::TemplateElement`.
@@ -474,10 +474,10 @@ impl Sort for TemplateElementSort {
     ghost kind = { kind.TemplateElement };
 }
 
-/// A tree of the sort `TemplateElement`.
+/// A text of a template literal (ECMA-262, 12.9.6).
 pub type TemplateElementTree<'b> = Tree<'b, TemplateElementSort>;
 
-/// A list of trees of that sort.
+/// Trees of the sort `TemplateElement`, as the items of a list.
 pub type TemplateElementTrees<'b> = Trees<'b, TemplateElementSort>;
 
 /// The sort of `Kind::ArrayElement`.
@@ -488,10 +488,10 @@ impl Sort for ArrayElementSort {
     ghost kind = { kind.ArrayElement };
 }
 
-/// A tree of the sort `ArrayElement`.
+/// An element of an array literal: `ArrayExpressionElement` (ECMA-262, 13.2.4).
 pub type ArrayElementTree<'b> = Tree<'b, ArrayElementSort>;
 
-/// A list of trees of that sort.
+/// Trees of the sort `ArrayElement`, as the items of a list.
 pub type ArrayElementTrees<'b> = Trees<'b, ArrayElementSort>;
 
 /// The sort of `Kind::Argument`.
@@ -502,10 +502,10 @@ impl Sort for ArgumentSort {
     ghost kind = { kind.Argument };
 }
 
-/// A tree of the sort `Argument`.
+/// An argument (ECMA-262, 13.3.8).
 pub type ArgumentTree<'b> = Tree<'b, ArgumentSort>;
 
-/// A list of trees of that sort.
+/// Trees of the sort `Argument`, as the items of a list.
 pub type ArgumentTrees<'b> = Trees<'b, ArgumentSort>;
 
 /// The sort of `Kind::ObjectProperty`.
@@ -516,10 +516,10 @@ impl Sort for ObjectPropertySort {
     ghost kind = { kind.ObjectProperty };
 }
 
-/// A tree of the sort `ObjectProperty`.
+/// A property of an object literal: `ObjectPropertyKind` (ECMA-262, 13.2.5).
 pub type ObjectPropertyTree<'b> = Tree<'b, ObjectPropertySort>;
 
-/// A list of trees of that sort.
+/// Trees of the sort `ObjectProperty`, as the items of a list.
 pub type ObjectPropertyTrees<'b> = Trees<'b, ObjectPropertySort>;
 
 /// The sort of `Kind::AssignmentTarget`.
@@ -530,10 +530,10 @@ impl Sort for AssignmentTargetSort {
     ghost kind = { kind.AssignmentTarget };
 }
 
-/// A tree of the sort `AssignmentTarget`.
+/// An assignment target (ECMA-262, 13.15).
 pub type AssignmentTargetTree<'b> = Tree<'b, AssignmentTargetSort>;
 
-/// A list of trees of that sort.
+/// Trees of the sort `AssignmentTarget`, as the items of a list.
 pub type AssignmentTargetTrees<'b> = Trees<'b, AssignmentTargetSort>;
 
 /// The sort of `Kind::AssignmentTargetMaybeDefault`.
@@ -544,10 +544,10 @@ impl Sort for AssignmentTargetMaybeDefaultSort {
     ghost kind = { kind.AssignmentTargetMaybeDefault };
 }
 
-/// A tree of the sort `AssignmentTargetMaybeDefault`.
+/// An assignment target, with a default or without (ECMA-262, 13.15.5).
 pub type AssignmentTargetMaybeDefaultTree<'b> = Tree<'b, AssignmentTargetMaybeDefaultSort>;
 
-/// A list of trees of that sort.
+/// Trees of the sort `AssignmentTargetMaybeDefault`, as the items of a list.
 pub type AssignmentTargetMaybeDefaultTrees<'b> = Trees<'b, AssignmentTargetMaybeDefaultSort>;
 
 /// The sort of `Kind::AssignmentTargetElement`.
@@ -558,10 +558,10 @@ impl Sort for AssignmentTargetElementSort {
     ghost kind = { kind.AssignmentTargetElement };
 }
 
-/// A tree of the sort `AssignmentTargetElement`.
+/// An element of an array of targets (ECMA-262, 13.15.5).
 pub type AssignmentTargetElementTree<'b> = Tree<'b, AssignmentTargetElementSort>;
 
-/// A list of trees of that sort.
+/// Trees of the sort `AssignmentTargetElement`, as the items of a list.
 pub type AssignmentTargetElementTrees<'b> = Trees<'b, AssignmentTargetElementSort>;
 
 /// The sort of `Kind::AssignmentTargetProperty`.
@@ -572,10 +572,10 @@ impl Sort for AssignmentTargetPropertySort {
     ghost kind = { kind.AssignmentTargetProperty };
 }
 
-/// A tree of the sort `AssignmentTargetProperty`.
+/// A property of an object of targets (ECMA-262, 13.15.5).
 pub type AssignmentTargetPropertyTree<'b> = Tree<'b, AssignmentTargetPropertySort>;
 
-/// A list of trees of that sort.
+/// Trees of the sort `AssignmentTargetProperty`, as the items of a list.
 pub type AssignmentTargetPropertyTrees<'b> = Trees<'b, AssignmentTargetPropertySort>;
 
 /// The sort of `Kind::AssignmentTargetRest`.
@@ -586,10 +586,10 @@ impl Sort for AssignmentTargetRestSort {
     ghost kind = { kind.AssignmentTargetRest };
 }
 
-/// A tree of the sort `AssignmentTargetRest`.
+/// The rest of an array or object of targets (ECMA-262, 13.15.5).
 pub type AssignmentTargetRestTree<'b> = Tree<'b, AssignmentTargetRestSort>;
 
-/// A list of trees of that sort.
+/// Trees of the sort `AssignmentTargetRest`, as the items of a list.
 pub type AssignmentTargetRestTrees<'b> = Trees<'b, AssignmentTargetRestSort>;
 
 /// The sort of `Kind::JsxElement`.
@@ -600,10 +600,10 @@ impl Sort for JsxElementSort {
     ghost kind = { kind.JsxElement };
 }
 
-/// A tree of the sort `JsxElement`.
+/// A JSX element: `JSXElement`.
 pub type JsxElementTree<'b> = Tree<'b, JsxElementSort>;
 
-/// A list of trees of that sort.
+/// Trees of the sort `JsxElement`, as the items of a list.
 pub type JsxElementTrees<'b> = Trees<'b, JsxElementSort>;
 
 /// The sort of `Kind::JsxFragment`.
@@ -614,10 +614,10 @@ impl Sort for JsxFragmentSort {
     ghost kind = { kind.JsxFragment };
 }
 
-/// A tree of the sort `JsxFragment`.
+/// A JSX fragment: `JSXFragment`.
 pub type JsxFragmentTree<'b> = Tree<'b, JsxFragmentSort>;
 
-/// A list of trees of that sort.
+/// Trees of the sort `JsxFragment`, as the items of a list.
 pub type JsxFragmentTrees<'b> = Trees<'b, JsxFragmentSort>;
 
 /// The sort of `Kind::JsxOpeningElement`.
@@ -628,10 +628,10 @@ impl Sort for JsxOpeningElementSort {
     ghost kind = { kind.JsxOpeningElement };
 }
 
-/// A tree of the sort `JsxOpeningElement`.
+/// An opening tag: `JSXOpeningElement`.
 pub type JsxOpeningElementTree<'b> = Tree<'b, JsxOpeningElementSort>;
 
-/// A list of trees of that sort.
+/// Trees of the sort `JsxOpeningElement`, as the items of a list.
 pub type JsxOpeningElementTrees<'b> = Trees<'b, JsxOpeningElementSort>;
 
 /// The sort of `Kind::JsxClosingElement`.
@@ -642,10 +642,10 @@ impl Sort for JsxClosingElementSort {
     ghost kind = { kind.JsxClosingElement };
 }
 
-/// A tree of the sort `JsxClosingElement`.
+/// A closing tag: `JSXClosingElement`.
 pub type JsxClosingElementTree<'b> = Tree<'b, JsxClosingElementSort>;
 
-/// A list of trees of that sort.
+/// Trees of the sort `JsxClosingElement`, as the items of a list.
 pub type JsxClosingElementTrees<'b> = Trees<'b, JsxClosingElementSort>;
 
 /// The sort of `Kind::JsxElementName`.
@@ -656,10 +656,10 @@ impl Sort for JsxElementNameSort {
     ghost kind = { kind.JsxElementName };
 }
 
-/// A tree of the sort `JsxElementName`.
+/// The name of a JSX element: `JSXElementName`.
 pub type JsxElementNameTree<'b> = Tree<'b, JsxElementNameSort>;
 
-/// A list of trees of that sort.
+/// Trees of the sort `JsxElementName`, as the items of a list.
 pub type JsxElementNameTrees<'b> = Trees<'b, JsxElementNameSort>;
 
 /// The sort of `Kind::JsxAttribute`.
@@ -670,10 +670,10 @@ impl Sort for JsxAttributeSort {
     ghost kind = { kind.JsxAttribute };
 }
 
-/// A tree of the sort `JsxAttribute`.
+/// An attribute of a JSX element: `JSXAttributeItem`.
 pub type JsxAttributeTree<'b> = Tree<'b, JsxAttributeSort>;
 
-/// A list of trees of that sort.
+/// Trees of the sort `JsxAttribute`, as the items of a list.
 pub type JsxAttributeTrees<'b> = Trees<'b, JsxAttributeSort>;
 
 /// The sort of `Kind::JsxAttributeName`.
@@ -684,10 +684,10 @@ impl Sort for JsxAttributeNameSort {
     ghost kind = { kind.JsxAttributeName };
 }
 
-/// A tree of the sort `JsxAttributeName`.
+/// The name of a JSX attribute: `JSXAttributeName`.
 pub type JsxAttributeNameTree<'b> = Tree<'b, JsxAttributeNameSort>;
 
-/// A list of trees of that sort.
+/// Trees of the sort `JsxAttributeName`, as the items of a list.
 pub type JsxAttributeNameTrees<'b> = Trees<'b, JsxAttributeNameSort>;
 
 /// The sort of `Kind::JsxAttributeValue`.
@@ -698,10 +698,10 @@ impl Sort for JsxAttributeValueSort {
     ghost kind = { kind.JsxAttributeValue };
 }
 
-/// A tree of the sort `JsxAttributeValue`.
+/// The value of a JSX attribute: `JSXAttributeValue`.
 pub type JsxAttributeValueTree<'b> = Tree<'b, JsxAttributeValueSort>;
 
-/// A list of trees of that sort.
+/// Trees of the sort `JsxAttributeValue`, as the items of a list.
 pub type JsxAttributeValueTrees<'b> = Trees<'b, JsxAttributeValueSort>;
 
 /// The sort of `Kind::JsxChild`.
@@ -712,8 +712,8 @@ impl Sort for JsxChildSort {
     ghost kind = { kind.JsxChild };
 }
 
-/// A tree of the sort `JsxChild`.
+/// A child of a JSX element or fragment: `JSXChild`.
 pub type JsxChildTree<'b> = Tree<'b, JsxChildSort>;
 
-/// A list of trees of that sort.
+/// Trees of the sort `JsxChild`, as the items of a list.
 pub type JsxChildTrees<'b> = Trees<'b, JsxChildSort>;

@@ -440,9 +440,75 @@ impl Word {
     /// Number of parts for which the reader makes room in a node of the word: as many as the grammar gives it.
     pub(crate) fn usual_parts(self) -> usize {
         match self {
-            Word::Empty | Word::Debugger | Word::Hole | Word::Null | Word::Importmeta | Word::Newtarget | Word::Super | Word::This | Word::Closing => 0,
-            Word::Program | Word::Expr | Word::Return | Word::Throw | Word::Break | Word::Continue | Word::Interface | Word::Enum | Word::Namespace | Word::Export | Word::Exportdefault | Word::Exportlist | Word::Exportfrom | Word::Block | Word::Field | Word::Static | Word::Rest | Word::Id | Word::Name | Word::Private | Word::Bool | Word::Num | Word::Str | Word::Bigint | Word::Array | Word::Object | Word::Seq | Word::Await | Word::Paren | Word::Nonnull | Word::Chain | Word::Spread | Word::Fragment | Word::Tag | Word::Attrspread | Word::Attrname | Word::Container | Word::Text | Word::Spreadchild => 1,
-            Word::If | Word::Forin | Word::Try | Word::Classdecl | Word::Method | Word::Keyedpat | Word::Update | Word::Binary | Word::Logical | Word::Cond | Word::Assign | Word::Classexpr | Word::Member | Word::Index | Word::Privatemember | Word::Call | Word::Prop | Word::Get | Word::Set | Word::Keyed | Word::Element => 3,
+            Word::Empty
+            | Word::Debugger
+            | Word::Hole
+            | Word::Null
+            | Word::Importmeta
+            | Word::Newtarget
+            | Word::Super
+            | Word::This
+            | Word::Closing => 0,
+            Word::Program
+            | Word::Expr
+            | Word::Return
+            | Word::Throw
+            | Word::Break
+            | Word::Continue
+            | Word::Interface
+            | Word::Enum
+            | Word::Namespace
+            | Word::Export
+            | Word::Exportdefault
+            | Word::Exportlist
+            | Word::Exportfrom
+            | Word::Block
+            | Word::Field
+            | Word::Static
+            | Word::Rest
+            | Word::Id
+            | Word::Name
+            | Word::Private
+            | Word::Bool
+            | Word::Num
+            | Word::Str
+            | Word::Bigint
+            | Word::Array
+            | Word::Object
+            | Word::Seq
+            | Word::Await
+            | Word::Paren
+            | Word::Nonnull
+            | Word::Chain
+            | Word::Spread
+            | Word::Fragment
+            | Word::Tag
+            | Word::Attrspread
+            | Word::Attrname
+            | Word::Container
+            | Word::Text
+            | Word::Spreadchild => 1,
+            Word::If
+            | Word::Forin
+            | Word::Try
+            | Word::Classdecl
+            | Word::Method
+            | Word::Keyedpat
+            | Word::Update
+            | Word::Binary
+            | Word::Logical
+            | Word::Cond
+            | Word::Assign
+            | Word::Classexpr
+            | Word::Member
+            | Word::Index
+            | Word::Privatemember
+            | Word::Call
+            | Word::Prop
+            | Word::Get
+            | Word::Set
+            | Word::Keyed
+            | Word::Element => 3,
             Word::For | Word::Forof | Word::Arrow => 4,
             Word::Fundecl | Word::Funexpr => 6,
             _ => 2,
