@@ -1,6 +1,7 @@
 pub mod Layers
 pub mod Listing
 pub mod Measured
+pub mod Numbers
 pub mod Pieces
 pub mod Placement
 pub mod ReadForms
