@@ -1,18 +1,19 @@
 //! The symbols of a unit, after `oxc_semantic`.
 
-ghost use Rattle.std.specs.Prelude.{◌≡◌, ◌<◌, ◌^◌, ℕ, [], ◌∷◌, true, false, length, map, slice_get, Some, IfOk, IfErr, IfSome};
+ghost use Rattle.std.specs.Prelude.{◌≡◌, ◌<◌, ◌^◌, ℕ, List, ◌++◌, true, false, length, map, slice_get, Some, IfOk, IfErr, IfSome, OnOk};
 ghost use Rattle.std.specs.Option.{option_map};
+ghost use Rattle.rl_ast.specs.FunctionViews.{seen_arrow};
 ghost use Rattle.rl_syntax.specs.Syntax.{pieces_of, syntax};
 ghost use Rattle.rl_scope.specs.Symbols.{are_distinct, declared_by, declared_in, symbol_named, symbols_of};
 
 use crate::symbols::Symbols;
-use rl_ast::view::{
-    FunctionTree, ParamTree, ParamTrees, binding_view, function_view, param_view, params_view,
-};
+use rl_ast::binding::{BindingPattern, binding_identifier_view, binding_pattern_view};
+use rl_ast::function::{Arrow, formal_parameter_view, formal_parameters_view};
 use rl_base::error::OutOfMemory;
 use rl_base::ids::SymbolId;
 use rl_base::span::Span;
 use rl_base::text::Text;
+use rl_grammar::sort::{FormalParameterTree, FormalParameterTrees};
 use std::alloc::Global;
 use thiserror::Error;
 
@@ -25,7 +26,7 @@ pub struct Symbol {
     pub declaration: Span,
 }
 
-/// The symbols of a unit. Its function's parameters are all that a unit declares.
+/// The symbols of a unit: the names that the parameters of its function bind, patterns aside.
 #[derive(Drop)]
 pub struct Semantic {
     /// The symbols in the order of their declarations. The index of a symbol is its `SymbolId`.
@@ -36,8 +37,7 @@ pub struct Semantic {
 #[derive(Debug, Drop, Clone, Copy, PartialEq, Eq, Error)]
 pub enum RuleError {
     /// The unit breaks a binding rule. The value is the rule's number in B1 to B9, the lowest of those that are broken. B4, no
-    /// two parameters of an arrow function have one name (ECMA-262, 15.1.1), is the only one that a unit of the grammar can
-    /// break.
+    /// two parameters of an arrow function have one name (ECMA-262, 15.1.1), is the only one that is tried.
     #[error("B{0}")]
     Malformed(u8),
     /// An allocation failed.
@@ -56,30 +56,45 @@ impl From<OutOfMemory> for RuleError {
     }
 }
 
-/// The symbol that a parameter declares. On `OutOfMemory`, an allocation failed.
-#[tactic(auto, using(crate::proofs::Declaring::param_declares))]
-fn declared_by(alloc: Global, param: ParamTree<'_>) -> Result<Symbol, OutOfMemory>
-    ensures { IfOk result (λ symbol. declared_by (syntax param.entry.tree.now) ≡ symbol ∷ []) }
+/// Declares the name that a parameter binds; a pattern binds none here. On `Malformed(4)`, an earlier parameter has the name; on
+/// `OutOfMemory`, an allocation failed.
+fn declare_parameter(
+    alloc: Global,
+    symbols: &mut Symbols,
+    parameter: FormalParameterTree<'_>,
+) -> Result<(), RuleError>
+    ensures symbols { OnOk result (symbols.new ≡ symbols.old ++ declared_by (syntax parameter.entry.tree.now)) }
+    ensures distinct { OnOk result (are_distinct symbols.old ≡ true → are_distinct symbols.new ≡ true) }
+    ensures malformed { IfErr result (λ e. (rule : ℕ) → e ≡ RuleError.Malformed rule → (rule ≡ 4) × ((rest : List Symbol) → are_distinct (symbols.old ++ (declared_by (syntax parameter.entry.tree.now) ++ rest)) ≡ false)) }
 {
-    let binding = binding_view(param_view(param).pattern);
-    Ok(Symbol {
-        name: binding.name.copy(alloc)?,
-        declaration: binding.at.span,
-    })
+    match binding_pattern_view(formal_parameter_view(parameter).pattern) {
+        BindingPattern::Identifier(identifier) => {
+            let identifier = binding_identifier_view(identifier);
+            let symbol = Symbol {
+                name: identifier.name.copy(alloc)?,
+                declaration: identifier.at.span,
+            };
+            if symbols.declare(alloc, symbol)? {
+                Ok(())
+            } else {
+                Err(RuleError::Malformed(4))
+            }
+        }
+        BindingPattern::Array { .. } => Ok(()),
+        BindingPattern::Object { .. } => Ok(()),
+    }
 }
 
 /// The symbols that parameters declare, in order. On `Malformed(4)`, two of them have one name.
-fn declare_all(alloc: Global, params: ParamTrees<'_>) -> Result<Symbols, RuleError>
-    ensures symbols { IfOk result (λ symbols. symbols ≡ declared_in (pieces_of (map syntax params.entry.trees.now))) }
+fn declare_all(alloc: Global, parameters: FormalParameterTrees<'_>) -> Result<Symbols, RuleError>
+    ensures symbols { IfOk result (λ symbols. symbols ≡ declared_in (pieces_of (map syntax parameters.entry.trees.now))) }
     ensures distinct { IfOk result (λ symbols. are_distinct symbols ≡ true) }
-    ensures malformed { IfErr result (λ e. (rule : ℕ) → e ≡ RuleError.Malformed rule → (rule ≡ 4) × (are_distinct (declared_in (pieces_of (map syntax params.entry.trees.now))) ≡ false)) }
+    ensures malformed { IfErr result (λ e. (rule : ℕ) → e ≡ RuleError.Malformed rule → (rule ≡ 4) × (are_distinct (declared_in (pieces_of (map syntax parameters.entry.trees.now))) ≡ false)) }
 {
     let mut symbols = Symbols::new(alloc);
-    let mut left = params;
-    'params: while let Some((param, rest)) = left.split_first() {
-        if !symbols.declare(alloc, declared_by(alloc, param)?)? {
-            return Err(RuleError::Malformed(4));
-        }
+    let mut left = parameters;
+    'parameters: while let Some((parameter, rest)) = left.split_first() {
+        declare_parameter(alloc, &mut symbols, parameter)?;
         left = rest;
     }
     Ok(symbols)
@@ -89,13 +104,13 @@ impl Semantic {
     /// The symbols of a unit's function. On `Malformed(4)`, two of its parameters have one name; on `OutOfMemory`, an
     /// allocation failed.
     #[tactic(auto, using(crate::proofs::Declaring::function_declares))]
-    pub fn of(alloc: Global, function: FunctionTree<'_>) -> Result<Semantic, RuleError>
-        ensures symbols { IfOk result (λ semantic. semantic.symbols ≡ symbols_of (syntax function.entry.tree.now)) }
-        ensures distinct { IfOk result (λ semantic. are_distinct (symbols_of (syntax function.entry.tree.now)) ≡ true) }
-        ensures malformed { IfErr result (λ e. (rule : ℕ) → e ≡ RuleError.Malformed rule → (rule ≡ 4) × (are_distinct (symbols_of (syntax function.entry.tree.now)) ≡ false)) }
+    pub fn of(alloc: Global, function: Arrow<'_>) -> Result<Semantic, RuleError>
+        ensures symbols { IfOk result (λ semantic. semantic.symbols ≡ symbols_of (seen_arrow function.entry)) }
+        ensures distinct { IfOk result (λ semantic. are_distinct (symbols_of (seen_arrow function.entry)) ≡ true) }
+        ensures malformed { IfErr result (λ e. (rule : ℕ) → e ≡ RuleError.Malformed rule → (rule ≡ 4) × (are_distinct (symbols_of (seen_arrow function.entry)) ≡ false)) }
     {
-        let params = params_view(function_view(function).params);
-        let symbols = declare_all(alloc, params.items)?;
+        let parameters = formal_parameters_view(function.params);
+        let symbols = declare_all(alloc, parameters.items)?;
         Ok(Semantic { symbols })
     }
 
