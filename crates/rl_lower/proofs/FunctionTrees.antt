@@ -1,5 +1,5 @@
--- The tree of a function that fits the grammar, by its parts: its nodes, symbols, refusals and calls, and its small parts.
-use Rattle.std.proofs.Common.{◌≡◌, ℕ, ◌+◌, ◌*◌, ◌≤◌, ◌++◌, Bool, true, if◌then◌else◌, codes, List, [], ◌∷◌, map, length, All, Option, Some, refl, sym, ap, ◌∙◌, subst, arith, append-nil}
+-- The tree of a function whose parts are covered and fit the grammar: its nodes, symbols, refusals and calls, and its small parts.
+use Rattle.std.proofs.Common.{◌≡◌, ℕ, ◌+◌, ◌*◌, ◌≤◌, ◌++◌, Bool, true, true≢false, if◌then◌else◌, codes, List, [], ◌∷◌, map, length, All, Option, Some, None, refl, sym, ap, ◌∙◌, subst, arith, append-nil}
 use Rattle.std.proofs.lemmas.List.Elements.{All-nil, All-cons}
 use Rattle.rl_base.specs.declared.diagnostic.Diagnostic.{Diagnostic}
 use Rattle.rl_base.specs.declared.row.Row.TheVariants as row
@@ -11,15 +11,17 @@ use Rattle.rl_syntax.specs.Syntax.{Syntax, Node, Listed, Said, Flag, Absent, Pie
 use Rattle.rl_grammar.specs.declared.kind.Field.TheVariants as field
 use Rattle.rl_grammar.specs.declared.kind.Kind.TheVariants as kind
 use Rattle.rl_syntax.specs.declared.numbered.At.{At}
-use Rattle.rl_ast.specs.Views.{seen_function}
-use Rattle.rl_ast.specs.declared.view.ArrowFunction.{ArrowFunction}
+use Rattle.rl_ast.specs.FunctionViews.{seen_arrow}
+use Rattle.rl_ast.specs.declared.function.Arrow.{Arrow}
 use Rattle.rl_syntax.specs.declared.word.Word.TheVariants as word
-use Rattle.rl_grammar.proofs.Viewing.{arity_two, first_fits, of_never, rest_fit, two_fit}
+use Rattle.rl_grammar.proofs.Viewing.{arity_two, first_fits, rest_fit, two_fit}
 use Rattle.rl_hir.specs.Listing as listing
 use Rattle.rl_scope.specs.declared.semantic.Symbol.{Symbol}
 use Rattle.rl_scope.specs.Symbols.{declared_in, symbols_of}
+use Rattle.rl_model.specs.Covered.{AreCovered, IsCovered, covers}
 use Rattle.rl_model.specs.Held.{calls_in, calls_among}
 use Rattle.rl_model.specs.Rows.{is_text, refusal, refusals, refusals_in, refusals_of}
+use Rattle.rl_lower.specs.Covered.{HasCoveredParts}
 use Rattle.rl_lower.specs.Parameters.{said_of_symbols}
 use Rattle.rl_lower.specs.Sound.{AreSmallTrees, IsSmallSymbol, IsSmallTree}
 use Rattle.rl_lower.proofs.SoundListing.{span_writable}
@@ -44,73 +46,111 @@ params_of ps = pieces_of (map param_of ps)
 abbrev list_of : At → List Parameter → Syntax
 list_of list ps = Node list word.Params (Then (Listed (params_of ps)) (Then Absent End))
 
-abbrev arrow_of : (at : At) (is_async : Bool) (params body : Syntax) → Syntax
-arrow_of at is_async params body = Node at word.Arrow (Then (Flag true) (Then (Flag is_async) (Then params (Then body End))))
+abbrev arrow_of : (at : At) (marked is_async : Bool) (params body : Syntax) → Syntax
+arrow_of at marked is_async params body = Node at word.Arrow (Then (Flag marked) (Then (Flag is_async) (Then params (Then body End))))
 
 -- The tree `f` is a function with the body `body`.
 pub record IsFunction (f body : Syntax) : Type 0 where
   pub at : At
   pub list : At
+  pub marked : Bool
   pub is_async : Bool
   pub params : List Parameter
-  pub is : f ≡ arrow_of at is_async (list_of list params) body
+  pub is : f ≡ arrow_of at marked is_async (list_of list params) body
 
--- The parts of trees that fit the grammar.
+-- The parts of covered trees that fit the grammar. Types, patterns, defaults and rest parameters are not covered.
 
 two_form : (ps : Pieces) → is_two ps ≡ true → (a b : Syntax) × (ps ≡ Then a (Then b End))
 two_form (Then a (Then b End)) h = (a, b, refl)
 two_form _ h = absurd (cc)
 
-param_form : (p : Syntax) → fits (field.One kind.Param) p ≡ true → (parameter : Parameter) × (p ≡ param_of parameter)
-param_form (Node at word.Param ps) h =
-    let form = two_form ps (arity_two (field.One kind.Binding) field.Never ps h) in
-    let both = two_fit ps form.0 form.1 form.2 (field.One kind.Binding) field.Never h in
-    let bind = bind_form form.0 both.0 in
+text_form : (t : Syntax) → fits (field.One kind.Text) t ≡ true → (text : List ℕ) × (t ≡ Said text)
+text_form (Said text) h = (text, refl)
+text_form _ h = absurd (cc)
+
+no_annotation : (t : Syntax) → fits (field.Maybe kind.TypeAnnotation) t ≡ true → IsCovered t → t ≡ Absent
+no_annotation Absent h covered = refl
+no_annotation (Node at word.Type ps) h covered = absurd (true≢false (sym covered.0))
+no_annotation _ h covered = absurd (cc)
+
+no_rest : (t : Syntax) → fits (field.Maybe kind.BindingRestElement) t ≡ true → IsCovered t → t ≡ Absent
+no_rest Absent h covered = refl
+no_rest (Node at word.Rest ps) h covered = absurd (true≢false (sym covered.0))
+no_rest _ h covered = absurd (cc)
+
+no_default : (at : At) (pattern default : Syntax) → covers None at word.Param (Then pattern (Then default End)) ≡ true
+    → default ≡ Absent
+no_default at pattern Absent h = refl
+no_default at pattern _ h = absurd (cc)
+
+bind_form : (b : Syntax) → fits (field.One kind.BindingPattern) b ≡ true → IsCovered b
+    → (bind : At) × (name : List ℕ) × (b ≡ Node bind word.Bind (Then (Said name) (Then Absent End)))
+bind_form (Node bind word.Bind ps) h covered =
+    let form = two_form ps (arity_two (field.One kind.Text) (field.Maybe kind.TypeAnnotation) ps h) in
+    let both = two_fit ps form.0 form.1 form.2 (field.One kind.Text) (field.Maybe kind.TypeAnnotation) h in
+    let parts : AreCovered (Then form.0 (Then form.1 End)) = subst AreCovered form.2 covered.1 in
+    let text = text_form form.0 both.0 in (
+      bind,
+      text.0,
+      ap (λ parts. Node bind word.Bind parts) form.2 ∙ ap (λ t. Node bind word.Bind (Then t (Then form.1 End))) text.1
+          ∙ ap (λ d. Node bind word.Bind (Then (Said text.0) (Then d End))) (no_annotation form.1 both.1 parts.1.0),
+    )
+bind_form (Node at word.Arraypat ps) h covered = absurd (true≢false (sym covered.0))
+bind_form (Node at word.Objectpat ps) h covered = absurd (true≢false (sym covered.0))
+bind_form _ h covered = absurd (cc)
+
+param_form : (p : Syntax) → fits (field.One kind.FormalParameter) p ≡ true → IsCovered p
+    → (parameter : Parameter) × (p ≡ param_of parameter)
+param_form (Node at word.Param ps) h covered =
+    let form = two_form ps (arity_two (field.One kind.BindingPattern) (field.Maybe kind.Expression) ps h) in
+    let both = two_fit ps form.0 form.1 form.2 (field.One kind.BindingPattern) (field.Maybe kind.Expression) h in
+    let parts : AreCovered (Then form.0 (Then form.1 End)) = subst AreCovered form.2 covered.1 in
+    let bind = bind_form form.0 both.0 parts.0 in
     let parameter : Parameter = record { at = at; bind = bind.0; name = bind.1 } in (
       parameter,
       ap (λ parts. Node at word.Param parts) form.2 ∙ ap (λ b. Node at word.Param (Then b (Then form.1 End))) bind.2
-          ∙ ap (λ d. Node at word.Param (Then (bind_of parameter) (Then d End))) (of_never form.1 both.1),
+          ∙ ap (λ d. Node at word.Param (Then (bind_of parameter) (Then d End)))
+          (no_default at form.0 form.1 (subst (λ ps. covers None at word.Param ps ≡ true) form.2 covered.0)),
     )
-  where
-    bind_form : (b : Syntax) → fits (field.One kind.Binding) b ≡ true
-        → (bind : At) × (name : List ℕ) × (b ≡ Node bind word.Bind (Then (Said name) (Then Absent End)))
-    bind_form (Node bind word.Bind (Then (Said name) (Then Absent End))) e = (bind, name, refl)
-    bind_form _ e = absurd (cc)
-param_form _ h = absurd (cc)
+param_form _ h covered = absurd (cc)
 
-items_form : (items : Pieces) → every kind.Param items ≡ true → (params : List Parameter) × (items ≡ params_of params)
-items_form End h = ([], refl)
-items_form (Then p ps) h =
-    let first = param_form p (first_fits kind.Param (Then p ps) p ps refl h) in
-    let rest = items_form ps (rest_fit kind.Param (Then p ps) p ps refl h) in
+items_form : (items : Pieces) → every kind.FormalParameter items ≡ true → AreCovered items
+    → (params : List Parameter) × (items ≡ params_of params)
+items_form End h covered = ([], refl)
+items_form (Then p ps) h covered =
+    let first = param_form p (first_fits kind.FormalParameter (Then p ps) p ps refl h) covered.0 in
+    let rest = items_form ps (rest_fit kind.FormalParameter (Then p ps) p ps refl h) covered.1 in
     (first.0 ∷ rest.0, ap (λ q. Then q ps) first.1 ∙ ap (λ qs. Then (param_of first.0) qs) rest.1)
 
-params_form : (p : Syntax) → fits (field.One kind.Params) p ≡ true
+params_form : (p : Syntax) → fits (field.One kind.FormalParameters) p ≡ true → IsCovered p
     → (list : At) × (params : List Parameter) × (p ≡ list_of list params)
-params_form (Node list word.Params ps) h =
-    let form = two_form ps (arity_two (field.Many kind.Param) field.Never ps h) in
-    let both = two_fit ps form.0 form.1 form.2 (field.Many kind.Param) field.Never h in
-    let items = list_form form.0 both.0 in (
+params_form (Node list word.Params ps) h covered =
+    let form = two_form ps (arity_two (field.Many kind.FormalParameter) (field.Maybe kind.BindingRestElement) ps h) in
+    let both = two_fit ps form.0 form.1 form.2 (field.Many kind.FormalParameter) (field.Maybe kind.BindingRestElement) h in
+    let parts : AreCovered (Then form.0 (Then form.1 End)) = subst AreCovered form.2 covered.1 in
+    let items = list_form form.0 both.0 parts.0 in (
       list,
       items.0,
       ap (λ parts. Node list word.Params parts) form.2 ∙ ap (λ l. Node list word.Params (Then l (Then form.1 End))) items.1
-          ∙ ap (λ d. Node list word.Params (Then (Listed (params_of items.0)) (Then d End))) (of_never form.1 both.1),
+          ∙ ap (λ d. Node list word.Params (Then (Listed (params_of items.0)) (Then d End))) (no_rest form.1 both.1 parts.1.0),
     )
   where
-    list_form : (l : Syntax) → fits (field.Many kind.Param) l ≡ true → (params : List Parameter) × (l ≡ Listed (params_of params))
-    list_form (Listed items) e = (let form = items_form items e in (form.0, ap (λ ps. Listed ps) form.1))
-    list_form _ e = absurd (cc)
-params_form _ h = absurd (cc)
+    list_form : (l : Syntax) → fits (field.Many kind.FormalParameter) l ≡ true → IsCovered l
+        → (params : List Parameter) × (l ≡ Listed (params_of params))
+    list_form (Listed items) e c = (let form = items_form items e c in (form.0, ap (λ ps. Listed ps) form.1))
+    list_form _ e c = absurd (cc)
+params_form _ h covered = absurd (cc)
 
--- The tree that a view shows is a function with the body of the view.
-pub function_form : (tree : Syntax) (f : ArrowFunction) → seen_function f ≡ tree → IsFunction tree (syntax f.body.tree.now)
-function_form tree f seen =
-    let form = params_form (syntax f.params.tree.now) f.params.fit in record {
+-- The tree that a view shows, if each part of it is covered, is a function with the body of the view.
+pub function_form : (f : Arrow) → HasCoveredParts (seen_arrow f) → IsFunction (seen_arrow f) (syntax f.body.tree.now)
+function_form f covered =
+    let form = params_form (syntax f.params.tree.now) f.params.fit covered.1.1.0 in record {
       at = f.at;
       list = form.0;
+      marked = f.marked;
       is_async = f.is_async;
       params = form.1;
-      is = sym seen ∙ ap (λ params. arrow_of f.at f.is_async params (syntax f.body.tree.now)) form.2;
+      is = ap (λ params. arrow_of f.at f.marked f.is_async params (syntax f.body.tree.now)) form.2;
     }
 
 -- Nodes, symbols, refusals and calls of a function.

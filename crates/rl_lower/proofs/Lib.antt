@@ -7,6 +7,7 @@ pub mod Bodies
 pub mod Building
 pub mod Calls
 pub mod Closings
+pub mod Covered
 pub mod Finished
 pub mod FunctionGraphs
 pub mod FunctionTrees

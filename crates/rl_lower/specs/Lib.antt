@@ -1,3 +1,4 @@
+pub mod Covered
 pub mod Endings
 pub mod Listed
 pub mod Lowering

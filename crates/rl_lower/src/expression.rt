@@ -7,13 +7,14 @@ ghost use Rattle.rl_builder.specs.Temporaries.{temporary, with_value};
 ghost use Rattle.rl_lower.specs.Lowering.{HasRoom, LowersExpression, LowersArguments};
 ghost use Rattle.rl_lower.specs.Named.{IsNamed};
 ghost use Rattle.rl_lower.specs.Sound.{SoundArguments, SoundExpression};
+ghost use Rattle.rl_model.specs.Covered.{IsCovered, AreCovered};
 ghost use Rattle.rl_model.specs.Rows.{refusal};
 ghost use Rattle.rl_scope.specs.declared.semantic.Symbol.{Symbol};
 ghost use Rattle.rl_scope.specs.Symbols.{symbol_named};
 
-use rl_syntax::numbered::At;
-use rl_ast::view::{Expression, ExpressionTree, ExpressionTrees, expression_view};
-use rl_syntax::word::Word;
+use rl_ast::binding::identifier_reference_view;
+use rl_ast::expression::{Expression, expression_view};
+use rl_ast::expression_part::{Argument, argument_view};
 use rl_base::diagnostic::Diagnostic;
 use rl_base::error::OutOfMemory;
 use rl_base::ids::EvaluationOrder;
@@ -24,10 +25,13 @@ use rl_base::span::Span;
 use rl_base::stop::Stop;
 use rl_base::text::Text;
 use rl_builder::builder::HirBuilder;
+use rl_grammar::sort::{ArgumentTree, ArgumentTrees, ExpressionTree};
 use rl_hir::instruction::{
     Instruction, InstructionValue, NonLocalBinding, Place, PlaceOrSpread, PrimitiveValue,
 };
 use rl_scope::semantic::Semantic;
+use rl_syntax::numbered::At;
+use rl_syntax::word::Word;
 use rl_text::number::parse_number;
 use std::alloc::Global;
 
@@ -116,15 +120,27 @@ fn lower_identifier(
     )
 }
 
+/// The expression that an argument is; it is no spread.
+fn expression_of(argument: ArgumentTree<'_>) -> ExpressionTree<'_>
+    requires { IsCovered (syntax argument.tree.now) }
+    ensures { syntax result.tree.now ≡ syntax argument.entry.tree.now }
+{
+    match argument_view(argument) {
+        Argument::Expression(expression) => expression,
+        Argument::Spread { .. } => unreachable!(),
+    }
+}
+
 /// Lowers arguments from left to right (`lowerArguments`).
 #[cycle(expressions)]
 fn lower_arguments(
     alloc: Global,
     builder: &mut HirBuilder,
     semantic: &Semantic,
-    arguments: ExpressionTrees<'_>,
+    arguments: ArgumentTrees<'_>,
 ) -> Result<List<PlaceOrSpread>, OutOfMemory>
     requires names { IsNamed semantic.now.symbols (state_of builder.old.env.now builder.old.work) }
+    requires covered { AreCovered (pieces_of (map syntax arguments.trees.now)) }
     requires room { HasRoom (state_of builder.old.env.now builder.old.work) (4 * nodes_of (pieces_of (map syntax arguments.trees.now))) }
     ensures same_reference { builder.new.env.ghost_name ≡ builder.old.env.ghost_name }
     ensures lowered { IfOk result (λ given. LowersArguments semantic.now.symbols (pieces_of (map syntax arguments.entry.trees.now)) (state_of builder.old.env.now builder.old.work) (state_of builder.new.env.now builder.new.work) given) }
@@ -133,7 +149,7 @@ fn lower_arguments(
     let mut given = List::new(alloc);
     let mut left = arguments;
     'arguments: while let Some((argument, rest)) = left.split_first() {
-        let place = lower_expression(alloc, builder, semantic, argument)?;
+        let place = lower_expression(alloc, builder, semantic, expression_of(argument))?;
         given.push(PlaceOrSpread::Place(place))?;
         left = rest;
     }
@@ -149,6 +165,7 @@ pub(crate) fn lower_expression(
     expression: ExpressionTree<'_>,
 ) -> Result<Place, OutOfMemory>
     requires names { IsNamed semantic.now.symbols (state_of builder.old.env.now builder.old.work) }
+    requires covered { IsCovered (syntax expression.tree.now) }
     requires room { HasRoom (state_of builder.old.env.now builder.old.work) (4 * nodes (syntax expression.tree.now)) }
     ensures same_reference { builder.new.env.ghost_name ≡ builder.old.env.ghost_name }
     ensures lowered { IfOk result (λ place. LowersExpression semantic.now.symbols (syntax expression.entry.tree.now) (state_of builder.old.env.now builder.old.work) (state_of builder.new.env.now builder.new.work) place.identifier.0) }
@@ -182,7 +199,10 @@ pub(crate) fn lower_expression(
         Expression::Parenthesized { at: _, expression } => {
             lower_expression(alloc, builder, semantic, expression)
         }
-        Expression::Identifier { at, name } => lower_identifier(alloc, builder, semantic, at, name),
+        Expression::Identifier(identifier) => {
+            let identifier = identifier_reference_view(identifier);
+            lower_identifier(alloc, builder, semantic, identifier.at, identifier.name)
+        }
         Expression::Binary {
             at,
             operator,
@@ -200,6 +220,7 @@ pub(crate) fn lower_expression(
         }
         Expression::Call {
             at,
+            optional: _,
             callee,
             arguments,
         } => {
@@ -208,5 +229,6 @@ pub(crate) fn lower_expression(
             let value = InstructionValue::Call { callee, arguments };
             lower_value_to_temporary(builder, value, Some(at.span))
         }
+        _ => unreachable!(),
     }
 }

@@ -4,17 +4,20 @@ ghost use Rattle.std.specs.Prelude.{◌≡◌, ◌+◌, ◌*◌, ◌≤◌, true
 ghost use Rattle.std.specs.Option.{option_copied};
 ghost use Rattle.std.specs.Str.{IsUtf8};
 ghost use Rattle.rl_syntax.specs.Syntax.{nodes, pieces_of, span_of, syntax};
+ghost use Rattle.rl_ast.specs.FunctionViews.{seen_arrow};
 ghost use Rattle.rl_base.specs.Reserved.{is_reserved};
 ghost use Rattle.rl_base.specs.declared.diagnostic.Diagnostic.{Diagnostic as Said};
 ghost use Rattle.rl_builder.specs.Builder.{state_of, started};
 ghost use Rattle.rl_hir.specs.Listing.{function as listed_function};
 ghost use Rattle.rl_hir.specs.Numbered.{IsNumbered};
+ghost use Rattle.rl_lower.specs.Covered.{HasCoveredParts};
 ghost use Rattle.rl_lower.specs.Endings.{IsGraphOf};
 ghost use Rattle.rl_lower.specs.Lowering.{HasRoom, LowersBody};
 ghost use Rattle.rl_lower.specs.Named.{IsNamed};
 ghost use Rattle.rl_lower.specs.Parameters.{with_parameters};
 ghost use Rattle.rl_lower.specs.Sound.{AreWritableIdentifiers, IsSmallTree, IsSoundGraph, StaysSound};
 ghost use Rattle.rl_model.specs.Closed.{IsClosed};
+ghost use Rattle.rl_model.specs.Covered.{IsCovered};
 ghost use Rattle.rl_model.specs.Fields.{AddsUnnamed, async_in, body_in, directives_in, known_from, pairs_from, places_from, texts_in};
 ghost use Rattle.rl_model.specs.Headline.{NeverStuck, SameRuns};
 ghost use Rattle.rl_model.specs.Held.{HoldsCalls};
@@ -27,9 +30,7 @@ ghost use Rattle.rl_text.specs.Notation.{IsWritable};
 
 use crate::expression::{lower_expression, lower_value_to_temporary};
 use crate::statement::lower_statements;
-use rl_ast::view::{
-    ArrowBody, BodyTree, FunctionTree, TextTrees, body_view, function_view, text_view,
-};
+use rl_ast::function::{Arrow, ArrowBody, arrow_body_view, function_body_view};
 use rl_base::diagnostic::Diagnostic;
 use rl_base::error::OutOfMemory;
 use rl_base::ids::{EvaluationOrder, SymbolId};
@@ -38,11 +39,13 @@ use rl_base::row::Row;
 use rl_base::stop::Stop;
 use rl_base::text::Text;
 use rl_builder::builder::{Built, HirBuilder, create_temporary_place};
+use rl_grammar::sort::{ArrowBodyTree, TextTrees};
 use rl_hir::environment::Environment;
 use rl_hir::function::{BlockKind, HirFunction, Param};
 use rl_hir::instruction::{InstructionValue, Place, PrimitiveValue};
 use rl_hir::terminal::{ReturnVariant, Terminal};
 use rl_scope::semantic::{Semantic, Symbol};
+use rl_syntax::parts::text_of;
 use std::alloc::Global;
 
 /// A function's parameters, and its graph.
@@ -87,15 +90,16 @@ fn lower_body(
     alloc: Global,
     builder: &mut HirBuilder,
     semantic: &Semantic,
-    body: BodyTree<'_>,
+    body: ArrowBodyTree<'_>,
 ) -> Result<(), OutOfMemory>
     requires names { IsNamed semantic.now.symbols (state_of builder.old.env.now builder.old.work) }
+    requires covered { IsCovered (syntax body.tree.now) }
     requires room { HasRoom (state_of builder.old.env.now builder.old.work) (4 * (nodes (syntax body.tree.now) + 1)) }
     ensures same_reference { builder.new.env.ghost_name ≡ builder.old.env.ghost_name }
     ensures lowered { OnOk result (LowersBody semantic.now.symbols (syntax body.entry.tree.now) (state_of builder.old.env.now builder.old.work) (state_of builder.new.env.now builder.new.work)) }
     ensures sound { OnOk result (StaysSound (IsSmallTree (syntax body.entry.tree.now)) (state_of builder.old.env.now builder.old.work) (state_of builder.new.env.now builder.new.work)) }
 {
-    match body_view(body) {
+    match arrow_body_view(body) {
         ArrowBody::Expression(expression) => {
             let fallthrough = builder.reserve(BlockKind::Block);
             let value = lower_expression(alloc, builder, semantic, expression)?;
@@ -109,11 +113,10 @@ fn lower_body(
                 fallthrough,
             )
         }
-        ArrowBody::Statements {
-            at: _,
-            directives: _,
-            statements,
-        } => lower_statements(alloc, builder, semantic, statements),
+        ArrowBody::Body(body) => {
+            let body = function_body_view(body);
+            lower_statements(alloc, builder, semantic, body.statements)
+        }
     }
 }
 
@@ -121,10 +124,11 @@ fn lower_body(
 fn lower_graph(
     alloc: Global,
     semantic: &Semantic,
-    body: BodyTree<'_>,
+    body: ArrowBodyTree<'_>,
     env: &mut Environment,
 ) -> Result<Graph, Stop>
     requires distinct { are_distinct semantic.now.symbols ≡ true }
+    requires covered { IsCovered (syntax body.tree.now) }
     requires room { HasRoom (started env.old BlockKind.Block) (4 * (nodes (syntax body.tree.now) + 2) + length semantic.now.symbols) }
     ensures graph { IfOk result (λ graph. IsGraphOf semantic.now.symbols (syntax body.entry.tree.now) env.old env.new graph.params graph.built) }
     ensures sound { IfOk result (λ graph. IsSoundGraph semantic.now.symbols (syntax body.entry.tree.now) env.old env.new graph.built) }
@@ -147,30 +151,27 @@ fn lower_graph(
 }
 
 /// Copies of texts, in order.
+#[tactic(auto, using(rl_grammar::proofs::Viewing::of_text))]
 fn copy_texts(alloc: Global, texts: TextTrees<'_>) -> Result<List<Text>, OutOfMemory>
     ensures copied { IfOk result (λ copies. copies ≡ texts_in (pieces_of (map syntax texts.entry.trees.now))) }
 {
     let mut copies = List::new(alloc);
     let mut left = texts;
     'texts: while let Some((text, rest)) = left.split_first() {
-        copies.push(text_view(text).copy(alloc)?)?;
+        copies.push(text_of(text.tree).copy(alloc)?)?;
         left = rest;
     }
     Ok(copies)
 }
 
 /// The directives that begin a body.
-fn directives_of(alloc: Global, body: BodyTree<'_>) -> Result<List<Text>, OutOfMemory>
+fn directives_of(alloc: Global, body: ArrowBodyTree<'_>) -> Result<List<Text>, OutOfMemory>
     ensures copied { IfOk result (λ directives. directives ≡ directives_in (syntax body.entry.tree.now)) }
     ensures texts { IfOk result (λ directives. IsSmallTree (syntax body.entry.tree.now) → All IsUtf8 directives) }
 {
-    match body_view(body) {
+    match arrow_body_view(body) {
         ArrowBody::Expression(_) => Ok(List::new(alloc)),
-        ArrowBody::Statements {
-            at: _,
-            directives,
-            statements: _,
-        } => copy_texts(alloc, directives),
+        ArrowBody::Body(body) => copy_texts(alloc, function_body_view(body).directives),
     }
 }
 
@@ -186,38 +187,39 @@ fn find_this(symbols: &[Symbol]) -> Option<&Symbol>
     None
 }
 
-/// Lowers a function (`lower`). The diagnostics of refused nodes are appended to the environment's; if there is none, the
-/// graph has the function's traces. On `Stop::Diagnostic` a stop row applies to the function, and on `Stop::OutOfMemory` an
-/// allocation failed; of the environment nothing is promised then.
+/// Lowers a function (`lower`) whose parameters and body are covered, each node of them. The diagnostics of refused nodes are
+/// appended to the environment's; if there is none, the graph has the function's traces. On `Stop::Diagnostic` a stop row
+/// applies to the function, and on `Stop::OutOfMemory` an allocation failed; of the environment nothing is promised then.
 pub fn lower(
     alloc: Global,
-    function: FunctionTree<'_>,
+    function: Arrow<'_>,
     semantic: &Semantic,
     env: &mut Environment,
 ) -> Result<HirFunction, Stop>
-    requires symbols { semantic.now.symbols ≡ symbols_of (syntax function.tree.now) }
+    requires symbols { semantic.now.symbols ≡ symbols_of (seen_arrow function) }
     requires distinct { are_distinct semantic.now.symbols ≡ true }
+    requires covered { HasCoveredParts (seen_arrow function) }
     requires fresh { env.old.pairs ≡ [] }
-    requires room { HasRoom (started env.old BlockKind.Block) (4 * nodes (syntax function.tree.now)) }
-    ensures goes_on { OnOk result (stop_of (syntax function.entry.tree.now) ≡ None) }
-    ensures stopped { IfErr result (λ e. (d : Said) → e ≡ Stop.Diagnostic d → stop_of (syntax function.entry.tree.now) ≡ Some d) }
-    ensures refused { OnOk result (env.new.diagnostics ≡ env.old.diagnostics ++ refusals_of (syntax function.entry.tree.now)) }
+    requires room { HasRoom (started env.old BlockKind.Block) (4 * nodes (seen_arrow function)) }
+    ensures goes_on { OnOk result (stop_of (seen_arrow function.entry) ≡ None) }
+    ensures stopped { IfErr result (λ e. (d : Said) → e ≡ Stop.Diagnostic d → stop_of (seen_arrow function.entry) ≡ Some d) }
+    ensures refused { OnOk result (env.new.diagnostics ≡ env.old.diagnostics ++ refusals_of (seen_arrow function.entry)) }
     ensures closed { IfOk result (λ f. IsClosed f.body) }
-    ensures same_runs { IfOk result (λ f. refusals_of (syntax function.entry.tree.now) ≡ [] → SameRuns (syntax function.entry.tree.now) f env.new.pairs) }
-    ensures never_stuck { IfOk result (λ f. refusals_of (syntax function.entry.tree.now) ≡ [] → NeverStuck f env.new.pairs) }
-    ensures held { IfOk result (λ f. HoldsCalls (syntax function.entry.tree.now) f) }
+    ensures same_runs { IfOk result (λ f. refusals_of (seen_arrow function.entry) ≡ [] → SameRuns (seen_arrow function.entry) f env.new.pairs) }
+    ensures never_stuck { IfOk result (λ f. refusals_of (seen_arrow function.entry) ≡ [] → NeverStuck f env.new.pairs) }
+    ensures held { IfOk result (λ f. HoldsCalls (seen_arrow function.entry) f) }
     ensures numbered { IfOk result (λ f. IsNumbered f.instructions f.body.blocks) }
     ensures linked { IfOk result (λ f. IsLinked f) }
     ensures functions { OnOk result (env.new.functions ≡ env.old.functions) }
-    ensures bounded { IfOk result (λ f. function_size f ≤ 64 * nodes (syntax function.entry.tree.now)) }
+    ensures bounded { IfOk result (λ f. function_size f ≤ 64 * nodes (seen_arrow function.entry)) }
 
     // The fields that traces do not read.
-    ensures span { IfOk result (λ f. f.span ≡ Some (span_of (syntax function.entry.tree.now))) }
+    ensures span { IfOk result (λ f. f.span ≡ Some (span_of (seen_arrow function.entry))) }
     ensures name { IfOk result (λ f. f.name ≡ None) }
     ensures fn_type { IfOk result (λ f. f.fn_type ≡ env.old.fn_type) }
-    ensures is_async { IfOk result (λ f. f.is_async ≡ async_in (syntax function.entry.tree.now)) }
+    ensures is_async { IfOk result (λ f. f.is_async ≡ async_in (seen_arrow function.entry)) }
     ensures generator { IfOk result (λ f. f.generator ≡ false) }
-    ensures directives { IfOk result (λ f. f.directives ≡ directives_in (body_in (syntax function.entry.tree.now))) }
+    ensures directives { IfOk result (λ f. f.directives ≡ directives_in (body_in (seen_arrow function.entry))) }
     ensures params { IfOk result (λ f. f.params ≡ places_from (length env.old.identifiers) semantic.now.symbols) }
     ensures context { IfOk result (λ f. f.context ≡ []) }
     ensures returns { IfOk result (λ f. (f.returns.span ≡ None) × (f.returns.identifier.0 + 1 ≡ length env.new.identifiers)) }
@@ -228,15 +230,14 @@ pub fn lower(
 
     // Places name identifiers that were made, and the notation has the listing of what a small function is lowered to.
     ensures places { IfOk result (λ f. HasKnownPlaces (length env.new.identifiers) f) }
-    ensures writable { IfOk result (λ f. IsSmallTree (syntax function.entry.tree.now) → IsWritable (listed_function f)) }
-    ensures known { OnOk result (IsSmallTree (syntax function.entry.tree.now) → AreWritableIdentifiers env.old.identifiers → AreWritableIdentifiers env.new.identifiers) }
+    ensures writable { IfOk result (λ f. IsSmallTree (seen_arrow function.entry) → IsWritable (listed_function f)) }
+    ensures known { OnOk result (IsSmallTree (seen_arrow function.entry) → AreWritableIdentifiers env.old.identifiers → AreWritableIdentifiers env.new.identifiers) }
 {
     if let Some(symbol) = find_this(semantic.symbols.as_slice()) {
         let word = symbol.name.as_str();
         let diagnostic = Diagnostic::at(alloc, Row::S2, word, symbol.declaration)?;
         return Err(Stop::Diagnostic(diagnostic));
     }
-    let function = function_view(function);
     let span = Some(function.at.span);
     let graph = lower_graph(alloc, semantic, function.body, env)?;
     let returns = create_temporary_place(env, span)?;

@@ -6,14 +6,16 @@ ghost use Rattle.rl_builder.specs.Builder.{state_of};
 ghost use Rattle.rl_lower.specs.Endings.{returned_from};
 ghost use Rattle.rl_lower.specs.Lowering.{HasRoom, LowersStatement, LowersStatements};
 ghost use Rattle.rl_lower.specs.Named.{IsNamed};
+ghost use Rattle.rl_model.specs.Covered.{AreCovered, IsCovered};
 ghost use Rattle.rl_lower.specs.Sound.{AreSmallTrees, IsSmallTree, StaysSound};
 
 use crate::expression::{lower_expression, lower_value_to_temporary};
-use rl_ast::view::{Statement, StatementTree, StatementTrees, statement_view};
+use rl_ast::statement::{Statement, statement_view};
 use rl_base::error::OutOfMemory;
 use rl_base::ids::EvaluationOrder;
 use rl_base::span::Span;
 use rl_builder::builder::HirBuilder;
+use rl_grammar::sort::{StatementTree, StatementTrees};
 use rl_hir::function::BlockKind;
 use rl_hir::instruction::{InstructionValue, Place, PrimitiveValue};
 use rl_hir::terminal::{ReturnVariant, Terminal};
@@ -46,6 +48,7 @@ fn lower_statement(
     statement: StatementTree<'_>,
 ) -> Result<(), OutOfMemory>
     requires names { IsNamed semantic.now.symbols (state_of builder.old.env.now builder.old.work) }
+    requires covered { IsCovered (syntax statement.tree.now) }
     requires room { HasRoom (state_of builder.old.env.now builder.old.work) (4 * nodes (syntax statement.tree.now)) }
     ensures same_reference { builder.new.env.ghost_name ≡ builder.old.env.ghost_name }
     ensures lowered { OnOk result (LowersStatement semantic.now.symbols (syntax statement.entry.tree.now) (state_of builder.old.env.now builder.old.work) (state_of builder.new.env.now builder.new.work)) }
@@ -67,6 +70,7 @@ fn lower_statement(
                 lower_return(builder, at.span, value)
             }
         },
+        _ => unreachable!(),
     }
 }
 
@@ -78,6 +82,7 @@ pub(crate) fn lower_statements(
     statements: StatementTrees<'_>,
 ) -> Result<(), OutOfMemory>
     requires names { IsNamed semantic.now.symbols (state_of builder.old.env.now builder.old.work) }
+    requires covered { AreCovered (pieces_of (map syntax statements.trees.now)) }
     requires room { HasRoom (state_of builder.old.env.now builder.old.work) (4 * nodes_of (pieces_of (map syntax statements.trees.now))) }
     ensures same_reference { builder.new.env.ghost_name ≡ builder.old.env.ghost_name }
     ensures lowered { OnOk result (LowersStatements semantic.now.symbols (pieces_of (map syntax statements.entry.trees.now)) (state_of builder.old.env.now builder.old.work) (state_of builder.new.env.now builder.new.work)) }

@@ -1,14 +1,14 @@
 use Rattle.std.proofs.Common.{◌≡◌, ◌+◌, ◌++◌, [], ◌∷◌, map, append-nil, refl, ap, sym, ◌∙◌, subst, arith}
 use Rattle.std.specs.Str.{IsUtf8}
-use Rattle.rl_ast.specs.declared.view.Expression.{Expression}
 use Rattle.rl_syntax.specs.Syntax.{Syntax, Pieces, End, Then, nodes, nodes_of, pieces_of, syntax}
-use Rattle.rl_ast.specs.Views.{seen_expression}
 use Rattle.rl_hir.specs.Instructions.{argument_shape}
 use Rattle.rl_builder.specs.Builder.{State, state_of}
+use Rattle.rl_model.specs.Covered.{AreCovered}
 use Rattle.rl_model.specs.Source.{shape_of}
 use Rattle.rl_lower.specs.Lowering.{LowersExpressions}
 use Rattle.rl_lower.proofs.Answering.{ok_given, ok_so, parsed_some, parsed_none}
 use Rattle.rl_lower.proofs.Arguments.{identifier_in, identifiers_more, shape_more, values_in}
+use Rattle.rl_lower.proofs.Covered.{call_plain, form_is}
 use Rattle.rl_lower.proofs.Keeping.{room_behind}
 use Rattle.rl_lower.proofs.Lowered.{binary_call, boolean_call, call_call, next_given, none_given, null_call, number_call, parenthesized_call, refused_call, string_call}
 use Rattle.rl_lower.proofs.SoundKinds.{arguments_more, binary_sound, call_sound, leaf_sound, noted_sound, parenthesized_sound}
@@ -16,10 +16,6 @@ use Rattle.rl_lower.proofs.SoundListing.{boolean_writable, null_writable, number
 use Rattle.rl_lower.proofs.SoundMoves.{none_known}
 use Rattle.rl_lower.proofs.SoundTrees.{first_small, numeral_fits}
 use Rattle.rl_lower.proofs.expression.+expressions.Goals as goal
-
--- The tree that a view shows.
-form_is : {view form : Expression} {tree : Syntax} → seen_expression view ≡ tree → view ≡ form → tree ≡ seen_expression form
-form_is seen is = sym seen ∙ ap seen_expression is
 
 -- Literals.
 
@@ -131,7 +127,7 @@ lower_expression-returns-in_ok-arguments-in-Call-clause-lowered t c =
     ok_given c.lower_value_to_temporary-in-Call.result c.lower_value_to_temporary-in-Call.ensures.state
     c.lower_value_to_temporary-in-Call.ensures.place
     (λ place. call_call _ _ _ _ c.in-Call.at c.in_ok-callee-in-Call.callee _ _ _ _ _ _ place
-    (form_is c.expression_view.ensures c.in-Call.is) c.in_ok-callee-in-Call.ensures.lowered given.lowers
+    (call_plain _ _ _ _ _ (form_is c.expression_view.ensures c.in-Call.is) c.requires.covered) c.in_ok-callee-in-Call.ensures.lowered given.lowers
     given.shape (λ store. values_in _ _ store given.places))
 
 pub lower_expression-returns-in_ok-arguments-in-Call-clause-sound :
@@ -139,7 +135,7 @@ pub lower_expression-returns-in_ok-arguments-in-Call-clause-sound :
 lower_expression-returns-in_ok-arguments-in-Call-clause-sound t c =
     ok_given c.lower_value_to_temporary-in-Call.result c.lower_value_to_temporary-in-Call.ensures.state
     c.lower_value_to_temporary-in-Call.ensures.place
-    (λ place. call_sound _ _ _ c.in-Call.at _ _ _ _ _ _ place (form_is c.expression_view.ensures c.in-Call.is)
+    (λ place. call_sound _ _ _ c.in-Call.at _ _ _ _ _ _ place (call_plain _ _ _ _ _ (form_is c.expression_view.ensures c.in-Call.is) c.requires.covered)
     c.in_ok-callee-in-Call.ensures.sound c.in_ok-arguments-in-Call.ensures.sound)
 
 -- Arguments.
@@ -151,12 +147,14 @@ lower_arguments-arguments-preserved t c =
     let lowered = c.in_ok-place.ensures.lowered in
     let left : Pieces = pieces_of (map syntax c.arguments.left.trees.now) in
     let rest : Pieces = pieces_of (map syntax c.in-Some.rest.trees.now) in
-    let split : left ≡ Then (syntax c.in-Some.argument.tree.now) rest = c.in-Some.ensures in
-    let counted : nodes_of left ≡ nodes (syntax c.in-Some.argument.tree.now) + nodes_of rest = ap nodes_of split in
+    let first : Syntax = syntax c.expression_of.result.tree.now in
+    let split : left ≡ Then first rest = c.in-Some.ensures ∙ ap (λ t. Then t rest) (sym c.expression_of.ensures) in
+    let counted : nodes_of left ≡ nodes first + nodes_of rest = ap nodes_of split in
     let now : State = state_of c.arguments.builder.env.now c.arguments.builder.work in
     record {
       same_reference = c.in_ok-place.ensures.same_reference ∙ loop.same_reference;
       names = lowered.keeps.named _ loop.names;
+      covered = (subst AreCovered split loop.covered).1;
       room = room_behind _ _ _ _ _ (omega (arith, counted)) lowered.keeps.uses loop.room;
       fewer = omega (arith, counted, loop.fewer);
       small = λ small. (first_small _ _ _ split (loop.small small)).1;

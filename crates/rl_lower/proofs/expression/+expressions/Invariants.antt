@@ -4,6 +4,7 @@ use Rattle.rl_syntax.specs.Syntax.{Pieces, nodes, nodes_of, pieces_of, syntax}
 use Rattle.rl_syntax.specs.declared.numbered.Numbered.{Numbered}
 use Rattle.rl_hir.specs.Instructions.{argument_shape}
 use Rattle.rl_builder.specs.Builder.{State, state_of}
+use Rattle.rl_model.specs.Covered.{AreCovered}
 use Rattle.rl_model.specs.Source.{shape_of}
 use Rattle.rl_lower.specs.Lowering.{HasRoom, LowersExpressions}
 use Rattle.rl_lower.specs.Named.{IsNamed}
@@ -30,6 +31,7 @@ abbrev pub invariant-lower_arguments-arguments : goal.invariant-lower_arguments-
 invariant-lower_arguments-arguments l = record {
   same_reference : l.builder.env.ghost_name ≡ l.initial.builder.env.ghost_name;
   names : IsNamed l.semantic.symbols (state_of l.builder.env.now l.builder.work);
+  covered : AreCovered (shown l.left.trees.now);
   room : HasRoom (state_of l.builder.env.now l.builder.work) (4 * nodes_of (shown l.left.trees.now));
   fewer : nodes_of (shown l.left.trees.now) ≤ nodes_of (shown l.arguments.trees.now);
   small : AreSmallTrees (shown l.arguments.trees.now) → AreSmallTrees (shown l.left.trees.now);

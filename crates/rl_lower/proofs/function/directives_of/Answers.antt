@@ -1,4 +1,4 @@
-use Rattle.std.proofs.Common.{All, map, subst, sym}
+use Rattle.std.proofs.Common.{All, map, subst, sym, ◌∙◌}
 use Rattle.std.specs.Str.{IsUtf8}
 use Rattle.std.proofs.lemmas.List.Elements.{All-nil, All-cons, All-same}
 use Rattle.rl_syntax.specs.Syntax.{Said, Pieces, Then, pieces_of, syntax}
@@ -11,10 +11,10 @@ texts_utf8 : (texts : Pieces) → AreSmallTrees texts → All IsUtf8 (texts_in t
 texts_utf8 (Then (Said text) texts) small = All-cons IsUtf8 text (texts_in texts) small.1.0 (texts_utf8 texts (small.0.1, small.1.1))
 texts_utf8 _ small = All-nil IsUtf8
 
-pub returns-in-Statements-clause-texts : goal.returns-in-Statements-clause-texts
-returns-in-Statements-clause-texts c =
-    let texts : Pieces = pieces_of (map syntax c.in-Statements.directives.trees.now) in
+pub returns-in-Body-clause-texts : goal.returns-in-Body-clause-texts
+returns-in-Body-clause-texts c =
+    let texts : Pieces = pieces_of (map syntax c.function_body_view.result.directives.trees.now) in
     ok_so c.copy_texts.result c.copy_texts.ensures.copied
     (λ directives is small.
-    let opened = subst IsSmallTree (sym c.in-Statements.ensures) small in
+    let opened = subst IsSmallTree (sym (c.function_body_view.ensures ∙ c.in-Body.ensures)) small in
     All-same IsUtf8 directives (texts_in texts) is (texts_utf8 texts (opened.0.1.0, opened.1.1.0)))

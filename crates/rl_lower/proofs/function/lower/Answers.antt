@@ -1,5 +1,4 @@
 use Rattle.std.proofs.Common.{None, Some, false, ap, ◌∙◌, refl}
-use Rattle.rl_syntax.specs.Syntax.{Syntax, span_of}
 use Rattle.rl_hir.specs.declared.environment.Environment.{Environment}
 use Rattle.rl_hir.specs.declared.function.HirFunction.{HirFunction}
 use Rattle.rl_lower.proofs.FunctionGraphs.{graph_closed, identifiers_fit, types_fit, lower_bounded, lower_never_stuck, lower_fn_type, lower_functions, lower_held, lower_identifiers, lower_pairs, lower_refused, lower_room, lower_same_runs}
@@ -11,11 +10,11 @@ use Rattle.rl_lower.proofs.function.lower.Goals as goal
 -- The function that is returned.
 abbrev lowered : (c : goal.After-new) → HirFunction
 lowered c = record {
-  span = Some c.function_view-function.result.at.span;
+  span = Some c.args.function.at.span;
   name = None;
   fn_type = c.create_temporary_place.new.env.fn_type;
   generator = false;
-  is_async = c.function_view-function.result.is_async;
+  is_async = c.args.function.is_async;
   directives = c.in_ok-directives_of.field-0;
   params = c.in_ok-graph.graph.params;
   context = c.new.result;
@@ -26,26 +25,22 @@ lowered c = record {
 
 pub lower_graph-requires-clause-room : goal.lower_graph-requires-clause-room
 lower_graph-requires-clause-room c =
-    let f = c.function_view-function in
-    lower_room _ _ _ _ (function_form _ f.result f.ensures) c.requires.symbols c.requires.room
+    lower_room _ _ _ _ (function_form c.args.function c.requires.covered) c.requires.symbols c.requires.room
 
 pub create_temporary_place-requires-clause-identifiers : goal.create_temporary_place-requires-clause-identifiers
 create_temporary_place-requires-clause-identifiers c =
-    let f = c.function_view-function in
     identifiers_fit _ _ _ _ _ _ c.in_ok-graph.ensures.graph c.requires.distinct
-    (lower_room _ _ _ _ (function_form _ f.result f.ensures) c.requires.symbols c.requires.room)
+    (lower_room _ _ _ _ (function_form c.args.function c.requires.covered) c.requires.symbols c.requires.room)
 
 pub create_temporary_place-requires-clause-types : goal.create_temporary_place-requires-clause-types
 create_temporary_place-requires-clause-types c =
-    let f = c.function_view-function in
     types_fit _ _ _ _ _ _ c.in_ok-graph.ensures.graph c.requires.distinct
-    (lower_room _ _ _ _ (function_form _ f.result f.ensures) c.requires.symbols c.requires.room)
+    (lower_room _ _ _ _ (function_form c.args.function c.requires.covered) c.requires.symbols c.requires.room)
 
 pub returns-clause-refused : goal.returns-clause-refused
 returns-clause-refused c =
-    let f = c.function_view-function in
     ap (λ (e : Environment). e.diagnostics) c.in_ok-returns.ensures.ok
-    ∙ lower_refused _ _ _ _ _ _ _ (function_form _ f.result f.ensures) c.requires.symbols c.requires.distinct
+    ∙ lower_refused _ _ _ _ _ _ _ (function_form c.args.function c.requires.covered) c.requires.symbols c.requires.distinct
     c.in_ok-graph.ensures.graph
 
 pub returns-clause-closed : goal.returns-clause-closed
@@ -53,20 +48,17 @@ returns-clause-closed c = graph_closed _ _ _ _ _ _ c.in_ok-graph.ensures.graph c
 
 pub returns-clause-same_runs : goal.returns-clause-same_runs
 returns-clause-same_runs c supported =
-    let f = c.function_view-function in
-    lower_same_runs _ _ _ _ _ _ _ (function_form _ f.result f.ensures) c.requires.symbols c.requires.distinct c.in_ok-graph.ensures.graph
+    lower_same_runs _ _ _ _ _ _ _ (function_form c.args.function c.requires.covered) c.requires.symbols c.requires.distinct c.in_ok-graph.ensures.graph
     supported (lowered c) _ refl refl refl
 
 pub returns-clause-never_stuck : goal.returns-clause-never_stuck
 returns-clause-never_stuck c supported =
-    let f = c.function_view-function in
-    lower_never_stuck _ _ _ _ _ _ _ (function_form _ f.result f.ensures) c.requires.symbols c.requires.distinct c.in_ok-graph.ensures.graph
+    lower_never_stuck _ _ _ _ _ _ _ (function_form c.args.function c.requires.covered) c.requires.symbols c.requires.distinct c.in_ok-graph.ensures.graph
     supported (lowered c) _ refl refl refl
 
 pub returns-clause-bounded : goal.returns-clause-bounded
 returns-clause-bounded c =
-    let f = c.function_view-function in
-    lower_bounded _ _ _ _ _ _ _ (function_form _ f.result f.ensures) c.requires.distinct c.in_ok-graph.ensures.graph
+    lower_bounded _ _ _ _ _ _ _ (function_form c.args.function c.requires.covered) c.requires.distinct c.in_ok-graph.ensures.graph
     (lowered c) refl refl
 
 pub returns-clause-functions : goal.returns-clause-functions
@@ -91,8 +83,7 @@ returns-clause-identifiers c =
 
 pub returns-clause-held : goal.returns-clause-held
 returns-clause-held c =
-    let f = c.function_view-function in
-    lower_held _ _ _ _ _ _ _ (function_form _ f.result f.ensures) c.requires.distinct c.in_ok-graph.ensures.graph
+    lower_held _ _ _ _ _ _ _ (function_form c.args.function c.requires.covered) c.requires.distinct c.in_ok-graph.ensures.graph
     (lowered c) refl refl
 
 pub returns-clause-numbered : goal.returns-clause-numbered
@@ -109,15 +100,13 @@ returns-clause-places c =
 
 pub returns-clause-writable : goal.returns-clause-writable
 returns-clause-writable c =
-    let f = c.function_view-function in
     function_listed _ _ _ _ _ _ (lowered c)
-    (function_form _ f.result f.ensures) c.requires.symbols c.in_ok-graph.ensures.sound
-    (ap (λ (t : Syntax). Some (span_of t)) f.ensures) refl c.in_ok-directives_of.ensures.texts refl refl
+    (function_form c.args.function c.requires.covered) c.requires.symbols c.in_ok-graph.ensures.sound
+    refl refl c.in_ok-directives_of.ensures.texts refl refl
     c.in_ok-graph.ensures.graph.places c.new.ensures c.in_ok-returns.ensures.place
 
 pub returns-clause-known : goal.returns-clause-known
 returns-clause-known c =
-    let f = c.function_view-function in
-    function_identifiers _ _ f.result.at.span _ _ _ c.create_temporary_place.new.env _
-    (function_form _ f.result f.ensures) (ap span_of f.ensures)
+    function_identifiers _ _ c.args.function.at.span _ _ _ c.create_temporary_place.new.env _
+    (function_form c.args.function c.requires.covered) refl
     c.requires.symbols c.in_ok-graph.ensures.sound (ap (λ (e : Environment). e.identifiers) c.in_ok-returns.ensures.ok)

@@ -1,4 +1,4 @@
-use Rattle.std.proofs.Common.{None, map, sym, subst}
+use Rattle.std.proofs.Common.{None, map, sym, subst, ◌∙◌}
 use Rattle.rl_syntax.specs.Syntax.{Listed, Pieces, pieces_of, syntax}
 use Rattle.rl_hir.specs.declared.function.BlockKind.TheVariants as kinds
 use Rattle.rl_builder.specs.Builder.{State}
@@ -21,13 +21,13 @@ returns-in_ok-value-in-Expression-clause-lowered c =
     (sym c.in-Expression.ensures) c.in-Expression.expression.fit
     c.reserve-fallthrough.ensures.state c.reserve-fallthrough.ensures.block c.in_ok-value-in-Expression.ensures.lowered moved)
 
-pub returns-in-Statements-clause-lowered : goal.returns-in-Statements-clause-lowered
-returns-in-Statements-clause-lowered c =
-    let directives : Pieces = pieces_of (map syntax c.in-Statements.directives.trees.now) in
-    let statements : Pieces = pieces_of (map syntax c.in-Statements.statements.trees.now) in
+pub returns-in-Body-clause-lowered : goal.returns-in-Body-clause-lowered
+returns-in-Body-clause-lowered c =
+    let directives : Pieces = pieces_of (map syntax c.function_body_view-body.result.directives.trees.now) in
+    let statements : Pieces = pieces_of (map syntax c.function_body_view-body.result.statements.trees.now) in
     done_so c.lower_statements.result c.lower_statements.ensures.lowered
-    (λ l. statements_body_call _ _ c.in-Statements.at directives statements _ _
-    c.in-Statements.directives.fit (sym c.in-Statements.ensures) l)
+    (λ l. statements_body_call _ _ c.function_body_view-body.result.at directives statements _ _
+    c.function_body_view-body.result.directives.fit (sym (c.function_body_view-body.ensures ∙ c.in-Body.ensures)) l)
 
 pub returns-in_ok-value-in-Expression-clause-sound : goal.returns-in_ok-value-in-Expression-clause-sound
 returns-in_ok-value-in-Expression-clause-sound c =
@@ -36,9 +36,9 @@ returns-in_ok-value-in-Expression-clause-sound c =
     (sym c.in-Expression.ensures) c.reserve-fallthrough.ensures.state
     c.reserve-fallthrough.ensures.block c.in_ok-value-in-Expression.ensures.sound moved)
 
-pub returns-in-Statements-clause-sound : goal.returns-in-Statements-clause-sound
-returns-in-Statements-clause-sound c =
-    let directives : Pieces = pieces_of (map syntax c.in-Statements.directives.trees.now) in
-    let statements : Pieces = pieces_of (map syntax c.in-Statements.statements.trees.now) in
+pub returns-in-Body-clause-sound : goal.returns-in-Body-clause-sound
+returns-in-Body-clause-sound c =
+    let directives : Pieces = pieces_of (map syntax c.function_body_view-body.result.directives.trees.now) in
+    let statements : Pieces = pieces_of (map syntax c.function_body_view-body.result.statements.trees.now) in
     done_so c.lower_statements.result c.lower_statements.ensures.sound
-    (λ sound. statements_body_sound _ (Listed directives) c.in-Statements.at statements _ _ (sym c.in-Statements.ensures) sound)
+    (λ sound. statements_body_sound _ (Listed directives) c.function_body_view-body.result.at statements _ _ (sym (c.function_body_view-body.ensures ∙ c.in-Body.ensures)) sound)

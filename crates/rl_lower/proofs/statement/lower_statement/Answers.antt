@@ -1,10 +1,10 @@
 use Rattle.std.proofs.Common.{◌≡◌, true, Some, ap, sym, ◌∙◌}
 use Rattle.rl_grammar.specs.Grammar.{fits}
 use Rattle.rl_syntax.specs.Syntax.{Syntax, Node, Absent, End, Then, syntax}
-use Rattle.rl_ast.specs.Views.{seen_statement}
+use Rattle.rl_ast.specs.StatementViews.{seen_statement}
 use Rattle.rl_grammar.specs.declared.kind.Field.TheVariants as field
 use Rattle.rl_grammar.specs.declared.kind.Kind.TheVariants as kind
-use Rattle.rl_ast.specs.declared.view.Statement.TheVariants as statement
+use Rattle.rl_ast.specs.declared.statement.Statement.TheVariants as statement
 use Rattle.rl_syntax.specs.declared.word.Word.TheVariants as word
 use Rattle.rl_hir.specs.declared.function.BlockKind.TheVariants as kinds
 use Rattle.rl_lower.proofs.Answering.{done_so}

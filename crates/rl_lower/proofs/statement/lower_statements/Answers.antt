@@ -1,6 +1,7 @@
 use Rattle.std.proofs.Common.{◌≡◌, ◌+◌, ◌*◌, map, ap, sym, ◌∙◌, subst, arith}
 use Rattle.rl_syntax.specs.Syntax.{Syntax, Pieces, Then, pieces_of, nodes, nodes_of, syntax}
 use Rattle.rl_builder.specs.Builder.{State, state_of}
+use Rattle.rl_model.specs.Covered.{AreCovered}
 use Rattle.rl_lower.specs.Lowering.{LowersStatements}
 use Rattle.rl_lower.specs.Sound.{AreSmallTrees, IsSmallTree}
 use Rattle.rl_lower.proofs.Keeping.{room_behind}
@@ -19,6 +20,7 @@ statements-preserved c =
     record {
       same_reference = c.in_ok-lower_statement.ensures.same_reference ∙ c.statements.invariant.same_reference;
       names = c.in_ok-lower_statement.ensures.lowered.keeps.named c.args.semantic.now.symbols c.statements.invariant.names;
+      covered = (subst AreCovered split c.statements.invariant.covered).1;
       room = room_behind _ _ (4 * nodes first) (4 * nodes_of rest) (4 * nodes_of left) (omega (arith, counted))
           c.in_ok-lower_statement.ensures.lowered.keeps.uses c.statements.invariant.room;
       lowers = λ new l. c.statements.invariant.lowers new

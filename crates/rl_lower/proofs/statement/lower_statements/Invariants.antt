@@ -2,6 +2,7 @@ use Rattle.std.proofs.Common.{◌≡◌, ◌*◌, map}
 use Rattle.rl_syntax.specs.Sizes.{size_of}
 use Rattle.rl_syntax.specs.Syntax.{nodes_of, pieces_of, syntax}
 use Rattle.rl_builder.specs.Builder.{State, state_of}
+use Rattle.rl_model.specs.Covered.{AreCovered}
 use Rattle.rl_lower.specs.Lowering.{HasRoom, LowersStatements}
 use Rattle.rl_lower.specs.Named.{IsNamed}
 use Rattle.rl_lower.specs.Sound.{AreSmallTrees, StaysSound}
@@ -15,6 +16,7 @@ abbrev pub invariant-statements : goal.invariant-statements
 invariant-statements l = record {
   same_reference : l.builder.env.ghost_name ≡ l.initial.builder.env.ghost_name;
   names : IsNamed l.semantic.symbols (state_of l.builder.env.now l.builder.work);
+  covered : AreCovered (pieces_of (map syntax l.left.trees.now));
   room : HasRoom (state_of l.builder.env.now l.builder.work) (4 * nodes_of (pieces_of (map syntax l.left.trees.now)));
   lowers : (new : State) → LowersStatements l.semantic.symbols (pieces_of (map syntax l.left.trees.now)) (state_of l.builder.env.now l.builder.work) new → LowersStatements l.semantic.symbols (pieces_of (map syntax l.statements.trees.now)) (state_of l.initial.builder.env.now l.initial.builder.work) new;
   small : AreSmallTrees (pieces_of (map syntax l.statements.trees.now)) → AreSmallTrees (pieces_of (map syntax l.left.trees.now));
