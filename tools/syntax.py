@@ -113,7 +113,7 @@ def word_file():
 
 def filled(template, values):
     """A template of tools/templates with the values put in for NAME in braces of percent signs."""
-    text = (ROOT / "tools/templates" / template).read_text()
+    text = (ROOT / "tools/templates" / f"{template}.txt").read_text()
     for name, value in values.items():
         text = text.replace(f"%{name}%", value)
     return text
