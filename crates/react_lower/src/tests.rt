@@ -1,11 +1,14 @@
 //! Runs of the program over memory.
 
+mod atoms;
 mod base;
 mod hostile;
 mod interrupted;
+mod kinds;
 mod limits;
 mod listings;
 mod malformed;
+mod pending;
 mod refusals;
 mod reserved;
 mod scope;

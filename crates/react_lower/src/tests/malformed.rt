@@ -22,10 +22,8 @@ fn refuses_what_is_no_unit(rt: HostRuntime) -> Result<(), Fail> {
     let two_spaces = b"(unit  [] (program [(expr (arrow y n (params [] -) (num \"1\")))]))";
     let upper_case = b"(unit [] (program [(expr (arrow y n (params [] -) (num \"\\0A\")))]))";
     let no_text = b"(unit [] (program [(expr (arrow y n (params [] -) (num \"\xff\")))]))";
-    let not_marked = b"(unit [] (program [(expr (arrow n n (params [] -) (num \"1\")))]))";
+    let not_marked = b"(unit [] (program [(expr (num \"1\"))]))";
     let parameter = b"(unit [] (program [(expr (arrow y n (params [\"a\"] -) (num \"1\")))]))";
-    let two_functions =
-        b"(unit [] (program [(expr (arrow y n (params [] -) (null))) (expr (arrow y n (params [] -) (null)))]))";
     for unit in [
         twice.as_slice(),
         line_feed.as_slice(),
@@ -34,7 +32,6 @@ fn refuses_what_is_no_unit(rt: HostRuntime) -> Result<(), Fail> {
         no_text.as_slice(),
         not_marked.as_slice(),
         parameter.as_slice(),
-        two_functions.as_slice(),
     ] {
         check(&rt, alloc, unit, Status::Malformed, "")?;
     }
@@ -48,8 +45,6 @@ fn refuses_what_is_no_body(rt: HostRuntime) -> Result<(), Fail> {
         "(num 1)",
         "(paren)",
         "(return (null))",
-        "(arrow n n (params [] -) (null))",
-        "(paren (arrow n n (params [] -) (null)))",
         "(body [] [(null)])",
         "(body [] [(return)])",
         "(body [(str \"use strict\")] [])",

@@ -1,22 +1,28 @@
 //! The symbols of a unit, and the look-up of names.
 
 use super::function_of;
+use rl_ast::function_node::FunctionNode;
 use rl_ast::read::read_tree;
 use rl_scope::semantic::Semantic;
-use rl_unit::unit::marked_function;
 use std::alloc::Global;
 use std::test::Fail;
 
 /// The symbols of a function with these parameters.
-fn semantic_of(alloc: Global, names: &[&str]) -> Result<Semantic, Fail> {
+fn semantic_of(alloc: Global, names: &[&str]) -> Result<Option<Semantic>, Fail> {
     let text = function_of(alloc, names, "")?;
     let unit = read_tree(alloc, text.as_bytes())?;
-    Ok(Semantic::of(alloc, marked_function(&unit))?)
+    match unit.marked_function() {
+        Some(FunctionNode::Arrow(arrow)) => Ok(Some(Semantic::of(alloc, arrow)?)),
+        _ => Ok(None),
+    }
 }
 
 #[test]
 fn finds_parameters_by_name(rt: HostRuntime) -> Result<(), Fail> {
-    let semantic = semantic_of(rt.alloc(), &["a", "b", ""])?;
+    let Some(semantic) = semantic_of(rt.alloc(), &["a", "b", ""])? else {
+        assert!(rt; false, "no arrow function is marked");
+        return Ok(());
+    };
     assert_eq!(rt; semantic.symbols.len(), 3);
     for (name, id) in [
         ("a", Some(0)),

@@ -1,16 +1,20 @@
 //! The reader and the writer of units: numbers of nodes, units that are read and written back, and texts that are refused.
 
-use rl_syntax::numbered::At;
-use rl_ast::read::{TreeError, read_tree};
-use rl_ast::unit::Unit;
-use rl_ast::view::{
-    ArrowBody, Statement, StatementTree, binding_view, body_view, function_view, param_view,
-    params_view, program_view, statement_view,
+use rl_ast::binding::{BindingPattern, binding_identifier_view, binding_pattern_view};
+use rl_ast::function::{
+    Arrow, ArrowBody, arrow_body_view, formal_parameter_view, formal_parameters_view,
+    function_body_view,
 };
-use rl_syntax::word::Word;
+use rl_ast::function_node::FunctionNode;
+use rl_ast::program::program_view;
+use rl_ast::read::{TreeError, read_tree};
+use rl_ast::statement::{Statement, statement_view};
+use rl_ast::unit::Unit;
 use rl_ast::write::write_tree;
 use rl_base::ids::NodeId;
-use rl_unit::unit::marked_function;
+use rl_grammar::sort::StatementTree;
+use rl_syntax::numbered::At;
+use rl_syntax::word::Word;
 use std::alloc::{AllocError, Global};
 use std::test::Fail;
 
@@ -23,19 +27,30 @@ fn numbers(at: At) -> (u32, u32, u32, u32) {
     (at.id.0, at.end.0, at.span.start, at.span.end)
 }
 
+/// The marked function, if it is an arrow function.
+fn arrow_of(unit: &Unit) -> Option<Arrow<'_>> {
+    match unit.marked_function()? {
+        FunctionNode::Arrow(arrow) => Some(arrow),
+        FunctionNode::Function(_) => None,
+    }
+}
+
 /// The numbers of a unit, its program, its function, the parameter list, the first parameter and its name.
 fn function_numbers(unit: &Unit) -> Option<[(u32, u32, u32, u32); 6]> {
-    let function = function_view(marked_function(unit));
-    let params = params_view(function.params);
+    let function = arrow_of(unit)?;
+    let params = formal_parameters_view(function.params);
     let (param, _rest) = params.items.split_first()?;
-    let param = param_view(param);
+    let param = formal_parameter_view(param);
+    let BindingPattern::Identifier(name) = binding_pattern_view(param.pattern) else {
+        return None;
+    };
     Some([
         numbers(unit.view().at),
         numbers(program_view(unit.view().program).at),
         numbers(function.at),
         numbers(params.at),
         numbers(param.at),
-        numbers(binding_view(param.pattern).at),
+        numbers(binding_identifier_view(name).at),
     ])
 }
 
@@ -56,32 +71,28 @@ fn reads_a_function(rt: HostRuntime) -> Result<(), Fail> {
     Ok(())
 }
 
-/// The numbers of a statement.
-fn statement_numbers(statement: StatementTree<'_>) -> (u32, u32, u32, u32) {
+/// The numbers of an expression statement or a `return`.
+fn statement_numbers(statement: StatementTree<'_>) -> Option<(u32, u32, u32, u32)> {
     match statement_view(statement) {
-        Statement::Expression { at, expression: _ } => numbers(at),
-        Statement::Return { at, argument: _ } => numbers(at),
+        Statement::Expression { at, expression: _ } => Some(numbers(at)),
+        Statement::Return { at, argument: _ } => Some(numbers(at)),
+        _ => None,
     }
 }
 
 /// The numbers of a body of statements, and of the first two of them.
 fn body_numbers(unit: &Unit) -> Option<[(u32, u32, u32, u32); 3]> {
-    match body_view(function_view(marked_function(unit)).body) {
-        ArrowBody::Statements {
-            at,
-            directives: _,
-            statements,
-        } => {
-            let (first, rest) = statements.split_first()?;
-            let (second, _rest) = rest.split_first()?;
-            Some([
-                numbers(at),
-                statement_numbers(first),
-                statement_numbers(second),
-            ])
-        }
-        ArrowBody::Expression(_) => None,
-    }
+    let ArrowBody::Body(body) = arrow_body_view(arrow_of(unit)?.body) else {
+        return None;
+    };
+    let body = function_body_view(body);
+    let (first, rest) = body.statements.split_first()?;
+    let (second, _rest) = rest.split_first()?;
+    Some([
+        numbers(body.at),
+        statement_numbers(first)?,
+        statement_numbers(second)?,
+    ])
 }
 
 #[test]
@@ -164,9 +175,6 @@ fn refuses_what_is_no_body(rt: HostRuntime) -> Result<(), Fail> {
         "(str)",
         "(paren (null) (null))",
         "(expr (null))",
-        "(arrow y n (params [] -) (null))",
-        "(paren (arrow n n (params [] -) (null)))",
-        "(body [] [(expr (arrow n n (params [] -) (null)))])",
         "(body [] [(null)])",
         "(body [] [(return (null) (null))])",
         "(body [-] [])",
@@ -184,7 +192,6 @@ fn refuses_what_is_no_body(rt: HostRuntime) -> Result<(), Fail> {
         "(binary \"+\" (null) (null) (null))",
         "(binary \"+\" (null) (expr (null)))",
         "(binary \"+\" [(null) (null)])",
-        "(call y (id \"f\") [])",
         "(call (id \"f\") [])",
         "(call n (id \"f\") (null))",
         "(call n (expr (null)) [])",
@@ -209,7 +216,6 @@ fn refuses_what_are_no_parameters(rt: HostRuntime) -> Result<(), Fail> {
         "(params [(bind \"a\" -)] -)",
         "(params [(param (id \"a\") -)] -)",
         "(params [(param (bind \"a\" -))] -)",
-        "(params [(param (bind \"a\" -) (null))] -)",
         "(params [(param (bind \"a\" -) -) (null)] -)",
         "(params [(param (bind \"a\") -)] -)",
         "(params [(param (bind - -) -)] -)",
@@ -224,12 +230,10 @@ fn refuses_what_are_no_parameters(rt: HostRuntime) -> Result<(), Fail> {
 
 #[test]
 fn refuses_what_is_no_unit(rt: HostRuntime) -> Result<(), Fail> {
-    let texts: [&[u8]; 6] = [
+    let texts: [&[u8]; 4] = [
         b"(unit [])",
-        b"(unit [] (program []))",
         b"(unit [\"a\"] (program [(expr (arrow y n (params [] -) (null)))]))",
-        b"(unit [] (program [(return -)]))",
-        b"(unit [] (program [(expr (null))]))",
+        b"(unit [] (program [(null)]))",
         b"(unit [] (program [(expr (arrow y n (params [] -) (null)))])) ",
     ];
     for text in texts {
@@ -238,5 +242,29 @@ fn refuses_what_is_no_unit(rt: HostRuntime) -> Result<(), Fail> {
             Err(error) => assert_eq!(rt; error, TreeError::Malformed),
         }
     }
+    Ok(())
+}
+
+/// A unit with each of the thirteen kinds of nodes that make a scope, and a reference between any two.
+const SCOPES: &[u8] =
+    b"(unit [] (program [(expr (id \"a\")) (expr (arrow y n (params [] -) (id \"b\"))) (fundecl n n n (bind \"f\" -) (params [] -) (body [] [(expr (id \"c\"))])) (expr (funexpr n n n - (params [] -) (body [] [(return (id \"d\"))]))) (block [(expr (id \"e\"))]) (for - - - (expr (id \"f\"))) (forin (id \"g\") (null) (empty)) (forof n (id \"h\") (null) (empty)) (switch (id \"i\") []) (try (block [(expr (id \"j\"))]) (catch - (block [(expr (id \"k\"))])) -) (classdecl (bind \"C\" -) - [(static [(expr (id \"l\"))])]) (expr (classexpr - - []))]))";
+
+#[test]
+fn numbers_scopes_and_references(rt: HostRuntime) -> Result<(), Fail> {
+    let unit = read_tree(rt.alloc(), SCOPES)?;
+    let mut scopes = 0;
+    let mut references = 0;
+    for node in unit.nodes.as_slice() {
+        assert_eq!(rt; node.at.scope.0, scopes, "{node:?}");
+        assert_eq!(rt; node.at.reference.0, references, "{node:?}");
+        if node.word.makes_scope() {
+            scopes += 1;
+        }
+        if node.word == Word::Id {
+            references += 1;
+        }
+    }
+    assert_eq!(rt; scopes, 15);
+    assert_eq!(rt; references, 12);
     Ok(())
 }
