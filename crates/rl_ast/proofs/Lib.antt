@@ -1,2 +1,3 @@
+pub mod MarkedFunctions
 pub mod Reading
 pub mod Units

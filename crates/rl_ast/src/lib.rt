@@ -8,6 +8,7 @@ pub mod expression_part;
 pub mod function;
 pub mod function_node;
 pub mod jsx;
+pub mod marked;
 pub mod program;
 pub mod read;
 pub mod statement;
