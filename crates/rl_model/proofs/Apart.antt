@@ -1,17 +1,18 @@
 -- No two calls of a unit stand at one place: each ends after those before it, which are its parts or stand before it.
-use Rattle.std.proofs.Common.{◌≡◌, ℕ, zero, suc, ◌+◌, ◌<◌, ◌≤◌, ◌++◌, ◌⊎◌, inl, inr, List, [], ◌∷◌, length, length-append, append-nil, slice_get, Option, Some, None, refl, sym, ap, ◌∙◌, subst, arith}
+use Rattle.std.proofs.Common.{◌≡◌, ℕ, zero, suc, ◌+◌, ◌<◌, ◌≤◌, ◌++◌, ◌⊎◌, inl, inr, List, [], ◌∷◌, length, length-append, slice_get, Option, Some, None, refl, sym, ap, subst, arith}
 use Rattle.rl_base.specs.declared.span.Span.{Span}
 use Rattle.rl_text.specs.Notation.{spelled_on, spelling}
-use Rattle.rl_syntax.specs.Syntax.{Syntax, Node, Listed, Said, Count, Flag, Absent, Pieces, End, Then, IsPlaced, ArePlaced, nodes, plain, plain_parts, width}
-use Rattle.rl_ast.specs.Units.{IsOfGrammar, Spells}
-use Rattle.rl_ast.proofs.Units.{marked_form, program_form, unit_form}
+use Rattle.rl_syntax.specs.Syntax.{Syntax, Node, Listed, Said, Count, Flag, Absent, Pieces, End, Then, IsPlaced, ArePlaced, behind, inside, next_byte, outset, plain, plain_parts, width}
+use Rattle.rl_ast.specs.Marked.{first, marked_functions}
+use Rattle.rl_ast.specs.Units.{Spells}
+use Rattle.rl_ast.proofs.MarkedFunctions.{first_found, inside_placed}
 use Rattle.rl_syntax.specs.Words.{word_text}
 use Rattle.rl_syntax.specs.declared.numbered.At.{At}
+use Rattle.rl_syntax.specs.declared.numbered.Position.{Position}
 use Rattle.rl_syntax.specs.declared.word.Word.{Word}
 use Rattle.rl_syntax.specs.declared.word.Word.TheVariants as word
 use Rattle.rl_base.specs.Distinct.{AreDistinct}
 use Rattle.rl_model.specs.Held.{calls_in, calls_among}
-use Rattle.rl_model.specs.Source.{marked}
 
 -- the ends of the places rise, from above the first number to the last one at most
 abbrev Rise : ℕ → List (Option Span) → ℕ → Type 0
@@ -58,34 +59,34 @@ node_rise at w parts low high r last = elim (own_call at w parts) [
 
 mutual
   -- the calls of a tree that stands at a byte end behind it, one after the other
-  calls_rise : (s : Syntax) (node byte : ℕ) → IsPlaced node byte s → Rise byte (calls_in s) (byte + width s)
-  calls_rise (Node at w parts) node byte placed = (
+  calls_rise : (s : Syntax) (from : Position) → IsPlaced from s → Rise from.byte (calls_in s) (from.byte + width s)
+  calls_rise (Node at w parts) from placed = (
       let last = bracket_last 41 parts in
       let long : length (word_text w ++ spelled_on 41 (plain_parts parts)) ≡ length (word_text w) + length (spelled_on 41 (plain_parts parts)) = length-append (word_text w) (spelled_on 41 (plain_parts parts)) in
-      let start = byte + 1 + length (word_text w) in
-      let inside : Rise start (calls_among parts) (start + last.0) = calls_among_rise 41 parts (node + 1) start (start + last.0) placed.1 (omega (arith, last.1)) in
-      subst (λ (n : ℕ). Rise byte (calls_in (Node at w parts)) n) placed.0.end
-      (rise_from (calls_in (Node at w parts)) byte start at.span.end (omega arith) (node_rise at w parts start (start + last.0) inside (omega (arith, placed.0.end, long, last.1))))
+      let start = from.byte + 1 + length (word_text w) in
+      let within : Rise start (calls_among parts) (start + last.0) = calls_among_rise 41 parts (inside from w) (start + last.0) placed.1 (omega (arith, last.1)) in
+      subst (λ (n : ℕ). Rise from.byte (calls_in (Node at w parts)) n) placed.0.end
+      (rise_from (calls_in (Node at w parts)) from.byte start at.span.end (omega arith) (node_rise at w parts start (start + last.0) within (omega (arith, placed.0.end, long, last.1))))
       )
-  calls_rise (Listed End) node byte placed = omega arith
-  calls_rise (Listed (Then piece pieces)) node byte placed = (
+  calls_rise (Listed End) from placed = omega arith
+  calls_rise (Listed (Then piece pieces)) from placed = (
       let both : length (spelling (plain piece) ++ spelled_on 93 (plain_parts pieces)) ≡ width piece + length (spelled_on 93 (plain_parts pieces)) = length-append (spelling (plain piece)) (spelled_on 93 (plain_parts pieces)) in
       let last = bracket_last 93 (Then piece pieces) in
-      rise_to (calls_among (Then piece pieces)) byte (byte + last.0) _ (omega (arith, both, last.1)) (calls_among_rise 93 (Then piece pieces) node byte (byte + last.0) placed (omega (arith, last.1)))
+      rise_to (calls_among (Then piece pieces)) from.byte (from.byte + last.0) _ (omega (arith, both, last.1)) (calls_among_rise 93 (Then piece pieces) from (from.byte + last.0) placed (omega (arith, last.1)))
       )
-  calls_rise (Said text) node byte placed = omega arith
-  calls_rise (Count number) node byte placed = omega arith
-  calls_rise (Flag flag) node byte placed = omega arith
-  calls_rise Absent node byte placed = omega arith
+  calls_rise (Said text) from placed = omega arith
+  calls_rise (Count number) from placed = omega arith
+  calls_rise (Flag flag) from placed = omega arith
+  calls_rise Absent from placed = omega arith
 
   -- the same for parts and the bracket behind them
-  calls_among_rise : (close : ℕ) (parts : Pieces) (node byte high : ℕ) → ArePlaced node byte parts → byte + length (spelled_on close (plain_parts parts)) ≡ high + 1 → Rise byte (calls_among parts) high
-  calls_among_rise close End node byte high placed long = omega (arith, long)
-  calls_among_rise close (Then piece pieces) node byte high placed long = (
+  calls_among_rise : (close : ℕ) (parts : Pieces) (from : Position) (high : ℕ) → ArePlaced from parts → from.byte + length (spelled_on close (plain_parts parts)) ≡ high + 1 → Rise from.byte (calls_among parts) high
+  calls_among_rise close End from high placed long = omega (arith, long)
+  calls_among_rise close (Then piece pieces) from high placed long = (
       let both : length (spelling (plain piece) ++ spelled_on close (plain_parts pieces)) ≡ width piece + length (spelled_on close (plain_parts pieces)) = length-append (spelling (plain piece)) (spelled_on close (plain_parts pieces)) in
-      rise_then (calls_in piece) (calls_among pieces) byte (byte + 1 + width piece) high
-      (rise_from (calls_in piece) byte (byte + 1) (byte + 1 + width piece) (omega arith) (calls_rise piece node (byte + 1) placed.0))
-      (calls_among_rise close pieces (node + nodes piece) (byte + 1 + width piece) high placed.1 (omega (arith, both, long)))
+      rise_then (calls_in piece) (calls_among pieces) from.byte (from.byte + 1 + width piece) high
+      (rise_from (calls_in piece) from.byte (from.byte + 1) (from.byte + 1 + width piece) (omega arith) (calls_rise piece (next_byte from) placed.0))
+      (calls_among_rise close pieces (behind (next_byte from) piece) high placed.1 (omega (arith, both, long)))
       )
 
 -- a tree that ends above a given id
@@ -115,22 +116,10 @@ rise_apart (Some span ∷ places) low high r zero (suc j) place at there = absur
 rise_apart (Some span ∷ places) low high r (suc i) zero place at there = absurd (never_before places span high i place r.1 at (cc))
 rise_apart (Some span ∷ places) low high r (suc i) (suc j) place at there = ap suc (rise_apart places span.end high r.1 i j place at there)
 
--- the calls of a unit are those of its function
-unit_calls : (u : Syntax) → IsOfGrammar u → calls_in u ≡ calls_in (marked u)
-unit_calls u grammar =
-    let unit = unit_form u grammar in
-    let program = program_form unit.0 unit.1.fit in
-    let statement = marked_form program.0 program.1.fit in
-    let form : u ≡ Node unit.1.at word.Unit (Then (Listed End) (Then (Node program.1.at word.Program (Then (Listed (Then (Node statement.1.at word.Expr (Then statement.0 End)) End)) End)) End)) =
-    unit.1.is
-    ∙ ap (λ p. Node unit.1.at word.Unit (Then (Listed End) (Then p End))) program.1.is
-    ∙ ap (λ s. Node unit.1.at word.Unit (Then (Listed End) (Then (Node program.1.at word.Program (Then (Listed (Then s End)) End)) End))) statement.1.is in
-    ap calls_in form ∙ behind (calls_in statement.0) ∙ sym (ap (λ t. calls_in (marked t)) form)
-  where
-    behind : (calls : List (Option Span)) → (((calls ++ []) ++ []) ++ []) ++ [] ≡ calls
-    behind calls = append-nil _ ∙ append-nil _ ∙ append-nil _ ∙ append-nil calls
+-- the calls of a placed tree are apart
+placed_apart : (s : Syntax) (from : Position) → IsPlaced from s → AreDistinct (calls_in s)
+placed_apart s from placed = rise_apart (calls_in s) from.byte (from.byte + width s) (calls_rise s from placed)
 
--- the calls of a unit's function are apart
-pub calls_apart : (bytes : List ℕ) (u : Syntax) → Spells bytes u → AreDistinct (calls_in (marked u))
-calls_apart bytes u spells =
-    subst AreDistinct (unit_calls u spells.grammar) (rise_apart (calls_in u) 0 (0 + width u) (calls_rise u 0 0 spells.numbers))
+-- the calls of a unit's marked function are apart
+pub calls_apart : (bytes : List ℕ) (u f : Syntax) → Spells bytes u → first (marked_functions u) ≡ Some f → AreDistinct (calls_in f)
+calls_apart bytes u f spells found = let stands = inside_placed u f outset spells.numbers (first_found u f found).0 in placed_apart f stands.from stands.placed

@@ -22,7 +22,8 @@ use Rattle.rl_model.specs.Held.{calls_in, live_calls_in}
 use Rattle.rl_model.specs.Machine.{code_of, exec, function_trace, no_notes, steps_for, take_arguments, trace_by}
 use Rattle.rl_model.specs.Traces.{unset, waiting}
 use Rattle.rl_model.specs.Rows.{refusal, refusals_of, stop_of}
-use Rattle.rl_model.specs.Source.{source_trace}
+use Rattle.rl_model.specs.Source.{marked, source_trace}
+use Rattle.rl_model.specs.Units.{pending}
 use Rattle.rl_model.specs.declared.trace.Answer.{Answer}
 use Rattle.rl_model.specs.declared.trace.AnswerKind.{AnswerKind}
 use Rattle.rl_model.specs.declared.trace.AnswerKind.TheVariants.{Yes, Throw}
@@ -38,7 +39,7 @@ span start = record { start = start; end = start + 1 }
 
 -- a node that stands at a byte
 abbrev node : ℕ → Word → List Syntax → Syntax
-node start w parts = Node (record { id = record { 0 = start }; end = record { 0 = start + 1 }; span = span start }) w (pieces_of parts)
+node start w parts = Node (record { id = record { 0 = start }; end = record { 0 = start + 1 }; scope = record { 0 = 0 }; reference = record { 0 = 0 }; span = span start }) w (pieces_of parts)
 
 abbrev name : ℕ → List ℕ → Syntax
 name start text = node start word.Id (Said text ∷ [])
@@ -192,3 +193,28 @@ local_eval = refl
 -- a parameter `fbt` is refused where it stands and at each read, always with its own place
 local_fbt : refusals_of (function (codes "fbt" ∷ []) (node 11 word.Return (name 12 (codes "fbt") ∷ []) ∷ [])) ≡ refusal row.F40 (span 6) ∷ refusal row.F40 (span 6) ∷ []
 local_fbt = refl
+
+-- a unit of the given statements
+abbrev unit : List Syntax → Syntax
+unit statements = node 0 word.Unit (Listed (pieces_of []) ∷ node 1 word.Program (Listed (pieces_of statements) ∷ []) ∷ [])
+
+-- the unit of `source` is covered, and its function is the marked one
+covered : pending (unit (node 2 word.Expr (source ∷ []) ∷ [])) ≡ None
+covered = refl
+
+found : marked (unit (node 2 word.Expr (source ∷ []) ∷ [])) ≡ source
+found = refl
+
+-- an empty statement, an arrow function without a mark, and a second function with one are not covered
+empty_statement : pending (unit (node 2 word.Expr (source ∷ []) ∷ node 20 word.Empty [] ∷ [])) ≡ Some 20
+empty_statement = refl
+
+unmarked : pending (unit (node 2 word.Expr (source ∷ []) ∷ node 20 word.Expr (node 21 word.Arrow (Flag false ∷ Flag false ∷ node 22 word.Params (Listed (pieces_of []) ∷ Absent ∷ []) ∷ node 23 word.Null [] ∷ []) ∷ []) ∷ [])) ≡ Some 21
+unmarked = refl
+
+second : pending (unit (node 2 word.Expr (source ∷ []) ∷ node 20 word.Fundecl (Flag true ∷ Flag false ∷ Flag false ∷ Absent ∷ node 21 word.Params (Listed (pieces_of []) ∷ Absent ∷ []) ∷ Absent ∷ []) ∷ [])) ≡ Some 20
+second = refl
+
+-- a unit without a function is covered, though it breaks rule B1
+none_marked : pending (unit (node 2 word.Expr (node 3 word.Null [] ∷ []) ∷ [])) ≡ None
+none_marked = refl

@@ -1,5 +1,5 @@
 -- The promises of a result: of each graph, and of the result as a whole.
-use Rattle.std.specs.Prelude.{◌≡◌, ℕ, ◌*◌, ◌≤◌, List, [], length}
+use Rattle.std.specs.Prelude.{◌≡◌, ℕ, ◌*◌, ◌≤◌, None, List, [], length}
 use Rattle.rl_syntax.specs.Syntax.{Syntax, nodes}
 use Rattle.rl_base.specs.Distinct.{AreDistinct}
 use Rattle.rl_hir.specs.Listing.{lowered}
@@ -15,7 +15,7 @@ use Rattle.rl_model.specs.Machine.{function_trace, trace_by}
 use Rattle.rl_model.specs.Rows.{IsSupported}
 use Rattle.rl_model.specs.Size.{lowered_size}
 use Rattle.rl_model.specs.Source.{marked, source_trace}
-use Rattle.rl_model.specs.Units.{IsUnit}
+use Rattle.rl_model.specs.Units.{IsUnit, pending}
 use Rattle.rl_model.specs.WellFormed.{IsWellFormed}
 use Rattle.rl_model.specs.declared.trace.Answer.{Answer}
 use Rattle.rl_model.specs.declared.trace.Assignment.{Assignment}
@@ -41,8 +41,9 @@ pub record IsGraph (function : Syntax) (l : Lowered) (f : HirFunction) : Type 0 
   pub numbered : IsNumbered f.instructions f.body.blocks
   pub well_formed : IsWellFormed (length l.identifiers) f
 
--- The result of lowering a unit to whose marked function no row applies.
+-- The result of lowering a unit that the lowering covers, and to whose marked function no row applies.
 pub record IsLowered (u : Syntax) (l : Lowered) : Type 0 where
+  pub covered : pending u ≡ None
   pub supported : IsSupported (marked u)
   pub main : IsGraph (marked u) l l.function
   pub inner : l.inner ≡ []

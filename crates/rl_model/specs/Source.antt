@@ -1,9 +1,10 @@
 -- The meaning of a function of the source, by recursion over syntax (ECMA-262, sections 13 to 15, as far as they are covered).
-use Rattle.std.specs.Prelude.{ℕ, ◌+◌, Bool, false, Option, Some, None, List, [], ◌∷◌, if◌then◌else◌, codes}
+use Rattle.std.specs.Prelude.{ℕ, ◌+◌, Bool, false, Option, Some, None, List, [], ◌∷◌, if◌then◌else◌, unwrap_or, codes}
 use Rattle.rl_text.specs.Numeral.{is_numeral, number_of}
 use Rattle.rl_hir.specs.declared.terminal.ReturnVariant.TheVariants as returns
 use Rattle.rl_syntax.specs.declared.word.Word.TheVariants as word
 use Rattle.rl_syntax.specs.Syntax.{Syntax, Node, Listed, Said, Flag, Absent, Pieces, End, Then}
+use Rattle.rl_ast.specs.Marked.{first, marked_functions}
 use Rattle.rl_scope.specs.declared.semantic.Symbol.{Symbol}
 use Rattle.rl_scope.specs.Symbols.{symbol_named, symbols_of}
 use Rattle.rl_model.specs.declared.trace.Value.{Value}
@@ -85,12 +86,6 @@ source_trace (Node at word.Arrow (Then marked (Then is_async (Then params (Then 
     exec_body symbols body (take_from 0 symbols arguments (set_all start unset)) answers (λ v store rest. returned returns.Implicit v) (λ v store rest. threw v)
 source_trace _ start arguments answers = waiting
 
--- The function of an expression statement.
-abbrev pub function_in : Syntax → Syntax
-function_in (Node at word.Expr (Then function End)) = function
-function_in _ = Absent
-
--- The marked function of a unit; Absent in any other tree.
+-- The function that is lowered: the first marked function, in the order of the nodes; Absent in a tree without one.
 abbrev pub marked : Syntax → Syntax
-marked (Node at word.Unit (Then entities (Then (Node at2 word.Program (Then (Listed (Then statement End)) End)) End))) = function_in statement
-marked _ = Absent
+marked u = unwrap_or (first (marked_functions u)) Absent

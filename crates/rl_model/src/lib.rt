@@ -2,4 +2,5 @@
 //! the graph, stand in specs/.
 #![tactic(auto)]
 
+pub mod covered;
 pub mod trace;
