@@ -162,7 +162,7 @@ pub enum ObjectProperty<'b> {
         /// The value.
         value: ExpressionTree<'b>,
     },
-    /// A method, `key() {}` (ECMA-262, 15.4); `computed` is true of `[key]() {}`. `(method FLAG PropertyKey FunctionExpression)`
+    /// A method, `key() {}` (ECMA-262, 15.4); `computed` is true of `[key]`. `(method FLAG PropertyKey FunctionExpression)`
     Method {
         /// Ids and span of the node.
         at: At,
@@ -173,8 +173,7 @@ pub enum ObjectProperty<'b> {
         /// The function.
         function: FunctionExpressionTree<'b>,
     },
-    /// A getter, `get key() {}` (ECMA-262, 15.4); `computed` is true of `get [key]() {}`.
-    /// `(get FLAG PropertyKey FunctionExpression)`
+    /// A getter, `get key() {}` (ECMA-262, 15.4); `computed` is true of `[key]`. `(get FLAG PropertyKey FunctionExpression)`
     Get {
         /// Ids and span of the node.
         at: At,
@@ -185,8 +184,7 @@ pub enum ObjectProperty<'b> {
         /// The function.
         function: FunctionExpressionTree<'b>,
     },
-    /// A setter, `set key(a) {}` (ECMA-262, 15.4); `computed` is true of `set [key](a) {}`.
-    /// `(set FLAG PropertyKey FunctionExpression)`
+    /// A setter, `set key(a) {}` (ECMA-262, 15.4); `computed` is true of `[key]`. `(set FLAG PropertyKey FunctionExpression)`
     Set {
         /// Ids and span of the node.
         at: At,

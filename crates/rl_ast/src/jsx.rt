@@ -143,7 +143,7 @@ pub enum JsxElementName<'b> {
         /// Ids and span of the node.
         at: At,
     },
-    /// A property, `a.b`: `JSXMemberExpression`. `(tagmember JsxElementName TEXT)`
+    /// A property, `<a.b>`: `JSXMemberExpression`. `(tagmember JsxElementName TEXT)`
     Member {
         /// Ids and span of the node.
         at: At,
@@ -152,7 +152,7 @@ pub enum JsxElementName<'b> {
         /// The name of the property.
         property: &'b Text,
     },
-    /// A name with a namespace, `a:b`: `JSXNamespacedName`. `(tagns TEXT TEXT)`
+    /// A name with a namespace, `<a:b>`: `JSXNamespacedName`. `(tagns TEXT TEXT)`
     Namespaced {
         /// Ids and span of the node.
         at: At,
@@ -256,7 +256,7 @@ pub enum JsxAttributeName<'b> {
         /// The name.
         name: &'b Text,
     },
-    /// A name with a namespace, `a:b`: `JSXNamespacedName`. `(attrns TEXT TEXT)`
+    /// A name with a namespace, `a:b={c}`: `JSXNamespacedName`. `(attrns TEXT TEXT)`
     Namespaced {
         /// Ids and span of the node.
         at: At,
