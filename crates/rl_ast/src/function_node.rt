@@ -26,7 +26,8 @@ pub enum FunctionForm {
 }
 
 /// A function declaration or a function expression: `Function` of oxc_ast.
-/// `(fundecl MARKED ASYNC GENERATOR NAME? PARAMS BODY?)`, `(funexpr MARKED ASYNC GENERATOR NAME? PARAMS BODY)`
+/// `(fundecl FLAG FLAG FLAG BindingIdentifier? FormalParameters FunctionBody?)`,
+/// `(funexpr FLAG FLAG FLAG BindingIdentifier? FormalParameters FunctionBody)`
 #[derive(Clone, Copy)]
 pub struct Function<'b> {
     /// Ids and span of the node.

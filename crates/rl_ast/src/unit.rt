@@ -17,7 +17,7 @@ use rl_syntax::numbered::{At, Numbered};
 use rl_syntax::parts::node_of;
 use rl_syntax::word::Word;
 
-/// A unit, whose tree fits the grammar: `(unit [ENTITY] PROGRAM)`.
+/// A unit, whose tree fits the grammar: `(unit [Entity] Program)`.
 #[derive(Drop)]
 pub struct Unit {
     /// The tree of the unit.
