@@ -6,6 +6,7 @@ import itertools
 import pathlib
 import re
 import sys
+import textwrap
 
 from grammar import read_grammar
 
@@ -67,9 +68,11 @@ def row(line):
 
 
 def comment(text, spelled="", indent=""):
-    """A doc comment; the spelling of a node has a line of its own where the first line is full."""
-    joined = f"{indent}/// {text} `{spelled}`" if spelled else f"{indent}/// {text}"
-    return joined if len(joined) <= 130 else f"{indent}/// {text}\n{indent}/// `{spelled}`"
+    """A doc comment; the spelling of a node has a line of its own where the last line of the text is full."""
+    *lines, last = textwrap.wrap(text, 126 - len(indent), break_on_hyphens=False)
+    joined = f"{last} `{spelled}`" if spelled else last
+    lines += [joined] if len(indent + joined) <= 126 else [last, f"`{spelled}`"]
+    return "\n".join(f"{indent}/// {line}" for line in lines)
 
 
 # Words.
@@ -323,7 +326,7 @@ def view_file(module):
     body = "\n".join(view(sort)[0] for sort in sorts)
     own = {f"{kind}{end}" for kind in [*SORTS, "Text"] for end in ("Tree", "Trees")}
     readers = ["items_of", "scalar_value_of", "closed_of", "optional_text", *COUNTS]
-    lines = [f"//! {GRAMMAR.titles[module]}: views of one level. Types in backquotes are those of oxc_ast. {NOTE}", "", "ghost use Rattle.std.specs.Prelude.{◌≡◌};", "ghost use Rattle.rl_syntax.specs.Syntax.{syntax};",
+    lines = [f"//! {GRAMMAR.titles[module]}: views of one level. {NOTE}", "//! Types in backquotes are those of oxc_ast.", "", "ghost use Rattle.std.specs.Prelude.{◌≡◌};", "ghost use Rattle.rl_syntax.specs.Syntax.{syntax};",
              f"ghost use Rattle.rl_ast.specs.{camel_module(module)}Views.{{{', '.join(sorted('seen_' + snake(sort) for sort in sorts))}}};", ""]
     imports = [("rl_base::operator", used([k for k in CLOSED if k.endswith("Operator")], body)), ("rl_base::text", used(["Text"], body)),
                ("rl_base::type_kind", used(["TypeKind"], body)), ("rl_base::variable_kind", used(["VariableKind"], body)),

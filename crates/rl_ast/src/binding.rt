@@ -1,4 +1,5 @@
-//! Names, types and patterns: views of one level. Types in backquotes are those of oxc_ast. Written by tools/syntax.py from tools/grammar.txt.
+//! Names, types and patterns: views of one level. Written by tools/syntax.py from tools/grammar.txt.
+//! Types in backquotes are those of oxc_ast.
 
 ghost use Rattle.std.specs.Prelude.{◌≡◌};
 ghost use Rattle.rl_syntax.specs.Syntax.{syntax};
@@ -18,8 +19,7 @@ use rl_syntax::numbered::At;
 use rl_syntax::parts::{flag_of, node_of, text_of};
 use rl_syntax::word::Word;
 
-/// A name that is declared (ECMA-262, 13.1). In a parameter or variable with its type, if one is written.
-/// `(bind TEXT TypeAnnotation?)`
+/// A name that is declared (ECMA-262, 13.1). Its type stands with it where one is written. `(bind TEXT TypeAnnotation?)`
 #[derive(Clone, Copy)]
 pub struct BindingIdentifier<'b> {
     /// Ids and span of the node.
@@ -49,8 +49,7 @@ pub fn binding_identifier_view(tree: BindingIdentifierTree<'_>) -> BindingIdenti
     }
 }
 
-/// A type: `TSType`. Its kind `array`, `primitive` or `other`, and the identifiers that it mentions.
-/// `(type KIND [IdentifierReference])`
+/// A type: `TSType`. `names` are the identifiers that it mentions. `(type KIND [IdentifierReference])`
 #[derive(Clone, Copy)]
 pub struct TypeAnnotation<'b> {
     /// Ids and span of the node.

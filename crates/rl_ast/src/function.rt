@@ -1,4 +1,5 @@
-//! Functions: views of one level. Types in backquotes are those of oxc_ast. Written by tools/syntax.py from tools/grammar.txt.
+//! Functions: views of one level. Written by tools/syntax.py from tools/grammar.txt.
+//! Types in backquotes are those of oxc_ast.
 
 ghost use Rattle.std.specs.Prelude.{◌≡◌};
 ghost use Rattle.rl_syntax.specs.Syntax.{syntax};
@@ -15,8 +16,8 @@ use rl_syntax::numbered::At;
 use rl_syntax::parts::{flag_of, node_of};
 use rl_syntax::word::Word;
 
-/// An arrow function: `ArrowFunctionExpression` (ECMA-262, 15.3 and 15.9). Its scope is that of its parameters and its body.
-/// `(arrow FLAG FLAG FormalParameters ArrowBody)`
+/// An arrow function: `ArrowFunctionExpression` (ECMA-262, 15.3 and 15.9). `marked` is true of the function to lower; its scope
+/// is that of parameters and body. `(arrow FLAG FLAG FormalParameters ArrowBody)`
 #[derive(Clone, Copy)]
 pub struct Arrow<'b> {
     /// Ids and span of the node.

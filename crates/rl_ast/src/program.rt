@@ -1,4 +1,5 @@
-//! Units and programs: views of one level. Types in backquotes are those of oxc_ast. Written by tools/syntax.py from tools/grammar.txt.
+//! Units and programs: views of one level. Written by tools/syntax.py from tools/grammar.txt.
+//! Types in backquotes are those of oxc_ast.
 
 ghost use Rattle.std.specs.Prelude.{◌≡◌};
 ghost use Rattle.rl_syntax.specs.Syntax.{syntax};
