@@ -24,7 +24,7 @@ use rl_syntax::word::Word;
 /// An expression (ECMA-262, 13).
 #[derive(Clone, Copy)]
 pub enum Expression<'b> {
-    /// A name: `Identifier` (ECMA-262, 13.2.2).
+    /// A name: `IdentifierReference` (ECMA-262, 13.2.2).
     Identifier(IdentifierReferenceTree<'b>),
     /// The literal `null`: `NullLiteral` (ECMA-262, 12.9.1). `(null)`
     Null {
