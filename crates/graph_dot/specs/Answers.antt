@@ -3,19 +3,21 @@ use Rattle.std.specs.Prelude.{◌≡◌, ℕ, List, [], ◌∷◌, ◌++◌, Opt
 use Rattle.std.specs.Io.KnownBytes.{Keeps, Appends}
 use Rattle.rl_syntax.specs.Limits.{IsTooLarge}
 use Rattle.rl_syntax.specs.Syntax.{Syntax}
+use Rattle.rl_ast.specs.Units.{Spells}
 use Rattle.rl_base.specs.Pieces.{AppendsPrefix}
 use Rattle.rl_hir.specs.declared.function.Lowered.{Lowered}
 use Rattle.rl_model.specs.Headline.{IsLowered}
-use Rattle.rl_model.specs.Units.{IsUnit}
+use Rattle.rl_model.specs.Units.{KeepsRules}
 use Rattle.rl_unit.specs.Answers.{RefusesKnown, WritesKnown}
 use Rattle.rl_unit.specs.declared.run.Status.{Status}
 use Rattle.rl_unit.specs.declared.run.Status.TheVariants.{Done, Reported, Malformed, TooLarge, ReadFault, WriteFault, OutOfMemory, Usage}
 
--- The bytes, where they are known, are within the limits and spell a unit that has a result.
+-- The bytes, where they are known, are within the limits and spell a unit that keeps the rules and has a result.
 pub record HasResult (bytes : Option (List ℕ)) : Type 0 where
   pub source : Syntax
-  pub spelled : IfSome bytes (λ known. IsUnit known source)
+  pub spelled : IfSome bytes (λ known. Spells known source)
   pub within : IfSome bytes (λ known. IsTooLarge known → ⊥)
+  pub rules : KeepsRules source
   pub result : Lowered
   pub is_lowered : IsLowered source result
 

@@ -7,13 +7,13 @@ use Rattle.rl_syntax.specs.Limits.{IsTooLarge, most_bytes, most_read}
 use Rattle.rl_base.specs.Diagnostics.{line_of}
 use Rattle.rl_base.specs.declared.diagnostic.Diagnostic.{Diagnostic}
 use Rattle.rl_syntax.specs.Syntax.{Syntax}
+use Rattle.rl_ast.specs.Units.{Spells}
 use Rattle.rl_ast.proofs.Units.{one_unit}
 use Rattle.rl_hir.specs.declared.function.Lowered.{Lowered}
 use Rattle.rl_model.specs.Headline.{LowersTo}
-use Rattle.rl_model.specs.Units.{IsUnit}
 use Rattle.rl_model.specs.Rows.{refusals_of, stop_of}
 use Rattle.rl_model.specs.Source.{marked}
-use Rattle.rl_unit.specs.Answers.{AnswersSteadily, Explains, IsAnswer, IsOutput, IsComplete, IsMalformed, IsRefused, IsStopped, Writes, WritesKnown, ReadsWhole, Refuses, RefusesKnown, lines, output, report_of}
+use Rattle.rl_unit.specs.Answers.{AnswersSteadily, Explains, IsAnswer, IsOutput, IsComplete, IsMalformed, IsPending, IsRefused, IsReportOf, IsStopped, Writes, WritesKnown, ReadsWhole, Refuses, RefusesKnown, lines, output, pending_line, report_of}
 use Rattle.rl_unit.specs.declared.run.Status.{Status}
 use Rattle.rl_unit.specs.declared.run.Status.TheVariants.{Done, Reported, Malformed, TooLarge, ReadFault, WriteFault, OutOfMemory, Usage}
 
@@ -43,28 +43,43 @@ too_large_known (Some known) bytes first large = elim (cases_lt most_bytes (leng
 never_both : (o : Option Diagnostic) (d : Diagnostic) → o ≡ Some d → o ≡ None → ⊥
 never_both o d some none = absurd (cc)
 
--- a result, a stop and a report are outputs
+-- a result, a stop, a report and the line of a pending node are outputs
 pub writes_result : (bytes : List ℕ) (l : Lowered) (text : List ℕ) → LowersTo bytes l → text ≡ output l → Writes bytes Done text
-writes_result bytes l text lowers written = record { source = lowers.0; spelled = lowers.1; is_output = record { result = l; is_lowered = lowers.2; written = written } }
+writes_result bytes l text lowers written = record { source = lowers.0; spelled = lowers.1.spells; is_output = record { rules = lowers.1.rules; result = l; is_lowered = lowers.2; written = written } }
+
+pub writes_pending : (bytes : List ℕ) (node : ℕ) (text : List ℕ) → IsPending bytes node → text ≡ pending_line node → Writes bytes Reported text
+writes_pending bytes node text waits written = record {
+  source = waits.source;
+  spelled = waits.spelled;
+  is_output = inl (record { uncovered = record { node = node; waits = waits.waits }; written = written });
+}
 
 pub writes_stop : (bytes : List ℕ) (said : Diagnostic) (text : List ℕ) → IsStopped bytes said → text ≡ line_of said → Writes bytes Reported text
 writes_stop bytes said text stopped written = record {
   source = stopped.source;
-  spelled = stopped.spelled;
-  is_output = record {
-    unsupported = λ supported. never_both (stop_of (marked stopped.source)) said stopped.stops supported.goes_on;
+  spelled = stopped.spelled.spells;
+  is_output = inr (record {
+    row = record {
+      covered = stopped.covered;
+      rules = stopped.spelled.rules;
+      unsupported = λ supported. never_both (stop_of (marked stopped.source)) said stopped.stops supported.goes_on;
+    };
     written = written ∙ ap (λ (o : Option Diagnostic). report_of o (refusals_of (marked stopped.source))) (sym stopped.stops);
-  };
+  });
 }
 
 pub writes_report : (bytes : List ℕ) (said : List Diagnostic) (text : List ℕ) → IsRefused bytes said → text ≡ lines said → Writes bytes Reported text
 writes_report bytes said text refused written = record {
   source = refused.source;
-  spelled = refused.spelled;
-  is_output = record {
-    unsupported = λ supported. refused.some (refused.names ∙ supported.accepted);
+  spelled = refused.spelled.spells;
+  is_output = inr (record {
+    row = record {
+      covered = refused.covered;
+      rules = refused.spelled.rules;
+      unsupported = λ supported. refused.some (refused.names ∙ supported.accepted);
+    };
     written = written ∙ ap lines refused.names ∙ ap (λ (o : Option Diagnostic). report_of o (refusals_of (marked refused.source))) (sym refused.goes_on);
-  };
+  });
 }
 
 malformed_known : (left : Option (List ℕ)) (bytes : List ℕ) → IfSome left (λ known. bytes ≡ known) → IsMalformed bytes → RefusesKnown left Malformed
@@ -92,9 +107,13 @@ refuses_left left bytes Done first r = absurd r.no_output
 refuses_left left bytes WriteFault first r = absurd r.no_output
 
 -- a fact about the unit that was read holds of each unit that the bytes spell
-output_answers : (status : Status) (u : Syntax) (text : List ℕ) → IsOutput status u text → IsAnswer (marked u) status
-output_answers Done u text is = is.is_lowered.supported
-output_answers Reported u text is = is.unsupported
+reported : (u : Syntax) (text : List ℕ) → IsReportOf u text → IsAnswer u Reported
+reported u text (inl waits) = inl waits.uncovered
+reported u text (inr row) = inr row.row
+
+output_answers : (status : Status) (u : Syntax) (text : List ℕ) → IsOutput status u text → IsAnswer u status
+output_answers Done u text is = record { covered = is.is_lowered.covered; rules = is.rules; supported = is.is_lowered.supported }
+output_answers Reported u text is = reported u text is
 output_answers Malformed u text is = absurd is
 output_answers TooLarge u text is = absurd is
 output_answers ReadFault u text is = absurd is
@@ -102,22 +121,22 @@ output_answers WriteFault u text is = absurd is
 output_answers OutOfMemory u text is = absurd is
 output_answers Usage u text is = absurd is
 
-spelled_known : (left : Option (List ℕ)) (bytes : List ℕ) (u : Syntax) → left ≡ Some bytes → IfSome left (λ known. IsUnit known u) → IsUnit bytes u
-spelled_known left bytes u is spelled = subst (λ o. IfSome o (λ known. IsUnit known u)) is spelled
+spelled_known : (left : Option (List ℕ)) (bytes : List ℕ) (u : Syntax) → left ≡ Some bytes → IfSome left (λ known. Spells known u) → Spells bytes u
+spelled_known left bytes u is spelled = subst (λ o. IfSome o (λ known. Spells known u)) is spelled
 
 pub output_complete : (left : Option (List ℕ)) (status : Status) (text : List ℕ) → WritesKnown left status text → IsComplete left status
 output_complete left status text w = record {
   answers = λ bytes u is within spells.
-      let read : IsUnit bytes w.source = subst (λ o. IfSome o (λ known. IsUnit known w.source)) is w.spelled in
-      subst (λ (s : Syntax). IsAnswer (marked s) status) (one_unit bytes w.source u read.spells spells.spells) (output_answers status w.source text w.is_output);
+      let read : Spells bytes w.source = spelled_known left bytes w.source is w.spelled in
+      subst (λ (s : Syntax). IsAnswer s status) (one_unit bytes w.source u read spells) (output_answers status w.source text w.is_output);
 }
 
 -- no unit within the limits is refused
 no_unit : (left : Option (List ℕ)) (status : Status) (bytes : List ℕ) → RefusesKnown left status → left ≡ Some bytes → Refuses status bytes
 no_unit left status bytes r is = subst (λ o. IfSome o (λ known. Refuses status known)) is r.refuses
 
-refusal_answers : (status : Status) (left : Option (List ℕ)) (bytes : List ℕ) (u : Syntax) → RefusesKnown left status → left ≡ Some bytes → (IsTooLarge bytes → ⊥) → IsUnit bytes u → IsAnswer (marked u) status
-refusal_answers Malformed left bytes u r is within spells = absurd ((no_unit left Malformed bytes r is).no_unit u spells)
+refusal_answers : (status : Status) (left : Option (List ℕ)) (bytes : List ℕ) (u : Syntax) → RefusesKnown left status → left ≡ Some bytes → (IsTooLarge bytes → ⊥) → Spells bytes u → IsAnswer u status
+refusal_answers Malformed left bytes u r is within spells = (no_unit left Malformed bytes r is).no_unit u spells
 refusal_answers TooLarge left bytes u r is within spells = absurd (within (no_unit left TooLarge bytes r is))
 refusal_answers ReadFault left bytes u r is within spells = tt
 refusal_answers OutOfMemory left bytes u r is within spells = tt
@@ -136,8 +155,8 @@ reads_whole (Some known) (Some rest) bytes gone first = gone ∙ ap (λ (b : Lis
 
 -- if neither source nor sink fails, a status determines the bytes
 pub steady_answer : (status : Status) (bytes : List ℕ) (left old new : Option (List ℕ)) → left ≡ Some bytes → Explains status left old new → (status ≢ Usage) → (status ≡ ReadFault → ⊥) → (status ≡ WriteFault → ⊥) → AnswersSteadily bytes status
-steady_answer Done bytes left old new is e command read write = (e.1.source, spelled_known left bytes e.1.source is e.1.spelled, e.1.is_output.is_lowered.supported)
-steady_answer Reported bytes left old new is e command read write = (e.1.source, spelled_known left bytes e.1.source is e.1.spelled, e.1.is_output.unsupported)
+steady_answer Done bytes left old new is e command read write = (e.1.source, spelled_known left bytes e.1.source is e.1.spelled, output_answers Done e.1.source e.0 e.1.is_output)
+steady_answer Reported bytes left old new is e command read write = (e.1.source, spelled_known left bytes e.1.source is e.1.spelled, reported e.1.source e.0 e.1.is_output)
 steady_answer Malformed bytes left old new is e command read write = subst (λ o. IfSome o (λ known. Refuses Malformed known)) is e.0.refuses
 steady_answer TooLarge bytes left old new is e command read write = subst (λ o. IfSome o (λ known. Refuses TooLarge known)) is e.0.refuses
 steady_answer ReadFault bytes left old new is e command read write = read refl

@@ -1,5 +1,5 @@
+pub mod Arrows
 pub mod Answering
-pub mod Marked
 pub mod Outcomes
 pub mod Room
 pub mod Small

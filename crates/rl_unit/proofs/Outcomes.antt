@@ -3,9 +3,9 @@ use Rattle.std.proofs.Common.{◌≡◌, ℕ, List, Option, Some, None, IfSome, 
 use Rattle.std.specs.declared.vec.Vec.{Vec}
 use Rattle.std.specs.declared.alloc.Global.{Global}
 use Rattle.rl_syntax.specs.Limits.{IsTooLarge, most_read}
+use Rattle.rl_ast.specs.Units.{Spells}
 use Rattle.rl_hir.specs.declared.function.Lowered.{Lowered}
 use Rattle.rl_model.specs.Headline.{LowersTo}
-use Rattle.rl_model.specs.Units.{IsUnit}
 use Rattle.rl_unit.specs.Answers.{IsComplete, Writes, WritesKnown}
 use Rattle.rl_unit.specs.Outcomes.{ComesTo, ComesToKnown, outcome_status, outcome_text}
 use Rattle.rl_unit.specs.declared.run.Outcome.{Outcome}
@@ -15,14 +15,14 @@ use Rattle.rl_unit.specs.declared.run.Status.TheVariants.{Reported}
 use Rattle.rl_unit.proofs.Answering.{all_read, output_complete, within_bytes}
 
 pub comes_result : (bytes : List ℕ) (l : Lowered) → LowersTo bytes l → ComesTo bytes (outcomes.Lowered l)
-comes_result bytes l lowers = record { source = lowers.0; spelled = lowers.1; is_outcome = lowers.2 }
+comes_result bytes l lowers = record { source = lowers.0; spelled = lowers.1.spells; is_outcome = (lowers.1.rules, lowers.2) }
 
 pub comes_report : (bytes : List ℕ) (text : Vec ℕ Global) → Writes bytes Reported text.items → ComesTo bytes (outcomes.Reported text)
 comes_report bytes text writes = record { source = writes.source; spelled = writes.spelled; is_outcome = writes.is_output }
 
 comes_known : (left : Option (List ℕ)) (bytes : List ℕ) (outcome : Outcome) → IfSome left (λ known. bytes ≡ known) → (IsTooLarge bytes → ⊥) → ComesTo bytes outcome → ComesToKnown left outcome
 comes_known None bytes outcome same small comes = record { source = comes.source; spelled = tt; within = tt; is_outcome = comes.is_outcome }
-comes_known (Some known) bytes outcome same small comes = record { source = comes.source; spelled = subst (λ b. IsUnit b comes.source) same comes.spelled; within = subst (λ b. IsTooLarge b → ⊥) same small; is_outcome = comes.is_outcome }
+comes_known (Some known) bytes outcome same small comes = record { source = comes.source; spelled = subst (λ b. Spells b comes.source) same comes.spelled; within = subst (λ b. IsTooLarge b → ⊥) same small; is_outcome = comes.is_outcome }
 
 -- The outcome of the bytes that were read, where they are within the limits.
 pub comes_left : (left : Option (List ℕ)) (bytes : List ℕ) (outcome : Outcome) → IfSome left (λ known. bytes ≡ take most_read known) → (IsTooLarge bytes → ⊥) → ComesTo bytes outcome → ComesToKnown left outcome
@@ -32,7 +32,7 @@ comes_left left bytes outcome first small comes = comes_known left bytes outcome
 pub writes_outcome : (left : Option (List ℕ)) (outcome : Outcome) (status : Status) (text : List ℕ) → status ≡ outcome_status outcome → text ≡ outcome_text outcome → ComesToKnown left outcome → WritesKnown left status text
 writes_outcome left (outcomes.Lowered l) status text done written comes =
     subst (λ (s : Status). WritesKnown left s text) (sym done)
-    (record { source = comes.source; spelled = comes.spelled; within = comes.within; is_output = record { result = l; is_lowered = comes.is_outcome; written = written } })
+    (record { source = comes.source; spelled = comes.spelled; within = comes.within; is_output = record { rules = comes.is_outcome.0; result = l; is_lowered = comes.is_outcome.1; written = written } })
 writes_outcome left (outcomes.Reported report) status text done written comes =
     subst (λ (s : Status). WritesKnown left s text) (sym done)
     (subst (λ (t : List ℕ). WritesKnown left Reported t) (sym written) (record { source = comes.source; spelled = comes.spelled; within = comes.within; is_output = comes.is_outcome }))

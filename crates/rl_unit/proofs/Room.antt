@@ -1,12 +1,13 @@
 -- The marked function of a unit within the limits leaves room for its graph.
-use Rattle.std.proofs.Common.{◌≡◌, ℕ, ◌+◌, ◌*◌, ◌<◌, ◌≤◌, inl, inr, List, [], ◌++◌, length, length-append, ap, arith}
+use Rattle.std.proofs.Common.{◌≡◌, ℕ, ◌+◌, ◌*◌, ◌<◌, ◌≤◌, inl, inr, Some, List, [], ◌++◌, length, length-append, ap, arith}
 use Rattle.rl_text.specs.Measure.{nodes_in}
 use Rattle.rl_syntax.specs.declared.word.Word.TheVariants as word
 use Rattle.rl_syntax.specs.Limits.{IsTooLarge}
 use Rattle.rl_syntax.specs.Syntax.{Syntax, Node, Listed, Said, Pieces, End, Then, nodes, nodes_of}
 use Rattle.rl_ast.specs.Units.{Spells}
 use Rattle.rl_syntax.proofs.Measured.{nodes_measured}
-use Rattle.rl_model.specs.Source.{function_in, marked}
+use Rattle.rl_ast.specs.Marked.{first, marked_functions}
+use Rattle.rl_ast.proofs.MarkedFunctions.{first_found, inside_few}
 use Rattle.rl_hir.specs.declared.environment.Environment.{Environment}
 use Rattle.rl_hir.specs.declared.function.Identifier.{Identifier}
 use Rattle.rl_hir.specs.declared.function.HirFunction.{HirFunction}
@@ -17,28 +18,18 @@ use Rattle.rl_builder.specs.Builder.{started}
 use Rattle.rl_scope.specs.Symbols.{declared_by, declared_in, symbols_of}
 use Rattle.rl_lower.specs.Lowering.{HasRoom}
 
-function_within : (s : Syntax) → nodes (function_in s) ≤ nodes s
-function_within (Node at word.Expr (Then function End)) = omega arith
-function_within _ = omega arith
-
-pub marked_within : (u : Syntax) → nodes (marked u) ≤ nodes u
-marked_within (Node at word.Unit (Then entities (Then (Node at2 word.Program (Then (Listed (Then statement End)) End)) End))) =
-    let inside : nodes (function_in statement) ≤ nodes statement = function_within statement in
-    omega arith
-marked_within _ = omega arith
-
-pub few_nodes : (bytes : List ℕ) (u : Syntax) → Spells bytes u → (IsTooLarge bytes → ⊥) → nodes (marked u) ≤ 65536
-few_nodes bytes u spells small =
+pub few_nodes : (bytes : List ℕ) (u f : Syntax) → Spells bytes u → (IsTooLarge bytes → ⊥) → first (marked_functions u) ≡ Some f → nodes f ≤ 65536
+few_nodes bytes u f spells small found =
     let counted : nodes_in bytes ≡ nodes u = nodes_measured bytes u spells.spelled in
     let few : 65536 < nodes_in bytes → ⊥ = λ more. small (inr (inl more)) in
-    let inside : nodes (marked u) ≤ nodes u = marked_within u in
+    let inside : nodes f ≤ nodes u = inside_few u f (first_found u f found).0 in
     omega (arith, counted, few, inside)
 
 -- a function alone is bounded in the unit's nodes if it is in its own
-pub alone_bounded : (u : Syntax) (f : HirFunction) → function_size f ≤ 64 * nodes (marked u) → (inner : List InnerFunction) → inner ≡ [] → function_size f + inner_size inner ≤ 64 * nodes u
-alone_bounded u f few inner none =
+pub alone_bounded : (u f : Syntax) (h : HirFunction) → first (marked_functions u) ≡ Some f → function_size h ≤ 64 * nodes f → (inner : List InnerFunction) → inner ≡ [] → function_size h + inner_size inner ≤ 64 * nodes u
+alone_bounded u f h found few inner none =
     let nothing : inner_size inner ≡ 0 = ap inner_size none in
-    let inside : nodes (marked u) ≤ nodes u = marked_within u in
+    let inside : nodes f ≤ nodes u = inside_few u f (first_found u f found).0 in
     omega (arith, few, nothing, inside)
 
 -- a function has at most as many symbols as nodes

@@ -1,5 +1,6 @@
 -- The results of `lower_unit`, and the exit statuses of the program, each with its cause.
-use Rattle.std.specs.Prelude.{◌≡◌, ◌≢◌, ℕ, List, [], ◌∷◌, ◌++◌, take, None, Some, IfSome, ⊤}
+use Rattle.std.specs.Prelude.{◌≡◌, ◌≢◌, ◌⊎◌, ℕ, List, [], ◌∷◌, ◌++◌, take, None, Some, IfSome, ⊤, codes}
+use Rattle.std.specs.Fmt.{decimal}
 use Rattle.std.specs.declared.option.Option.{Option}
 use Rattle.std.specs.Io.KnownBytes.{Consumes, Keeps, Appends}
 use Rattle.rl_base.specs.Pieces.{AppendsPrefix}
@@ -7,35 +8,78 @@ use Rattle.rl_text.specs.Notation.{spelling}
 use Rattle.rl_hir.specs.Listing.{lowered}
 use Rattle.rl_syntax.specs.Limits.{IsTooLarge, most_read}
 use Rattle.rl_syntax.specs.Syntax.{Syntax}
+use Rattle.rl_ast.specs.Units.{Spells}
 use Rattle.rl_base.specs.Diagnostics.{line_of}
 use Rattle.rl_base.specs.declared.diagnostic.Diagnostic.{Diagnostic}
 use Rattle.rl_model.specs.Rows.{IsSupported, refusals_of, stop_of}
 use Rattle.rl_model.specs.Source.{marked}
 use Rattle.rl_model.specs.Headline.{IsLowered}
-use Rattle.rl_model.specs.Units.{IsUnit}
+use Rattle.rl_model.specs.Units.{IsUnit, KeepsRules, pending}
 use Rattle.rl_unit.specs.declared.run.Status.{Status}
 use Rattle.rl_unit.specs.declared.run.Status.TheVariants.{Done, Reported, Malformed, TooLarge, ReadFault, WriteFault, OutOfMemory, Usage}
 use Rattle.rl_hir.specs.declared.function.Lowered.{Lowered}
 
--- The bytes are within the limits, and spell no well-formed unit.
+-- The unit is covered and keeps the rules, and no row applies to its marked function.
+pub record IsAccepted (u : Syntax) : Type 0 where
+  pub covered : pending u ≡ None
+  pub rules : KeepsRules u
+  pub supported : IsSupported (marked u)
+
+-- The unit is covered and keeps the rules, and a row applies to its marked function.
+pub record MeetsRow (u : Syntax) : Type 0 where
+  pub covered : pending u ≡ None
+  pub rules : KeepsRules u
+  pub unsupported : IsSupported (marked u) → ⊥
+
+-- The unit is covered, and breaks a rule.
+pub record BreaksRules (u : Syntax) : Type 0 where
+  pub covered : pending u ≡ None
+  pub broken : KeepsRules u → ⊥
+
+-- A node of the unit is not covered; the least has the id `node`.
+pub record IsUncovered (u : Syntax) : Type 0 where
+  pub node : ℕ
+  pub waits : pending u ≡ Some node
+
+-- The unit has the status, unless an allocation, the source or the sink failed.
+abbrev pub IsAnswer : (u : Syntax) → Status → Type 0
+IsAnswer u Done = IsAccepted u
+IsAnswer u Reported = IsUncovered u ⊎ MeetsRow u
+IsAnswer u Malformed = BreaksRules u
+IsAnswer u ReadFault = Unit {0}
+IsAnswer u WriteFault = Unit {0}
+IsAnswer u OutOfMemory = Unit {0}
+IsAnswer u TooLarge = ⊥
+IsAnswer u Usage = ⊥
+
+-- The bytes are within the limits, and each unit that they spell is covered and breaks a rule.
 pub record IsMalformed (bytes : List ℕ) : Type 0 where
   pub within : IsTooLarge bytes → ⊥
-  pub no_unit : (u : Syntax) → IsUnit bytes u → ⊥
+  pub no_unit : (u : Syntax) → Spells bytes u → BreaksRules u
+
+-- The bytes are within the limits, and spell a unit whose least uncovered node has the id `node`.
+pub record IsPending (bytes : List ℕ) (node : ℕ) : Type 0 where
+  pub within : IsTooLarge bytes → ⊥
+  pub source : Syntax
+  pub spelled : Spells bytes source
+  pub waits : pending source ≡ Some node
 
 -- The output for a result: its text, and a line feed.
 abbrev pub output : Lowered → List ℕ
 output l = spelling (lowered l) ++ 10 ∷ []
 
--- The bytes spell a unit that is stopped, by the diagnostic `said`.
+-- The bytes spell a covered unit that is stopped, by the diagnostic `said`.
 pub record IsStopped (bytes : List ℕ) (said : Diagnostic) : Type 0 where
   pub source : Syntax
   pub spelled : IsUnit bytes source
+  pub covered : pending source ≡ None
   pub stops : stop_of (marked source) ≡ Some said
 
--- The bytes spell a unit that is not stopped and is refused, by the diagnostics `said`, at least one.
+-- The bytes spell a covered unit that is not stopped and is refused, by the diagnostics `said`, at least one.
 pub record IsRefused (bytes : List ℕ) (said : List Diagnostic) : Type 0 where
   pub source : Syntax
   pub spelled : IsUnit bytes source
+  pub covered : pending source ≡ None
   pub goes_on : stop_of (marked source) ≡ None
   pub names : said ≡ refusals_of (marked source)
   pub some : said ≢ []
@@ -50,16 +94,30 @@ abbrev pub report_of : Option Diagnostic → List Diagnostic → List ℕ
 report_of (Some stop) refusals = line_of stop
 report_of None refusals = lines refusals
 
--- The text is the output for a result of the unit.
+-- The report on a unit that is not covered, by the id of its least uncovered node: `Pending N`, and a line feed.
+abbrev pub pending_line : (node : ℕ) → List ℕ
+pending_line node = codes "Pending " ++ decimal node ++ codes "\n"
+
+-- The text is the output for a result of the unit, which keeps the rules.
 pub record IsResultOf (u : Syntax) (text : List ℕ) : Type 0 where
+  pub rules : KeepsRules u
   pub result : Lowered
   pub is_lowered : IsLowered u result
   pub written : text ≡ output result
 
+-- A node of the unit is not covered, and the text is the report of the least.
+pub record IsPendingReport (u : Syntax) (text : List ℕ) : Type 0 where
+  pub uncovered : IsUncovered u
+  pub written : text ≡ pending_line uncovered.node
+
 -- A row applies to the unit, and the text is its report.
-pub record IsReportOf (u : Syntax) (text : List ℕ) : Type 0 where
-  pub unsupported : IsSupported (marked u) → ⊥
+pub record IsRowReport (u : Syntax) (text : List ℕ) : Type 0 where
+  pub row : MeetsRow u
   pub written : text ≡ report_of (stop_of (marked u)) (refusals_of (marked u))
+
+-- The text is the report on the unit.
+abbrev pub IsReportOf : Syntax → List ℕ → Type 0
+IsReportOf u text = IsPendingReport u text ⊎ IsRowReport u text
 
 -- The text is the output of a status for a unit: of Done a result, of Reported a report.
 abbrev pub IsOutput : Status → Syntax → List ℕ → Type 0
@@ -70,13 +128,13 @@ IsOutput _ u text = ⊥
 -- The text is the output of the status for the unit that the bytes spell.
 pub record Writes (bytes : List ℕ) (status : Status) (text : List ℕ) : Type 0 where
   pub source : Syntax
-  pub spelled : IsUnit bytes source
+  pub spelled : Spells bytes source
   pub is_output : IsOutput status source text
 
 -- As `Writes`, of bytes that may not be known: of some unit, and within the limits where they are known.
 pub record WritesKnown (bytes : Option (List ℕ)) (status : Status) (text : List ℕ) : Type 0 where
   pub source : Syntax
-  pub spelled : IfSome bytes (λ known. IsUnit known source)
+  pub spelled : IfSome bytes (λ known. Spells known source)
   pub within : IfSome bytes (λ known. IsTooLarge known → ⊥)
   pub is_output : IsOutput status source text
 
@@ -145,27 +203,15 @@ abbrev pub ReadsWhole : Option (List ℕ) → Option (List ℕ) → Type 0
 ReadsWhole None new = ⊤
 ReadsWhole (Some left) new = Consumes (Some left) new (take (most_read) left)
 
--- The statuses of a run on a unit within the limits, by its marked function: Done where no row applies, Reported where one does,
--- or that an allocation, the source or the sink failed.
-abbrev pub IsAnswer : Syntax → Status → Type 0
-IsAnswer function Done = IsSupported function
-IsAnswer function Reported = IsSupported function → ⊥
-IsAnswer function ReadFault = Unit {0}
-IsAnswer function WriteFault = Unit {0}
-IsAnswer function OutOfMemory = Unit {0}
-IsAnswer function Malformed = ⊥
-IsAnswer function TooLarge = ⊥
-IsAnswer function Usage = ⊥
-
 -- Bytes that were left, are known, are within the limits and spell a unit have the status of that unit.
 pub record IsComplete (left : Option (List ℕ)) (status : Status) : Type 0 where
-  pub answers : (bytes : List ℕ) (u : Syntax) → left ≡ Some bytes → (IsTooLarge bytes → ⊥) → IsUnit bytes u → IsAnswer (marked u) status
+  pub answers : (bytes : List ℕ) (u : Syntax) → left ≡ Some bytes → (IsTooLarge bytes → ⊥) → Spells bytes u → IsAnswer u status
 
--- The answer to a unit over a source and a sink that never fail: its result where no row applies, its report where one does,
--- and neither where the bytes are malformed or pass a limit. Or memory was wanted and not given.
+-- The answer to a unit over a source and a sink that never fail: its result or its report, as the unit has one, and neither where
+-- the bytes are malformed or pass a limit. Or memory was wanted and not given.
 abbrev pub AnswersSteadily : List ℕ → Status → Type 0
-AnswersSteadily bytes Done = (u : Syntax) × IsUnit bytes u × IsSupported (marked u)
-AnswersSteadily bytes Reported = (u : Syntax) × IsUnit bytes u × (IsSupported (marked u) → ⊥)
+AnswersSteadily bytes Done = (u : Syntax) × Spells bytes u × IsAnswer u Done
+AnswersSteadily bytes Reported = (u : Syntax) × Spells bytes u × IsAnswer u Reported
 AnswersSteadily bytes Malformed = IsMalformed bytes
 AnswersSteadily bytes TooLarge = IsTooLarge bytes
 AnswersSteadily bytes ReadFault = ⊥

@@ -2,29 +2,30 @@
 use Rattle.std.specs.Prelude.{ℕ, List, Option, IfSome}
 use Rattle.rl_syntax.specs.Limits.{IsTooLarge}
 use Rattle.rl_syntax.specs.Syntax.{Syntax}
+use Rattle.rl_ast.specs.Units.{Spells}
 use Rattle.rl_model.specs.Headline.{IsLowered}
-use Rattle.rl_model.specs.Units.{IsUnit}
+use Rattle.rl_model.specs.Units.{KeepsRules}
 use Rattle.rl_unit.specs.Answers.{IsReportOf, output}
 use Rattle.rl_unit.specs.declared.run.Outcome.{Outcome}
 use Rattle.rl_unit.specs.declared.run.Outcome.TheVariants as outcomes
 use Rattle.rl_unit.specs.declared.run.Status.{Status}
 use Rattle.rl_unit.specs.declared.run.Status.TheVariants.{Done, Reported}
 
--- The result of a unit to which no row applies, or the report on one to which a row applies.
+-- The result of a unit, or the report on it.
 abbrev pub IsOutcome : Outcome → Syntax → Type 0
-IsOutcome (outcomes.Lowered l) u = IsLowered u l
+IsOutcome (outcomes.Lowered l) u = KeepsRules u × IsLowered u l
 IsOutcome (outcomes.Reported text) u = IsReportOf u text.items
 
 -- The bytes spell a unit with this outcome.
 pub record ComesTo (bytes : List ℕ) (outcome : Outcome) : Type 0 where
   pub source : Syntax
-  pub spelled : IsUnit bytes source
+  pub spelled : Spells bytes source
   pub is_outcome : IsOutcome outcome source
 
 -- As `ComesTo`, of bytes that may not be known: of some unit, and within the limits where they are known.
 pub record ComesToKnown (bytes : Option (List ℕ)) (outcome : Outcome) : Type 0 where
   pub source : Syntax
-  pub spelled : IfSome bytes (λ known. IsUnit known source)
+  pub spelled : IfSome bytes (λ known. Spells known source)
   pub within : IfSome bytes (λ known. IsTooLarge known → ⊥)
   pub is_outcome : IsOutcome outcome source
 

@@ -6,12 +6,14 @@ ghost use Rattle.rl_base.specs.Faults.{Rose};
 ghost use Rattle.rl_base.specs.Diagnostics.{line_of};
 ghost use Rattle.rl_syntax.specs.Limits.{IsTooLarge};
 ghost use Rattle.rl_unit.specs.Outcomes.{ComesTo, ComesToKnown, outcome_status, outcome_text};
-ghost use Rattle.rl_unit.specs.Answers.{AnswersSteadily, Explains, HasRead, IsComplete, ReadsWhole, RefusesKnown, WritesKnown, exit_code, lines, output};
+ghost use Rattle.rl_unit.specs.Answers.{AnswersSteadily, Explains, HasRead, IsComplete, ReadsWhole, RefusesKnown, WritesKnown, exit_code, lines, output, pending_line};
 
 use crate::unit::{LowerError, lower_unit};
 use rl_ast::read::LARGEST_INPUT;
+use rl_base::decimal::write_decimal;
 use rl_base::diagnostic::Diagnostic;
 use rl_base::error::OutOfMemory;
+use rl_base::ids::NodeId;
 use rl_base::infallible_io::{SteadySink, SteadySource};
 use rl_base::io::{ReadError, Sink, Source, read_up_to, write_all};
 use rl_hir::function::Lowered;
@@ -24,9 +26,9 @@ use std::{env, io};
 pub enum Status {
     /// The listing of the result was written.
     Done,
-    /// A row applies to the unit, and the report was written.
+    /// The lowering does not cover a node of the unit, or a row applies to the unit, and the report was written.
     Reported,
-    /// The bytes are within the limits and spell no unit. Nothing was written.
+    /// The bytes are within the limits and spell no unit, or one that breaks a rule. Nothing was written.
     Malformed,
     /// The bytes pass a limit. Nothing was written.
     TooLarge,
@@ -103,7 +105,8 @@ fn is_command(words: &[String]) -> bool
 pub enum Outcome {
     /// No row applies to the unit: its result.
     Lowered(Lowered),
-    /// A row applies to the unit: the lines of its report, as the program writes them.
+    /// The lowering does not cover a node of the unit, or a row applies to it: the lines of the report, as the program writes
+    /// them.
     Reported(Vec<u8>),
 }
 
@@ -135,6 +138,17 @@ fn stop_line(alloc: Global, stop: &Diagnostic) -> Result<Vec<u8>, OutOfMemory>
     Ok(text)
 }
 
+/// The line of a unit that the lowering does not cover, by the least id of a node that it does not.
+fn pending_line(alloc: Global, node: NodeId) -> Result<Vec<u8>, OutOfMemory>
+    ensures { IfOk result (λ text. text.items ≡ pending_line node.0) }
+{
+    let mut text = Vec::new(alloc);
+    text.extend_from_slice(b"Pending ")?;
+    write_decimal(u64::from(node.0), &mut text)?;
+    text.push(b'\n')?;
+    Ok(text)
+}
+
 /// Bytes of a listing for each instruction, as most have them.
 const BYTES_OF_INSTRUCTION: usize = 96;
 
@@ -158,6 +172,7 @@ fn outcome_of(alloc: Global, bytes: &[u8]) -> Result<Outcome, Status>
 {
     match lower_unit(alloc, bytes) {
         Ok(lowered) => Ok(Outcome::Lowered(lowered)),
+        Err(LowerError::Pending(node)) => Ok(Outcome::Reported(pending_line(alloc, node)?)),
         Err(LowerError::Stopped(stop)) => Ok(Outcome::Reported(stop_line(alloc, &stop)?)),
         Err(LowerError::Refused(said)) => Ok(Outcome::Reported(report(alloc, said.as_slice())?)),
         Err(LowerError::TooLarge) => Err(Status::TooLarge),

@@ -1,8 +1,14 @@
 use Rattle.std.proofs.Common.{ap, ◌∙◌}
 use Rattle.rl_unit.specs.Answers.{lines}
-use Rattle.rl_unit.proofs.Answering.{writes_report, writes_stop}
+use Rattle.rl_unit.proofs.Answering.{writes_pending, writes_report, writes_stop}
 use Rattle.rl_unit.proofs.Outcomes.{comes_report}
 use Rattle.rl_unit.proofs.run.outcome_of.Goals as goal
+
+pub returns-in_ok-pending_line-in-Err-Pending-clause-comes : goal.returns-in_ok-pending_line-in-Err-Pending-clause-comes
+returns-in_ok-pending_line-in-Err-Pending-clause-comes c =
+    let text = c.in_ok-pending_line-in-Err-Pending.field-0 in
+    comes_report c.args.bytes.now text
+    (writes_pending c.args.bytes.now c.in-Err-Pending.node.0 text.items (c.in-Err-Pending.ensures.pending c.in-Err-Pending.node c.in-Err-Pending.field-0-is) c.in_ok-pending_line-in-Err-Pending.ensures)
 
 pub returns-in_ok-stop_line-in-Err-Stopped-clause-comes : goal.returns-in_ok-stop_line-in-Err-Stopped-clause-comes
 returns-in_ok-stop_line-in-Err-Stopped-clause-comes c =
