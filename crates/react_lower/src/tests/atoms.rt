@@ -49,7 +49,11 @@ fn check_flags(
     count: Option<(usize, usize)>,
 ) -> Result<(), Fail> {
     let found = read_list::<bool>(alloc, text.as_bytes(), 0)?;
-    assert_eq!(rt; found.map(|(flags, next)| (flags.len(), next)), count, "{text}");
+    assert_eq!(rt;
+        found.map(|(flags, next)| (flags.len(), next)),
+        count,
+        "{text}"
+    );
     Ok(())
 }
 

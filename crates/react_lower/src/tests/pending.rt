@@ -33,7 +33,10 @@ fn names_the_least_node(rt: HostRuntime) -> Result<(), Fail> {
         ("(arrow n n (params [] -) (null))", "Pending 5\n"),
         ("(paren (arrow y n (params [] -) (null)))", "Pending 6\n"),
         ("(body [] [(return (num \"1.5\")) (empty)])", "Pending 8\n"),
-        ("(body [] [(expr (id \"eval\")) (debugger) (break -)])", "Pending 8\n"),
+        (
+            "(body [] [(expr (id \"eval\")) (debugger) (break -)])",
+            "Pending 8\n",
+        ),
     ];
     check_bodies(&rt, rt.alloc(), &rows)
 }
@@ -53,7 +56,10 @@ fn looks_at_the_whole_unit(rt: HostRuntime) -> Result<(), Fail> {
             "(unit [] (program [(expr (arrow y n (params [] -) (null))) (empty)]))",
             "Pending 6\n",
         ),
-        ("(unit [] (program [(expr (arrow n n (params [] -) (null)))]))", "Pending 3\n"),
+        (
+            "(unit [] (program [(expr (arrow n n (params [] -) (null)))]))",
+            "Pending 3\n",
+        ),
         (
             "(unit [] (program [(expr (arrow y n (params [] -) (null))) (expr (arrow y n (params [] -) (null)))]))",
             "Pending 7\n",
@@ -97,6 +103,7 @@ fn looks_at_parameters(rt: HostRuntime) -> Result<(), Fail> {
 fn lowers_the_marked_function_anywhere(rt: HostRuntime) -> Result<(), Fail> {
     let unit =
         b"(unit [] (program [(expr (id \"a\")) (return (call n (null) [(paren (arrow y n (params [(param (bind \"p\" -) -)] -) (id \"p\")))])) (expr (str \"x\"))]))";
-    let listing = "";
+    let listing =
+        "(lowered (fn (at 66 122) - \"other\" n n [] [(p 0 (at 93 105))] [] (p 3 -) 0 [(block 0 \"block\" [0] (return 2 - \"implicit\" (p 1 (at 113 121))) [])] [(i 1 (p 1 (at 113 121)) (at 113 121) (loadlocal (p 0 (at 113 121)))) (i 0 (p 2 -) - (primitive (undefined)))]) [] [(ident (named \"p\") (at 93 105) 0) (ident - (at 113 121) 1) (ident - - 2) (ident - (at 66 122) 3)] [(pair 0 0)])\n";
     check(&rt, rt.alloc(), unit, Status::Done, listing)
 }

@@ -252,16 +252,16 @@ const SCOPES: &[u8] =
 #[test]
 fn numbers_scopes_and_references(rt: HostRuntime) -> Result<(), Fail> {
     let unit = read_tree(rt.alloc(), SCOPES)?;
-    let mut scopes = 0;
-    let mut references = 0;
+    let mut scopes: u32 = 0;
+    let mut references: u32 = 0;
     for node in unit.nodes.as_slice() {
         assert_eq!(rt; node.at.scope.0, scopes, "{node:?}");
         assert_eq!(rt; node.at.reference.0, references, "{node:?}");
         if node.word.makes_scope() {
-            scopes += 1;
+            scopes = u32::saturating_add(scopes, 1);
         }
         if node.word == Word::Id {
-            references += 1;
+            references = u32::saturating_add(references, 1);
         }
     }
     assert_eq!(rt; scopes, 15);
