@@ -41,7 +41,7 @@ pub enum LowerError {
     #[error("Malformed")]
     Malformed,
     /// The lowering does not cover a node of the unit: the least id of such a node.
-    #[error("Pending({0:?})")]
+    #[error("Pending({})", .0.0)]
     Pending(NodeId),
     /// A stop row applies to the unit: its diagnostic. Refusals that were recorded before it are dropped.
     #[error("Stopped")]
