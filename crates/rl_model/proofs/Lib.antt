@@ -1,3 +1,4 @@
 pub mod Apart
 pub mod Covering
 pub mod Examples
+pub mod Least

@@ -1,12 +1,13 @@
 //! The nodes of a unit that the lowering covers.
 
-ghost use Rattle.std.specs.Prelude.{◌≡◌, ℕ, Option as Maybe, Some, false, map, option_map, MatchOption};
+ghost use Rattle.std.specs.Prelude.{◌≡◌, ◌≤◌, ℕ, All, IfSome, Option as Maybe, Some, false, map, option_map, MatchOption};
 ghost use Rattle.rl_syntax.specs.Forms.{is_flag};
-ghost use Rattle.rl_syntax.specs.Syntax.{Flag, pieces_of, syntax};
+ghost use Rattle.rl_syntax.specs.Syntax.{Flag, IsPlaced, outset, pieces_of, syntax};
 ghost use Rattle.rl_syntax.specs.declared.numbered.At.{At as Ids};
 ghost use Rattle.rl_ast.specs.FunctionNodes.{seen_function_node};
 ghost use Rattle.rl_ast.specs.Marked.{first};
 ghost use Rattle.rl_model.specs.Covered as spec;
+ghost use Rattle.rl_model.specs.Source.{marked};
 ghost use Rattle.rl_model.specs.Units.{id_of, pending};
 
 use rl_ast::function_node::FunctionNode;
@@ -143,12 +144,20 @@ fn id_of(function: FunctionNode<'_>) -> NodeId
     }
 }
 
-/// The least id of a node of the unit that the lowering does not cover. `None` if it covers the whole unit.
-pub fn least_uncovered(unit: &Unit) -> Option<NodeId>
-    ensures { option_map (λ n. n.0) result ≡ pending (syntax unit.now.tree) }
+/// The id of the marked function of a unit. `None` if no function is marked.
+fn marked_id(unit: &Unit) -> Option<NodeId>
+    ensures { option_map (λ n. n.0) result ≡ id_of (marked (syntax unit.now.tree)) }
 {
     match unit.marked_function() {
-        Some(function) => least_in(Some(id_of(function)), &unit.tree),
-        None => least_in(None, &unit.tree),
+        Some(function) => Some(id_of(function)),
+        None => None,
     }
+}
+
+/// The least id of a node of the unit that the lowering does not cover. `None` if it covers the whole unit.
+pub fn least_uncovered(unit: &Unit) -> Option<NodeId>
+    ensures first { option_map (λ n. n.0) result ≡ pending (syntax unit.now.tree) }
+    ensures least { IsPlaced outset (syntax unit.now.tree) → IfSome result (λ n. All (λ id. n.0 ≤ id) (spec.uncovered (id_of (marked (syntax unit.now.tree))) (syntax unit.now.tree))) }
+{
+    least_in(marked_id(unit), &unit.tree)
 }

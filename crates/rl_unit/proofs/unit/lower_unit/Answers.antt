@@ -53,7 +53,7 @@ refused_is bytes u f said spells covered found distinct goes names some = record
 
 pub lower-requires-clause-covered : goal.lower-requires-clause-covered
 lower-requires-clause-covered c =
-    parts_covered (syntax c.in-Ok.unit.tree) (seen_arrow c.in-Some-marked_arrow.arrow) c.in-Ok.ensures.found.numbers (sym c.in_default.ensures) c.in-Some-marked_arrow.ensures
+    parts_covered (syntax c.in-Ok.unit.tree) (seen_arrow c.in-Some-marked_arrow.arrow) c.in-Ok.ensures.found.numbers (sym c.in_default.ensures.first) c.in-Some-marked_arrow.ensures
 
 pub lower-requires-clause-room : goal.lower-requires-clause-room
 lower-requires-clause-room c =
@@ -62,7 +62,7 @@ lower-requires-clause-room c =
 
 pub returns-in-Err-Diagnostic-clause-stopped : goal.returns-in-Err-Diagnostic-clause-stopped
 returns-in-Err-Diagnostic-clause-stopped c d is =
-    stopped_is c.args.bytes.now (syntax c.in-Ok.unit.tree) (seen_arrow c.in-Some-marked_arrow.arrow) d c.in-Ok.ensures.found (sym c.in_default.ensures) c.in-Some-marked_arrow.ensures c.in-Ok-of.ensures.distinct
+    stopped_is c.args.bytes.now (syntax c.in-Ok.unit.tree) (seen_arrow c.in-Some-marked_arrow.arrow) d c.in-Ok.ensures.found (sym c.in_default.ensures.first) c.in-Some-marked_arrow.ensures c.in-Ok-of.ensures.distinct
     (let same : c.in-Err-Diagnostic.diagnostic ≡ d = cc in c.in-Err-Diagnostic.ensures.stopped c.in-Err-Diagnostic.diagnostic c.in-Err-Diagnostic.field-0-is ∙ ap (λ (s : Diagnostic). Some s) same)
 
 pub returns-then-not-is_empty-clause-refused : goal.returns-then-not-is_empty-clause-refused
@@ -70,7 +70,7 @@ returns-then-not-is_empty-clause-refused c said is =
     let same : c.lower.new.env.diagnostics ≡ said = cc in
     let tree : Syntax = seen_arrow c.in-Some-marked_arrow.arrow in
     let diagnostics : c.lower.new.env.diagnostics ≡ refusals_of tree = c.in-Ok-lower.ensures.refused ∙ ap (λ (e : Environment). e.diagnostics ++ refusals_of tree) c.new-env.ensures in
-    refused_is c.args.bytes.now (syntax c.in-Ok.unit.tree) (seen_arrow c.in-Some-marked_arrow.arrow) said c.in-Ok.ensures.found (sym c.in_default.ensures) c.in-Some-marked_arrow.ensures c.in-Ok-of.ensures.distinct
+    refused_is c.args.bytes.now (syntax c.in-Ok.unit.tree) (seen_arrow c.in-Some-marked_arrow.arrow) said c.in-Ok.ensures.found (sym c.in_default.ensures.first) c.in-Some-marked_arrow.ensures c.in-Ok-of.ensures.distinct
     c.in-Ok-lower.ensures.goes_on (sym same ∙ diagnostics) (λ nothing. let empty = c.if-not-is_empty.ensures.1 (same ∙ nothing) in let kept = c.if-not-is_empty.true in cc)
 
 -- the result of a unit of which nothing is said
@@ -80,7 +80,7 @@ returns-clause-lowered c =
     let tree : Syntax = seen_arrow c.in-Some-marked_arrow.arrow in
     let found : first (marked_functions u) ≡ Some tree = c.in-Some-marked_arrow.ensures in
     let spells = c.in-Ok.ensures.found in
-    let covered : pending u ≡ None = sym c.in_default.ensures in
+    let covered : pending u ≡ None = sym c.in_default.ensures.first in
     let graph = c.in-Ok-lower.ensures in
     let f = c.in-Ok-lower.function in
     let small : IsTooLarge c.args.bytes.now → ⊥ = λ large. (let never = c.in-Ok.ensures.too_large.1 large in cc) in
