@@ -20,10 +20,10 @@ seen_assignment_target (assignment_target.Index at optional object property) = N
 seen_assignment_target (assignment_target.PrivateMember at optional object property) = Node at word.Privatemember (Then (Flag optional) (Then (syntax object.tree.now) (Then (Said property.now) End)))
 seen_assignment_target (assignment_target.Array at items rest) = Node at word.Arraytarget (Then (Listed (pieces_of (map syntax items.trees.now))) (Then (maybe rest (λ t. syntax t.tree.now)) End))
 seen_assignment_target (assignment_target.Object at properties rest) = Node at word.Objecttarget (Then (Listed (pieces_of (map syntax properties.trees.now))) (Then (maybe rest (λ t. syntax t.tree.now)) End))
-seen_assignment_target (assignment_target.As at target annotation) = Node at word.As (Then (syntax target.tree.now) (Then (syntax annotation.tree.now) End))
-seen_assignment_target (assignment_target.Satisfies at target annotation) = Node at word.Satisfies (Then (syntax target.tree.now) (Then (syntax annotation.tree.now) End))
-seen_assignment_target (assignment_target.Assert at annotation target) = Node at word.Assert (Then (syntax annotation.tree.now) (Then (syntax target.tree.now) End))
-seen_assignment_target (assignment_target.NonNull at target) = Node at word.Nonnull (Then (syntax target.tree.now) End)
+seen_assignment_target (assignment_target.As at expression annotation) = Node at word.As (Then (syntax expression.tree.now) (Then (syntax annotation.tree.now) End))
+seen_assignment_target (assignment_target.Satisfies at expression annotation) = Node at word.Satisfies (Then (syntax expression.tree.now) (Then (syntax annotation.tree.now) End))
+seen_assignment_target (assignment_target.Assert at annotation expression) = Node at word.Assert (Then (syntax annotation.tree.now) (Then (syntax expression.tree.now) End))
+seen_assignment_target (assignment_target.NonNull at expression) = Node at word.Nonnull (Then (syntax expression.tree.now) End)
 
 abbrev pub seen_assignment_target_maybe_default : AssignmentTargetMaybeDefault → Syntax
 seen_assignment_target_maybe_default (assignment_target_maybe_default.Target inner) = syntax inner.tree.now

@@ -77,39 +77,39 @@ pub enum AssignmentTarget<'b> {
         /// The rest element, or none.
         rest: Option<AssignmentTargetRestTree<'b>>,
     },
-    /// `a as T`: `TSAsExpression`. `(as AssignmentTarget TypeAnnotation)`
+    /// `a as T`: `TSAsExpression`. `(as Expression TypeAnnotation)`
     As {
         /// Ids and span of the node.
         at: At,
-        /// The target.
-        target: AssignmentTargetTree<'b>,
+        /// The expression.
+        expression: ExpressionTree<'b>,
         /// The type.
         annotation: TypeAnnotationTree<'b>,
     },
-    /// `a satisfies T`: `TSSatisfiesExpression`. `(satisfies AssignmentTarget TypeAnnotation)`
+    /// `a satisfies T`: `TSSatisfiesExpression`. `(satisfies Expression TypeAnnotation)`
     Satisfies {
         /// Ids and span of the node.
         at: At,
-        /// The target.
-        target: AssignmentTargetTree<'b>,
+        /// The expression.
+        expression: ExpressionTree<'b>,
         /// The type.
         annotation: TypeAnnotationTree<'b>,
     },
-    /// `<T>a`: `TSTypeAssertion`. `(assert TypeAnnotation AssignmentTarget)`
+    /// `<T>a`: `TSTypeAssertion`. `(assert TypeAnnotation Expression)`
     Assert {
         /// Ids and span of the node.
         at: At,
         /// The type.
         annotation: TypeAnnotationTree<'b>,
-        /// The target.
-        target: AssignmentTargetTree<'b>,
+        /// The expression.
+        expression: ExpressionTree<'b>,
     },
-    /// `a!`: `TSNonNullExpression`. `(nonnull AssignmentTarget)`
+    /// `a!`: `TSNonNullExpression`. `(nonnull Expression)`
     NonNull {
         /// Ids and span of the node.
         at: At,
-        /// The target.
-        target: AssignmentTargetTree<'b>,
+        /// The expression.
+        expression: ExpressionTree<'b>,
     },
 }
 
@@ -165,34 +165,34 @@ pub fn assignment_target_view(tree: AssignmentTargetTree<'_>) -> AssignmentTarge
             }
         }
         Word::As => {
-            let (target, annotation) = two(parts);
+            let (expression, annotation) = two(parts);
             AssignmentTarget::As {
                 at,
-                target: Tree::new(target),
+                expression: Tree::new(expression),
                 annotation: Tree::new(annotation),
             }
         }
         Word::Satisfies => {
-            let (target, annotation) = two(parts);
+            let (expression, annotation) = two(parts);
             AssignmentTarget::Satisfies {
                 at,
-                target: Tree::new(target),
+                expression: Tree::new(expression),
                 annotation: Tree::new(annotation),
             }
         }
         Word::Assert => {
-            let (annotation, target) = two(parts);
+            let (annotation, expression) = two(parts);
             AssignmentTarget::Assert {
                 at,
                 annotation: Tree::new(annotation),
-                target: Tree::new(target),
+                expression: Tree::new(expression),
             }
         }
         Word::Nonnull => {
-            let target = one(parts);
+            let expression = one(parts);
             AssignmentTarget::NonNull {
                 at,
-                target: Tree::new(target),
+                expression: Tree::new(expression),
             }
         }
         _ => unreachable!(),

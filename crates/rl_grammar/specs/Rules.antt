@@ -279,10 +279,10 @@ assignment_target_rule word.Index = Some (field.One kind.Flag ∷ field.One kind
 assignment_target_rule word.Privatemember = Some (field.One kind.Flag ∷ field.One kind.Expression ∷ field.One kind.Text ∷ [])
 assignment_target_rule word.Arraytarget = Some (field.Many kind.AssignmentTargetElement ∷ field.Maybe kind.AssignmentTargetRest ∷ [])
 assignment_target_rule word.Objecttarget = Some (field.Many kind.AssignmentTargetProperty ∷ field.Maybe kind.AssignmentTargetRest ∷ [])
-assignment_target_rule word.As = Some (field.One kind.AssignmentTarget ∷ field.One kind.TypeAnnotation ∷ [])
-assignment_target_rule word.Satisfies = Some (field.One kind.AssignmentTarget ∷ field.One kind.TypeAnnotation ∷ [])
-assignment_target_rule word.Assert = Some (field.One kind.TypeAnnotation ∷ field.One kind.AssignmentTarget ∷ [])
-assignment_target_rule word.Nonnull = Some (field.One kind.AssignmentTarget ∷ [])
+assignment_target_rule word.As = Some (field.One kind.Expression ∷ field.One kind.TypeAnnotation ∷ [])
+assignment_target_rule word.Satisfies = Some (field.One kind.Expression ∷ field.One kind.TypeAnnotation ∷ [])
+assignment_target_rule word.Assert = Some (field.One kind.TypeAnnotation ∷ field.One kind.Expression ∷ [])
+assignment_target_rule word.Nonnull = Some (field.One kind.Expression ∷ [])
 assignment_target_rule _ = None
 
 -- The fields of the kind `JsxElementName`, by the word of a node.

@@ -240,18 +240,18 @@ pub(crate) fn assignment_target_rule(word: Word) -> Option<&'static [Field]>
             Field::Maybe(Kind::AssignmentTargetRest),
         ]),
         Word::As => Some(&[
-            Field::One(Kind::AssignmentTarget),
+            Field::One(Kind::Expression),
             Field::One(Kind::TypeAnnotation),
         ]),
         Word::Satisfies => Some(&[
-            Field::One(Kind::AssignmentTarget),
+            Field::One(Kind::Expression),
             Field::One(Kind::TypeAnnotation),
         ]),
         Word::Assert => Some(&[
             Field::One(Kind::TypeAnnotation),
-            Field::One(Kind::AssignmentTarget),
+            Field::One(Kind::Expression),
         ]),
-        Word::Nonnull => Some(&[Field::One(Kind::AssignmentTarget)]),
+        Word::Nonnull => Some(&[Field::One(Kind::Expression)]),
         _ => None,
     }
 }
