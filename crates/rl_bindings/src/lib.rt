@@ -1,0 +1,8 @@
+//! Names of a unit: its scopes, the symbols that it declares, and the symbols that its references resolve to.
+#![tactic(auto)]
+
+pub mod event;
+pub mod names;
+pub mod resolve;
+pub mod role;
+pub mod walk;

@@ -1,0 +1,210 @@
+//! The events of a tree's nodes, in the order of the text.
+
+ghost use Rattle.std.specs.Prelude.{◌≡◌, ◌++◌, map, IfOk, OnOk};
+ghost use Rattle.rl_bindings.specs.Events.{events, lead, trail, sign, front, back, top};
+ghost use Rattle.rl_syntax.specs.Syntax.{pieces_of, syntax};
+
+use crate::event::{BindKind, Bound, Event, Place, ScopeEntry};
+use crate::names::{Name, name_of};
+use crate::role::{
+    Above, Role, below, outside, parent_of, parts_ahead, role_of, scope_kind, scope_of,
+};
+use rl_base::error::OutOfMemory;
+use rl_base::ids::ScopeId;
+use rl_base::name_table::NameTable;
+use rl_syntax::numbered::{At, Numbered};
+use rl_syntax::word::Word;
+use std::alloc::Global;
+
+/// Appends the scope that a node makes, if it makes one. On `OutOfMemory`, an allocation failed.
+fn push_sign(
+    out: &mut Vec<Event>,
+    role: Role,
+    above: Above,
+    at: At,
+    word: Word,
+) -> Result<(), OutOfMemory>
+    ensures { OnOk result (out.new.items ≡ out.old.items ++ sign role above at word) }
+{
+    match role {
+        Role::Maker => {
+            out.push(Event::Scope(ScopeEntry {
+                node: at.id,
+                kind: scope_kind(word),
+                parent: parent_of(above, word),
+            }))?;
+            Ok(())
+        }
+        Role::Binder => Ok(()),
+        Role::User => Ok(()),
+        Role::Plain => Ok(()),
+    }
+}
+
+/// Appends what a node does before the parts that stand in its scope. On `OutOfMemory`, an allocation failed.
+fn push_front(
+    out: &mut Vec<Event>,
+    names: &NameTable<Name>,
+    role: Role,
+    above: Above,
+    at: At,
+    parts: &[Numbered],
+) -> Result<(), OutOfMemory>
+    ensures { OnOk result (out.new.items ≡ out.old.items ++ front names.now role above at (pieces_of (map syntax parts.now))) }
+{
+    match role {
+        Role::Maker => {
+            out.push(Event::Open(at.scope))?;
+            Ok(())
+        }
+        Role::Binder => {
+            out.push(Event::Bind(Bound {
+                node: at.id,
+                span: at.span,
+                name: name_of(names, parts),
+                scope: scope_of(above),
+                kind: above.kind,
+                place: above.place,
+            }))?;
+            Ok(())
+        }
+        Role::User => {
+            out.push(Event::Use(at.id, name_of(names, parts)))?;
+            Ok(())
+        }
+        Role::Plain => Ok(()),
+    }
+}
+
+/// Appends what a node does behind its parts. On `OutOfMemory`, an allocation failed.
+fn push_back(out: &mut Vec<Event>, role: Role) -> Result<(), OutOfMemory>
+    ensures { OnOk result (out.new.items ≡ out.old.items ++ back role) }
+{
+    match role {
+        Role::Maker => {
+            out.push(Event::Close)?;
+            Ok(())
+        }
+        Role::Binder => Ok(()),
+        Role::User => Ok(()),
+        Role::Plain => Ok(()),
+    }
+}
+
+/// Appends the events of a tree, by what stands above it. On `OutOfMemory`, an allocation failed.
+#[cycle(walking)]
+#[tactic(auto, using(crate::proofs::Walking::by_form, rl_syntax::proofs::Layers::by_layer))]
+fn push_events(
+    out: &mut Vec<Event>,
+    names: &NameTable<Name>,
+    above: Above,
+    tree: &Numbered,
+) -> Result<(), OutOfMemory>
+    ensures { OnOk result (out.new.items ≡ out.old.items ++ events names.now above (syntax tree.now)) }
+{
+    match tree {
+        Numbered::Node(at, word, parts) => {
+            let role = role_of(*word);
+            let count = parts_ahead(*word);
+            let parts = parts.as_slice();
+            push_sign(out, role, above, *at, *word)?;
+            push_lead(out, names, count, outside(above, *word), parts)?;
+            push_front(out, names, role, above, *at, parts)?;
+            push_trail(out, names, count, below(above, *at, *word, parts), parts)?;
+            push_back(out, role)?;
+            Ok(())
+        }
+        Numbered::List(parts) => {
+            push_all(out, names, above, parts.as_slice())?;
+            Ok(())
+        }
+        Numbered::Text(_) => Ok(()),
+        Numbered::Number(_) => Ok(()),
+        Numbered::Flag(_) => Ok(()),
+        Numbered::Absent => Ok(()),
+    }
+}
+
+/// Appends the events of the first `count` of parts in a row. On `OutOfMemory`, an allocation failed.
+#[cycle(walking)]
+fn push_lead(
+    out: &mut Vec<Event>,
+    names: &NameTable<Name>,
+    count: usize,
+    above: Above,
+    parts: &[Numbered],
+) -> Result<(), OutOfMemory>
+    ensures { OnOk result (out.new.items ≡ out.old.items ++ lead names.now count above (pieces_of (map syntax parts.now))) }
+{
+    match parts {
+        [first, rest @ ..] => {
+            if count == 0 {
+                Ok(())
+            } else {
+                push_events(out, names, above, first)?;
+                push_lead(out, names, count - 1, above, rest)?;
+                Ok(())
+            }
+        }
+        [] => Ok(()),
+    }
+}
+
+/// Appends the events of parts in a row, the first `count` aside. On `OutOfMemory`, an allocation failed.
+#[cycle(walking)]
+fn push_trail(
+    out: &mut Vec<Event>,
+    names: &NameTable<Name>,
+    count: usize,
+    above: Above,
+    parts: &[Numbered],
+) -> Result<(), OutOfMemory>
+    ensures { OnOk result (out.new.items ≡ out.old.items ++ trail names.now count above (pieces_of (map syntax parts.now))) }
+{
+    if count == 0 {
+        push_all(out, names, above, parts)?;
+        return Ok(());
+    }
+    match parts {
+        [_, rest @ ..] => {
+            push_trail(out, names, count - 1, above, rest)?;
+            Ok(())
+        }
+        [] => Ok(()),
+    }
+}
+
+/// Appends the events of trees in a row. On `OutOfMemory`, an allocation failed.
+#[cycle(walking)]
+fn push_all(
+    out: &mut Vec<Event>,
+    names: &NameTable<Name>,
+    above: Above,
+    trees: &[Numbered],
+) -> Result<(), OutOfMemory>
+    ensures { OnOk result (out.new.items ≡ out.old.items ++ trail names.now 0 above (pieces_of (map syntax trees.now))) }
+{
+    'trees: for tree in trees {
+        push_events(out, names, above, tree)?;
+    }
+    Ok(())
+}
+
+/// The events of a unit's tree. On `OutOfMemory`, an allocation failed.
+pub fn events_of(
+    alloc: Global,
+    names: &NameTable<Name>,
+    tree: &Numbered,
+) -> Result<Vec<Event>, OutOfMemory>
+    ensures { IfOk result (λ found. found.items ≡ events names.now top (syntax tree.now)) }
+{
+    let above = Above {
+        scope: ScopeId(0),
+        function: ScopeId(0),
+        kind: BindKind::Var,
+        place: Place::Inner,
+    };
+    let mut out = Vec::new(alloc);
+    push_events(&mut out, names, above, tree)?;
+    Ok(out)
+}
