@@ -1,3 +1,4 @@
 pub mod Naming
 pub mod Steps
 pub mod Walking
+pub mod SymbolTables

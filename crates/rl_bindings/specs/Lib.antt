@@ -5,3 +5,5 @@ pub mod Symbols
 pub mod Standing
 pub mod NameRules
 pub mod Tables
+pub mod SymbolTables
+pub mod Machines

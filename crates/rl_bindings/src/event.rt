@@ -73,7 +73,7 @@ pub enum ScopeKind {
 }
 
 /// A scope, by the node that makes it.
-#[derive(Clone, Copy, Debug)]
+#[derive(Clone, Copy)]
 pub struct ScopeEntry {
     /// The node that makes the scope.
     pub node: NodeId,
@@ -84,7 +84,7 @@ pub struct ScopeEntry {
 }
 
 /// A declaration of a name: a `bind` node.
-#[derive(Clone, Copy, Debug)]
+#[derive(Clone, Copy)]
 pub struct Bound {
     /// The `bind` node.
     pub node: NodeId,
@@ -101,7 +101,7 @@ pub struct Bound {
 }
 
 /// What happens to names at a point of the unit's text.
-#[derive(Clone, Copy, Debug)]
+#[derive(Clone, Copy)]
 pub enum Event {
     /// A node that makes a scope opens.
     Scope(ScopeEntry),

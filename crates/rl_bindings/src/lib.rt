@@ -5,4 +5,5 @@ pub mod event;
 pub mod names;
 pub mod resolve;
 pub mod role;
+pub mod symbol_table;
 pub mod walk;

@@ -1,10 +1,17 @@
 //! Resolution of names: the symbol that each name stands for where it is declared or used.
 
-use crate::event::Event;
+ghost use Rattle.std.specs.Prelude.{◌≡◌, ◌++◌, ◌∷◌, [], List, IfOk, OnOk, replicate, None};
+ghost use Rattle.rl_bindings.specs.Machines as machine;
+
+use crate::event::{Bound, Event};
+use crate::symbol_table::SymbolTable;
+use rl_base::error::OutOfMemory;
 use rl_base::ids::NodeId;
+use rl_base::list::List;
+use std::alloc::Global;
 
 /// A name that is declared or used, with the symbol that it stands for there.
-#[derive(Clone, Copy, Debug)]
+#[derive(Clone, Copy)]
 pub struct Answer {
     /// The declaration or the use.
     pub event: Event,
@@ -13,7 +20,7 @@ pub struct Answer {
 }
 
 /// A use of a name: an `id` node.
-#[derive(Clone, Copy, Debug)]
+#[derive(Clone, Copy)]
 pub struct Reference {
     /// The `id` node.
     pub node: NodeId,
@@ -24,10 +31,203 @@ pub struct Reference {
 }
 
 /// A `bind` node with the symbol that it declares.
-#[derive(Clone, Copy, Debug)]
+#[derive(Clone, Copy)]
 pub struct Declaration {
     /// The `bind` node.
     pub node: NodeId,
     /// The index of the symbol. Never `None`.
     pub symbol: Option<usize>,
+}
+
+/// A name with the symbol that it stands for.
+#[derive(Clone, Copy)]
+pub struct Entry {
+    /// The number of the name.
+    pub name: usize,
+    /// The index of the symbol. `None` if the name stands for none.
+    pub symbol: Option<usize>,
+}
+
+/// The symbol that a name stands for, by a list of symbols by the names' numbers. `None` past the end of the list.
+fn look(env: &[Option<usize>], name: usize) -> Option<usize>
+    ensures { result ≡ machine.look env.now name }
+{
+    match env.get(name) {
+        Some(symbol) => *symbol,
+        None => None,
+    }
+}
+
+/// Writes entries into the list, each at its name. An entry past the end of the list is left out.
+fn write_all(env: &mut [Option<usize>], entries: &[Entry])
+    ensures { env.new ≡ machine.write_all entries.now env.old }
+{
+    for entry in entries {
+        if entry.name < env.len() {
+            env[entry.name] = entry.symbol;
+        }
+    }
+}
+
+/// What the list has at the names of entries. On `OutOfMemory`, an allocation failed.
+fn kept(
+    alloc: Global,
+    env: &[Option<usize>],
+    entries: &[Entry],
+) -> Result<List<Entry>, OutOfMemory>
+    ensures { IfOk result (λ k. k ≡ machine.kept env.now entries.now) }
+{
+    let mut found = List::with_capacity(alloc, entries.len())?;
+    for entry in entries {
+        found.push(Entry {
+            name: entry.name,
+            symbol: look(env, entry.name),
+        })?;
+    }
+    Ok(found)
+}
+
+/// The entries of a scope, by its number. None past the end of the list.
+fn entries_at(scopes: &[List<Entry>], scope: usize) -> &[Entry]
+    ensures { result.now ≡ machine.entries_at scopes.now scope }
+{
+    match scopes.get(scope) {
+        Some(entries) => entries.as_slice(),
+        None => &[],
+    }
+}
+
+/// The names that events declare and use, each with the symbol that it stands for, if `scopes` has the entries of each scope, and
+/// `env` the symbols that names stand for around the events. On `OutOfMemory`, an allocation failed.
+pub fn run(
+    alloc: Global,
+    scopes: &[List<Entry>],
+    env: &mut [Option<usize>],
+    events: &[Event],
+) -> Result<Vec<Answer>, OutOfMemory>
+    ensures { IfOk result (λ found. found.items ≡ machine.run scopes.now env.old [] events.now) }
+{
+    let mut found = Vec::new(alloc);
+    let mut frames: Vec<List<Entry>> = Vec::new(alloc);
+    for event in events {
+        match event {
+            Event::Scope(_) => {}
+            Event::Open(scope) => {
+                let entries = entries_at(scopes, scope.0 as usize);
+                frames.push(kept(alloc, env, entries)?)?;
+                write_all(env, entries);
+            }
+            Event::Close => {
+                if let Some(frame) = frames.pop() {
+                    write_all(env, frame.as_slice());
+                }
+            }
+            Event::Bind(bound) => {
+                let symbol = look(env, bound.name);
+                found.push(Answer {
+                    event: *event,
+                    symbol,
+                })?;
+            }
+            Event::Use(_, name) => {
+                let symbol = look(env, *name);
+                found.push(Answer {
+                    event: *event,
+                    symbol,
+                })?;
+            }
+        }
+    }
+    Ok(found)
+}
+
+/// One more than the largest name of symbols; 0 without symbols. On `OutOfMemory`, there are more names than memory can hold.
+fn count_names(symbols: &[Bound]) -> Result<usize, OutOfMemory>
+    ensures { IfOk result (λ count. count ≡ machine.count_names 0 symbols.now) }
+{
+    let mut most = 0;
+    for symbol in symbols {
+        let Some(next) = symbol.name.checked_add(1) else {
+            return Err(OutOfMemory);
+        };
+        if most < next {
+            most = next;
+        }
+    }
+    Ok(most)
+}
+
+/// One more than the largest scope of symbols; 0 without symbols.
+fn count_scopes(symbols: &[Bound]) -> usize
+    ensures { result ≡ machine.count_scopes 0 symbols.now }
+{
+    let mut most = 0;
+    for symbol in symbols {
+        let next = symbol.scope.0 as usize + 1;
+        if most < next {
+            most = next;
+        }
+    }
+    most
+}
+
+/// `count` names that stand for no symbol. On `OutOfMemory`, an allocation failed.
+fn blank_names(alloc: Global, count: usize) -> Result<Vec<Option<usize>>, OutOfMemory>
+    ensures { IfOk result (λ v. v.items ≡ replicate count None) }
+{
+    let mut blank = Vec::with_capacity(alloc, count)?;
+    for _name in 0..count {
+        blank.push(None)?;
+    }
+    Ok(blank)
+}
+
+/// `count` scopes without entries. On `OutOfMemory`, an allocation failed.
+fn blank_scopes(alloc: Global, count: usize) -> Result<Vec<List<Entry>>, OutOfMemory>
+    ensures { IfOk result (λ v. v.items ≡ replicate count []) }
+{
+    let mut blank = Vec::with_capacity(alloc, count)?;
+    for _scope in 0..count {
+        blank.push(List::new(alloc))?;
+    }
+    Ok(blank)
+}
+
+/// Puts an entry to those of a scope. An entry past the end of the list is left out. On `OutOfMemory`, an allocation failed.
+fn put(scopes: &mut [List<Entry>], scope: usize, entry: Entry) -> Result<(), OutOfMemory>
+    ensures { OnOk result (scopes.new ≡ machine.put scopes.old scope entry) }
+{
+    if scope < scopes.len() {
+        scopes[scope].push(entry)?;
+    }
+    Ok(())
+}
+
+/// The entries of each scope, by its number. On `OutOfMemory`, an allocation failed.
+fn entries_of(alloc: Global, table: &SymbolTable) -> Result<Vec<List<Entry>>, OutOfMemory>
+    ensures { IfOk result (λ v. v.items ≡ machine.put_all table.now (replicate (machine.count_scopes 0 table.now) []) table.now) }
+{
+    let mut scopes = blank_scopes(alloc, count_scopes(table.as_slice()))?;
+    for symbol in table.as_slice() {
+        let entry = Entry {
+            name: symbol.name,
+            symbol: table.binding(symbol.scope, symbol.name),
+        };
+        put(&mut scopes, symbol.scope.0 as usize, entry)?;
+    }
+    Ok(scopes)
+}
+
+/// The names that events declare and use, each with the symbol of the table that it stands for. On `OutOfMemory`, an allocation
+/// failed.
+pub fn resolve_all(
+    alloc: Global,
+    table: &SymbolTable,
+    events: &[Event],
+) -> Result<Vec<Answer>, OutOfMemory>
+    ensures { IfOk result (λ found. found.items ≡ machine.resolved table.now events.now) }
+{
+    let scopes = entries_of(alloc, table)?;
+    let mut env = blank_names(alloc, count_names(table.as_slice())?)?;
+    run(alloc, &scopes, &mut env, events)
 }

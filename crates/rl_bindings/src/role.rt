@@ -12,7 +12,7 @@ use rl_syntax::numbered::{At, Numbered};
 use rl_syntax::word::Word;
 
 /// A node's role in the binding of names.
-#[derive(Clone, Copy, Debug, PartialEq, Eq)]
+#[derive(Clone, Copy)]
 pub enum Role {
     /// Makes a scope.
     Maker,
@@ -25,7 +25,7 @@ pub enum Role {
 }
 
 /// A summary of the nodes above a node.
-#[derive(Clone, Copy, Debug)]
+#[derive(Clone, Copy)]
 pub struct Above {
     /// The innermost scope.
     pub scope: ScopeId,

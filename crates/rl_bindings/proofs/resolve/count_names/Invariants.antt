@@ -1,0 +1,6 @@
+use Rattle.std.proofs.Common.{◌≡◌, drop}
+use Rattle.rl_bindings.specs.Machines as machine
+use Rattle.rl_bindings.proofs.resolve.count_names.Given as goal
+
+abbrev pub invariant-loop-symbol : goal.invariant-loop-symbol
+invariant-loop-symbol l = machine.count_names l.most (drop l.symbol-index l.symbols) ≡ machine.count_names 0 l.symbols
