@@ -7,3 +7,4 @@ pub mod NameRules
 pub mod Tables
 pub mod SymbolTables
 pub mod Machines
+pub mod Checks

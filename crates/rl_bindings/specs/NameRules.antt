@@ -49,11 +49,14 @@ is_type kind.Enum = true
 is_type kind.Namespace = true
 is_type _ = false
 
+abbrev pub is_program : Place → Bool
+is_program place.Program = true
+is_program _ = false
+
 -- True of a namespace that does not stand in the program's list.
 abbrev pub is_misplaced_at : BindKind → Place → Bool
-is_misplaced_at kind.Namespace place.Program = false
-is_misplaced_at kind.Namespace _ = true
-is_misplaced_at _ _ = false
+is_misplaced_at kind.Namespace p = not (is_program p)
+is_misplaced_at _ p = false
 
 abbrev pub is_misplaced : Bound → Bool
 is_misplaced b = is_misplaced_at b.kind b.place

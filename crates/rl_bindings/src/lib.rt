@@ -5,5 +5,6 @@ pub mod event;
 pub mod names;
 pub mod resolve;
 pub mod role;
+pub mod rules;
 pub mod symbol_table;
 pub mod walk;
