@@ -97,12 +97,13 @@ is_inside symbols scope (Some k) = is_larger scope (slice_get symbols k)
 abbrev pub is_passing : (lexical : List Bound) → Answer → Bool
 is_passing lexical x = elim x.event as (λ e. Bool) [ event.Bind b ↦ is_var b.kind && is_inside lexical b.scope.0 x.symbol | _ ↦ false ]
 
--- The least of the rules B2 to B5 that declarations break, if `stands` are the names that they and the uses declare and use, each
--- with the lexical symbol that it stands for.
+-- The least of the rules B2 to B5 that is broken, if each is broken or not as the arguments say.
+abbrev pub least : (clashed passing repeated shared : Bool) → Option ℕ
+least clashed passing repeated shared = if clashed then Some 2 else (if passing then Some 3 else (if repeated then Some 4 else (if shared then Some 5 else None)))
+
+-- The least of the rules B2 to B5 that declarations break, if `stands` are the names that are declared and used, each with the
+-- lexical symbol that it stands for.
 abbrev pub least_of : (es : List Event) → (stands : List Answer) → Option ℕ
 least_of es stands =
-    if clashes is_lexical_clash [] (bounds es) then Some 2
-    else (if list_any (is_passing (lexical_of es)) stands then Some 3
-    else (if clashes is_repeat [] (bounds es) then Some 4
-    else (if clashes is_type_clash [] (bounds es) || list_any is_misplaced (bounds es) then Some 5
-    else None)))
+    least (clashes is_lexical_clash [] (bounds es)) (list_any (is_passing (lexical_of es)) stands) (clashes is_repeat [] (bounds es))
+      (clashes is_type_clash [] (bounds es) || list_any is_misplaced (bounds es))

@@ -34,9 +34,12 @@ symbols_in tree = symbols_of (events_in tree)
 abbrev pub declared_by : (symbols : List Bound) → Bound → Declaration
 declared_by symbols b = record { node = b.node; symbol = number_at (is_own b.kind) b.scope.0 b.name symbols }
 
+abbrev pub declarations_of : (symbols : List Bound) → List Event → List Declaration
+declarations_of symbols es = map (declared_by symbols) (bounds es)
+
 -- The `bind` nodes of a tree, in order, each with the symbol that it declares.
 abbrev pub declarations_in : Syntax → List Declaration
-declarations_in tree = map (declared_by (symbols_in tree)) (bounds (events_in tree))
+declarations_in tree = declarations_of (symbols_in tree) (events_in tree)
 
 -- The `id` nodes of a tree, in order, each with the symbol that it resolves to. The index of a reference is its `ReferenceId`.
 abbrev pub references_in : Syntax → List Reference

@@ -1,6 +1,7 @@
 //! Names of a unit: its scopes, the symbols that it declares, and the symbols that its references resolve to.
 #![tactic(auto)]
 
+pub mod bindings;
 pub mod event;
 pub mod names;
 pub mod resolve;

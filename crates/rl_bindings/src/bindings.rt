@@ -1,0 +1,130 @@
+//! The names of a unit: its scopes and symbols, the symbol of each reference, and the least rule on names that it breaks.
+
+ghost use Rattle.std.specs.Prelude.{◌≡◌, ◌++◌, map, IfOk};
+ghost use Rattle.rl_bindings.specs.NameRules.{is_inside, is_passing};
+ghost use Rattle.rl_bindings.specs.NameRules as rules;
+ghost use Rattle.rl_bindings.specs.Standing as standing;
+ghost use Rattle.rl_bindings.specs.Tables as tables;
+ghost use Rattle.rl_bindings.specs.Names.{names_in};
+ghost use Rattle.rl_syntax.specs.Syntax.{syntax};
+ghost use Rattle.std.specs.List.{list_any};
+
+use crate::event::{Bound, Event, ScopeEntry};
+use crate::names::{Name, names_of};
+use crate::resolve::{Answer, Declaration, Reference, resolve_all};
+use crate::rules::{check_all, is_var};
+use crate::symbol_table::{SymbolTable, is_own};
+use crate::walk::events_of;
+use rl_ast::unit::Unit;
+use rl_base::error::OutOfMemory;
+use rl_base::list::List;
+use rl_base::name_table::NameTable;
+use std::alloc::Global;
+
+/// The uses among answers, in order. On `OutOfMemory`, an allocation failed.
+fn references_of(alloc: Global, answers: &[Answer]) -> Result<List<Reference>, OutOfMemory>
+    ensures { IfOk result (λ found. found ≡ standing.references answers.now) }
+{
+    let mut found = List::new(alloc);
+    for answer in answers {
+        if let Event::Use(node, name) = answer.event {
+            found.push(Reference {
+                node,
+                name,
+                symbol: answer.symbol,
+            })?;
+        }
+    }
+    Ok(found)
+}
+
+/// The scopes among events, in order. On `OutOfMemory`, an allocation failed.
+fn scopes_of(alloc: Global, events: &[Event]) -> Result<List<ScopeEntry>, OutOfMemory>
+    ensures { IfOk result (λ found. found ≡ tables.scopes_of events.now) }
+{
+    let mut found = List::new(alloc);
+    for event in events {
+        if let Event::Scope(scope) = event {
+            found.push(*scope)?;
+        }
+    }
+    Ok(found)
+}
+
+/// The declarations among events, in order, each with the symbol of the table that it declares. On `OutOfMemory`, an allocation
+/// failed.
+fn declarations_of(
+    alloc: Global,
+    table: &SymbolTable,
+    events: &[Event],
+) -> Result<List<Declaration>, OutOfMemory>
+    ensures { IfOk result (λ found. found ≡ tables.declarations_of table.now events.now) }
+{
+    let mut found = List::new(alloc);
+    for event in events {
+        if let Event::Bind(bound) = event {
+            found.push(Declaration {
+                node: bound.node,
+                symbol: table.find(is_own(bound.kind), bound.scope, bound.name),
+            })?;
+        }
+    }
+    Ok(found)
+}
+
+/// True if a symbol is one of a scope with a larger number than `scope`.
+fn is_inside(symbols: &[Bound], scope: u32, symbol: Option<usize>) -> bool
+    ensures { result ≡ is_inside symbols.now scope symbol }
+{
+    match symbol {
+        Some(number) => match symbols.get(number) {
+            Some(bound) => scope < bound.scope.0,
+            None => false,
+        },
+        None => false,
+    }
+}
+
+/// True of a `var` declaration whose name passes a scope that binds it lexically, if the answer is by the lexical symbols.
+fn is_passing(lexical: &[Bound], answer: &Answer) -> bool
+    ensures { result ≡ is_passing lexical.now answer.now }
+{
+    match answer.event {
+        Event::Bind(bound) => {
+            is_var(bound.kind) && is_inside(lexical, bound.scope.0, answer.symbol)
+        }
+        Event::Scope(_) => false,
+        Event::Open(_) => false,
+        Event::Close => false,
+        Event::Use(_, _) => false,
+    }
+}
+
+/// True if B3 is broken, if the answers are by the lexical symbols.
+fn any_passing(lexical: &[Bound], answers: &[Answer]) -> bool
+    ensures { result ≡ list_any (is_passing lexical.now) answers.now }
+{
+    for answer in answers {
+        if is_passing(lexical, answer) {
+            return true;
+        }
+    }
+    false
+}
+
+/// The least of the rules B2 to B5 that is broken, if each is broken or not as the arguments say.
+fn least(clashed: bool, passing: bool, repeated: bool, shared: bool) -> Option<u8>
+    ensures { result ≡ rules.least clashed passing repeated shared }
+{
+    if clashed {
+        Some(2)
+    } else if passing {
+        Some(3)
+    } else if repeated {
+        Some(4)
+    } else if shared {
+        Some(5)
+    } else {
+        None
+    }
+}
