@@ -1,0 +1,73 @@
+-- What names stand for after entries are written.
+use Rattle.std.proofs.Common.{◌≡◌, ◌≢◌, ◌<◌, ℕ, zero, suc, ◌+◌, Bool, true, false, ◌||◌, true≢false, nat_eq, eqb-true, Option, Some, None, List, [], ◌∷◌, length, length-set, get_or-set_same, slice_get, slice_set, refl, sym, ap, subst, ◌∙◌}
+use Rattle.std.proofs.lemmas.Bool.{eqb-false}
+use Rattle.std.proofs.lemmas.Option.{slice_get-get_or}
+use Rattle.rl_bindings.specs.Machines.{joined, look, write_all, kept}
+use Rattle.rl_bindings.specs.declared.resolve.Entry.{Entry}
+
+pub get_set_same : {X : Type 0} (xs : List X) (i : ℕ) (x : X) → i < length xs → slice_get (slice_set xs i x) i ≡ Some x
+get_set_same xs i x within = slice_get-get_or (slice_set xs i x) i x (subst (λ n. i < n) (sym (length-set xs i x)) within) ∙ ap Some (get_or-set_same xs i x x within)
+
+pub get_set_other : {X : Type 0} (xs : List X) (i j : ℕ) (x : X) → (i ≢ j) → slice_get (slice_set xs i x) j ≡ slice_get xs j
+get_set_other [] i j x other = refl
+get_set_other (y ∷ ys) zero zero x other = absurd (other refl)
+get_set_other (y ∷ ys) zero (suc j) x other = refl
+get_set_other (y ∷ ys) (suc i) zero x other = refl
+get_set_other (y ∷ ys) (suc i) (suc j) x other = get_set_other ys i j x (λ is. other (ap suc is))
+
+pub by_test : {P : Type 0} (b : Bool) → (b ≡ true → P) → (b ≡ false → P) → P
+by_test true on_true on_false = on_true refl
+by_test false on_true on_false = on_false refl
+
+-- True if an entry has the name.
+abbrev pub has : List Entry → (name : ℕ) → Bool
+has [] name = false
+has (e ∷ es) name = nat_eq e.name name || has es name
+
+-- Each entry has the symbol that `f` gives to its name.
+abbrev pub Says : (f : ℕ → Option ℕ) → List Entry → Type 0
+Says f [] = Unit {0}
+Says f (e ∷ es) = (e.symbol ≡ f e.name) × Says f es
+
+pub length-write : (es : List Entry) (env : List (Option ℕ)) → length (write_all es env) ≡ length env
+length-write [] env = refl
+length-write (e ∷ es) env = length-write es (slice_set env e.name e.symbol) ∙ length-set env e.name e.symbol
+
+neither_left : (a b : Bool) → (a || b) ≡ false → a ≡ false
+neither_left true b none = absurd (true≢false none)
+neither_left false b none = refl
+
+neither_right : (a b : Bool) → (a || b) ≡ false → b ≡ false
+neither_right true b none = absurd (true≢false none)
+neither_right false b none = none
+
+left_of : (a b : Bool) → (a || b) ≡ true → b ≡ false → a ≡ true
+left_of true b one none = refl
+left_of false b one none = absurd (true≢false (sym one ∙ none))
+
+pub look-write_not : (es : List Entry) (env : List (Option ℕ)) (n : ℕ) → has es n ≡ false → look (write_all es env) n ≡ look env n
+look-write_not [] env n none = refl
+look-write_not (e ∷ es) env n none =
+    look-write_not es (slice_set env e.name e.symbol) n (neither_right (nat_eq e.name n) (has es n) none)
+    ∙ ap joined (get_set_other env e.name n e.symbol (eqb-false e.name n (neither_left (nat_eq e.name n) (has es n) none)))
+
+pub look-write_has : (f : ℕ → Option ℕ) (es : List Entry) (env : List (Option ℕ)) (n : ℕ) → n < length env → Says f es → has es n ≡ true → look (write_all es env) n ≡ f n
+look-write_has f [] env n within says some = absurd (true≢false (sym some))
+look-write_has f (e ∷ es) env n within says some =
+    by_test (has es n)
+    (λ one. look-write_has f es (slice_set env e.name e.symbol) n (subst (λ m. n < m) (sym (length-set env e.name e.symbol)) within) says.1 one)
+    (λ none.
+        let here : e.name ≡ n = eqb-true e.name n (left_of (nat_eq e.name n) (has es n) some none) in
+        look-write_not es (slice_set env e.name e.symbol) n none
+        ∙ ap (λ m. look (slice_set env m e.symbol) n) here
+        ∙ ap joined (get_set_same env n e.symbol within)
+        ∙ says.0
+        ∙ ap f here)
+
+pub has-kept : (env : List (Option ℕ)) (es : List Entry) (n : ℕ) → has (kept env es) n ≡ has es n
+has-kept env [] n = refl
+has-kept env (e ∷ es) n = ap (λ b. nat_eq e.name n || b) (has-kept env es n)
+
+pub says-kept : (env : List (Option ℕ)) (es : List Entry) → Says (look env) (kept env es)
+says-kept env [] = tt
+says-kept env (e ∷ es) = (refl, says-kept env es)
