@@ -1,5 +1,5 @@
 -- The entries of each scope, and what a scope binds.
-use Rattle.std.proofs.Common.{◌≡◌, ◌≢◌, ◌<◌, ◌≤◌, ℕ, zero, suc, ◌+◌, Bool, true, false, not, ◌&&◌, ◌||◌, if◌then◌else◌, cond, true≢false, nat_eq, nat_lt, eqb-true, ltb-true, ltb-false, Option, Some, None, is_some, List, [], ◌∷◌, ◌++◌, length, length-set, slice_get, slice_set, replicate, append-nil, append_assoc, refl, sym, ap, subst, ◌∙◌, arith}
+use Rattle.std.proofs.Common.{◌≡◌, ◌<◌, ◌≤◌, ℕ, zero, suc, ◌+◌, Bool, true, false, ◌&&◌, ◌||◌, if◌then◌else◌, cond, true≢false, nat_eq, nat_lt, eqb-true, ltb-true, ltb-false, Option, Some, None, is_some, List, [], ◌∷◌, ◌++◌, length, length-set, slice_get, replicate, append-nil, append_assoc, refl, sym, ap, subst, ◌∙◌, arith}
 use Rattle.std.proofs.lemmas.Bool.{eqb-false}
 use Rattle.std.specs.List.{list_any, position_from}
 use Rattle.rl_bindings.specs.Machines.{entries_or_none, entries_at, entry_of, put, put_all, larger, count_names, count_scopes}
@@ -52,12 +52,12 @@ scoped most (b ∷ bs) = ((let one = larger-right most (b.scope.0 + 1) in let mo
 at_put : (scopes : List (List Entry)) (t s : ℕ) (e : Entry) → t < length scopes → entries_at (put scopes t e) s ≡ entries_at scopes s ++ (if nat_eq t s then e ∷ [] else [])
 at_put scopes t s e within = by_test (nat_eq t s)
     (λ is. let same : t ≡ s = eqb-true t s is in
-      ap entries_or_none (ap (λ u. slice_get (put scopes t e) u) (sym same) ∙ get_set_same scopes t (entries_at scopes t ++ e ∷ []) within)
-      ∙ ap (λ u. entries_at scopes u ++ e ∷ []) same
-      ∙ ap (λ (b : Bool). entries_at scopes s ++ (if b then e ∷ [] else [])) (sym is))
+    ap entries_or_none (ap (λ u. slice_get (put scopes t e) u) (sym same) ∙ get_set_same scopes t (entries_at scopes t ++ e ∷ []) within)
+    ∙ ap (λ u. entries_at scopes u ++ e ∷ []) same
+    ∙ ap (λ (b : Bool). entries_at scopes s ++ (if b then e ∷ [] else [])) (sym is))
     (λ not. ap entries_or_none (get_set_other scopes t s (entries_at scopes t ++ e ∷ []) (eqb-false t s not))
-      ∙ sym (append-nil (entries_at scopes s))
-      ∙ ap (λ (b : Bool). entries_at scopes s ++ (if b then e ∷ [] else [])) (sym not))
+    ∙ sym (append-nil (entries_at scopes s))
+    ∙ ap (λ (b : Bool). entries_at scopes s ++ (if b then e ∷ [] else [])) (sym not))
 
 grown : (b : Bool) (e : Entry) (before rest : List Entry) → (before ++ (if b then e ∷ [] else [])) ++ rest ≡ before ++ (if b then e ∷ rest else rest)
 grown true e before rest = append_assoc before (e ∷ []) rest
@@ -75,7 +75,7 @@ blank_at zero s = refl
 blank_at (suc n) zero = refl
 blank_at (suc n) (suc s) = blank_at n s
 
-length-blank : {X : Type 0} (x : X) (n : ℕ) → length (replicate n x) ≡ n
+pub length-blank : {X : Type 0} (x : X) (n : ℕ) → length (replicate n x) ≡ n
 length-blank x zero = refl
 length-blank x (suc n) = ap suc (length-blank x n)
 

@@ -5,3 +5,5 @@ pub mod SymbolTables
 pub mod Looking
 pub mod Entering
 pub mod Running
+pub mod Checking
+pub mod Whole

@@ -1,5 +1,5 @@
 -- What names stand for after entries are written.
-use Rattle.std.proofs.Common.{◌≡◌, ◌≢◌, ◌<◌, ℕ, zero, suc, ◌+◌, Bool, true, false, ◌||◌, true≢false, nat_eq, eqb-true, Option, Some, None, List, [], ◌∷◌, length, length-set, get_or-set_same, slice_get, slice_set, refl, sym, ap, subst, ◌∙◌}
+use Rattle.std.proofs.Common.{◌≡◌, ◌≢◌, ◌<◌, ℕ, zero, suc, Bool, true, false, ◌||◌, true≢false, nat_eq, eqb-true, Option, Some, List, [], ◌∷◌, length, length-set, get_or-set_same, slice_get, slice_set, refl, sym, ap, subst, ◌∙◌}
 use Rattle.std.proofs.lemmas.Bool.{eqb-false}
 use Rattle.std.proofs.lemmas.Option.{slice_get-get_or}
 use Rattle.rl_bindings.specs.Machines.{joined, look, write_all, kept}
@@ -57,12 +57,12 @@ look-write_has f (e ∷ es) env n within says some =
     by_test (has es n)
     (λ one. look-write_has f es (slice_set env e.name e.symbol) n (subst (λ m. n < m) (sym (length-set env e.name e.symbol)) within) says.1 one)
     (λ none.
-        let here : e.name ≡ n = eqb-true e.name n (left_of (nat_eq e.name n) (has es n) some none) in
-        look-write_not es (slice_set env e.name e.symbol) n none
-        ∙ ap (λ m. look (slice_set env m e.symbol) n) here
-        ∙ ap joined (get_set_same env n e.symbol within)
-        ∙ says.0
-        ∙ ap f here)
+    let here : e.name ≡ n = eqb-true e.name n (left_of (nat_eq e.name n) (has es n) some none) in
+    look-write_not es (slice_set env e.name e.symbol) n none
+    ∙ ap (λ m. look (slice_set env m e.symbol) n) here
+    ∙ ap joined (get_set_same env n e.symbol within)
+    ∙ says.0
+    ∙ ap f here)
 
 pub has-kept : (env : List (Option ℕ)) (es : List Entry) (n : ℕ) → has (kept env es) n ≡ has es n
 has-kept env [] n = refl

@@ -1,5 +1,5 @@
 -- The run over events answers with what names stand for.
-use Rattle.std.proofs.Common.{◌≡◌, ◌<◌, ℕ, zero, suc, Bool, true, false, true≢false, Option, Some, None, is_some, List, [], ◌∷◌, ◌++◌, length, append-nil, append_assoc, refl, sym, ap, subst, ◌∙◌}
+use Rattle.std.proofs.Common.{◌≡◌, ◌<◌, ℕ, zero, suc, true, false, true≢false, Option, Some, None, is_some, List, [], ◌∷◌, ◌++◌, length, append-nil, append_assoc, refl, sym, ap, subst, ◌∙◌}
 use Rattle.rl_base.specs.declared.ids.ScopeId.{ScopeId}
 use Rattle.rl_bindings.specs.Events.{bound_of, events, lead, trail, sign, front, back}
 use Rattle.rl_bindings.specs.Machines.{look, write_all, kept, entries_at, run}
@@ -50,11 +50,11 @@ module _ (scopes : List (List Entry)) (most : ℕ) (symbols : List Bound) (entri
   begins s ss env stands = record {
     size = length-write (entries_at scopes s.0) env ∙ stands.size;
     at = λ n. by_test (has (entries_at scopes s.0) n)
-      (λ some. look-write_has (binding symbols s.0) (entries_at scopes s.0) env n
-          (subst (λ m. n < m) (sym stands.size) (below-most s n some))
-          (subst (λ es. Says (binding symbols s.0) es) (sym (entries.at s.0)) (says-in symbols s.0 symbols)) some
+        (λ some. look-write_has (binding symbols s.0) (entries_at scopes s.0) env n
+        (subst (λ m. n < m) (sym stands.size) (below-most s n some))
+        (subst (λ es. Says (binding symbols s.0) es) (sym (entries.at s.0)) (says-in symbols s.0 symbols)) some
         ∙ sym (or_some (binding symbols s.0 n) (resolve symbols ss n) (sym (has_is s n) ∙ some)))
-      (λ none. look-write_not (entries_at scopes s.0) env n none
+        (λ none. look-write_not (entries_at scopes s.0) env n none
         ∙ stands.at n
         ∙ sym (or_none (binding symbols s.0 n) (resolve symbols ss n) (sym (has_is s n) ∙ none)));
   }
@@ -63,12 +63,12 @@ module _ (scopes : List (List Entry)) (most : ℕ) (symbols : List Bound) (entri
   ends s ss before env outer stands = record {
     size = length-write (kept before (entries_at scopes s.0)) env ∙ stands.size;
     at = λ n. by_test (has (entries_at scopes s.0) n)
-      (λ some. look-write_has (look before) (kept before (entries_at scopes s.0)) env n
-          (subst (λ m. n < m) (sym stands.size) (below-most s n some))
-          (says-kept before (entries_at scopes s.0))
-          (has-kept before (entries_at scopes s.0) n ∙ some)
+        (λ some. look-write_has (look before) (kept before (entries_at scopes s.0)) env n
+        (subst (λ m. n < m) (sym stands.size) (below-most s n some))
+        (says-kept before (entries_at scopes s.0))
+        (has-kept before (entries_at scopes s.0) n ∙ some)
         ∙ outer.at n)
-      (λ none. look-write_not (kept before (entries_at scopes s.0)) env n (has-kept before (entries_at scopes s.0) n ∙ none)
+        (λ none. look-write_not (kept before (entries_at scopes s.0)) env n (has-kept before (entries_at scopes s.0) n ∙ none)
         ∙ stands.at n
         ∙ or_none (binding symbols s.0 n) (resolve symbols ss n) (sym (has_is s n) ∙ none));
   }
@@ -84,15 +84,19 @@ module _ (scopes : List (List Entry)) (most : ℕ) (symbols : List Bound) (entri
   runs-append : (ss : List ScopeId) (es fs : List Event) (xs ys : List Answer) → Runs ss es xs → Runs ss fs ys → Runs ss (es ++ fs) (xs ++ ys)
   runs-append ss es fs xs ys first second env frames rest stands =
       let one = first env frames (fs ++ rest) stands in
-      let two = second one.0 frames rest one.1 in
-      (two.0, two.1,
-        ap (run scopes env frames) (append_assoc es fs rest) ∙ one.2 ∙ ap (λ l. xs ++ l) two.2 ∙ sym (append_assoc xs ys (run scopes two.0 frames rest)))
+      let two = second one.0 frames rest one.1 in (
+        two.0,
+        two.1,
+        ap (run scopes env frames) (append_assoc es fs rest) ∙ one.2 ∙ ap (λ l. xs ++ l) two.2 ∙ sym (append_assoc xs ys (run scopes two.0 frames rest)),
+      )
 
   runs-scope : (s : ScopeId) (ss : List ScopeId) (es : List Event) (xs : List Answer) → Runs (s ∷ ss) es xs → Runs ss (event.Open s ∷ (es ++ event.Close ∷ [])) xs
   runs-scope s ss es xs inner env frames rest stands =
-      let one = inner (write_all (entries_at scopes s.0) env) (kept env (entries_at scopes s.0) ∷ frames) (event.Close ∷ rest) (begins s ss env stands) in
-      (write_all (kept env (entries_at scopes s.0)) one.0, ends s ss env one.0 stands one.1,
-        ap (run scopes (write_all (entries_at scopes s.0) env) (kept env (entries_at scopes s.0) ∷ frames)) (append_assoc es (event.Close ∷ []) rest) ∙ one.2)
+      let one = inner (write_all (entries_at scopes s.0) env) (kept env (entries_at scopes s.0) ∷ frames) (event.Close ∷ rest) (begins s ss env stands) in (
+        write_all (kept env (entries_at scopes s.0)) one.0,
+        ends s ss env one.0 stands one.1,
+        ap (run scopes (write_all (entries_at scopes s.0) env) (kept env (entries_at scopes s.0) ∷ frames)) (append_assoc es (event.Close ∷ []) rest) ∙ one.2,
+      )
 
   runs-bind : (b : Bound) (ss : List ScopeId) → Runs ss (event.Bind b ∷ []) (answers symbols ss (event.Bind b ∷ []))
   runs-bind b ss env frames rest stands = (env, stands, ap (λ o. record { event = event.Bind b; symbol = o } ∷ run scopes env frames rest) (stands.at b.name))
@@ -112,7 +116,7 @@ module _ (scopes : List (List Entry)) (most : ℕ) (symbols : List Bound) (entri
     runs-front role.User a at ps ss es xs inner =
         subst (λ fs. Runs ss (front names role.User a at ps ++ fs) (answers symbols ss (front names role.User a at ps) ++ xs)) (sym (append-nil es))
         (runs-append ss (front names role.User a at ps) es (answers symbols ss (front names role.User a at ps)) xs
-          (λ env frames rest stands. (env, stands, ap (λ o. record { event = event.Use at.id (name_of names ps); symbol = o } ∷ run scopes env frames rest) (stands.at (name_of names ps)))) inner)
+        (λ env frames rest stands. (env, stands, ap (λ o. record { event = event.Use at.id (name_of names ps); symbol = o } ∷ run scopes env frames rest) (stands.at (name_of names ps)))) inner)
     runs-front role.Plain a at ps ss es xs inner = subst (λ fs. Runs ss fs xs) (sym (append-nil es)) inner
 
     runs-node : (r : Role) (a : Above) (at : At) (word : Word) (ps : Pieces) (ss : List ScopeId) (ls es : List Event) (xs ys : List Answer) → Runs ss ls xs → Runs (inside r at ss) es ys

@@ -1,6 +1,6 @@
 -- The index of a table of symbols, as symbols are added.
-use Rattle.std.proofs.Common.{◌≡◌, ℕ, ◌+◌, Bool, true, false, cond, ◌&&◌, nat_eq, is_eq, true≢false, Option, Some, None, is_some, List, [], ◌∷◌, ◌++◌, length, BTreeMap, nat_cmp, Ordering, Less, Equal, Greater, nat_lt, ◌<◌, ltb-true, eqb-true, refl, sym, ap, subst, ◌∙◌, arith}
-use Rattle.std.specs.BTreeMap.{IsEmpty, Updates, get, get_by}
+use Rattle.std.proofs.Common.{◌≡◌, ℕ, ◌+◌, Bool, true, false, cond, ◌&&◌, nat_eq, is_eq, true≢false, Option, Some, None, is_some, List, [], ◌∷◌, ◌++◌, length, BTreeMap, nat_cmp, Ordering, Less, Equal, Greater, nat_lt, ◌<◌, ltb-true, eqb-true, refl, sym, ap, ◌∙◌, arith}
+use Rattle.std.specs.BTreeMap.{IsEmpty, Updates}
 use Rattle.std.specs.Cmp.{tied_then}
 use Rattle.std.specs.List.{position_from}
 use Rattle.std.specs.Map.{lookup}
@@ -12,7 +12,7 @@ use Rattle.rl_bindings.specs.declared.event.Bound.{Bound}
 pub table_empty : (numbers : BTreeMap (Bool × ℕ × ℕ) ℕ) (symbols : List Bound) → IsEmpty numbers → symbols ≡ [] → IsTable numbers symbols
 table_empty numbers symbols empty none = record {
   found = λ own scope name. ap (λ es. lookup (λ k. is_eq (ordering_then (ordering_then (bool_cmp own k.0) (nat_cmp scope k.1)) (nat_cmp name k.2))) es) empty
-    ∙ sym (ap (number_at own scope name) none);
+      ∙ sym (ap (number_at own scope name) none);
 }
 
 position_push : (p : Bound → Bool) (i last : ℕ) (xs : List Bound) (x : Bound) → i + length xs ≡ last → (p x ≡ true → position_from p i xs ≡ None) → position_from p i (xs ++ x ∷ []) ≡ cond (p x) (Some last) (position_from p i xs)
@@ -31,7 +31,7 @@ same_swapped true false = refl
 same_swapped false true = refl
 same_swapped false false = refl
 
-same_equal : (a b : Bool) → same a b ≡ true → b ≡ a
+pub same_equal : (a b : Bool) → same a b ≡ true → b ≡ a
 same_equal true b is = is
 same_equal false true is = absurd (true≢false (sym is))
 same_equal false false is = refl
@@ -42,11 +42,11 @@ bool_tied true false = refl
 bool_tied false true = refl
 bool_tied false false = refl
 
-both_left : (a b : Bool) → (a && b) ≡ true → a ≡ true
+pub both_left : (a b : Bool) → (a && b) ≡ true → a ≡ true
 both_left true b is = refl
 both_left false b is = is
 
-both_right : (a b : Bool) → (a && b) ≡ true → b ≡ true
+pub both_right : (a b : Bool) → (a && b) ≡ true → b ≡ true
 both_right true b is = is
 both_right false b is = absurd (true≢false (sym is))
 
@@ -82,14 +82,14 @@ none_known (Some n) none = absurd (true≢false none)
 pub table_push : (before after : BTreeMap (Bool × ℕ × ℕ) ℕ) (kept added : List Bound) (b : Bound) (mine : Bool) (count : ℕ) → IsTable before kept → mine ≡ is_own b.kind → is_some (number_at mine b.scope.0 b.name kept) ≡ false → count ≡ length kept → Updates key_cmp before after (mine, b.scope.0, b.name) (Some count) → added ≡ kept ++ b ∷ [] → IsTable after added
 table_push before after kept added b mine count table is new counted updated grown = record {
   found = λ own scope name.
-    updated.0 (own, scope, name)
-    ∙ ap (λ x. cond x (Some count) (found_at before own scope name)) (key_tied own b mine scope name is)
-    ∙ ap (λ o. cond (is_at own scope name b) (Some count) o) (table.found own scope name)
-    ∙ sym (position_push (is_at own scope name) 0 count kept b (omega (arith, counted)) (λ at.
-        let mine_is : mine ≡ own = is ∙ same_equal own (is_own b.kind) (both_left (same own (is_own b.kind)) _ at) in
-        let rest = both_right (same own (is_own b.kind)) (nat_eq b.scope.0 scope && nat_eq b.name name) at in
-        let scope_is : b.scope.0 ≡ scope = eqb-true b.scope.0 scope (both_left (nat_eq b.scope.0 scope) _ rest) in
-        let name_is : b.name ≡ name = eqb-true b.name name (both_right (nat_eq b.scope.0 scope) (nat_eq b.name name) rest) in
-        sym (λ i. number_at (mine_is i) (scope_is i) (name_is i) kept) ∙ none_known (number_at mine b.scope.0 b.name kept) new))
-    ∙ sym (ap (number_at own scope name) grown);
+      updated.0 (own, scope, name)
+      ∙ ap (λ x. cond x (Some count) (found_at before own scope name)) (key_tied own b mine scope name is)
+      ∙ ap (λ o. cond (is_at own scope name b) (Some count) o) (table.found own scope name)
+      ∙ sym (position_push (is_at own scope name) 0 count kept b (omega (arith, counted)) (λ at.
+      let mine_is : mine ≡ own = is ∙ same_equal own (is_own b.kind) (both_left (same own (is_own b.kind)) _ at) in
+      let rest = both_right (same own (is_own b.kind)) (nat_eq b.scope.0 scope && nat_eq b.name name) at in
+      let scope_is : b.scope.0 ≡ scope = eqb-true b.scope.0 scope (both_left (nat_eq b.scope.0 scope) _ rest) in
+      let name_is : b.name ≡ name = eqb-true b.name name (both_right (nat_eq b.scope.0 scope) (nat_eq b.name name) rest) in
+      sym (λ i. number_at (mine_is i) (scope_is i) (name_is i) kept) ∙ none_known (number_at mine b.scope.0 b.name kept) new))
+      ∙ sym (ap (number_at own scope name) grown);
 }

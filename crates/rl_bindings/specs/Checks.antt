@@ -1,5 +1,5 @@
 -- The loop that makes symbols and tries the rules on names, step by step.
-use Rattle.std.specs.Prelude.{ℕ, Bool, true, false, not, ◌&&◌, ◌||◌, if◌then◌else◌, List, [], ◌∷◌, ◌++◌}
+use Rattle.std.specs.Prelude.{Bool, true, false, not, ◌&&◌, ◌||◌, if◌then◌else◌, List, [], ◌∷◌}
 use Rattle.rl_bindings.specs.NameRules.{is_lexical, is_param, is_type, is_misplaced}
 use Rattle.rl_bindings.specs.SymbolTables.{knows}
 use Rattle.rl_bindings.specs.Symbols.{is_own, add}

@@ -1,6 +1,5 @@
 -- The loops that resolve names, step by step on plain lists.
-use Rattle.std.specs.Prelude.{ℕ, ◌+◌, Bool, if◌then◌else◌, nat_eq, nat_lt, Option, Some, None, slice_get, slice_set, List, [], ◌∷◌, ◌++◌, map, replicate}
-use Rattle.rl_base.specs.declared.ids.ScopeId.{ScopeId}
+use Rattle.std.specs.Prelude.{ℕ, ◌+◌, if◌then◌else◌, nat_lt, Option, Some, None, slice_get, slice_set, List, [], ◌∷◌, ◌++◌, map, replicate}
 use Rattle.rl_bindings.specs.Symbols.{binding}
 use Rattle.rl_bindings.specs.declared.event.Bound.{Bound}
 use Rattle.rl_bindings.specs.declared.event.Event.{Event}

@@ -106,4 +106,4 @@ least clashed passing repeated shared = if clashed then Some 2 else (if passing 
 abbrev pub least_of : (es : List Event) → (stands : List Answer) → Option ℕ
 least_of es stands =
     least (clashes is_lexical_clash [] (bounds es)) (list_any (is_passing (lexical_of es)) stands) (clashes is_repeat [] (bounds es))
-      (clashes is_type_clash [] (bounds es) || list_any is_misplaced (bounds es))
+    (clashes is_type_clash [] (bounds es) || list_any is_misplaced (bounds es))

@@ -128,3 +128,52 @@ fn least(clashed: bool, passing: bool, repeated: bool, shared: bool) -> Option<u
         None
     }
 }
+
+/// The names of a unit. Names, scopes, symbols and references are numbered from 0, each by its place in the list.
+#[derive(Drop)]
+pub struct Bindings {
+    /// The names that the unit declares or uses, each once, in the order in which they come first.
+    pub names: NameTable<Name>,
+    /// The scopes, in the order of the nodes that make them. The index of a scope is its `ScopeId`.
+    pub scopes: List<ScopeEntry>,
+    /// The symbols, each by its first declaration, in the order of these. The index of a symbol is its `SymbolId`.
+    pub symbols: SymbolTable,
+    /// The `bind` nodes, in order, each with the symbol that it declares.
+    pub declarations: List<Declaration>,
+    /// The `id` nodes, in order, each with the symbol that it resolves to. The index of a reference is its `ReferenceId`.
+    pub references: List<Reference>,
+    /// The least of the rules B2 to B5 that the unit breaks. `None` if it breaks none of them.
+    pub least_broken_name_rule: Option<u8>,
+}
+
+impl Bindings {
+    /// The names of a unit, in time that is linear in its nodes, up to the logarithms of the look-ups. On `OutOfMemory`, an
+    /// allocation failed.
+    pub fn of(alloc: Global, unit: &Unit) -> Result<Bindings, OutOfMemory>
+        ensures names { IfOk result (λ b. b.names ≡ names_in (syntax unit.now.tree)) }
+        ensures scopes { IfOk result (λ b. b.scopes ≡ tables.scopes_in (syntax unit.now.tree)) }
+        ensures symbols { IfOk result (λ b. b.symbols ≡ tables.symbols_in (syntax unit.now.tree)) }
+        ensures declarations { IfOk result (λ b. b.declarations ≡ tables.declarations_in (syntax unit.now.tree)) }
+        ensures references { IfOk result (λ b. b.references ≡ tables.references_in (syntax unit.now.tree)) }
+        ensures least_broken { IfOk result (λ b. b.least_broken_name_rule ≡ tables.least_broken (syntax unit.now.tree)) }
+    {
+        let names = names_of(alloc, &unit.tree)?;
+        let events = events_of(alloc, &names, &unit.tree)?;
+        let found = check_all(alloc, &events)?;
+        let stands = resolve_all(alloc, &found.lexical, &events)?;
+        let passing = any_passing(found.lexical.as_slice(), &stands);
+        let broken = least(found.clashed, passing, found.repeated, found.shared);
+        let answers = resolve_all(alloc, &found.symbols, &events)?;
+        let scopes = scopes_of(alloc, &events)?;
+        let declarations = declarations_of(alloc, &found.symbols, &events)?;
+        let references = references_of(alloc, &answers)?;
+        Ok(Bindings {
+            names,
+            scopes,
+            symbols: found.symbols,
+            declarations,
+            references,
+            least_broken_name_rule: broken,
+        })
+    }
+}

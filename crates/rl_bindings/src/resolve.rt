@@ -70,11 +70,7 @@ fn write_all(env: &mut [Option<usize>], entries: &[Entry])
 }
 
 /// What the list has at the names of entries. On `OutOfMemory`, an allocation failed.
-fn kept(
-    alloc: Global,
-    env: &[Option<usize>],
-    entries: &[Entry],
-) -> Result<List<Entry>, OutOfMemory>
+fn kept(alloc: Global, env: &[Option<usize>], entries: &[Entry]) -> Result<List<Entry>, OutOfMemory>
     ensures { IfOk result (λ k. k ≡ machine.kept env.now entries.now) }
 {
     let mut found = List::with_capacity(alloc, entries.len())?;

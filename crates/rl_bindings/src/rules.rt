@@ -181,11 +181,7 @@ fn step(found: Found, bound: Bound) -> Result<Found, OutOfMemory>
     let shared = shared_with(&found, &bound);
     Ok(Found {
         symbols: found.symbols.add(bound)?,
-        lexical: add_if(
-            is_lexical(bound.kind, bound.place),
-            found.lexical,
-            bound,
-        )?,
+        lexical: add_if(is_lexical(bound.kind, bound.place), found.lexical, bound)?,
         params: add_if(is_param(bound.kind), found.params, bound)?,
         types: add_if(is_type(bound.kind), found.types, bound)?,
         clashed,

@@ -1,0 +1,44 @@
+use Rattle.std.proofs.Common.{ap, ◌∙◌}
+use Rattle.std.specs.List.{list_any}
+use Rattle.rl_bindings.specs.Checks.{steps, start}
+use Rattle.rl_bindings.specs.Machines.{resolved}
+use Rattle.rl_bindings.specs.NameRules.{is_passing}
+use Rattle.rl_bindings.specs.Standing.{references}
+use Rattle.rl_bindings.specs.Tables.{declarations_of, scopes_of}
+use Rattle.rl_bindings.proofs.Whole.{scopes_made, symbols_made, declarations_made, references_made, broken_made}
+use Rattle.rl_syntax.specs.Syntax.{syntax}
+use Rattle.rl_bindings.proofs.bindings.Bindings.of.Goals as goal
+
+pub returns-clause-scopes : goal.returns-clause-scopes
+returns-clause-scopes c =
+    scopes_made (syntax c.args.unit.now.tree) c.in_ok-names.names c.in_ok-events.events.items c.in_ok-found.found c.in_ok-names.ensures c.in_ok-events.ensures
+    (c.in_ok-found.ensures ∙ ap (steps start) c.deref.ensures.value)
+    c.in_ok-scopes.scopes (c.in_ok-scopes.ensures ∙ ap scopes_of c.deref-5.ensures.value)
+
+pub returns-clause-symbols : goal.returns-clause-symbols
+returns-clause-symbols c =
+    symbols_made (syntax c.args.unit.now.tree) c.in_ok-names.names c.in_ok-events.events.items c.in_ok-found.found c.in_ok-names.ensures c.in_ok-events.ensures
+    (c.in_ok-found.ensures ∙ ap (steps start) c.deref.ensures.value)
+
+pub returns-clause-declarations : goal.returns-clause-declarations
+returns-clause-declarations c =
+    declarations_made (syntax c.args.unit.now.tree) c.in_ok-names.names c.in_ok-events.events.items c.in_ok-found.found c.in_ok-names.ensures c.in_ok-events.ensures
+    (c.in_ok-found.ensures ∙ ap (steps start) c.deref.ensures.value)
+    c.in_ok-declarations.declarations (c.in_ok-declarations.ensures ∙ ap (declarations_of c.in_ok-found.found.symbols) c.deref-6.ensures.value)
+
+pub returns-clause-references : goal.returns-clause-references
+returns-clause-references c =
+    references_made (syntax c.args.unit.now.tree) c.in_ok-names.names c.in_ok-events.events.items c.in_ok-found.found c.in_ok-names.ensures c.in_ok-events.ensures
+    (c.in_ok-found.ensures ∙ ap (steps start) c.deref.ensures.value)
+    c.in_ok-answers.answers.items c.in_ok-references.references
+    (c.in_ok-answers.ensures ∙ ap (resolved c.in_ok-found.found.symbols) c.deref-4.ensures.value)
+    (c.in_ok-references.ensures ∙ ap references c.deref-7.ensures.value)
+
+pub returns-clause-least_broken : goal.returns-clause-least_broken
+returns-clause-least_broken c =
+    broken_made (syntax c.args.unit.now.tree) c.in_ok-names.names c.in_ok-events.events.items c.in_ok-found.found c.in_ok-names.ensures c.in_ok-events.ensures
+    (c.in_ok-found.ensures ∙ ap (steps start) c.deref.ensures.value)
+    c.in_ok-stands.stands.items c.any_passing-passing.result c.least-broken.result
+    (c.in_ok-stands.ensures ∙ ap (resolved c.in_ok-found.found.lexical) c.deref-2.ensures.value)
+    (c.any_passing-passing.ensures ∙ ap (λ l. list_any (is_passing l) c.deref-3.result.now) c.as_slice.ensures ∙ ap (list_any (is_passing c.in_ok-found.found.lexical)) c.deref-3.ensures.value)
+    c.least-broken.ensures
