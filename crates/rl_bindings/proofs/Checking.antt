@@ -35,7 +35,7 @@ or_known true a more = refl
 or_known false true more = absurd (true≢false (sym (more refl)))
 or_known false false more = refl
 
-knows-add : (symbols : List Bound) (b : Bound) (own : Bool) (s n : ℕ) → knows (add symbols b) own s n ≡ (knows symbols own s n || is_at own s n b)
+pub knows-add : (symbols : List Bound) (b : Bound) (own : Bool) (s n : ℕ) → knows (add symbols b) own s n ≡ (knows symbols own s n || is_at own s n b)
 knows-add symbols b own s n =
     by_test (knows symbols (is_own b.kind) b.scope.0 b.name)
     (λ known.

@@ -7,3 +7,4 @@ pub mod Entering
 pub mod Running
 pub mod Checking
 pub mod Whole
+pub mod Declared

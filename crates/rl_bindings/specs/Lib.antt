@@ -8,3 +8,4 @@ pub mod Tables
 pub mod SymbolTables
 pub mod Machines
 pub mod Checks
+pub mod SymbolKinds

@@ -1,6 +1,6 @@
 //! The names of a unit: its scopes and symbols, the symbol of each reference, and the least rule on names that it breaks.
 
-ghost use Rattle.std.specs.Prelude.{◌≡◌, ◌++◌, map, IfOk};
+ghost use Rattle.std.specs.Prelude.{◌≡◌, true, is_some, All, IfOk};
 ghost use Rattle.rl_bindings.specs.NameRules.{is_inside, is_passing};
 ghost use Rattle.rl_bindings.specs.NameRules as rules;
 ghost use Rattle.rl_bindings.specs.Standing as standing;
@@ -154,6 +154,7 @@ impl Bindings {
         ensures scopes { IfOk result (λ b. b.scopes ≡ tables.scopes_in (syntax unit.now.tree)) }
         ensures symbols { IfOk result (λ b. b.symbols ≡ tables.symbols_in (syntax unit.now.tree)) }
         ensures declarations { IfOk result (λ b. b.declarations ≡ tables.declarations_in (syntax unit.now.tree)) }
+        ensures declared { IfOk result (λ b. All (λ d. is_some d.symbol ≡ true) b.declarations) }
         ensures references { IfOk result (λ b. b.references ≡ tables.references_in (syntax unit.now.tree)) }
         ensures least_broken { IfOk result (λ b. b.least_broken_name_rule ≡ tables.least_broken (syntax unit.now.tree)) }
     {

@@ -7,5 +7,6 @@ pub mod names;
 pub mod resolve;
 pub mod role;
 pub mod rules;
+pub mod symbol_kind;
 pub mod symbol_table;
 pub mod walk;

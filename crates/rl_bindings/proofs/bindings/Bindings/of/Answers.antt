@@ -1,10 +1,11 @@
-use Rattle.std.proofs.Common.{ap, ◌∙◌}
+use Rattle.std.proofs.Common.{◌≡◌, true, is_some, All, ap, sym, subst, ◌∙◌}
 use Rattle.std.specs.List.{list_any}
 use Rattle.rl_bindings.specs.Checks.{steps, start}
 use Rattle.rl_bindings.specs.Machines.{resolved}
 use Rattle.rl_bindings.specs.NameRules.{is_passing}
 use Rattle.rl_bindings.specs.Standing.{references}
-use Rattle.rl_bindings.specs.Tables.{declarations_of, scopes_of}
+use Rattle.rl_bindings.specs.Tables.{events_in, declarations_of, scopes_of}
+use Rattle.rl_bindings.proofs.Declared.{each_declared}
 use Rattle.rl_bindings.proofs.Whole.{scopes_made, symbols_made, declarations_made, references_made, broken_made}
 use Rattle.rl_syntax.specs.Syntax.{syntax}
 use Rattle.rl_bindings.proofs.bindings.Bindings.of.Goals as goal
@@ -42,3 +43,11 @@ returns-clause-least_broken c =
     (c.in_ok-stands.ensures ∙ ap (resolved c.in_ok-found.found.lexical) c.deref-2.ensures.value)
     (c.any_passing-passing.ensures ∙ ap (λ l. list_any (is_passing l) c.deref-3.result.now) c.as_slice.ensures ∙ ap (list_any (is_passing c.in_ok-found.found.lexical)) c.deref-3.ensures.value)
     c.least-broken.ensures
+
+pub returns-clause-declared : goal.returns-clause-declared
+returns-clause-declared c =
+    subst (All (λ d. is_some d.symbol ≡ true))
+    (sym (declarations_made (syntax c.args.unit.now.tree) c.in_ok-names.names c.in_ok-events.events.items c.in_ok-found.found c.in_ok-names.ensures c.in_ok-events.ensures
+      (c.in_ok-found.ensures ∙ ap (steps start) c.deref.ensures.value)
+      c.in_ok-declarations.declarations (c.in_ok-declarations.ensures ∙ ap (declarations_of c.in_ok-found.found.symbols) c.deref-6.ensures.value)))
+    (each_declared (events_in (syntax c.args.unit.now.tree)))
