@@ -8,3 +8,4 @@ pub mod Running
 pub mod Checking
 pub mod Whole
 pub mod Declared
+pub mod Numbered
