@@ -127,3 +127,96 @@ module _ (names : List Name) where
 -- The scopes of a tree are those nodes of its table that make one. In a unit the ids of these are their indices (`scopes_numbered`).
 pub scopes_listed : (tree : Syntax) → map (λ s. s.node) (scopes_in tree) ≡ nodes_of makes_scope (entries tree)
 scopes_listed tree = scopes_are (names_in tree) tree top None
+
+-- The nodes of the uses among answers.
+abbrev users : List Answer → List NodeId
+users xs = map (λ r. r.node) (references xs)
+
+users_head : (e : Event) (o : Option ℕ) (xs ys : List Answer) → users (xs ++ ys) ≡ users xs ++ users ys → users (record { event = e; symbol = o } ∷ (xs ++ ys)) ≡ users (record { event = e; symbol = o } ∷ xs) ++ users ys
+users_head (event.Scope s) o xs ys more = more
+users_head (event.Open s) o xs ys more = more
+users_head event.Close o xs ys more = more
+users_head (event.Bind b) o xs ys more = more
+users_head (event.Use node name) o xs ys more = ap (λ l. node ∷ l) more
+
+users-append : (xs ys : List Answer) → users (xs ++ ys) ≡ users xs ++ users ys
+users-append [] ys = refl
+users-append (x ∷ xs) ys = users_head x.event x.symbol xs ys (users-append xs ys)
+
+is_user : Role → Bool
+is_user role.Maker = false
+is_user role.Binder = false
+is_user role.User = true
+is_user role.Plain = false
+
+user_is : (w : Word) → is_user (role_of w) ≡ is_reference w
+unfolding is_user
+user_is word.Program = refl
+user_is word.Arrow = refl
+user_is word.Fundecl = refl
+user_is word.Funexpr = refl
+user_is word.Block = refl
+user_is word.For = refl
+user_is word.Forin = refl
+user_is word.Forof = refl
+user_is word.Switch = refl
+user_is word.Catch = refl
+user_is word.Classdecl = refl
+user_is word.Classexpr = refl
+user_is word.Static = refl
+user_is word.Bind = refl
+user_is word.Id = refl
+user_is _ = refl
+
+module _ (names : List Name) (symbols : List Bound) where
+  used : (r : Role) (a : Above) (at : At) (ps : Pieces) (ss : List ScopeId) → users (answers symbols ss (front names r a at ps)) ≡ one_if (is_user r) at.id
+  unfolding is_user
+  used role.Maker a at ps ss = refl
+  used role.Binder a at ps ss = refl
+  used role.User a at ps ss = refl
+  used role.Plain a at ps ss = refl
+
+  ahead_none : (a : Above) (ss : List ScopeId) (ps : Pieces) → users (stands_ahead names symbols zero a ss ps) ≡ []
+  ahead_none a ss End = refl
+  ahead_none a ss (Then p ps) = refl
+
+  -- No part of an `id` node stands before it.
+  first : (w : Word) (a : Above) (ss : List ScopeId) (ps : Pieces) (node : NodeId) (rest : List NodeId)
+      → users (stands_ahead names symbols (parts_ahead w) a ss ps) ++ (one_if (is_reference w) node ++ rest) ≡ one_if (is_reference w) node ++ (users (stands_ahead names symbols (parts_ahead w) a ss ps) ++ rest)
+  first word.Id a ss ps node rest = ap (λ m. m ++ (node ∷ rest)) (ahead_none a ss ps) ∙ sym (ap (λ m. node ∷ (m ++ rest)) (ahead_none a ss ps))
+  first _ a ss ps node rest = refl
+
+  mutual
+    references_are : (t : Syntax) (a : Above) (ss : List ScopeId) (parent : Option NodeId) → users (standing names symbols a ss t) ≡ nodes_of is_reference (entries_under parent t)
+    references_are (Node at w ps) a ss parent =
+        let l = stands_ahead names symbols (parts_ahead w) (outside a w) ss ps in
+        let t = stands_within names symbols (parts_ahead w) (below a at w ps) (inside (role_of w) at ss) ps in
+        users-append l (answers symbols ss (front names (role_of w) a at ps) ++ t)
+        ∙ ap (λ m. users l ++ m) (users-append (answers symbols ss (front names (role_of w) a at ps)) t)
+        ∙ (λ i. users l ++ (used (role_of w) a at ps ss i ++ users t))
+        ∙ (λ i. users l ++ (one_if (user_is w i) at.id ++ users t))
+        ∙ first w (outside a w) ss ps at.id (users t)
+        ∙ ap (λ m. one_if (is_reference w) at.id ++ m) (uses_are ps (parts_ahead w) (outside a w) (below a at w ps) ss (inside (role_of w) at ss) (Some at.id))
+        ∙ sym (nodes-cons (is_reference w) (record { word = w; parent = parent; at = at }) (filter (λ e. is_reference e.word) (entries_among (Some at.id) ps)))
+    references_are (Listed ps) a ss parent = ap (λ m. m ++ users (stands_within names symbols 0 a ss ps)) (sym (ahead_none a ss ps)) ∙ uses_are ps 0 a a ss ss parent
+    references_are (Said text) a ss parent = refl
+    references_are (Count number) a ss parent = refl
+    references_are (Flag flag) a ss parent = refl
+    references_are Absent a ss parent = refl
+
+    uses_are : (ps : Pieces) (n : ℕ) (a b : Above) (ss ts : List ScopeId) (parent : Option NodeId) → users (stands_ahead names symbols n a ss ps) ++ users (stands_within names symbols n b ts ps) ≡ nodes_of is_reference (entries_among parent ps)
+    uses_are End n a b ss ts parent = refl
+    uses_are (Then p ps) zero a b ss ts parent =
+        users-append (standing names symbols b ts p) (stands_within names symbols zero b ts ps)
+        ∙ (λ i. references_are p b ts parent i ++ (sym (ahead_none a ss ps) i ++ users (stands_within names symbols zero b ts ps)))
+        ∙ ap (λ m. nodes_of is_reference (entries_under parent p) ++ m) (uses_are ps zero a b ss ts parent)
+        ∙ sym (nodes-append is_reference (entries_under parent p) (entries_among parent ps))
+    uses_are (Then p ps) (suc n) a b ss ts parent =
+        (λ i. (users-append (standing names symbols a ss p) (stands_ahead names symbols n a ss ps) i) ++ users (stands_within names symbols n b ts ps))
+        ∙ append_assoc (users (standing names symbols a ss p)) (users (stands_ahead names symbols n a ss ps)) (users (stands_within names symbols n b ts ps))
+        ∙ (λ i. references_are p a ss parent i ++ uses_are ps n a b ss ts parent i)
+        ∙ sym (nodes-append is_reference (entries_under parent p) (entries_among parent ps))
+
+-- The references of a tree are the `id` nodes of its table. In a unit the ids of these are their indices (`references_numbered`).
+pub references_listed : (tree : Syntax) → map (λ r. r.node) (references_in tree) ≡ nodes_of is_reference (entries tree)
+references_listed tree = references_are (names_in tree) (symbols_in tree) tree top [] None
