@@ -1,5 +1,5 @@
 -- Each declaration declares a symbol.
-use Rattle.std.proofs.Common.{◌≡◌, ℕ, Bool, true, false, ◌&&◌, ◌||◌, nat_eq, eq-eqb, is_some, List, [], ◌∷◌, map, All, arith, refl, sym, ap, ◌∙◌}
+use Rattle.std.proofs.Common.{◌≡◌, ℕ, Bool, true, false, ◌&&◌, ◌||◌, eq-eqb, is_some, List, [], ◌∷◌, map, All, arith, refl, ap, ◌∙◌}
 use Rattle.std.proofs.lemmas.List.Elements.{All-cons}
 use Rattle.rl_bindings.specs.SymbolTables.{knows}
 use Rattle.rl_bindings.specs.Symbols.{same, is_own, is_at, add, add_all, bounds, symbols_of}

@@ -9,3 +9,4 @@ pub mod Checking
 pub mod Whole
 pub mod Declared
 pub mod Numbered
+pub mod Examples

@@ -48,6 +48,6 @@ pub returns-clause-declared : goal.returns-clause-declared
 returns-clause-declared c =
     subst (All (λ d. is_some d.symbol ≡ true))
     (sym (declarations_made (syntax c.args.unit.now.tree) c.in_ok-names.names c.in_ok-events.events.items c.in_ok-found.found c.in_ok-names.ensures c.in_ok-events.ensures
-      (c.in_ok-found.ensures ∙ ap (steps start) c.deref.ensures.value)
-      c.in_ok-declarations.declarations (c.in_ok-declarations.ensures ∙ ap (declarations_of c.in_ok-found.found.symbols) c.deref-6.ensures.value)))
+    (c.in_ok-found.ensures ∙ ap (steps start) c.deref.ensures.value)
+    c.in_ok-declarations.declarations (c.in_ok-declarations.ensures ∙ ap (declarations_of c.in_ok-found.found.symbols) c.deref-6.ensures.value)))
     (each_declared (events_in (syntax c.args.unit.now.tree)))
