@@ -1,0 +1,6 @@
+//! Rules of units that do not speak of names: each a test of every node by what stands above it.
+#![tactic(auto)]
+
+pub mod chains;
+mod pieces;
+mod walk;
