@@ -3,7 +3,7 @@ use Rattle.std.specs.Prelude.{ℕ, nat_eq, Bool, true, false, not, ◌&&◌, ◌
 use Rattle.rl_syntax.specs.Syntax.{Syntax, Node, Pieces, End, Then}
 use Rattle.rl_syntax.specs.declared.word.Word.{Word}
 use Rattle.rl_syntax.specs.declared.word.Word.TheVariants as word
-use Rattle.rl_rules.specs.Pieces.{is_yes, first_is_yes}
+use Rattle.rl_rules.specs.Pieces.{is_yes, first_is}
 use Rattle.rl_rules.specs.Walks.{passes}
 use Rattle.rl_rules.specs.declared.chains.Role.{Role}
 use Rattle.rl_rules.specs.declared.chains.Role.TheVariants as role
@@ -39,7 +39,7 @@ abbrev mutual
 -- True of a chain with an optional link, and of a link that is not optional or on the spine of a chain, as `spine` says.
 abbrev pub role_fits : (spine : Bool) → Role → Pieces → Bool
 role_fits spine role.Chain parts = first_has_optional parts
-role_fits spine role.Link parts = spine || not (first_is_yes parts)
+role_fits spine role.Link parts = spine || not (first_is is_yes parts)
 role_fits spine role.NonNull parts = true
 role_fits spine role.Other parts = true
 

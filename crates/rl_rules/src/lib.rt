@@ -2,5 +2,6 @@
 #![tactic(auto)]
 
 pub mod chains;
+pub mod forms;
 mod pieces;
 mod walk;

@@ -1,15 +1,17 @@
 //! Parts of nodes by their form.
 
 ghost use Rattle.std.specs.Prelude.{◌≡◌, map};
-ghost use Rattle.rl_rules.specs.Pieces as pieces;
+ghost use Rattle.rl_rules.specs.Pieces as spec;
+ghost use Rattle.rl_syntax.specs.Forms as forms;
 ghost use Rattle.rl_syntax.specs.Syntax.{pieces_of, syntax};
 
 use rl_syntax::numbered::Numbered;
+use rl_syntax::parts::is_absent;
 
 /// True of the flag `y`.
 #[tactic(auto, using(rl_syntax::proofs::Layers::by_layer))]
 pub(crate) fn is_yes(tree: &Numbered) -> bool
-    ensures { result ≡ pieces.is_yes (syntax tree.now) }
+    ensures { result ≡ spec.is_yes (syntax tree.now) }
 {
     match tree {
         Numbered::Flag(flag) => *flag,
@@ -23,10 +25,58 @@ pub(crate) fn is_yes(tree: &Numbered) -> bool
 
 /// True of parts whose first is the flag `y`.
 pub(crate) fn first_is_yes(parts: &[Numbered]) -> bool
-    ensures { result ≡ pieces.first_is_yes (pieces_of (map syntax parts.now)) }
+    ensures { result ≡ spec.first_is spec.is_yes (pieces_of (map syntax parts.now)) }
 {
     match parts {
         [] => false,
         [part, _parts @ ..] => is_yes(part),
+    }
+}
+
+/// True of parts whose first is `-`.
+pub(crate) fn first_is_absent(parts: &[Numbered]) -> bool
+    ensures { result ≡ spec.first_is forms.is_absent (pieces_of (map syntax parts.now)) }
+{
+    match parts {
+        [] => false,
+        [part, _parts @ ..] => is_absent(part),
+    }
+}
+
+/// True if there is a part.
+pub(crate) fn has_some(parts: &[Numbered]) -> bool
+    ensures { result ≡ spec.has_some (pieces_of (map syntax parts.now)) }
+{
+    match parts {
+        [] => false,
+        [_part, _parts @ ..] => true,
+    }
+}
+
+/// The parts behind the first.
+pub(crate) fn behind(parts: &[Numbered]) -> &[Numbered]
+    ensures { pieces_of (map syntax result.now) ≡ spec.behind (pieces_of (map syntax parts.now)) }
+{
+    match parts {
+        [] => parts,
+        [_part, parts @ ..] => parts,
+    }
+}
+
+/// The items of the first part, if that is a list; none if it is not, or if there is no part.
+#[tactic(auto, using(rl_syntax::proofs::Layers::by_layer))]
+pub(crate) fn first_items(parts: &[Numbered]) -> &[Numbered]
+    ensures { pieces_of (map syntax result.now) ≡ spec.first_items (pieces_of (map syntax parts.now)) }
+{
+    match parts {
+        [] => parts,
+        [part, _parts @ ..] => match part {
+            Numbered::List(items) => items.as_slice(),
+            Numbered::Node(_, _, _) => &[],
+            Numbered::Text(_) => &[],
+            Numbered::Number(_) => &[],
+            Numbered::Flag(_) => &[],
+            Numbered::Absent => &[],
+        },
     }
 }

@@ -1,0 +1,107 @@
+-- Rule B9: the forms of nodes that the grammar alone does not say.
+use Rattle.std.specs.Prelude.{ℕ, ◌+◌, nat_eq, nat_le, if◌then◌else◌, Bool, true, false, not, ◌&&◌}
+use Rattle.rl_syntax.specs.Forms.{is_absent}
+use Rattle.rl_syntax.specs.Syntax.{Syntax, Node, Pieces, End, Then, part_count}
+use Rattle.rl_syntax.specs.declared.word.Word.{Word}
+use Rattle.rl_syntax.specs.declared.word.Word.TheVariants as word
+use Rattle.rl_rules.specs.Pieces.{is_yes, first_is, has_some, behind, first_items}
+use Rattle.rl_rules.specs.Walks.{passes}
+use Rattle.rl_rules.specs.declared.forms.Form.{Form}
+use Rattle.rl_rules.specs.declared.forms.Form.TheVariants as form
+use Rattle.rl_rules.specs.declared.forms.Target.{Target}
+use Rattle.rl_rules.specs.declared.forms.Target.TheVariants as target
+
+-- The form that the rule asks of the nodes of a word.
+abbrev pub form_of : Word → Form
+form_of word.Template = form.Template
+form_of word.Seq = form.Sequence
+form_of word.Switch = form.Switch
+form_of word.Keyedpat = form.Keyed
+form_of word.Prop = form.Keyed
+form_of word.Method = form.Keyed
+form_of word.Get = form.Keyed
+form_of word.Set = form.Keyed
+form_of word.Keyed = form.Keyed
+form_of word.Update = form.Update
+form_of word.Tagmember = form.TagMember
+form_of _ = form.Free
+
+-- The target that the nodes of a word are.
+abbrev pub target_of : Word → Target
+target_of word.Arraytarget = target.Pattern
+target_of word.Objecttarget = target.Pattern
+target_of word.As = target.Wrapped
+target_of word.Satisfies = target.Wrapped
+target_of word.Nonnull = target.Wrapped
+target_of word.Assert = target.Asserted
+target_of _ = target.Plain
+
+abbrev mutual
+  -- True of a pattern, and of one inside `as`, `satisfies`, `assert` and `nonnull`.
+  pub is_pattern : Syntax → Bool
+  is_pattern (Node at w parts) = has_pattern (target_of w) parts
+  is_pattern _ = false
+
+  -- As `is_pattern`, for a node by its target and its parts. A type stands in front of the target of `assert`.
+  pub has_pattern : Target → Pieces → Bool
+  has_pattern target.Pattern parts = true
+  has_pattern target.Wrapped (Then target pieces) = is_pattern target
+  has_pattern target.Asserted (Then annotation pieces) = first_is_pattern pieces
+  has_pattern _ _ = false
+
+  -- As `is_pattern`, for the first of some parts.
+  pub first_is_pattern : Pieces → Bool
+  first_is_pattern End = false
+  first_is_pattern (Then piece pieces) = is_pattern piece
+
+-- True of the words of the keys that are written as they are.
+abbrev pub names_itself : Word → Bool
+names_itself word.Name = true
+names_itself word.Private = true
+names_itself _ = false
+
+abbrev pub is_name_key : Syntax → Bool
+is_name_key (Node at w parts) = names_itself w
+is_name_key _ = false
+
+-- True of the words of the tags that may have a property.
+abbrev pub has_properties : Word → Bool
+has_properties word.Tagmember = true
+has_properties word.Id = true
+has_properties word.This = true
+has_properties _ = false
+
+abbrev pub is_tag_object : Syntax → Bool
+is_tag_object (Node at w parts) = has_properties w
+is_tag_object _ = false
+
+-- True of a case without a test.
+abbrev pub is_default : Syntax → Bool
+is_default (Node at w parts) = first_is is_absent parts
+is_default _ = false
+
+-- The number of cases without a test.
+abbrev pub defaults : Pieces → ℕ
+defaults End = 0
+defaults (Then piece pieces) = (if is_default piece then 1 else 0) + defaults pieces
+
+-- True of parts of the form: in a template one quasi more than expressions, in a sequence an expression, in a switch at most one
+-- case without a test, a key that is computed no name, in an update no pattern, in a tag's member a tag that may have properties.
+abbrev pub form_fits : Form → Pieces → Bool
+form_fits form.Template parts = nat_eq (part_count (first_items parts)) (part_count (first_items (behind parts)) + 1)
+form_fits form.Sequence parts = has_some (first_items parts)
+form_fits form.Switch parts = nat_le (defaults (first_items (behind parts))) 1
+form_fits form.Keyed parts = not (first_is is_yes parts && first_is is_name_key (behind parts))
+form_fits form.Update parts = not (first_is_pattern (behind (behind parts)))
+form_fits form.TagMember parts = first_is is_tag_object parts
+form_fits form.Free parts = true
+
+abbrev pub node_fits : Unit {0} → Word → Pieces → Bool
+node_fits above w parts = form_fits (form_of w) parts
+
+abbrev pub nothing_below : Unit {0} → Word → (index : ℕ) → Unit {0}
+nothing_below above w index = above
+
+-- Rule B9 of a tree.
+abbrev pub keeps_forms : Syntax → Bool
+keeps_forms unit = passes node_fits nothing_below tt unit
