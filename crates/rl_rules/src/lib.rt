@@ -4,4 +4,5 @@
 pub mod chains;
 pub mod forms;
 mod pieces;
+pub mod variables;
 mod walk;
