@@ -1,4 +1,5 @@
 pub mod Chains
+pub mod Declarations
 pub mod Forms
 pub mod Pieces
 pub mod Variables

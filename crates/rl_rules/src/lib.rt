@@ -2,6 +2,7 @@
 #![tactic(auto)]
 
 pub mod chains;
+pub mod declarations;
 pub mod forms;
 mod pieces;
 pub mod variables;
