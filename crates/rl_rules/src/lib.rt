@@ -4,6 +4,7 @@
 pub mod chains;
 pub mod declarations;
 pub mod forms;
+pub mod marks;
 mod pieces;
 pub mod variables;
 mod walk;
