@@ -8,8 +8,6 @@ use Rattle.rl_rules.specs.Pieces.{is_yes, first_is, has_some, behind, first_item
 use Rattle.rl_rules.specs.Walks.{passes}
 use Rattle.rl_rules.specs.declared.forms.Form.{Form}
 use Rattle.rl_rules.specs.declared.forms.Form.TheVariants as form
-use Rattle.rl_rules.specs.declared.forms.Target.{Target}
-use Rattle.rl_rules.specs.declared.forms.Target.TheVariants as target
 
 -- The form that the rule asks of the nodes of a word.
 abbrev pub form_of : Word → Form
@@ -23,36 +21,22 @@ form_of word.Get = form.Keyed
 form_of word.Set = form.Keyed
 form_of word.Keyed = form.Keyed
 form_of word.Update = form.Update
+form_of word.As = form.Wrapped
+form_of word.Satisfies = form.Wrapped
+form_of word.Nonnull = form.Wrapped
+form_of word.Assert = form.Asserted
 form_of word.Tagmember = form.TagMember
 form_of _ = form.Free
 
--- The target that the nodes of a word are.
-abbrev pub target_of : Word → Target
-target_of word.Arraytarget = target.Pattern
-target_of word.Objecttarget = target.Pattern
-target_of word.As = target.Wrapped
-target_of word.Satisfies = target.Wrapped
-target_of word.Nonnull = target.Wrapped
-target_of word.Assert = target.Asserted
-target_of _ = target.Plain
+-- True of the words of patterns in targets.
+abbrev pub is_target_pattern : Word → Bool
+is_target_pattern word.Arraytarget = true
+is_target_pattern word.Objecttarget = true
+is_target_pattern _ = false
 
-abbrev mutual
-  -- True of a pattern, and of one inside `as`, `satisfies`, `assert` and `nonnull`.
-  pub is_pattern : Syntax → Bool
-  is_pattern (Node at w parts) = has_pattern (target_of w) parts
-  is_pattern _ = false
-
-  -- As `is_pattern`, for a node by its target and its parts. A type stands in front of the target of `assert`.
-  pub has_pattern : Target → Pieces → Bool
-  has_pattern target.Pattern parts = true
-  has_pattern target.Wrapped (Then target pieces) = is_pattern target
-  has_pattern target.Asserted (Then annotation pieces) = first_is_pattern pieces
-  has_pattern _ _ = false
-
-  -- As `is_pattern`, for the first of some parts.
-  pub first_is_pattern : Pieces → Bool
-  first_is_pattern End = false
-  first_is_pattern (Then piece pieces) = is_pattern piece
+abbrev pub is_pattern : Syntax → Bool
+is_pattern (Node at w parts) = is_target_pattern w
+is_pattern _ = false
 
 -- True of the words of the keys that are written as they are.
 abbrev pub names_itself : Word → Bool
@@ -86,13 +70,16 @@ defaults End = 0
 defaults (Then piece pieces) = (if is_default piece then 1 else 0) + defaults pieces
 
 -- True of parts of the form: in a template one quasi more than expressions, in a sequence an expression, in a switch at most one
--- case without a test, a key that is computed no name, in an update no pattern, in a tag's member a tag that may have properties.
+-- case without a test, a key that is computed no name, in `++`, `--` and what stands around a target no pattern, in a tag's member a
+-- tag that may have properties.
 abbrev pub form_fits : Form → Pieces → Bool
 form_fits form.Template parts = nat_eq (part_count (first_items parts)) (part_count (first_items (behind parts)) + 1)
 form_fits form.Sequence parts = has_some (first_items parts)
 form_fits form.Switch parts = nat_le (defaults (first_items (behind parts))) 1
 form_fits form.Keyed parts = not (first_is is_yes parts && first_is is_name_key (behind parts))
-form_fits form.Update parts = not (first_is_pattern (behind (behind parts)))
+form_fits form.Update parts = not (first_is is_pattern (behind (behind parts)))
+form_fits form.Wrapped parts = not (first_is is_pattern parts)
+form_fits form.Asserted parts = not (first_is is_pattern (behind parts))
 form_fits form.TagMember parts = first_is is_tag_object parts
 form_fits form.Free parts = true
 

@@ -23,23 +23,14 @@ enum Form {
     Keyed,
     /// `++` or `--`: operator and flag, then the target.
     Update,
+    /// `as`, `satisfies` or `nonnull`: what it stands around is the first part.
+    Wrapped,
+    /// `assert`: a type, then what it stands in front of.
+    Asserted,
     /// A property in the name of a JSX element: the object, then the property.
     TagMember,
     /// Any other node.
     Free,
-}
-
-/// What a node is as the target of an assignment (ECMA-262, 13.15).
-#[derive(Clone, Copy)]
-enum Target {
-    /// An array or object of targets.
-    Pattern,
-    /// A target by its first part: `as`, `satisfies`, `nonnull`.
-    Wrapped,
-    /// A target by its second part: `assert`.
-    Asserted,
-    /// Any other node.
-    Plain,
 }
 
 /// The form that the rule asks of the nodes of a word.
@@ -57,34 +48,33 @@ fn form_of(word: Word) -> Form
         Word::Set => Form::Keyed,
         Word::Keyed => Form::Keyed,
         Word::Update => Form::Update,
+        Word::As => Form::Wrapped,
+        Word::Satisfies => Form::Wrapped,
+        Word::Nonnull => Form::Wrapped,
+        Word::Assert => Form::Asserted,
         Word::Tagmember => Form::TagMember,
         _ => Form::Free,
     }
 }
 
-/// What the nodes of a word are as targets.
-fn target_of(word: Word) -> Target
-    ensures { result ≡ spec.target_of word }
+/// True of the words of patterns in targets.
+fn is_target_pattern(word: Word) -> bool
+    ensures { result ≡ spec.is_target_pattern word }
 {
     match word {
-        Word::Arraytarget => Target::Pattern,
-        Word::Objecttarget => Target::Pattern,
-        Word::As => Target::Wrapped,
-        Word::Satisfies => Target::Wrapped,
-        Word::Nonnull => Target::Wrapped,
-        Word::Assert => Target::Asserted,
-        _ => Target::Plain,
+        Word::Arraytarget => true,
+        Word::Objecttarget => true,
+        _ => false,
     }
 }
 
-/// True of a pattern, and of one inside `as`, `satisfies`, `assert` and `nonnull`.
-#[cycle(patterns)]
+/// True of an array or object of targets.
 #[tactic(auto, using(rl_syntax::proofs::Layers::by_layer))]
 fn is_pattern(tree: &Numbered) -> bool
     ensures { result ≡ spec.is_pattern (syntax tree.now) }
 {
     match tree {
-        Numbered::Node(_, word, parts) => has_pattern(target_of(*word), parts.as_slice()),
+        Numbered::Node(_, word, _) => is_target_pattern(*word),
         Numbered::List(_) => false,
         Numbered::Text(_) => false,
         Numbered::Number(_) => false,
@@ -93,29 +83,9 @@ fn is_pattern(tree: &Numbered) -> bool
     }
 }
 
-/// As `is_pattern`, for a node by what it is and its parts.
-#[cycle(patterns)]
-fn has_pattern(target: Target, parts: &[Numbered]) -> bool
-    ensures { result ≡ spec.has_pattern target (pieces_of (map syntax parts.now)) }
-{
-    match target {
-        Target::Pattern => true,
-        Target::Wrapped => match parts {
-            [] => false,
-            [part, _parts @ ..] => is_pattern(part),
-        },
-        Target::Asserted => match parts {
-            [] => false,
-            [_annotation, parts @ ..] => first_is_pattern(parts),
-        },
-        Target::Plain => false,
-    }
-}
-
-/// As `is_pattern`, for the first of some parts. False if there is none.
-#[cycle(patterns)]
+/// True of parts whose first is an array or object of targets.
 fn first_is_pattern(parts: &[Numbered]) -> bool
-    ensures { result ≡ spec.first_is_pattern (pieces_of (map syntax parts.now)) }
+    ensures { result ≡ first_is spec.is_pattern (pieces_of (map syntax parts.now)) }
 {
     match parts {
         [] => false,
@@ -242,6 +212,8 @@ impl Rule for Forms {
             Form::Switch => defaults(first_items(behind(parts))) <= 1,
             Form::Keyed => !(first_is_yes(parts) && first_is_name_key(behind(parts))),
             Form::Update => !first_is_pattern(behind(behind(parts))),
+            Form::Wrapped => !first_is_pattern(parts),
+            Form::Asserted => !first_is_pattern(behind(parts)),
             Form::TagMember => first_is_tag_object(parts),
             Form::Free => true,
         }
@@ -253,9 +225,9 @@ impl Rule for Forms {
 }
 
 /// Rule B9: true of a tree whose nodes all have these forms. A template has one quasi more than expressions; a sequence has an
-/// expression; a `switch` has at most one case without a test; a name or private name is no computed key; the target of an
-/// `update` is no pattern, nor one inside `as`, `satisfies`, `assert` or `nonnull`; the object of a tag's member is a name that is
-/// used, `this`, or a tag's member.
+/// expression; a `switch` has at most one case without a test; a name or private name is no computed key; no array or
+/// object of targets is the target of an `update`, or stands inside `as`, `satisfies`, `assert` or `nonnull`; the object of a tag's
+/// member is a name that is used, `this`, or a tag's member.
 pub fn keeps_forms(tree: &Numbered) -> bool
     ensures { result ≡ spec.keeps_forms (syntax tree.now) }
 {
