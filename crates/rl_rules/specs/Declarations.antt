@@ -15,7 +15,7 @@ use Rattle.rl_rules.specs.declared.declarations.Declared.TheVariants as declared
 use Rattle.rl_rules.specs.declared.declarations.Place.{Place}
 use Rattle.rl_rules.specs.declared.declarations.Place.TheVariants as place
 
--- What the nodes of a word declare.
+-- The declaration that the nodes of a word make.
 abbrev pub declared_by : Word → Declared
 declared_by word.Var = declared.Variables
 declared_by word.Fundecl = declared.Function
@@ -26,11 +26,12 @@ declared_by word.Enum = declared.Type
 declared_by word.Namespace = declared.Namespace
 declared_by _ = declared.Nothing
 
--- The place `at` of a node's part at the index `wanted`.
+-- The place `at` for the part at the index `wanted` of a node alone.
 abbrev pub only_at : (at : Place) (wanted index : ℕ) → Place
 only_at at wanted index = if nat_eq index wanted then at else place.Elsewhere
 
--- The place of the part at an index of a node. The lists of statements and the heads of loops are one kind of place.
+-- The place of the part at an index of a node. Lists of statements and heads of loops are one kind of place, but for the
+-- program's list.
 abbrev pub place_below : Place → Word → (index : ℕ) → Place
 place_below above word.Program index = only_at place.Program 0 index
 place_below above word.Block index = only_at place.Statements 0 index
@@ -70,21 +71,24 @@ type_stands place.Statements = true
 type_stands place.Export = true
 type_stands _ = false
 
--- A namespace stands only in the program's list. The namespace of an import is none.
+-- A namespace stands only in the program's list. An import's binding of all exports is a node of the same word.
 abbrev pub namespace_stands : Place → Bool
 namespace_stands place.Program = true
 namespace_stands place.Specifiers = true
 namespace_stands _ = false
 
--- True of the words of expressions.
-abbrev pub is_some_rule : Option (List Field) → Bool
-is_some_rule None = false
-is_some_rule (Some fields) = true
+abbrev pub has_fields : Option (List Field) → Bool
+has_fields None = false
+has_fields (Some fields) = true
 
--- What declares nothing is not exported, but an expression by default.
+-- True of the words of expressions: those with fields where the grammar asks for an expression.
+abbrev pub is_expression : Word → Bool
+is_expression w = has_fields (rule kind.Expression w)
+
+-- A node that declares nothing is not exported; by default it is if it is an expression.
 abbrev pub other_stands : Place → Word → Bool
 other_stands place.Export w = false
-other_stands place.DefaultExport w = is_some_rule (rule kind.Expression w)
+other_stands place.DefaultExport w = is_expression w
 other_stands _ w = true
 
 abbrev pub declared_stands : Declared → Place → Word → Pieces → Bool

@@ -1,8 +1,8 @@
 -- The search for the marked function.
 use Rattle.std.specs.Prelude.{Option, Some, None, List, [], ◌∷◌, Bool, true, false}
 
--- If a marked function was found before, as `found` says: Some of whether one is found behind the marked functions of the list;
--- None if there are two by then, or one without a body.
+-- The search through marked functions in a row, each true if it has a body, if `found` says that one was found before them: true
+-- behind them if one is found by then; None if there are two by then, or one without a body.
 abbrev pub found_behind : (found : Bool) → List Bool → Option Bool
 found_behind found [] = Some found
 found_behind false (true ∷ bodies) = found_behind true bodies

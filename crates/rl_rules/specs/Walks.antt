@@ -1,10 +1,10 @@
--- A test of every node of a tree, by what stands above the node.
+-- A test of every node of a tree in its context: the facts on the nodes above it that the test asks for.
 use Rattle.std.specs.Prelude.{ℕ, ◌+◌, Bool, true, ◌&&◌}
 use Rattle.rl_syntax.specs.Syntax.{Syntax, Node, Listed, Said, Count, Flag, Absent, Pieces, End, Then}
 use Rattle.rl_syntax.specs.declared.word.Word.{Word}
 
--- `test` is true of what stands above a node, its word and its parts; `below` gives what stands above the part at an index of a
--- node. The items of a list stand where the list does.
+-- `test` is a property of a node's context, its word and its parts. `below` gives the context of the part at an index of a node, by
+-- the node's context and its word. The items of a list have the context of the list.
 module _ {A : Type 0} (test : A → Word → Pieces → Bool) (below : A → Word → ℕ → A) where
   abbrev mutual
     -- True of a tree whose every node passes the test.

@@ -83,7 +83,7 @@ fn first_has_optional(parts: &[Numbered]) -> bool
     }
 }
 
-/// Rule B6, with what stands above a node: true on the spine of a chain.
+/// Rule B6. The context of a node is true on the spine of a chain.
 struct Chains;
 
 impl Rule for Chains {
@@ -113,8 +113,8 @@ impl Rule for Chains {
 }
 
 /// Rule B6: true of a tree whose optional links all stand on the spine of a chain, and whose chains each have an optional link on
-/// their spine. The spine of a chain starts at its expression, and goes on in the object or callee of a member access or call, and
-/// in the part of `nonnull`; so it never enters another chain.
+/// their spine. The spine of a chain starts at its expression, and goes on in the object or callee of a member access or call,
+/// and in the part of `nonnull`; so it never enters another chain.
 pub fn keeps_chains(tree: &Numbered) -> bool
     ensures { result ≡ spec.keeps_chains (syntax tree.now) }
 {

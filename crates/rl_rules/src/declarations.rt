@@ -1,8 +1,6 @@
 //! Rule B8, and rule B5 of namespaces: the places where declarations stand.
 
 ghost use Rattle.std.specs.Prelude.{◌≡◌, map};
-ghost use Rattle.rl_grammar.specs.Rules.{rule};
-ghost use Rattle.rl_grammar.specs.declared.kind.Kind.TheVariants as kinds;
 ghost use Rattle.rl_rules.specs.Declarations as spec;
 ghost use Rattle.rl_rules.specs.Pieces.{first_is};
 ghost use Rattle.rl_syntax.specs.Syntax.{pieces_of, syntax};
@@ -31,7 +29,7 @@ enum Place {
     Elsewhere,
 }
 
-/// What a node declares.
+/// The declaration that a node makes.
 #[derive(Clone, Copy)]
 enum Declared {
     /// Variables, of any kind.
@@ -48,7 +46,7 @@ enum Declared {
     Nothing,
 }
 
-/// What the nodes of a word declare.
+/// The declaration that the nodes of a word make.
 fn declared_by(word: Word) -> Declared
     ensures { result ≡ spec.declared_by word }
 {
@@ -64,7 +62,7 @@ fn declared_by(word: Word) -> Declared
     }
 }
 
-/// The place `at` of a part at the index `wanted`, `Elsewhere` at any other index.
+/// The place `at` for the part at the index `wanted` of a node, `Elsewhere` at any other index.
 fn only_at(at: Place, wanted: usize, index: usize) -> Place
     ensures { result ≡ spec.only_at at wanted index }
 {
@@ -158,7 +156,7 @@ fn namespace_stands(at: Place) -> bool
 
 /// True of the words of expressions.
 fn is_expression(word: Word) -> bool
-    ensures { result ≡ spec.is_some_rule (rule kinds.Expression word) }
+    ensures { result ≡ spec.is_expression word }
 {
     match rule(Kind::Expression, word) {
         Some(_) => true,
@@ -180,7 +178,7 @@ fn other_stands(at: Place, word: Word) -> bool
     }
 }
 
-/// Rule B8, with the place of a node as what stands above it.
+/// Rule B8. The context of a node is its place.
 struct Declarations;
 
 impl Rule for Declarations {
@@ -219,10 +217,10 @@ impl Rule for Declarations {
     }
 }
 
-/// Rule B8, and rule B5 of namespaces. True of a tree whose declarations other than `var` stand in lists of statements (of a program,
-/// block, body, case or static block), in the head of a `for`, `forin` or `forof`, or in an export; whose functions and classes lack
-/// a name only as default exports; whose exports hold declarations, and default exports an expression, a function or a class; and
-/// whose namespaces stand only in the list of a program. Imports and exports stand anywhere.
+/// Rule B8, and rule B5 of namespaces. True of a tree whose declarations other than `var` stand in lists of statements (of a
+/// program, block, body, case or static block), in the head of a `for`, `forin` or `forof`, or in an export; whose functions and
+/// classes lack a name only as default exports; whose exports hold declarations, and default exports an expression, a function or
+/// a class; and whose namespaces stand only in the list of a program. Imports and exports stand anywhere.
 pub fn keeps_declarations(tree: &Numbered) -> bool
     ensures { result ≡ spec.keeps_declarations (syntax tree.now) }
 {

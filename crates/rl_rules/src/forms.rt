@@ -2,10 +2,11 @@
 
 ghost use Rattle.std.specs.Prelude.{◌≡◌, length, map};
 ghost use Rattle.rl_rules.specs.Forms as spec;
-ghost use Rattle.rl_rules.specs.Pieces.{first_is};
 ghost use Rattle.rl_syntax.specs.Syntax.{pieces_of, syntax};
 
-use crate::pieces::{behind, first_is_absent, first_is_yes, first_items, has_some};
+use crate::pieces::{
+    Words, behind, first_is_absent, first_is_node_of, first_is_yes, first_items, has_some, parts_of,
+};
 use crate::walk::{Rule, passes};
 use rl_syntax::numbered::Numbered;
 use rl_syntax::word::Word;
@@ -57,128 +58,57 @@ fn form_of(word: Word) -> Form
     }
 }
 
-/// True of the words of patterns in targets.
-fn is_target_pattern(word: Word) -> bool
-    ensures { result ≡ spec.is_target_pattern word }
-{
-    match word {
-        Word::Arraytarget => true,
-        Word::Objecttarget => true,
-        _ => false,
+/// The words of patterns in targets.
+struct Patterns;
+
+impl Words for Patterns {
+    ghost test = { spec.is_pattern };
+
+    fn contain(word: Word) -> bool {
+        match word {
+            Word::Arraytarget => true,
+            Word::Objecttarget => true,
+            _ => false,
+        }
     }
 }
 
-/// True of an array or object of targets.
-#[tactic(auto, using(rl_syntax::proofs::Layers::by_layer))]
-fn is_pattern(tree: &Numbered) -> bool
-    ensures { result ≡ spec.is_pattern (syntax tree.now) }
-{
-    match tree {
-        Numbered::Node(_, word, _) => is_target_pattern(*word),
-        Numbered::List(_) => false,
-        Numbered::Text(_) => false,
-        Numbered::Number(_) => false,
-        Numbered::Flag(_) => false,
-        Numbered::Absent => false,
+/// The words of keys that are written as they are.
+struct NameKeys;
+
+impl Words for NameKeys {
+    ghost test = { spec.names_itself };
+
+    fn contain(word: Word) -> bool {
+        match word {
+            Word::Name => true,
+            Word::Private => true,
+            _ => false,
+        }
     }
 }
 
-/// True of parts whose first is an array or object of targets.
-fn first_is_pattern(parts: &[Numbered]) -> bool
-    ensures { result ≡ first_is spec.is_pattern (pieces_of (map syntax parts.now)) }
-{
-    match parts {
-        [] => false,
-        [part, _parts @ ..] => is_pattern(part),
-    }
-}
+/// The words of tags that may have a property: a property, a name that is used, and `this`.
+struct TagObjects;
 
-/// True of the words of keys that are written as they are.
-fn names_itself(word: Word) -> bool
-    ensures { result ≡ spec.names_itself word }
-{
-    match word {
-        Word::Name => true,
-        Word::Private => true,
-        _ => false,
-    }
-}
+impl Words for TagObjects {
+    ghost test = { spec.has_properties };
 
-/// True of a key that is written as it is: a name or a private name.
-#[tactic(auto, using(rl_syntax::proofs::Layers::by_layer))]
-fn is_name_key(tree: &Numbered) -> bool
-    ensures { result ≡ spec.is_name_key (syntax tree.now) }
-{
-    match tree {
-        Numbered::Node(_, word, _) => names_itself(*word),
-        Numbered::List(_) => false,
-        Numbered::Text(_) => false,
-        Numbered::Number(_) => false,
-        Numbered::Flag(_) => false,
-        Numbered::Absent => false,
-    }
-}
-
-/// True of parts whose first is a name or a private name.
-fn first_is_name_key(parts: &[Numbered]) -> bool
-    ensures { result ≡ first_is spec.is_name_key (pieces_of (map syntax parts.now)) }
-{
-    match parts {
-        [] => false,
-        [part, _parts @ ..] => is_name_key(part),
-    }
-}
-
-/// True of the words of tags that may have a property.
-fn has_properties(word: Word) -> bool
-    ensures { result ≡ spec.has_properties word }
-{
-    match word {
-        Word::Tagmember => true,
-        Word::Id => true,
-        Word::This => true,
-        _ => false,
-    }
-}
-
-/// True of a tag that may have a property: a property, a name that is used, or `this`.
-#[tactic(auto, using(rl_syntax::proofs::Layers::by_layer))]
-fn is_tag_object(tree: &Numbered) -> bool
-    ensures { result ≡ spec.is_tag_object (syntax tree.now) }
-{
-    match tree {
-        Numbered::Node(_, word, _) => has_properties(*word),
-        Numbered::List(_) => false,
-        Numbered::Text(_) => false,
-        Numbered::Number(_) => false,
-        Numbered::Flag(_) => false,
-        Numbered::Absent => false,
-    }
-}
-
-/// True of parts whose first is a tag that may have a property.
-fn first_is_tag_object(parts: &[Numbered]) -> bool
-    ensures { result ≡ first_is spec.is_tag_object (pieces_of (map syntax parts.now)) }
-{
-    match parts {
-        [] => false,
-        [part, _parts @ ..] => is_tag_object(part),
+    fn contain(word: Word) -> bool {
+        match word {
+            Word::Tagmember => true,
+            Word::Id => true,
+            Word::This => true,
+            _ => false,
+        }
     }
 }
 
 /// True of a case without a test.
-#[tactic(auto, using(rl_syntax::proofs::Layers::by_layer))]
 fn is_default(tree: &Numbered) -> bool
     ensures { result ≡ spec.is_default (syntax tree.now) }
 {
-    match tree {
-        Numbered::Node(_, _, parts) => first_is_absent(parts.as_slice()),
-        Numbered::List(_) => false,
-        Numbered::Text(_) => false,
-        Numbered::Number(_) => false,
-        Numbered::Flag(_) => false,
-        Numbered::Absent => false,
-    }
+    first_is_absent(parts_of(tree))
 }
 
 /// The number of cases without a test.
@@ -194,7 +124,7 @@ fn defaults(cases: &[Numbered]) -> usize
     count
 }
 
-/// Rule B9. Nothing is asked of what stands above a node.
+/// Rule B9. It asks for no context.
 struct Forms;
 
 impl Rule for Forms {
@@ -210,11 +140,11 @@ impl Rule for Forms {
             Form::Template => first_items(parts).len() == first_items(behind(parts)).len() + 1,
             Form::Sequence => has_some(first_items(parts)),
             Form::Switch => defaults(first_items(behind(parts))) <= 1,
-            Form::Keyed => !(first_is_yes(parts) && first_is_name_key(behind(parts))),
-            Form::Update => !first_is_pattern(behind(behind(parts))),
-            Form::Wrapped => !first_is_pattern(parts),
-            Form::Asserted => !first_is_pattern(behind(parts)),
-            Form::TagMember => first_is_tag_object(parts),
+            Form::Keyed => !(first_is_yes(parts) && first_is_node_of::<NameKeys>(behind(parts))),
+            Form::Update => !first_is_node_of::<Patterns>(behind(behind(parts))),
+            Form::Wrapped => !first_is_node_of::<Patterns>(parts),
+            Form::Asserted => !first_is_node_of::<Patterns>(behind(parts)),
+            Form::TagMember => first_is_node_of::<TagObjects>(parts),
             Form::Free => true,
         }
     }
@@ -225,9 +155,9 @@ impl Rule for Forms {
 }
 
 /// Rule B9: true of a tree whose nodes all have these forms. A template has one quasi more than expressions; a sequence has an
-/// expression; a `switch` has at most one case without a test; a name or private name is no computed key; no array or
-/// object of targets is the target of an `update`, or stands inside `as`, `satisfies`, `assert` or `nonnull`; the object of a tag's
-/// member is a name that is used, `this`, or a tag's member.
+/// expression; a `switch` has at most one case without a test; a name or private name is no computed key; no array or object of
+/// targets is the target of an `update`, or stands inside `as`, `satisfies`, `assert` or `nonnull`; the object of a tag's member
+/// is a name that is used, `this`, or a tag's member.
 pub fn keeps_forms(tree: &Numbered) -> bool
     ensures { result ≡ spec.keeps_forms (syntax tree.now) }
 {

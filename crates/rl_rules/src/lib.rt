@@ -1,4 +1,4 @@
-//! Rules of units that do not speak of names: each a test of every node by what stands above it.
+//! Rules of units that do not speak of names. Most are a test of every node, in the context that the nodes above it make.
 #![tactic(auto)]
 
 pub mod chains;

@@ -38,8 +38,8 @@ fn has_body(word: Word, parts: &[Numbered]) -> bool
     }
 }
 
-/// True behind the opening of a node if the marked function is found by then, if `found` says so of what is before. `None` if the
-/// node is marked and was not to be, or lacks a body.
+/// Looks for the marked function at one node, if `found` says that one was found before. Gives true if one is found by then. `None`
+/// if the node is a second one, or lacks a body.
 fn find_at(found: bool, word: Word, parts: &[Numbered]) -> Option<bool>
     ensures { result ≡ found_behind found (spec.body_of word (pieces_of (map syntax parts.now))) }
 {
@@ -53,8 +53,8 @@ fn find_at(found: bool, word: Word, parts: &[Numbered]) -> Option<bool>
     }
 }
 
-/// True behind a tree if the marked function is found by then, if `found` says so of what is before. `None` if there are two marked
-/// functions by then, or one without a body.
+/// Looks for the marked function in a tree, if `found` says that one was found before. Gives true if one is found by then. `None` if
+/// there are two by then, or one without a body.
 #[cycle(finding)]
 #[tactic(auto, using(rl_syntax::proofs::Layers::by_layer, crate::proofs::Found::found_on, crate::proofs::Found::found_none))]
 fn find_in(found: bool, tree: &Numbered) -> Option<bool>
@@ -89,8 +89,8 @@ fn find_among(found: bool, parts: &[Numbered]) -> Option<bool>
     Some(by_then)
 }
 
-/// Rule B1: true of a tree with exactly one function that is marked, if that has a body. Functions are the nodes of the words `arrow`,
-/// `fundecl` and `funexpr`; the mark is their first part. Only a `fundecl` may lack a body.
+/// Rule B1: true of a tree with exactly one function that is marked, if that has a body. Functions are the nodes of the words
+/// `arrow`, `fundecl` and `funexpr`; the mark is their first part. Only a `fundecl` may lack a body.
 #[tactic(auto, using(crate::proofs::Found::found_one, crate::proofs::Found::found_no_one))]
 pub fn keeps_mark(tree: &Numbered) -> bool
     ensures { result ≡ spec.keeps_mark (syntax tree.now) }

@@ -5,7 +5,9 @@ ghost use Rattle.rl_rules.specs.Pieces.{first_is};
 ghost use Rattle.rl_rules.specs.Variables as spec;
 ghost use Rattle.rl_syntax.specs.Syntax.{pieces_of, syntax};
 
-use crate::pieces::{behind, first_is_absent, first_items, has_some};
+use crate::pieces::{
+    Words, behind, first_is_absent, first_is_node_of, first_items, has_some, parts_of,
+};
 use crate::walk::{Rule, passes};
 use rl_syntax::numbered::Numbered;
 use rl_syntax::word::Word;
@@ -20,38 +22,17 @@ fn is_var(word: Word) -> bool
     }
 }
 
-/// True of `bind`, the word of names that are declared.
-fn is_bind(word: Word) -> bool
-    ensures { result ≡ spec.is_bind word }
-{
-    match word {
-        Word::Bind => true,
-        _ => false,
-    }
-}
+/// `bind`, the word of names that are declared.
+struct Names;
 
-/// True of a plain name, in place of a pattern.
-#[tactic(auto, using(rl_syntax::proofs::Layers::by_layer))]
-fn is_name(tree: &Numbered) -> bool
-    ensures { result ≡ spec.is_name (syntax tree.now) }
-{
-    match tree {
-        Numbered::Node(_, word, _) => is_bind(*word),
-        Numbered::List(_) => false,
-        Numbered::Text(_) => false,
-        Numbered::Number(_) => false,
-        Numbered::Flag(_) => false,
-        Numbered::Absent => false,
-    }
-}
+impl Words for Names {
+    ghost test = { spec.is_bind };
 
-/// True of parts whose first is a plain name.
-fn first_is_name(parts: &[Numbered]) -> bool
-    ensures { result ≡ first_is spec.is_name (pieces_of (map syntax parts.now)) }
-{
-    match parts {
-        [] => false,
-        [part, _parts @ ..] => is_name(part),
+    fn contain(word: Word) -> bool {
+        match word {
+            Word::Bind => true,
+            _ => false,
+        }
     }
 }
 
@@ -81,33 +62,17 @@ fn first_is_let_or_var(parts: &[Numbered]) -> bool
 }
 
 /// True of a declarator without initialiser.
-#[tactic(auto, using(rl_syntax::proofs::Layers::by_layer))]
-fn is_bare(tree: &Numbered) -> bool
-    ensures { result ≡ spec.is_bare (syntax tree.now) }
+fn is_bare(declarator: &Numbered) -> bool
+    ensures { result ≡ spec.is_bare (syntax declarator.now) }
 {
-    match tree {
-        Numbered::Node(_, _, parts) => first_is_absent(behind(parts.as_slice())),
-        Numbered::List(_) => false,
-        Numbered::Text(_) => false,
-        Numbered::Number(_) => false,
-        Numbered::Flag(_) => false,
-        Numbered::Absent => false,
-    }
+    first_is_absent(behind(parts_of(declarator)))
 }
 
-/// True of a declarator of a plain name.
-#[tactic(auto, using(rl_syntax::proofs::Layers::by_layer))]
-fn declares_name(tree: &Numbered) -> bool
-    ensures { result ≡ spec.declares_name (syntax tree.now) }
+/// True of a declarator of a plain name, in place of a pattern.
+fn declares_name(declarator: &Numbered) -> bool
+    ensures { result ≡ spec.declares_name (syntax declarator.now) }
 {
-    match tree {
-        Numbered::Node(_, _, parts) => first_is_name(parts.as_slice()),
-        Numbered::List(_) => false,
-        Numbered::Text(_) => false,
-        Numbered::Number(_) => false,
-        Numbered::Flag(_) => false,
-        Numbered::Absent => false,
-    }
+    first_is_node_of::<Names>(parts_of(declarator))
 }
 
 /// True of declarators that each have an initialiser, or declare a plain name if `bare` says that names may lack it.
@@ -132,7 +97,7 @@ fn is_one_bare(declarators: &[Numbered]) -> bool
     }
 }
 
-/// Rule B7, with what stands above a node: true of the head of a `forin` or `forof`.
+/// Rule B7. The context of a node is true in the head of a `forin` or `forof`.
 struct Variables;
 
 impl Rule for Variables {
@@ -163,8 +128,8 @@ impl Rule for Variables {
     }
 }
 
-/// Rule B7: true of a tree whose variable declarations, of whatever kind, all have a declarator. In the head of a `forin` or `forof`
-/// it is exactly one, without initialiser; elsewhere only a plain name of `let` or `var` may lack an initialiser.
+/// Rule B7: true of a tree whose variable declarations, of whatever kind, all have a declarator. In the head of a `forin` or
+/// `forof` it is exactly one, without initialiser; elsewhere only a plain name of `let` or `var` may lack an initialiser.
 pub fn keeps_variables(tree: &Numbered) -> bool
     ensures { result ≡ spec.keeps_variables (syntax tree.now) }
 {

@@ -8,27 +8,27 @@ ghost use Rattle.rl_syntax.specs.declared.word.Word as words;
 use rl_syntax::numbered::Numbered;
 use rl_syntax::word::Word;
 
-/// A rule that tests each node by what stands above it.
+/// A rule that tests each node in the context that the nodes above it make.
 pub(crate) trait Rule {
-    /// What the test asks of the nodes above a node.
+    /// The context of a node: the facts on the nodes above it that the test asks for.
     type Above: Copy;
 
-    /// The test of a node: by what stands above it, its word and its parts.
+    /// The test of a node: by its context, its word and its parts.
     ghost test: { Self.Above → words.Word → Pieces → Bool };
 
-    /// What stands above the part at an index of a node, by what stands above the node and its word.
+    /// The context of the part at an index of a node, by the node's context and its word.
     ghost below: { Self.Above → words.Word → ℕ → Self.Above };
 
     /// True of a node that passes the test.
     fn test(above: Self::Above, word: Word, parts: &[Numbered]) -> bool
         ensures { result ≡ test above word (pieces_of (map syntax parts.now)) };
 
-    /// What stands above the part at the index `index` of a node.
+    /// The context of the part at the index `index` of a node.
     fn below(above: Self::Above, word: Word, index: usize) -> Self::Above
         ensures { result ≡ below above word index };
 }
 
-/// True if every node of the tree passes the test of the rule `R`.
+/// True if every node of the tree passes the test of the rule `R`. The items of a list have the context of the list.
 #[cycle(walking)]
 #[tactic(auto, using(rl_syntax::proofs::Layers::by_layer))]
 pub(crate) fn passes<R: Rule>(above: R::Above, tree: &Numbered) -> bool
