@@ -149,9 +149,7 @@ impl Rule for Forms {
         }
     }
 
-    fn below(above: (), _word: Word, _index: usize) {
-        above
-    }
+    fn below(_above: (), _word: Word, _index: usize) {}
 }
 
 /// Rule B9: true of a tree whose nodes all have these forms. A template has one quasi more than expressions; a sequence has an
