@@ -21,10 +21,6 @@ form_of word.Get = form.Keyed
 form_of word.Set = form.Keyed
 form_of word.Keyed = form.Keyed
 form_of word.Update = form.Update
-form_of word.As = form.Wrapped
-form_of word.Satisfies = form.Wrapped
-form_of word.Nonnull = form.Wrapped
-form_of word.Assert = form.Asserted
 form_of word.Tagmember = form.TagMember
 form_of _ = form.Free
 
@@ -57,16 +53,14 @@ defaults End = 0
 defaults (Then piece pieces) = (if is_default piece then 1 else 0) + defaults pieces
 
 -- True of parts of the form: in a template one quasi more than expressions, in a sequence an expression, in a switch at most one
--- case without a test, a key that is computed no name, in `++`, `--` and what stands around a target no pattern, in a tag's
--- member a tag that may have properties.
+-- case without a test, a key that is computed no name, in `++` and `--` no pattern, in a tag's member a tag that may have
+-- properties.
 abbrev pub form_fits : Form → Pieces → Bool
 form_fits form.Template parts = nat_eq (part_count (first_items parts)) (part_count (first_items (behind parts)) + 1)
 form_fits form.Sequence parts = has_some (first_items parts)
 form_fits form.Switch parts = nat_le (defaults (first_items (behind parts))) 1
 form_fits form.Keyed parts = not (first_is is_yes parts && first_is (is_node_of names_itself) (behind parts))
 form_fits form.Update parts = not (first_is (is_node_of is_pattern) (behind (behind parts)))
-form_fits form.Wrapped parts = not (first_is (is_node_of is_pattern) parts)
-form_fits form.Asserted parts = not (first_is (is_node_of is_pattern) (behind parts))
 form_fits form.TagMember parts = first_is (is_node_of has_properties) parts
 form_fits form.Free parts = true
 

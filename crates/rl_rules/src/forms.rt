@@ -24,10 +24,6 @@ enum Form {
     Keyed,
     /// `++` or `--`: operator and flag, then the target.
     Update,
-    /// `as`, `satisfies` or `nonnull`: what it stands around is the first part.
-    Wrapped,
-    /// `assert`: a type, then what it stands in front of.
-    Asserted,
     /// A property in the name of a JSX element: the object, then the property.
     TagMember,
     /// Any other node.
@@ -49,10 +45,6 @@ fn form_of(word: Word) -> Form
         Word::Set => Form::Keyed,
         Word::Keyed => Form::Keyed,
         Word::Update => Form::Update,
-        Word::As => Form::Wrapped,
-        Word::Satisfies => Form::Wrapped,
-        Word::Nonnull => Form::Wrapped,
-        Word::Assert => Form::Asserted,
         Word::Tagmember => Form::TagMember,
         _ => Form::Free,
     }
@@ -142,8 +134,6 @@ impl Rule for Forms {
             Form::Switch => defaults(first_items(behind(parts))) <= 1,
             Form::Keyed => !(first_is_yes(parts) && first_is_node_of::<NameKeys>(behind(parts))),
             Form::Update => !first_is_node_of::<Patterns>(behind(behind(parts))),
-            Form::Wrapped => !first_is_node_of::<Patterns>(parts),
-            Form::Asserted => !first_is_node_of::<Patterns>(behind(parts)),
             Form::TagMember => first_is_node_of::<TagObjects>(parts),
             Form::Free => true,
         }
