@@ -2,7 +2,7 @@
 use Rattle.std.proofs.Common.{◌≡◌, ℕ, Bool, true, false, not, ◌&&◌, ◌||◌, if◌then◌else◌, true≢false, nat_eq, eqb-true, List, [], ◌∷◌, ◌++◌, filter, refl, sym, ap, ◌∙◌}
 use Rattle.std.proofs.lemmas.List.Folds.{list_any-append}
 use Rattle.std.specs.List.{list_any}
-use Rattle.rl_bindings.specs.Checks.{add_if, clashed_with, repeated_with, shared_with, step, steps, start}
+use Rattle.rl_bindings.specs.Checks.{add_if, knows_other, knows_any, clashed_with, repeated_with, shared_with, step, steps, start}
 use Rattle.rl_bindings.specs.NameRules.{is_lexical, is_param, is_type, is_misplaced, is_lexical_clash, is_repeat, is_type_clash, clashes}
 use Rattle.rl_bindings.specs.SymbolTables.{knows}
 use Rattle.rl_bindings.specs.Symbols.{same, is_own, is_at, bounds, add, add_all}
@@ -85,18 +85,17 @@ tables-step before f b tables = record {
   types = holds-step (λ c. is_type c.kind) f.types before b tables.types;
 }
 
-no_clash : (other x : Bool) → false ≡ (other && ((x && false) || false))
+no_clash : (other x : Bool) → false ≡ (other && (if x then false else false))
 no_clash false x = refl
 no_clash true true = refl
 no_clash true false = refl
 
-more_clash : (other p x q a l : Bool) → ((other && (p && (x || q))) || (other && ((x && a) || l))) ≡ (other && ((x && ((p && true) || a)) || ((p && q) || l)))
+more_clash : (other p x q a l : Bool) → ((other && (p && (x || q))) || (other && (if x then a else l))) ≡ (other && (if x then (p && true) || a else (p && q) || l))
 more_clash false p x q a l = refl
-more_clash true false x q a l = refl
-more_clash true true true q a l = refl
-more_clash true true false q a l = refl
+more_clash true p true q a l = refl
+more_clash true p false q a l = refl
 
-any-clash : (b : Bound) (before : List Bound) → list_any (is_lexical_clash b) before ≡ (not (is_own b.kind) && ((is_lexical b && list_any (λ c. is_at false b.scope.0 b.name c && true) before) || list_any (λ c. is_at false b.scope.0 b.name c && is_lexical c) before))
+any-clash : (b : Bound) (before : List Bound) → list_any (is_lexical_clash b) before ≡ (not (is_own b.kind) && (if is_lexical b then list_any (λ c. is_at false b.scope.0 b.name c && true) before else list_any (λ c. is_at false b.scope.0 b.name c && is_lexical c) before))
 any-clash b [] = no_clash (not (is_own b.kind)) (is_lexical b)
 any-clash b (c ∷ cs) =
     ap (λ more. is_lexical_clash b c || more) (any-clash b cs)
@@ -116,12 +115,13 @@ any-repeat b (c ∷ cs) =
     ap (λ more. is_repeat b c || more) (any-repeat b cs)
     ∙ more_repeat (is_param b.kind) (is_at false b.scope.0 b.name c && is_param c.kind) (list_any (λ c. is_at false b.scope.0 b.name c && is_param c.kind) cs)
 
-no_share : (x : Bool) → false ≡ ((x && (false || false)) || (false || false))
+no_share : (x : Bool) → false ≡ (if x then false || false else false || false)
 no_share true = refl
 no_share false = refl
 
-more_share : (p o x q a d t u : Bool) → (((p || o) && (x || q)) || ((x && (a || d)) || (t || u))) ≡ ((x && (((p && true) || a) || ((o && true) || d))) || (((p && q) || t) || ((o && q) || u)))
-more_share false false x q a d t u = refl
+more_share : (p o x q a d t u : Bool) → (((p || o) && (x || q)) || (if x then a || d else t || u)) ≡ (if x then ((p && true) || a) || ((o && true) || d) else ((p && q) || t) || ((o && q) || u))
+more_share false false true q a d t u = refl
+more_share false false false q a d t u = refl
 more_share true o true q a d t u = refl
 more_share true o false true a d t u = refl
 more_share true true false false a d t u = refl
@@ -133,8 +133,8 @@ more_share false true false true a d false u = refl
 more_share false true false false a d t u = refl
 
 any-share : (b : Bound) (before : List Bound) → list_any (is_type_clash b) before
-    ≡ ((is_type b.kind && (list_any (λ c. is_at false b.scope.0 b.name c && true) before || list_any (λ c. is_at true b.scope.0 b.name c && true) before))
-    || (list_any (λ c. is_at false b.scope.0 b.name c && is_type c.kind) before || list_any (λ c. is_at true b.scope.0 b.name c && is_type c.kind) before))
+    ≡ (if is_type b.kind then list_any (λ c. is_at false b.scope.0 b.name c && true) before || list_any (λ c. is_at true b.scope.0 b.name c && true) before
+    else list_any (λ c. is_at false b.scope.0 b.name c && is_type c.kind) before || list_any (λ c. is_at true b.scope.0 b.name c && is_type c.kind) before)
 any-share b [] = no_share (is_type b.kind)
 any-share b (c ∷ cs) =
     ap (λ more. is_type_clash b c || more) (any-share b cs)
@@ -142,10 +142,16 @@ any-share b (c ∷ cs) =
     (list_any (λ c. is_at false b.scope.0 b.name c && true) cs) (list_any (λ c. is_at true b.scope.0 b.name c && true) cs)
     (list_any (λ c. is_at false b.scope.0 b.name c && is_type c.kind) cs) (list_any (λ c. is_at true b.scope.0 b.name c && is_type c.kind) cs)
 
+-- A look-up in one of two tables.
+chosen : (x : Bool) (know : List Bound → Bool) (s t : List Bound) → know (if x then s else t) ≡ (if x then know s else know t)
+chosen true know s t = refl
+chosen false know s t = refl
+
 -- What the rules say of one more declaration, by the tables.
 clash-now : (before : List Bound) (f : Found) (b : Bound) → Tables before f → clashed_with f b ≡ (f.clashed || list_any (is_lexical_clash b) before)
 clash-now before f b tables =
-    (λ i. f.clashed || (not (is_own b.kind) && ((is_lexical b && tables.all.at false b.scope.0 b.name i) || tables.lexical.at false b.scope.0 b.name i)))
+    ap (λ x. f.clashed || (not (is_own b.kind) && x)) (chosen (is_lexical b) (λ l. knows_other l b) f.symbols f.lexical)
+    ∙ (λ i. f.clashed || (not (is_own b.kind) && (if is_lexical b then tables.all.at false b.scope.0 b.name i else tables.lexical.at false b.scope.0 b.name i)))
     ∙ ap (λ x. f.clashed || x) (sym (any-clash b before))
 
 repeat-now : (before : List Bound) (f : Found) (b : Bound) → Tables before f → repeated_with f b ≡ (f.repeated || list_any (is_repeat b) before)
@@ -155,7 +161,8 @@ repeat-now before f b tables =
 
 share-now : (before : List Bound) (f : Found) (b : Bound) → Tables before f → shared_with f b ≡ (f.shared || (is_misplaced b || list_any (is_type_clash b) before))
 share-now before f b tables =
-    (λ i. f.shared || (is_misplaced b || ((is_type b.kind && (tables.all.at false b.scope.0 b.name i || tables.all.at true b.scope.0 b.name i)) || (tables.types.at false b.scope.0 b.name i || tables.types.at true b.scope.0 b.name i))))
+    ap (λ x. f.shared || (is_misplaced b || x)) (chosen (is_type b.kind) (λ l. knows_any l b) f.symbols f.types)
+    ∙ (λ i. f.shared || (is_misplaced b || (if is_type b.kind then tables.all.at false b.scope.0 b.name i || tables.all.at true b.scope.0 b.name i else tables.types.at false b.scope.0 b.name i || tables.types.at true b.scope.0 b.name i)))
     ∙ ap (λ x. f.shared || (is_misplaced b || x)) (sym (any-share b before))
 
 or_assoc : (a b c : Bool) → ((a || b) || c) ≡ (a || (b || c))

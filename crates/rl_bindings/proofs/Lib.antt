@@ -10,3 +10,4 @@ pub mod Whole
 pub mod Declared
 pub mod Numbered
 pub mod Examples
+pub mod Passing

@@ -62,13 +62,13 @@ module _ (tree : Syntax) (names : List Name) (es : List Event) (found : Found) (
   references_made answers found_references are is =
       is ∙ ap references (answers_stand found.symbols answers are ∙ ap (λ s. standing (names_in tree) s top [] tree) symbols_made)
 
-  pub broken_made : (stands : List Answer) (passing : Bool) (broken : Option ℕ) → stands ≡ resolved found.lexical es → passing ≡ list_any (is_passing found.lexical) stands → broken ≡ least found.clashed passing found.repeated found.shared → broken ≡ least_broken tree
-  broken_made stands passing broken are passes is =
+  pub broken_made : (passing : Bool) (broken : Option ℕ) → passing ≡ list_any (is_passing found.lexical) (resolved found.lexical es) → broken ≡ least found.clashed passing found.repeated found.shared → broken ≡ least_broken tree
+  broken_made passing broken passes is =
       let lexical = lexical_of_events in
       let clashed : found.clashed ≡ clashes is_lexical_clash [] (bounds es) = ap (λ f. f.clashed) is_found ∙ (checked es).clashed in
       let repeated : found.repeated ≡ clashes is_repeat [] (bounds es) = ap (λ f. f.repeated) is_found ∙ (checked es).repeated in
       let shared : found.shared ≡ (clashes is_type_clash [] (bounds es) || list_any is_misplaced (bounds es)) = ap (λ f. f.shared) is_found ∙ (checked es).shared in
-      let standing_is : stands ≡ standing (names_in tree) (lexical_of es) top [] tree = answers_stand found.lexical stands are ∙ ap (λ s. standing (names_in tree) s top [] tree) lexical in
+      let standing_is : resolved found.lexical es ≡ standing (names_in tree) (lexical_of es) top [] tree = answers_stand found.lexical (resolved found.lexical es) refl ∙ ap (λ s. standing (names_in tree) s top [] tree) lexical in
       is ∙ ap (λ p. least found.clashed p found.repeated found.shared) passes
       ∙ (λ i. least (clashed i) (list_any (is_passing (lexical i)) (standing_is i)) (repeated i) (shared i))
       ∙ ap (λ e. least_of e (standing (names_in tree) (lexical_of e) top [] tree)) events_are

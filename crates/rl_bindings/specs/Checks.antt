@@ -21,7 +21,7 @@ knows_any symbols b = knows symbols false b.scope.0 b.name || knows symbols true
 
 -- True if B2 is broken by a declaration or by one before it.
 abbrev pub clashed_with : Found → Bound → Bool
-clashed_with f b = f.clashed || (not (is_own b.kind) && ((is_lexical b && knows_other f.symbols b) || knows_other f.lexical b))
+clashed_with f b = f.clashed || (not (is_own b.kind) && knows_other (if is_lexical b then f.symbols else f.lexical) b)
 
 -- True if B4 is broken by a declaration or by one before it.
 abbrev pub repeated_with : Found → Bound → Bool
@@ -29,7 +29,7 @@ repeated_with f b = f.repeated || (is_param b.kind && knows_other f.params b)
 
 -- True if B5 is broken by a declaration or by one before it.
 abbrev pub shared_with : Found → Bound → Bool
-shared_with f b = f.shared || (is_misplaced b || ((is_type b.kind && knows_any f.symbols b) || knows_any f.types b))
+shared_with f b = f.shared || (is_misplaced b || knows_any (if is_type b.kind then f.symbols else f.types) b)
 
 -- One more declaration.
 abbrev pub step : Found → Bound → Found

@@ -1,5 +1,6 @@
 -- The loops that resolve names, step by step on plain lists.
-use Rattle.std.specs.Prelude.{ℕ, ◌+◌, if◌then◌else◌, nat_lt, Option, Some, None, slice_get, slice_set, List, [], ◌∷◌, ◌++◌, map, replicate}
+use Rattle.std.specs.Prelude.{ℕ, ◌+◌, if◌then◌else◌, nat_lt, Option, Some, None, slice_get, slice_set, List, [], ◌∷◌, ◌++◌, map, replicate, Bool, false, ◌||◌}
+use Rattle.rl_bindings.specs.NameRules.{is_var}
 use Rattle.rl_bindings.specs.Symbols.{binding}
 use Rattle.rl_bindings.specs.declared.event.Bound.{Bound}
 use Rattle.rl_bindings.specs.declared.event.Event.{Event}
@@ -71,3 +72,9 @@ count_scopes most (b ∷ bs) = count_scopes (larger most (b.scope.0 + 1)) bs
 -- The names that events declare and use, each with the symbol that it stands for.
 abbrev pub resolved : (symbols : List Bound) → List Event → List Answer
 resolved symbols es = run (put_all symbols (replicate (count_scopes 0 symbols) []) symbols) (replicate (count_names 0 symbols) None) [] es
+
+-- True if a `var` declaration is among events.
+abbrev pub any_var : List Event → Bool
+any_var [] = false
+any_var (event.Bind b ∷ es) = is_var b.kind || any_var es
+any_var (_ ∷ es) = any_var es

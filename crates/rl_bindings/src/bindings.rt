@@ -1,6 +1,7 @@
 //! The names of a unit: its scopes and symbols, the symbol of each reference, and the least rule on names that it breaks.
 
 ghost use Rattle.std.specs.Prelude.{◌≡◌, true, is_some, All, IfOk};
+ghost use Rattle.rl_bindings.specs.Machines as machine;
 ghost use Rattle.rl_bindings.specs.NameRules.{is_inside, is_passing};
 ghost use Rattle.rl_bindings.specs.NameRules as rules;
 ghost use Rattle.rl_bindings.specs.Standing as standing;
@@ -112,6 +113,33 @@ fn any_passing(lexical: &[Bound], answers: &[Answer]) -> bool
     false
 }
 
+/// True if a `var` declaration is among events.
+fn any_var(events: &[Event]) -> bool
+    ensures { result ≡ machine.any_var events.now }
+{
+    for event in events {
+        if let Event::Bind(bound) = event {
+            if is_var(bound.kind) {
+                return true;
+            }
+        }
+    }
+    false
+}
+
+/// True if B3 is broken by the declarations among events, if `lexical` are the lexical symbols. Names are resolved only if a `var`
+/// declaration is among them. On `OutOfMemory`, an allocation failed.
+#[tactic(auto, using(crate::proofs::Passing::none_passes))]
+fn passes(alloc: Global, lexical: &SymbolTable, events: &[Event]) -> Result<bool, OutOfMemory>
+    ensures { IfOk result (λ b. b ≡ list_any (is_passing lexical.now) (machine.resolved lexical.now events.now)) }
+{
+    if !any_var(events) {
+        return Ok(false);
+    }
+    let answers = resolve_all(alloc, lexical, events)?;
+    Ok(any_passing(lexical.as_slice(), &answers))
+}
+
 /// The least of the rules B2 to B5 that is broken, if each is broken or not as the arguments say.
 fn least(clashed: bool, passing: bool, repeated: bool, shared: bool) -> Option<u8>
     ensures { result ≡ rules.least clashed passing repeated shared }
@@ -161,8 +189,7 @@ impl Bindings {
         let names = names_of(alloc, &unit.tree)?;
         let events = events_of(alloc, &names, &unit.tree)?;
         let found = check_all(alloc, &events)?;
-        let stands = resolve_all(alloc, &found.lexical, &events)?;
-        let passing = any_passing(found.lexical.as_slice(), &stands);
+        let passing = passes(alloc, &found.lexical, &events)?;
         let broken = least(found.clashed, passing, found.repeated, found.shared);
         let answers = resolve_all(alloc, &found.symbols, &events)?;
         let scopes = scopes_of(alloc, &events)?;

@@ -30,13 +30,16 @@ impl Named for Name {
 fn add_name(alloc: Global, names: &mut NameTable<Name>, text: &Text) -> Result<(), OutOfMemory>
     ensures { OnOk result (names.new ≡ add_name names.old text.now) }
 {
-    names.insert_new(
-        alloc,
-        Name {
-            text: text.copy(alloc)?,
-        },
-    )?;
-    Ok(())
+    match names.find(text.as_str()) {
+        Some(_) => Ok(()),
+        None => {
+            let name = Name {
+                text: text.copy(alloc)?,
+            };
+            names.insert_new(alloc, name)?;
+            Ok(())
+        }
+    }
 }
 
 /// The text of a part. `None` at any other part.

@@ -140,10 +140,11 @@ fn clashed_with(found: &Found, bound: &Bound) -> bool
     if is_own(bound.kind) {
         return false;
     }
-    if is_lexical(bound.kind, bound.place) && knows(&found.symbols, bound) {
-        return true;
+    if is_lexical(bound.kind, bound.place) {
+        knows(&found.symbols, bound)
+    } else {
+        knows(&found.lexical, bound)
     }
-    knows(&found.lexical, bound)
 }
 
 /// True if B4 is broken by a declaration or by one before it.
@@ -166,10 +167,11 @@ fn shared_with(found: &Found, bound: &Bound) -> bool
     if is_misplaced(bound.kind, bound.place) {
         return true;
     }
-    if is_type(bound.kind) && knows_any(&found.symbols, bound) {
-        return true;
+    if is_type(bound.kind) {
+        knows_any(&found.symbols, bound)
+    } else {
+        knows_any(&found.types, bound)
     }
-    knows_any(&found.types, bound)
 }
 
 /// What declarations have come to with one more. On `OutOfMemory`, an allocation failed.

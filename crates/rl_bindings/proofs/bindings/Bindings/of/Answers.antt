@@ -14,7 +14,7 @@ pub returns-clause-scopes : goal.returns-clause-scopes
 returns-clause-scopes c =
     scopes_made (syntax c.args.unit.now.tree) c.in_ok-names.names c.in_ok-events.events.items c.in_ok-found.found c.in_ok-names.ensures c.in_ok-events.ensures
     (c.in_ok-found.ensures ∙ ap (steps start) c.deref.ensures.value)
-    c.in_ok-scopes.scopes (c.in_ok-scopes.ensures ∙ ap scopes_of c.deref-5.ensures.value)
+    c.in_ok-scopes.scopes (c.in_ok-scopes.ensures ∙ ap scopes_of c.deref-4.ensures.value)
 
 pub returns-clause-symbols : goal.returns-clause-symbols
 returns-clause-symbols c =
@@ -25,23 +25,22 @@ pub returns-clause-declarations : goal.returns-clause-declarations
 returns-clause-declarations c =
     declarations_made (syntax c.args.unit.now.tree) c.in_ok-names.names c.in_ok-events.events.items c.in_ok-found.found c.in_ok-names.ensures c.in_ok-events.ensures
     (c.in_ok-found.ensures ∙ ap (steps start) c.deref.ensures.value)
-    c.in_ok-declarations.declarations (c.in_ok-declarations.ensures ∙ ap (declarations_of c.in_ok-found.found.symbols) c.deref-6.ensures.value)
+    c.in_ok-declarations.declarations (c.in_ok-declarations.ensures ∙ ap (declarations_of c.in_ok-found.found.symbols) c.deref-5.ensures.value)
 
 pub returns-clause-references : goal.returns-clause-references
 returns-clause-references c =
     references_made (syntax c.args.unit.now.tree) c.in_ok-names.names c.in_ok-events.events.items c.in_ok-found.found c.in_ok-names.ensures c.in_ok-events.ensures
     (c.in_ok-found.ensures ∙ ap (steps start) c.deref.ensures.value)
     c.in_ok-answers.answers.items c.in_ok-references.references
-    (c.in_ok-answers.ensures ∙ ap (resolved c.in_ok-found.found.symbols) c.deref-4.ensures.value)
-    (c.in_ok-references.ensures ∙ ap references c.deref-7.ensures.value)
+    (c.in_ok-answers.ensures ∙ ap (resolved c.in_ok-found.found.symbols) c.deref-3.ensures.value)
+    (c.in_ok-references.ensures ∙ ap references c.deref-6.ensures.value)
 
 pub returns-clause-least_broken : goal.returns-clause-least_broken
 returns-clause-least_broken c =
     broken_made (syntax c.args.unit.now.tree) c.in_ok-names.names c.in_ok-events.events.items c.in_ok-found.found c.in_ok-names.ensures c.in_ok-events.ensures
     (c.in_ok-found.ensures ∙ ap (steps start) c.deref.ensures.value)
-    c.in_ok-stands.stands.items c.any_passing-passing.result c.least-broken.result
-    (c.in_ok-stands.ensures ∙ ap (resolved c.in_ok-found.found.lexical) c.deref-2.ensures.value)
-    (c.any_passing-passing.ensures ∙ ap (λ l. list_any (is_passing l) c.deref-3.result.now) c.as_slice.ensures ∙ ap (list_any (is_passing c.in_ok-found.found.lexical)) c.deref-3.ensures.value)
+    c.in_ok-passing.passing c.least-broken.result
+    (c.in_ok-passing.ensures ∙ ap (λ e. list_any (is_passing c.in_ok-found.found.lexical) (resolved c.in_ok-found.found.lexical e)) c.deref-2.ensures.value)
     c.least-broken.ensures
 
 pub returns-clause-declared : goal.returns-clause-declared
@@ -49,5 +48,5 @@ returns-clause-declared c =
     subst (All (λ d. is_some d.symbol ≡ true))
     (sym (declarations_made (syntax c.args.unit.now.tree) c.in_ok-names.names c.in_ok-events.events.items c.in_ok-found.found c.in_ok-names.ensures c.in_ok-events.ensures
     (c.in_ok-found.ensures ∙ ap (steps start) c.deref.ensures.value)
-    c.in_ok-declarations.declarations (c.in_ok-declarations.ensures ∙ ap (declarations_of c.in_ok-found.found.symbols) c.deref-6.ensures.value)))
+    c.in_ok-declarations.declarations (c.in_ok-declarations.ensures ∙ ap (declarations_of c.in_ok-found.found.symbols) c.deref-5.ensures.value)))
     (each_declared (events_in (syntax c.args.unit.now.tree)))
