@@ -11,3 +11,4 @@ pub mod Declared
 pub mod Numbered
 pub mod Examples
 pub mod Passing
+pub mod Numbering
