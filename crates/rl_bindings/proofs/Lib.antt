@@ -12,3 +12,4 @@ pub mod Numbered
 pub mod Examples
 pub mod Passing
 pub mod Numbering
+pub mod Within

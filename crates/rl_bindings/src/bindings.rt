@@ -1,6 +1,6 @@
 //! The names of a unit: its scopes and symbols, the symbol of each reference, and the least rule on names that it breaks.
 
-ghost use Rattle.std.specs.Prelude.{◌≡◌, true, is_some, All, IfOk};
+ghost use Rattle.std.specs.Prelude.{◌≡◌, ◌<◌, true, is_some, length, All, IfOk, IfSome};
 ghost use Rattle.rl_bindings.specs.Machines as machine;
 ghost use Rattle.rl_bindings.specs.NameRules.{is_inside, is_passing};
 ghost use Rattle.rl_bindings.specs.NameRules as rules;
@@ -184,6 +184,8 @@ impl Bindings {
         ensures declarations { IfOk result (λ b. b.declarations ≡ tables.declarations_in (syntax unit.now.tree)) }
         ensures declared { IfOk result (λ b. All (λ d. is_some d.symbol ≡ true) b.declarations) }
         ensures references { IfOk result (λ b. b.references ≡ tables.references_in (syntax unit.now.tree)) }
+        ensures declarations_within { IfOk result (λ b. All (λ d. IfSome d.symbol (λ k. k < length b.symbols)) b.declarations) }
+        ensures references_within { IfOk result (λ b. All (λ r. IfSome r.symbol (λ k. k < length b.symbols)) b.references) }
         ensures least_broken { IfOk result (λ b. b.least_broken_name_rule ≡ tables.least_broken (syntax unit.now.tree)) }
     {
         let names = names_of(alloc, &unit.tree)?;

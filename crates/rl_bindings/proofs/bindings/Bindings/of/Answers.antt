@@ -1,11 +1,13 @@
-use Rattle.std.proofs.Common.{◌≡◌, true, is_some, All, ap, sym, subst, ◌∙◌}
+use Rattle.std.proofs.Common.{◌≡◌, ◌<◌, true, is_some, length, All, IfSome, ap, sym, subst, ◌∙◌}
 use Rattle.std.specs.List.{list_any}
 use Rattle.rl_bindings.specs.Checks.{steps, start}
 use Rattle.rl_bindings.specs.Machines.{resolved}
 use Rattle.rl_bindings.specs.NameRules.{is_passing}
 use Rattle.rl_bindings.specs.Standing.{references}
-use Rattle.rl_bindings.specs.Tables.{events_in, declarations_of, scopes_of}
+use Rattle.rl_bindings.specs.Tables.{references_in, events_in, declarations_of, scopes_of}
 use Rattle.rl_bindings.proofs.Declared.{each_declared}
+use Rattle.rl_bindings.specs.Symbols.{bounds}
+use Rattle.rl_bindings.proofs.Within.{declarations_within, references_within}
 use Rattle.rl_bindings.proofs.Whole.{scopes_made, symbols_made, declarations_made, references_made, broken_made}
 use Rattle.rl_syntax.specs.Syntax.{syntax}
 use Rattle.rl_bindings.proofs.bindings.Bindings.of.Goals as goal
@@ -50,3 +52,16 @@ returns-clause-declared c =
     (c.in_ok-found.ensures ∙ ap (steps start) c.deref.ensures.value)
     c.in_ok-declarations.declarations (c.in_ok-declarations.ensures ∙ ap (declarations_of c.in_ok-found.found.symbols) c.deref-5.ensures.value)))
     (each_declared (events_in (syntax c.args.unit.now.tree)))
+
+pub returns-clause-declarations_within : goal.returns-clause-declarations_within
+returns-clause-declarations_within c =
+    subst (All (λ d. IfSome d.symbol (λ k. k < length c.in_ok-found.found.symbols)))
+    (sym (c.in_ok-declarations.ensures ∙ ap (declarations_of c.in_ok-found.found.symbols) c.deref-5.ensures.value))
+    (declarations_within c.in_ok-found.found.symbols (bounds c.in_ok-events.events.items))
+
+pub returns-clause-references_within : goal.returns-clause-references_within
+returns-clause-references_within c =
+    let tree = syntax c.args.unit.now.tree in
+    let symbols = symbols_made tree c.in_ok-names.names c.in_ok-events.events.items c.in_ok-found.found c.in_ok-names.ensures c.in_ok-events.ensures (c.in_ok-found.ensures ∙ ap (steps start) c.deref.ensures.value) in
+    subst (All (λ r. IfSome r.symbol (λ k. k < length c.in_ok-found.found.symbols))) (sym (returns-clause-references c))
+    (subst (λ l. All (λ r. IfSome r.symbol (λ k. k < length l)) (references_in tree)) (sym symbols) (references_within tree))
