@@ -147,7 +147,7 @@ chosen : (x : Bool) (know : List Bound → Bool) (s t : List Bound) → know (if
 chosen true know s t = refl
 chosen false know s t = refl
 
--- What the rules say of one more declaration, by the tables.
+-- The rules on one more declaration, by the tables.
 clash-now : (before : List Bound) (f : Found) (b : Bound) → Tables before f → clashed_with f b ≡ (f.clashed || list_any (is_lexical_clash b) before)
 clash-now before f b tables =
     ap (λ x. f.clashed || (not (is_own b.kind) && x)) (chosen (is_lexical b) (λ l. knows_other l b) f.symbols f.lexical)
@@ -177,7 +177,7 @@ or_share false true false false e = refl
 or_share false false true d e = refl
 or_share false false false d e = refl
 
--- What the loop has come to, by the definitions.
+-- The loop's result, by the definitions.
 pub record Comes (before : List Bound) (f : Found) (es : List Event) : Type 0 where
   pub symbols : (steps f es).symbols ≡ add_all f.symbols (bounds es)
   pub lexical : (steps f es).lexical ≡ add_all f.lexical (filter is_lexical (bounds es))

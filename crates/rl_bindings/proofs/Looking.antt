@@ -1,4 +1,4 @@
--- What names stand for after entries are written.
+-- Look-ups of names after entries are written.
 use Rattle.std.proofs.Common.{◌≡◌, ◌≢◌, ◌<◌, ℕ, zero, suc, Bool, true, false, ◌||◌, true≢false, nat_eq, eqb-true, Option, Some, List, [], ◌∷◌, length, length-set, get_or-set_same, slice_get, slice_set, refl, sym, ap, subst, ◌∙◌}
 use Rattle.std.proofs.lemmas.Bool.{eqb-false}
 use Rattle.std.proofs.lemmas.Option.{slice_get-get_or}

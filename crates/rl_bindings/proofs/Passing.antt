@@ -1,4 +1,4 @@
--- Where no `var` is declared, no `var` passes a lexical name.
+-- No `var` passes a lexical name if none is declared.
 use Rattle.std.proofs.Common.{◌≡◌, ℕ, Bool, true, false, ◌&&◌, ◌||◌, true≢false, Option, None, List, [], ◌∷◌, replicate, refl, sym, ap, ◌∙◌}
 use Rattle.std.specs.List.{list_any}
 use Rattle.rl_bindings.specs.Machines.{look, write_all, kept, entries_at, run, put_all, count_names, count_scopes, resolved, any_var}

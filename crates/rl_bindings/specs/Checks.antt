@@ -31,7 +31,7 @@ repeated_with f b = f.repeated || (is_param b.kind && knows_other f.params b)
 abbrev pub shared_with : Found → Bound → Bool
 shared_with f b = f.shared || (is_misplaced b || knows_any (if is_type b.kind then f.symbols else f.types) b)
 
--- One more declaration.
+-- Result of the declarations so far, with one more.
 abbrev pub step : Found → Bound → Found
 step f b = record {
   symbols = add f.symbols b;

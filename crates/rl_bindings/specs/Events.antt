@@ -29,14 +29,14 @@ abbrev pub sign : Role → Above → At → Word → List Event
 sign role.Maker a at word = event.Scope (entry_of a at word) ∷ []
 sign _ a at word = []
 
--- What a node does before the parts that stand in its scope.
+-- The event of a node before the parts that stand in its scope: its scope begins, or its name is declared or used.
 abbrev pub front : List Name → Role → Above → At → Pieces → List Event
 front names role.Maker a at parts = event.Open at.scope ∷ []
 front names role.Binder a at parts = event.Bind (bound_of names a at parts) ∷ []
 front names role.User a at parts = event.Use at.id (name_of names parts) ∷ []
 front names role.Plain a at parts = []
 
--- What a node does behind its parts.
+-- The event of a node behind its parts: its scope ends.
 abbrev pub back : Role → List Event
 back role.Maker = event.Close ∷ []
 back _ = []

@@ -21,7 +21,7 @@ abbrev pub write_all : List Entry → (env : List (Option ℕ)) → List (Option
 write_all [] env = env
 write_all (e ∷ es) env = write_all es (slice_set env e.name e.symbol)
 
--- What the list has at the names of entries.
+-- Entries with the symbols that the list has at the names of the given entries.
 abbrev pub kept : (env : List (Option ℕ)) → List Entry → List Entry
 kept env es = map (λ e. record { name = e.name; symbol = look env e.name }) es
 
@@ -59,7 +59,7 @@ put_all symbols scopes (b ∷ bs) = put_all symbols (put scopes b.scope.0 (entry
 abbrev pub larger : ℕ → ℕ → ℕ
 larger m n = if nat_lt m n then n else m
 
--- One more than the largest name of symbols, or `most` if that is more.
+-- The number above the largest name of symbols, or `most` if that is more.
 abbrev pub count_names : (most : ℕ) → List Bound → ℕ
 count_names most [] = most
 count_names most (b ∷ bs) = count_names (larger most (b.name + 1)) bs

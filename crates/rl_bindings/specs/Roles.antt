@@ -90,13 +90,13 @@ abbrev pub namespace_kind : Place → BindKind
 namespace_kind place.Import = kind.ImportNamespace
 namespace_kind _ = kind.Namespace
 
--- What stands above those parts of a node that stand before its scope.
+-- The summary above those parts of a node that stand before its scope.
 abbrev pub outside : Above → Word → Above
 outside a word.Fundecl = record a { kind = kind.FunctionDeclaration }
 outside a word.Classdecl = record a { kind = kind.ClassDeclaration }
 outside a _ = record a { place = place.Inner }
 
--- What stands above the parts of a node, those before its scope aside. A node that makes a scope is the innermost scope; functions,
+-- The summary above the parts of a node, those before its scope aside. A node that makes a scope is the innermost scope; functions,
 -- static blocks and the program take `var` too. Declarations say their kind. No list but the program's, a body's and a static
 -- block's is the list of its function; the name in a namespace stands in the list that the namespace stands in.
 abbrev pub below : Above → At → Word → Pieces → Above

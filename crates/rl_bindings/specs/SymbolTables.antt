@@ -5,7 +5,7 @@ use Rattle.std.specs.Ordering.{bool_cmp, nat_cmp, ordering_then}
 use Rattle.rl_bindings.specs.Symbols.{number_at}
 use Rattle.rl_bindings.specs.declared.event.Bound.{Bound}
 
--- What the index has for a name in a scope, as an own name or otherwise.
+-- The number that the index has for a name in a scope, as an own name or otherwise.
 abbrev pub found_at : (numbers : BTreeMap (Bool × ℕ × ℕ) ℕ) → (own : Bool) → (scope name : ℕ) → Option ℕ
 found_at numbers own scope name = get_by (λ k. ordering_then (ordering_then (bool_cmp own k.0) (nat_cmp scope k.1)) (nat_cmp name k.2)) numbers
 

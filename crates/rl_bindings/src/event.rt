@@ -100,7 +100,7 @@ pub struct Bound {
     pub place: Place,
 }
 
-/// What happens to names at a point of the unit's text.
+/// An event of names at a point of the unit's text.
 #[derive(Clone, Copy)]
 pub enum Event {
     /// A node that makes a scope opens.

@@ -69,7 +69,7 @@ fn write_all(env: &mut [Option<usize>], entries: &[Entry])
     }
 }
 
-/// What the list has at the names of entries. On `OutOfMemory`, an allocation failed.
+/// Entries with the symbols that the list has at the names of `entries`. On `OutOfMemory`, an allocation failed.
 fn kept(alloc: Global, env: &[Option<usize>], entries: &[Entry]) -> Result<List<Entry>, OutOfMemory>
     ensures { IfOk result (λ k. k ≡ machine.kept env.now entries.now) }
 {
@@ -137,7 +137,8 @@ pub fn run(
     Ok(found)
 }
 
-/// One more than the largest name of symbols; 0 without symbols. On `OutOfMemory`, there are more names than memory can hold.
+/// Number above the largest name of symbols: the length of a list that has a place for each; 0 without symbols. On `OutOfMemory`, it
+/// would not fit a `usize`.
 fn count_names(symbols: &[Bound]) -> Result<usize, OutOfMemory>
     ensures { IfOk result (λ count. count ≡ machine.count_names 0 symbols.now) }
 {
@@ -153,7 +154,7 @@ fn count_names(symbols: &[Bound]) -> Result<usize, OutOfMemory>
     Ok(most)
 }
 
-/// One more than the largest scope of symbols; 0 without symbols.
+/// Number above the largest scope of symbols: the length of a list that has a place for each; 0 without symbols.
 fn count_scopes(symbols: &[Bound]) -> usize
     ensures { result ≡ machine.count_scopes 0 symbols.now }
 {

@@ -9,7 +9,7 @@ use crate::symbol_table::{SymbolTable, is_own};
 use rl_base::error::OutOfMemory;
 use std::alloc::Global;
 
-/// What declarations in order have come to.
+/// Result of the declarations so far: their symbols, and the rules that they break.
 #[derive(Drop)]
 pub struct Found {
     /// The symbols.
@@ -174,7 +174,7 @@ fn shared_with(found: &Found, bound: &Bound) -> bool
     }
 }
 
-/// What declarations have come to with one more. On `OutOfMemory`, an allocation failed.
+/// Result of the declarations so far, with one more. On `OutOfMemory`, an allocation failed.
 fn step(found: Found, bound: Bound) -> Result<Found, OutOfMemory>
     ensures { IfOk result (λ after. after ≡ check.step found bound) }
 {
@@ -192,7 +192,7 @@ fn step(found: Found, bound: Bound) -> Result<Found, OutOfMemory>
     })
 }
 
-/// What the declarations among events come to. On `OutOfMemory`, an allocation failed.
+/// Result of the declarations among events. On `OutOfMemory`, an allocation failed.
 pub fn check_all(alloc: Global, events: &[Event]) -> Result<Found, OutOfMemory>
     ensures { IfOk result (λ found. found ≡ check.steps check.start events.now) }
 {

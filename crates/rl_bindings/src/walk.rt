@@ -41,7 +41,7 @@ fn push_sign(
     }
 }
 
-/// Appends what a node does before the parts that stand in its scope. On `OutOfMemory`, an allocation failed.
+/// Appends the event of a node before the parts that stand in its scope. On `OutOfMemory`, an allocation failed.
 fn push_front(
     out: &mut Vec<Event>,
     names: &NameTable<Name>,
@@ -76,7 +76,7 @@ fn push_front(
     }
 }
 
-/// Appends what a node does behind its parts. On `OutOfMemory`, an allocation failed.
+/// Appends the event of a node behind its parts. On `OutOfMemory`, an allocation failed.
 fn push_back(out: &mut Vec<Event>, role: Role) -> Result<(), OutOfMemory>
     ensures { OnOk result (out.new.items ≡ out.old.items ++ back role) }
 {
