@@ -1,6 +1,6 @@
 -- The index of a scope is its id, and so is that of a reference: they stand in the order of their nodes.
-use Rattle.std.proofs.Common.{◌≡◌, ℕ, zero, suc, Bool, true, false, if◌then◌else◌, List, [], ◌∷◌, ◌++◌, map, filter, append_assoc, append-nil, refl, sym, ap, ◌∙◌}
-use Rattle.std.proofs.lemmas.List.{map-append}
+use Rattle.std.proofs.Common.{◌≡◌, ℕ, zero, suc, Bool, true, false, if◌then◌else◌, List, [], ◌∷◌, ◌++◌, length, map, filter, append_assoc, append-nil, refl, sym, ap, ◌∙◌}
+use Rattle.std.proofs.lemmas.List.{map-append, length-map}
 use Rattle.std.proofs.lemmas.List.Elements.{filter-append}
 use Rattle.rl_base.specs.declared.ids.NodeId.{NodeId}
 use Rattle.rl_base.specs.declared.ids.ScopeId.{ScopeId}
@@ -19,6 +19,10 @@ use Rattle.rl_bindings.specs.declared.role.Role.{Role}
 use Rattle.rl_bindings.specs.declared.role.Role.TheVariants as role
 use Rattle.rl_syntax.specs.Nodes.{entries_under, entries_among, entries}
 use Rattle.rl_syntax.specs.Syntax.{Syntax, Node, Listed, Said, Count, Flag, Absent, Pieces, End, Then, is_reference}
+use Rattle.rl_syntax.specs.Syntax as syntax
+use Rattle.rl_syntax.specs.Syntax.{IsPlaced, outset, scopes}
+use Rattle.rl_syntax.proofs.Numbers.{scopes_numbered, references_numbered}
+use Rattle.std.proofs.lemmas.List.FromFn.{length-range_with_len}
 use Rattle.rl_syntax.specs.Words.{makes_scope}
 use Rattle.rl_syntax.specs.declared.nodes.NodeEntry.{NodeEntry}
 use Rattle.rl_syntax.specs.declared.numbered.At.{At}
@@ -220,3 +224,23 @@ module _ (names : List Name) (symbols : List Bound) where
 -- The references of a tree are the `id` nodes of its table. In a unit the ids of these are their indices (`references_numbered`).
 pub references_listed : (tree : Syntax) → map (λ r. r.node) (references_in tree) ≡ nodes_of is_reference (entries tree)
 references_listed tree = references_are (names_in tree) (symbols_in tree) tree top [] None
+
+module _ (tree : Syntax) (placed : IsPlaced outset tree) where
+  -- A unit has as many scopes as nodes that make one, and the entry at the index of a scope is that of its node.
+  pub scopes_counted : length (scopes_in tree) ≡ scopes tree
+  scopes_counted =
+      sym (length-map (scopes_in tree) (λ s. s.node))
+      ∙ ap length (scopes_listed tree)
+      ∙ length-map (filter (λ e. makes_scope e.word) (entries tree)) (λ e. e.at.id)
+      ∙ sym (length-map (filter (λ e. makes_scope e.word) (entries tree)) (λ e. e.at.scope.0))
+      ∙ ap length (scopes_numbered tree placed)
+      ∙ length-range_with_len 0 (scopes tree)
+
+  pub references_counted : length (references_in tree) ≡ syntax.references tree
+  references_counted =
+      sym (length-map (references_in tree) (λ r. r.node))
+      ∙ ap length (references_listed tree)
+      ∙ length-map (filter (λ e. is_reference e.word) (entries tree)) (λ e. e.at.id)
+      ∙ sym (length-map (filter (λ e. is_reference e.word) (entries tree)) (λ e. e.at.reference.0))
+      ∙ ap length (references_numbered tree placed)
+      ∙ length-range_with_len 0 (syntax.references tree)
