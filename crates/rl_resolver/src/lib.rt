@@ -1,0 +1,4 @@
+//! Names of a unit, by number: which binding rule a unit breaks, and the look-up of scopes, symbols and references.
+#![tactic(auto)]
+
+pub mod semantic;
