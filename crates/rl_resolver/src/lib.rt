@@ -1,4 +1,6 @@
 //! Names of a unit, by number: which binding rule a unit breaks, and the look-up of scopes, symbols and references.
 #![tactic(auto)]
 
+pub mod kinds;
+pub mod resolver;
 pub mod semantic;

@@ -1,0 +1,226 @@
+//! Look-ups of scopes, symbols and references by number, after the original's `ScopeResolver`.
+
+ghost use Rattle.std.specs.Prelude.{◌≡◌, slice_get};
+ghost use Rattle.std.specs.Option.{option_copied};
+ghost use Rattle.rl_resolver.specs.Lookups as spec;
+
+use crate::kinds::{BindingKind, DeclKind, binding_kind, decl_kind, has_identifier, is_type_only};
+use crate::semantic::Semantic;
+use rl_ast::binding::IdentifierReference;
+use rl_base::ids::{NodeId, ReferenceId, ScopeId, SymbolId};
+use rl_base::span::Span;
+use rl_bindings::event::{Bound, ScopeKind};
+
+/// The id of a symbol with an index. `None` above the largest id, which no symbol's index is.
+fn symbol_id(number: Option<usize>) -> Option<SymbolId>
+    ensures { result ≡ spec.symbol_id number }
+{
+    match number {
+        Some(number) => {
+            if number <= 4_294_967_295 {
+                Some(SymbolId(number as u32))
+            } else {
+                None
+            }
+        }
+        None => None,
+    }
+}
+
+/// Look-ups by number in the semantic tables of a unit: `ScopeResolver` of the original. No call takes memory.
+#[derive(Clone, Copy)]
+pub struct ScopeResolver<'s> {
+    /// The semantic tables of the unit.
+    pub semantic: &'s Semantic,
+}
+
+impl<'s> ScopeResolver<'s> {
+    /// The look-ups in the semantic tables of a unit.
+    pub fn new(semantic: &'s Semantic) -> ScopeResolver<'s>
+        ensures { result.semantic.now ≡ semantic.now }
+    {
+        ScopeResolver { semantic }
+    }
+
+    /// The symbol that a reference resolves to. `None` for a global, and for a number that is no reference's.
+    pub fn symbol_of_reference(&self, reference: ReferenceId) -> Option<SymbolId>
+        ensures { result ≡ spec.symbol_of_reference self.now.semantic.now.bindings.references reference.0 }
+    {
+        match self.semantic.bindings.references.get(reference.0 as usize) {
+            Some(found) => symbol_id(found.symbol),
+            None => None,
+        }
+    }
+
+    /// The symbol that an identifier resolves to: `resolve_reference` of the original. `None` for a global.
+    pub fn resolve_reference(&self, identifier: &IdentifierReference<'_>) -> Option<SymbolId>
+        ensures { result ≡ spec.symbol_of_reference self.now.semantic.now.bindings.references identifier.now.at.reference.0 }
+    {
+        self.symbol_of_reference(identifier.at.reference)
+    }
+
+    /// The node of a reference. The unit's node for a number that is no reference's.
+    pub fn reference_node_id(&self, reference: ReferenceId) -> NodeId
+        ensures { result ≡ spec.reference_node_id self.now.semantic.now.bindings.references reference.0 }
+    {
+        match self.semantic.bindings.references.get(reference.0 as usize) {
+            Some(found) => found.node,
+            None => NodeId(0),
+        }
+    }
+
+    /// The kind of a scope. `Program` for a number that is no scope's.
+    pub fn scope_kind(&self, scope: ScopeId) -> ScopeKind
+        ensures { result ≡ spec.scope_kind self.now.semantic.now.bindings.scopes scope.0 }
+    {
+        match self.semantic.bindings.scopes.get(scope.0 as usize) {
+            Some(entry) => entry.kind,
+            None => ScopeKind::Program,
+        }
+    }
+
+    /// The scope around a scope. `None` for the program's scope, and for a number that is no scope's.
+    pub fn scope_parent(&self, scope: ScopeId) -> Option<ScopeId>
+        ensures { result ≡ spec.scope_parent self.now.semantic.now.bindings.scopes scope.0 }
+    {
+        match self.semantic.bindings.scopes.get(scope.0 as usize) {
+            Some(entry) => entry.parent,
+            None => None,
+        }
+    }
+
+    /// The scope of the program.
+    pub fn program_scope(&self) -> ScopeId
+        ensures { result ≡ record { 0 = 0 } }
+    {
+        ScopeId(0)
+    }
+
+    /// The declaration of a symbol that comes first.
+    fn symbol(&self, symbol: SymbolId) -> Option<&'s Bound>
+        ensures { option_copied result ≡ slice_get self.now.semantic.now.bindings.symbols symbol.0 }
+    {
+        self.semantic
+            .bindings
+            .symbols
+            .as_slice()
+            .get(symbol.0 as usize)
+    }
+
+    /// The name of a symbol. Empty for a number that is no symbol's.
+    pub fn symbol_name(&self, symbol: SymbolId) -> &'s str
+        ensures { result.now ≡ spec.symbol_name self.now.semantic.now.bindings.names self.now.semantic.now.bindings.symbols symbol.0 }
+    {
+        match self.symbol(symbol) {
+            Some(bound) => match self.semantic.bindings.names.as_slice().get(bound.name) {
+                Some(name) => name.text.as_str(),
+                None => "",
+            },
+            None => "",
+        }
+    }
+
+    /// The kind of a symbol's binding. `Unknown` for an interface, and for a number that is no symbol's.
+    pub fn binding_kind(&self, symbol: SymbolId) -> BindingKind
+        ensures { result ≡ spec.binding_kind self.now.semantic.now.bindings.symbols symbol.0 }
+    {
+        match self.symbol(symbol) {
+            Some(bound) => binding_kind(bound.kind),
+            None => BindingKind::Unknown,
+        }
+    }
+
+    /// The kind of a symbol's first declaration. `Unknown` for an interface, and for a number that is no symbol's.
+    pub fn decl_kind(&self, symbol: SymbolId) -> DeclKind
+        ensures { result ≡ spec.decl_kind self.now.semantic.now.bindings.symbols symbol.0 }
+    {
+        match self.symbol(symbol) {
+            Some(bound) => decl_kind(bound.kind),
+            None => DeclKind::Unknown,
+        }
+    }
+
+    /// True of a symbol that is a type alone: a type alias or an interface. False for a number that is no symbol's.
+    pub fn is_type_only_binding(&self, symbol: SymbolId) -> bool
+        ensures { result ≡ spec.is_type_only_binding self.now.semantic.now.bindings.symbols symbol.0 }
+    {
+        match self.symbol(symbol) {
+            Some(bound) => is_type_only(bound.kind),
+            None => false,
+        }
+    }
+
+    /// The first declaration of a symbol. `None` for an interface, and for a number that is no symbol's.
+    pub fn declaration_ident(&self, symbol: SymbolId) -> Option<Bound>
+        ensures { result ≡ spec.declaration_ident self.now.semantic.now.bindings.symbols symbol.0 }
+    {
+        match self.symbol(symbol) {
+            Some(bound) => {
+                if has_identifier(bound.kind) {
+                    Some(*bound)
+                } else {
+                    None
+                }
+            }
+            None => None,
+        }
+    }
+
+    /// The span of the first `bind` node of a symbol, a half-open byte range in the unit's text. Empty at offset 0 for a number
+    /// that is no symbol's.
+    pub fn first_bind(&self, symbol: SymbolId) -> Span
+        ensures { result ≡ spec.first_bind self.now.semantic.now.bindings.symbols symbol.0 }
+    {
+        match self.symbol(symbol) {
+            Some(bound) => bound.span,
+            None => Span { start: 0, end: 0 },
+        }
+    }
+
+    /// The scope that a symbol counts for: the one that its declaration binds in, if the name is bound to that symbol there. The
+    /// program's scope for the own name of a function or class expression that another name shadows, and for a number that is no
+    /// symbol's.
+    pub fn symbol_scope(&self, symbol: SymbolId) -> ScopeId
+        ensures { result ≡ spec.symbol_scope self.now.semantic.now.bindings.symbols symbol.0 }
+    {
+        match self.symbol(symbol) {
+            Some(bound) => match self
+                .semantic
+                .bindings
+                .symbols
+                .binding(bound.scope, bound.name)
+            {
+                Some(number) => {
+                    if number == symbol.0 as usize {
+                        bound.scope
+                    } else {
+                        ScopeId(0)
+                    }
+                }
+                None => ScopeId(0),
+            },
+            None => ScopeId(0),
+        }
+    }
+
+    /// True of a node that is `root` or stands inside it. False where `root` is no node of the unit.
+    pub fn node_within(&self, node: NodeId, root: NodeId) -> bool
+        ensures { result ≡ spec.node_within self.now.semantic.now.nodes node.0 root.0 }
+    {
+        match self.semantic.nodes.get(root.0 as usize) {
+            Some(entry) => root.0 <= node.0 && node.0 < entry.at.end.0,
+            None => false,
+        }
+    }
+
+    /// The symbol that a scope itself binds a name to: one that is no own name of a function or class expression, if there is one,
+    /// else the own name. `None` for a name that it does not bind, and for a number that is no scope's.
+    pub fn get_binding(&self, scope: ScopeId, name: &str) -> Option<SymbolId>
+        ensures { result ≡ spec.get_binding self.now.semantic.now.bindings.names self.now.semantic.now.bindings.symbols scope.0 name.now }
+    {
+        match self.semantic.bindings.names.find(name) {
+            Some(number) => symbol_id(self.semantic.bindings.symbols.binding(scope, number)),
+            None => None,
+        }
+    }
+}
