@@ -1,3 +1,4 @@
 pub mod Rules
 pub mod Kinds
 pub mod Lookups
+pub mod Around

@@ -1,31 +1,19 @@
 //! Look-ups of scopes, symbols and references by number, after the original's `ScopeResolver`.
 
-ghost use Rattle.std.specs.Prelude.{◌≡◌, slice_get};
+ghost use Rattle.std.specs.Prelude.{◌≡◌, ◌-◌, slice_get};
 ghost use Rattle.std.specs.Option.{option_copied};
+ghost use Rattle.rl_bindings.specs.Symbols.{resolve};
+ghost use Rattle.rl_resolver.specs.Around as around;
 ghost use Rattle.rl_resolver.specs.Lookups as spec;
 
+use crate::iterators::{Ancestors, Symbols};
 use crate::kinds::{BindingKind, DeclKind, binding_kind, decl_kind, has_identifier, is_type_only};
+use crate::lookups::{id_count, scope_parent, symbol_id};
 use crate::semantic::Semantic;
 use rl_ast::binding::IdentifierReference;
 use rl_base::ids::{NodeId, ReferenceId, ScopeId, SymbolId};
 use rl_base::span::Span;
 use rl_bindings::event::{Bound, ScopeKind};
-
-/// The id of a symbol with an index. `None` above the largest id, which no symbol's index is.
-fn symbol_id(number: Option<usize>) -> Option<SymbolId>
-    ensures { result ≡ spec.symbol_id number }
-{
-    match number {
-        Some(number) => {
-            if number <= 4_294_967_295 {
-                Some(SymbolId(number as u32))
-            } else {
-                None
-            }
-        }
-        None => None,
-    }
-}
 
 /// Look-ups by number in the semantic tables of a unit: `ScopeResolver` of the original. No call takes memory.
 #[derive(Clone, Copy)]
@@ -83,10 +71,7 @@ impl<'s> ScopeResolver<'s> {
     pub fn scope_parent(&self, scope: ScopeId) -> Option<ScopeId>
         ensures { result ≡ spec.scope_parent self.now.semantic.now.bindings.scopes scope.0 }
     {
-        match self.semantic.bindings.scopes.get(scope.0 as usize) {
-            Some(entry) => entry.parent,
-            None => None,
-        }
+        scope_parent(self.semantic.bindings.scopes.as_slice(), scope)
     }
 
     /// The scope of the program.
@@ -221,6 +206,50 @@ impl<'s> ScopeResolver<'s> {
         match self.semantic.bindings.names.find(name) {
             Some(number) => symbol_id(self.semantic.bindings.symbols.binding(scope, number)),
             None => None,
+        }
+    }
+
+    /// The scopes around a scope, itself first.
+    pub fn ancestors(&self, scope: ScopeId) -> Ancestors<'s>
+        ensures { around.outward result.scopes.now result.most result.next ≡ around.ancestors self.now.semantic.now.bindings.scopes scope }
+    {
+        Ancestors {
+            scopes: self.semantic.bindings.scopes.as_slice(),
+            most: scope.0 as usize + 1,
+            next: Some(scope),
+        }
+    }
+
+    /// The index of the symbol that the nearest scope around a scope binds a name to. `None` if none binds it.
+    fn resolve(&self, scope: ScopeId, name: usize) -> Option<usize>
+        ensures { result ≡ resolve self.now.semantic.now.bindings.symbols (around.ancestors self.now.semantic.now.bindings.scopes scope) name }
+    {
+        let mut scopes = self.ancestors(scope);
+        'scopes: while let Some(scope) = scopes.next() {
+            if let Some(number) = self.semantic.bindings.symbols.binding(scope, name) {
+                return Some(number);
+            }
+        }
+        None
+    }
+
+    /// The symbol that a name stands for in a scope: that of the nearest scope around it that binds the name. `None` for a global.
+    pub fn find_binding(&self, scope: ScopeId, name: &str) -> Option<SymbolId>
+        ensures { result ≡ around.find_binding self.now.semantic.now.bindings.names self.now.semantic.now.bindings.symbols self.now.semantic.now.bindings.scopes scope name.now }
+    {
+        match self.semantic.bindings.names.find(name) {
+            Some(number) => symbol_id(self.resolve(scope, number)),
+            None => None,
+        }
+    }
+
+    /// All symbols, in the order of their numbers.
+    pub fn symbols(&self) -> Symbols
+        ensures { around.ids_from result.next (result.end - result.next) ≡ around.symbol_ids self.now.semantic.now.bindings.symbols }
+    {
+        Symbols {
+            next: 0,
+            end: id_count(self.semantic.bindings.symbols.as_slice().len()),
         }
     }
 }
