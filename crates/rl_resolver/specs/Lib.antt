@@ -2,3 +2,4 @@ pub mod Rules
 pub mod Kinds
 pub mod Lookups
 pub mod Around
+pub mod Functions

@@ -67,3 +67,24 @@ impl Iterator for Symbols {
         Some(symbol)
     }
 }
+
+/// Scopes of functions: `function_scopes` of the original.
+#[derive(Clone, Copy)]
+pub struct FunctionScopes<'s> {
+    /// The scopes that are left to come.
+    pub(crate) left: &'s [ScopeId],
+}
+
+impl<'s> Iterator for FunctionScopes<'s> {
+    type Item = ScopeId;
+
+    ghost next_gives = { YieldsFirst (λ s. s.left.now) };
+
+    ghost remaining = { item_count (λ s. s.left.now) };
+
+    fn next(&mut self) -> Option<ScopeId> {
+        let (first, rest) = self.left.split_first()?;
+        self.left = rest;
+        Some(*first)
+    }
+}

@@ -1,6 +1,7 @@
 //! Names of a unit, by number: which binding rule a unit breaks, and the look-up of scopes, symbols and references.
 #![tactic(auto)]
 
+mod functions;
 pub mod iterators;
 pub mod kinds;
 mod lookups;

@@ -1,33 +1,50 @@
 //! Look-ups of scopes, symbols and references by number, after the original's `ScopeResolver`.
 
-ghost use Rattle.std.specs.Prelude.{◌≡◌, ◌-◌, slice_get};
+ghost use Rattle.std.specs.Prelude.{◌≡◌, ◌-◌, slice_get, IfOk};
 ghost use Rattle.std.specs.Option.{option_copied};
 ghost use Rattle.rl_bindings.specs.Symbols.{resolve};
 ghost use Rattle.rl_resolver.specs.Around as around;
+ghost use Rattle.rl_resolver.specs.Functions as made;
 ghost use Rattle.rl_resolver.specs.Lookups as spec;
 
-use crate::iterators::{Ancestors, Symbols};
+use crate::functions::{capture_root_node, function_scope_ranges, function_scopes};
+use crate::iterators::{Ancestors, FunctionScopes, Symbols};
 use crate::kinds::{BindingKind, DeclKind, binding_kind, decl_kind, has_identifier, is_type_only};
 use crate::lookups::{id_count, scope_parent, symbol_id};
 use crate::semantic::Semantic;
 use rl_ast::binding::IdentifierReference;
+use rl_base::error::OutOfMemory;
 use rl_base::ids::{NodeId, ReferenceId, ScopeId, SymbolId};
+use rl_base::list::List;
 use rl_base::span::Span;
 use rl_bindings::event::{Bound, ScopeKind};
+use std::alloc::Global;
 
-/// Look-ups by number in the semantic tables of a unit: `ScopeResolver` of the original. No call takes memory.
-#[derive(Clone, Copy)]
+/// Look-ups by number in the semantic tables of a unit: `ScopeResolver` of the original. No call but `new` takes memory.
+#[derive(Drop)]
 pub struct ScopeResolver<'s> {
     /// The semantic tables of the unit.
     pub semantic: &'s Semantic,
+    functions: List<ScopeId>,
+    ranges: List<(u32, u32)>,
+    ghost functions_are: { functions ≡ made.function_scopes semantic.now.bindings.scopes },
+    ghost ranges_are: { ranges ≡ made.function_scope_ranges semantic.now.nodes semantic.now.bindings.scopes },
 }
 
 impl<'s> ScopeResolver<'s> {
-    /// The look-ups in the semantic tables of a unit.
-    pub fn new(semantic: &'s Semantic) -> ScopeResolver<'s>
-        ensures { result.semantic.now ≡ semantic.now }
+    /// The look-ups in the semantic tables of a unit, in time that is linear in these. On `OutOfMemory`, an allocation failed, or
+    /// there are more scopes than ids of scopes, which no unit has.
+    pub fn new(alloc: Global, semantic: &'s Semantic) -> Result<ScopeResolver<'s>, OutOfMemory>
+        ensures { IfOk result (λ resolver. resolver.semantic.now ≡ semantic.now) }
     {
-        ScopeResolver { semantic }
+        let scopes = semantic.bindings.scopes.as_slice();
+        let functions = function_scopes(alloc, scopes)?;
+        let ranges = function_scope_ranges(alloc, semantic.nodes.as_slice(), scopes)?;
+        Ok(ScopeResolver {
+            semantic,
+            functions,
+            ranges,
+        })
     }
 
     /// The symbol that a reference resolves to. `None` for a global, and for a number that is no reference's.
@@ -250,6 +267,35 @@ impl<'s> ScopeResolver<'s> {
         Symbols {
             next: 0,
             end: id_count(self.semantic.bindings.symbols.as_slice().len()),
+        }
+    }
+
+    /// The node that captures of a scope's function count from: the method, getter or setter of an object that the function is a
+    /// part of, else the node of the scope. The unit's node for a number that is no scope's.
+    pub fn capture_root_node(&self, scope: ScopeId) -> NodeId
+        ensures { result ≡ made.capture_root_node self.now.semantic.now.nodes self.now.semantic.now.bindings.scopes scope.0 }
+    {
+        capture_root_node(
+            self.semantic.nodes.as_slice(),
+            self.semantic.bindings.scopes.as_slice(),
+            scope,
+        )
+    }
+
+    /// The half-open byte ranges of all functions in the unit's text, in the order of their scopes: that of the function, and for
+    /// one in a method, getter or setter of an object, that from the start of this to the end of the function.
+    pub fn function_scope_ranges(&self) -> &[(u32, u32)]
+        ensures { result.now ≡ made.function_scope_ranges self.now.semantic.now.nodes self.now.semantic.now.bindings.scopes }
+    {
+        self.ranges.as_slice()
+    }
+
+    /// The scopes of functions, in order.
+    pub fn function_scopes(&self) -> FunctionScopes<'_>
+        ensures { result.left.now ≡ made.function_scopes self.now.semantic.now.bindings.scopes }
+    {
+        FunctionScopes {
+            left: self.functions.as_slice(),
         }
     }
 }
