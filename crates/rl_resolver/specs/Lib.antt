@@ -3,3 +3,5 @@ pub mod Kinds
 pub mod Lookups
 pub mod Around
 pub mod Functions
+pub mod Buckets
+pub mod Listed

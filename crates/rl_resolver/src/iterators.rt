@@ -88,3 +88,24 @@ impl<'s> Iterator for FunctionScopes<'s> {
         Some(*first)
     }
 }
+
+/// Symbols that a scope binds names to: `bindings_in` of the original.
+#[derive(Clone, Copy)]
+pub struct Bindings<'s> {
+    /// The symbols that are left to come.
+    pub(crate) left: &'s [SymbolId],
+}
+
+impl<'s> Iterator for Bindings<'s> {
+    type Item = SymbolId;
+
+    ghost next_gives = { YieldsFirst (λ s. s.left.now) };
+
+    ghost remaining = { item_count (λ s. s.left.now) };
+
+    fn next(&mut self) -> Option<SymbolId> {
+        let (first, rest) = self.left.split_first()?;
+        self.left = rest;
+        Some(*first)
+    }
+}

@@ -1,18 +1,22 @@
 //! Look-ups of scopes, symbols and references by number, after the original's `ScopeResolver`.
 
-ghost use Rattle.std.specs.Prelude.{◌≡◌, ◌-◌, slice_get, IfOk};
+ghost use Rattle.std.specs.Prelude.{◌≡◌, ◌-◌, length, slice_get, IfOk};
 ghost use Rattle.std.specs.Option.{option_copied};
 ghost use Rattle.rl_bindings.specs.Symbols.{resolve};
 ghost use Rattle.rl_resolver.specs.Around as around;
 ghost use Rattle.rl_resolver.specs.Functions as made;
+ghost use Rattle.rl_resolver.specs.Buckets.{AreBuckets};
+ghost use Rattle.rl_resolver.specs.Listed as listed;
 ghost use Rattle.rl_resolver.specs.Lookups as spec;
 
+use crate::buckets::bucket;
 use crate::functions::{capture_root_node, function_scope_ranges, function_scopes};
-use crate::iterators::{Ancestors, FunctionScopes, Symbols};
+use crate::iterators::{Ancestors, Bindings, FunctionScopes, Symbols};
 use crate::kinds::{BindingKind, DeclKind, binding_kind, decl_kind, has_identifier, is_type_only};
 use crate::lookups::{id_count, scope_parent, symbol_id};
 use crate::semantic::Semantic;
-use rl_ast::binding::IdentifierReference;
+use crate::tables::{references_by_symbol, symbols_by_node, symbols_by_scope, unresolved_by_name};
+use rl_ast::binding::{BindingIdentifier, IdentifierReference};
 use rl_base::error::OutOfMemory;
 use rl_base::ids::{NodeId, ReferenceId, ScopeId, SymbolId};
 use rl_base::list::List;
@@ -27,23 +31,37 @@ pub struct ScopeResolver<'s> {
     pub semantic: &'s Semantic,
     functions: List<ScopeId>,
     ranges: List<(u32, u32)>,
+    references: List<List<ReferenceId>>,
+    bindings: List<List<SymbolId>>,
+    declarations: List<List<SymbolId>>,
+    unresolved: List<List<NodeId>>,
     ghost functions_are: { functions ≡ made.function_scopes semantic.now.bindings.scopes },
     ghost ranges_are: { ranges ≡ made.function_scope_ranges semantic.now.nodes semantic.now.bindings.scopes },
+    ghost references_are: { AreBuckets references (length semantic.now.bindings.symbols) (listed.resolved_from 0 semantic.now.bindings.references) },
+    ghost bindings_are: { AreBuckets bindings (length semantic.now.bindings.scopes) (listed.bound_from semantic.now.bindings.symbols 0 semantic.now.bindings.symbols) },
+    ghost declarations_are: { AreBuckets declarations (length semantic.now.nodes) (listed.declared_from 0 semantic.now.bindings.symbols) },
+    ghost unresolved_are: { AreBuckets unresolved (length semantic.now.bindings.names) (listed.unresolved_in semantic.now.bindings.references) },
 }
 
 impl<'s> ScopeResolver<'s> {
     /// The look-ups in the semantic tables of a unit, in time that is linear in these. On `OutOfMemory`, an allocation failed, or
-    /// there are more scopes than ids of scopes, which no unit has.
+    /// there are more scopes, symbols or references than ids, which no unit has.
     pub fn new(alloc: Global, semantic: &'s Semantic) -> Result<ScopeResolver<'s>, OutOfMemory>
         ensures { IfOk result (λ resolver. resolver.semantic.now ≡ semantic.now) }
     {
-        let scopes = semantic.bindings.scopes.as_slice();
-        let functions = function_scopes(alloc, scopes)?;
-        let ranges = function_scope_ranges(alloc, semantic.nodes.as_slice(), scopes)?;
+        let bindings = &semantic.bindings;
+        let scopes = bindings.scopes.as_slice();
+        let nodes = semantic.nodes.as_slice();
+        let symbols = bindings.symbols.as_slice();
+        let references = bindings.references.as_slice();
         Ok(ScopeResolver {
             semantic,
-            functions,
-            ranges,
+            functions: function_scopes(alloc, scopes)?,
+            ranges: function_scope_ranges(alloc, nodes, scopes)?,
+            references: references_by_symbol(alloc, symbols.len(), references)?,
+            bindings: symbols_by_scope(alloc, scopes.len(), &bindings.symbols)?,
+            declarations: symbols_by_node(alloc, nodes.len(), symbols)?,
+            unresolved: unresolved_by_name(alloc, bindings.names.len(), references)?,
         })
     }
 
@@ -296,6 +314,47 @@ impl<'s> ScopeResolver<'s> {
     {
         FunctionScopes {
             left: self.functions.as_slice(),
+        }
+    }
+
+    /// The references that resolve to a symbol, in order. None for a number that is no symbol's.
+    pub fn reference_ids(&self, symbol: SymbolId) -> &[ReferenceId]
+        ensures { result.now ≡ listed.reference_ids self.now.semantic.now.bindings.symbols self.now.semantic.now.bindings.references symbol.0 }
+    {
+        bucket(&self.references, symbol.0 as usize)
+    }
+
+    /// The symbols that a scope binds names to, in order: an own name of a function or class expression that another name of the
+    /// scope shadows is not among them. None for a number that is no scope's.
+    pub fn bindings_in(&self, scope: ScopeId) -> Bindings<'_>
+        ensures { result.left.now ≡ listed.bindings_in self.now.semantic.now.bindings.scopes self.now.semantic.now.bindings.symbols scope.0 }
+    {
+        Bindings {
+            left: bucket(&self.bindings, scope.0 as usize),
+        }
+    }
+
+    /// The symbol that a `bind` node declares first. `None` for an interface, for a later declaration of a symbol, and for a node
+    /// that is no `bind` node of the unit.
+    pub fn resolve_binding_identifier(&self, identifier: &BindingIdentifier<'_>) -> Option<SymbolId>
+        ensures { result ≡ listed.symbol_declared self.now.semantic.now.nodes self.now.semantic.now.bindings.symbols identifier.now.at.id.0 }
+    {
+        match bucket(&self.declarations, identifier.at.id.0 as usize) {
+            [first, ..] => Some(*first),
+            [] => None,
+        }
+    }
+
+    /// True of a name that some reference has that resolves to no symbol: a global that the unit uses.
+    pub fn has_unresolved_reference(&self, name: &str) -> bool
+        ensures { result ≡ listed.has_unresolved_reference self.now.semantic.now.bindings.names self.now.semantic.now.bindings.references name.now }
+    {
+        match self.semantic.bindings.names.find(name) {
+            Some(number) => match bucket(&self.unresolved, number) {
+                [_, ..] => true,
+                [] => false,
+            },
+            None => false,
         }
     }
 }

@@ -1,0 +1,36 @@
+-- Items by keys that are numbers: the items of each key, in order.
+use Rattle.std.specs.Prelude.{ℕ, ◌≡◌, if◌then◌else◌, nat_eq, nat_lt, slice_get, slice_set, List, [], ◌∷◌, ◌++◌, replicate}
+use Rattle.rl_resolver.specs.Lookups.{of_item}
+
+module _ {T : Type 0} where
+  -- The items with a key, in order.
+  abbrev pub those : (key : ℕ) → List (ℕ × T) → List T
+  those key [] = []
+  those key (pair ∷ pairs) = if nat_eq pair.0 key then pair.1 ∷ those key pairs else those key pairs
+
+  -- As `those`, for keys below `count`. None for any other key.
+  abbrev pub those_below : (count key : ℕ) → List (ℕ × T) → List T
+  those_below count key pairs = if nat_lt key count then those key pairs else []
+
+  abbrev pub itself : List T → List T
+  itself items = items
+
+  -- The items that a table has for a key. None past its end.
+  abbrev pub bucket : List (List T) → (key : ℕ) → List T
+  bucket table key = of_item [] itself (slice_get table key)
+
+  -- The table with one more item, at its key. A key past its end changes nothing.
+  abbrev pub put : List (List T) → ℕ × T → List (List T)
+  put table pair = slice_set table pair.0 (bucket table pair.0 ++ pair.1 ∷ [])
+
+  abbrev pub put_all : List (List T) → List (ℕ × T) → List (List T)
+  put_all table [] = table
+  put_all table (pair ∷ pairs) = put_all (put table pair) pairs
+
+  -- The table of pairs for `count` keys, made step by step.
+  abbrev pub tabled : (count : ℕ) → List (ℕ × T) → List (List T)
+  tabled count pairs = put_all (replicate count []) pairs
+
+  -- The table has for each key below `count` the items of that key.
+  pub record AreBuckets (table : List (List T)) (count : ℕ) (pairs : List (ℕ × T)) : Type 0 where
+    pub at : (key : ℕ) → bucket table key ≡ those_below count key pairs

@@ -1,0 +1,67 @@
+//! Items by keys that are numbers: the items of each key, in order.
+
+ghost use Rattle.std.specs.Prelude.{◌≡◌, [], replicate, IfOk, OnOk};
+ghost use Rattle.rl_resolver.specs.Buckets as spec;
+
+use rl_base::error::OutOfMemory;
+use rl_base::list::List;
+use std::alloc::Global;
+
+/// `count` keys without items. On `OutOfMemory`, an allocation failed.
+fn blank<T: Copy>(alloc: Global, count: usize) -> Result<Vec<List<T>>, OutOfMemory>
+    ensures { IfOk result (λ table. table.items ≡ replicate count []) }
+{
+    let mut table = Vec::with_capacity(alloc, count)?;
+    for _key in 0..count {
+        table.push(List::new(alloc))?;
+    }
+    Ok(table)
+}
+
+/// Adds an item at its key. A key past the end of the table changes nothing. On `OutOfMemory`, an allocation failed.
+fn put<T: Copy>(table: &mut [List<T>], key: usize, item: T) -> Result<(), OutOfMemory>
+    ensures { OnOk result (table.new ≡ spec.put table.old (key, item)) }
+{
+    if key < table.len() {
+        table[key].push(item)?;
+    }
+    Ok(())
+}
+
+/// The table of pairs of a key and an item for `count` keys. On `OutOfMemory`, an allocation failed.
+fn tabled<T: Copy>(
+    alloc: Global,
+    count: usize,
+    pairs: &[(usize, T)],
+) -> Result<List<List<T>>, OutOfMemory>
+    ensures { IfOk result (λ table. table ≡ spec.tabled count pairs.now) }
+{
+    let mut table = blank(alloc, count)?;
+    for pair in pairs {
+        put(&mut table, pair.0, pair.1)?;
+    }
+    Ok(List::from_vec(table))
+}
+
+/// The table that has for each key below `count` the items of that key. On `OutOfMemory`, an allocation failed.
+#[tactic(auto, using(crate::proofs::Filling::are_buckets))]
+pub(crate) fn buckets<T: Copy>(
+    alloc: Global,
+    count: usize,
+    pairs: &[(usize, T)],
+) -> Result<List<List<T>>, OutOfMemory>
+    ensures { IfOk result (λ table. spec.AreBuckets table count pairs.now) }
+{
+    let table = tabled(alloc, count, pairs)?;
+    Ok(table)
+}
+
+/// The items that a table has for a key. None past its end.
+pub(crate) fn bucket<T>(table: &List<List<T>>, key: usize) -> &[T]
+    ensures { result.now ≡ spec.bucket table.now key }
+{
+    match table.get(key) {
+        Some(items) => items.as_slice(),
+        None => &[],
+    }
+}
