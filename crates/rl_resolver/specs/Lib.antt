@@ -5,3 +5,4 @@ pub mod Around
 pub mod Functions
 pub mod Buckets
 pub mod Listed
+pub mod Inside

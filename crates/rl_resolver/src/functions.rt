@@ -65,7 +65,7 @@ fn around(nodes: &[NodeEntry], entry: NodeEntry) -> Option<NodeEntry>
 }
 
 /// True of a method, a getter or a setter of an object.
-fn is_property(nodes: &[NodeEntry], entry: NodeEntry) -> bool
+pub(crate) fn is_property(nodes: &[NodeEntry], entry: NodeEntry) -> bool
     ensures { result ≡ spec.is_property nodes.now entry }
 {
     if !is_accessor(entry.word) {

@@ -1,12 +1,17 @@
 //! Iterators over scopes and symbols, after those of the original's `ScopeResolver`.
 
-ghost use Rattle.std.specs.Prelude.{◌≡◌, ◌≤◌, ◌-◌};
+ghost use Rattle.std.specs.Prelude.{◌≡◌, ◌≤◌, ◌-◌, length};
 ghost use Rattle.std.specs.Iterator.{YieldsFirst, item_count};
-ghost use Rattle.rl_resolver.specs.Around.{outward, ids_from};
+ghost use Rattle.rl_resolver.specs.Buckets.{AreBuckets};
+ghost use Rattle.rl_resolver.specs.Inside.{containing_function_scopes, functions_out, methods_in};
+ghost use Rattle.rl_resolver.specs.Around.{ancestors, outward, ids_from};
 
+use crate::inside::advance;
 use crate::lookups::scope_parent;
-use rl_base::ids::{ScopeId, SymbolId};
+use rl_base::ids::{NodeId, ScopeId, SymbolId};
+use rl_base::list::List;
 use rl_bindings::event::ScopeEntry;
+use rl_syntax::nodes::NodeEntry;
 
 /// The scopes around a scope, itself first: `ancestors` of the original.
 #[derive(Clone, Copy)]
@@ -17,6 +22,19 @@ pub struct Ancestors<'s> {
     pub(crate) most: usize,
     /// The scope that comes next. `None` past the program's.
     pub(crate) next: Option<ScopeId>,
+}
+
+impl<'s> Ancestors<'s> {
+    /// The scopes around a scope.
+    pub(crate) fn of(scopes: &'s [ScopeEntry], scope: ScopeId) -> Ancestors<'s>
+        ensures { outward result.scopes.now result.most result.next ≡ ancestors scopes.now scope }
+    {
+        Ancestors {
+            scopes,
+            most: scope.0 as usize + 1,
+            next: Some(scope),
+        }
+    }
 }
 
 impl<'s> Iterator for Ancestors<'s> {
@@ -107,5 +125,68 @@ impl<'s> Iterator for Bindings<'s> {
         let (first, rest) = self.left.split_first()?;
         self.left = rest;
         Some(*first)
+    }
+}
+
+/// Scopes of the functions that a node stands inside of, the innermost first: `containing_function_scopes` of the original.
+#[derive(Drop)]
+pub struct ContainingFunctionScopes<'s> {
+    /// The nodes of the unit.
+    pub(crate) nodes: &'s [NodeEntry],
+    /// The scopes of the functions of each property.
+    pub(crate) methods: &'s List<List<ScopeId>>,
+    /// The most nodes that are left to come.
+    pub(crate) most: usize,
+    /// The node that comes next. `None` past the unit.
+    pub(crate) next: Option<NodeId>,
+    ghost methods_are: { AreBuckets methods.now (length nodes.now) (methods_in nodes.now nodes.now) },
+}
+
+impl<'s> ContainingFunctionScopes<'s> {
+    /// The scopes of the functions that a node stands inside of.
+    pub(crate) fn of(
+        nodes: &'s [NodeEntry],
+        methods: &'s List<List<ScopeId>>,
+        node: NodeId,
+    ) -> ContainingFunctionScopes<'s>
+        requires { AreBuckets methods.now (length nodes.now) (methods_in nodes.now nodes.now) }
+        ensures { functions_out result.nodes.now result.most result.next ≡ containing_function_scopes nodes.now node.0 }
+    {
+        match nodes.get(node.0 as usize) {
+            Some(entry) => ContainingFunctionScopes {
+                nodes,
+                methods,
+                most: node.0 as usize,
+                next: entry.parent,
+            },
+            None => ContainingFunctionScopes {
+                nodes,
+                methods,
+                most: 0,
+                next: None,
+            },
+        }
+    }
+}
+
+impl<'s> Iterator for ContainingFunctionScopes<'s> {
+    type Item = ScopeId;
+
+    ghost next_gives = { YieldsFirst (λ s. functions_out s.nodes.now s.most s.next) };
+
+    ghost remaining = { item_count (λ s. functions_out s.nodes.now s.most s.next) };
+
+    fn next(&mut self) -> Option<ScopeId> {
+        match advance(self.nodes, self.methods, self.most, self.next) {
+            Some((scope, most, next)) => {
+                self.most = most;
+                self.next = next;
+                Some(scope)
+            }
+            None => {
+                self.most = 0;
+                None
+            }
+        }
     }
 }

@@ -3,6 +3,7 @@
 
 mod buckets;
 mod functions;
+mod inside;
 pub mod iterators;
 pub mod kinds;
 mod lookups;

@@ -1,17 +1,19 @@
 //! Look-ups of scopes, symbols and references by number, after the original's `ScopeResolver`.
 
-ghost use Rattle.std.specs.Prelude.{◌≡◌, ◌-◌, length, slice_get, IfOk};
+ghost use Rattle.std.specs.Prelude.{◌≡◌, ◌-◌, ◌<◌, ◌^◌, drop, length, slice_get, IfOk};
 ghost use Rattle.std.specs.Option.{option_copied};
 ghost use Rattle.rl_bindings.specs.Symbols.{resolve};
 ghost use Rattle.rl_resolver.specs.Around as around;
 ghost use Rattle.rl_resolver.specs.Functions as made;
 ghost use Rattle.rl_resolver.specs.Buckets.{AreBuckets};
+ghost use Rattle.rl_resolver.specs.Inside as within;
 ghost use Rattle.rl_resolver.specs.Listed as listed;
 ghost use Rattle.rl_resolver.specs.Lookups as spec;
 
 use crate::buckets::bucket;
 use crate::functions::{capture_root_node, function_scope_ranges, function_scopes};
-use crate::iterators::{Ancestors, Bindings, FunctionScopes, Symbols};
+use crate::inside::{found_inside, methods_by_node};
+use crate::iterators::{Ancestors, Bindings, ContainingFunctionScopes, FunctionScopes, Symbols};
 use crate::kinds::{BindingKind, DeclKind, binding_kind, decl_kind, has_identifier, is_type_only};
 use crate::lookups::{id_count, scope_parent, symbol_id};
 use crate::semantic::Semantic;
@@ -35,8 +37,11 @@ pub struct ScopeResolver<'s> {
     bindings: List<List<SymbolId>>,
     declarations: List<List<SymbolId>>,
     unresolved: List<List<NodeId>>,
+    methods: List<List<ScopeId>>,
     ghost functions_are: { functions ≡ made.function_scopes semantic.now.bindings.scopes },
     ghost ranges_are: { ranges ≡ made.function_scope_ranges semantic.now.nodes semantic.now.bindings.scopes },
+    ghost methods_are: { AreBuckets methods (length semantic.now.nodes) (within.methods_in semantic.now.nodes semantic.now.nodes) },
+    ghost few_scopes: { length semantic.now.bindings.scopes < 2 ^ 32 },
     ghost references_are: { AreBuckets references (length semantic.now.bindings.symbols) (listed.resolved_from 0 semantic.now.bindings.references) },
     ghost bindings_are: { AreBuckets bindings (length semantic.now.bindings.scopes) (listed.bound_from semantic.now.bindings.symbols 0 semantic.now.bindings.symbols) },
     ghost declarations_are: { AreBuckets declarations (length semantic.now.nodes) (listed.declared_from 0 semantic.now.bindings.symbols) },
@@ -54,6 +59,9 @@ impl<'s> ScopeResolver<'s> {
         let nodes = semantic.nodes.as_slice();
         let symbols = bindings.symbols.as_slice();
         let references = bindings.references.as_slice();
+        if 4_294_967_295 < scopes.len() {
+            return Err(OutOfMemory);
+        }
         Ok(ScopeResolver {
             semantic,
             functions: function_scopes(alloc, scopes)?,
@@ -62,6 +70,7 @@ impl<'s> ScopeResolver<'s> {
             bindings: symbols_by_scope(alloc, scopes.len(), &bindings.symbols)?,
             declarations: symbols_by_node(alloc, nodes.len(), symbols)?,
             unresolved: unresolved_by_name(alloc, bindings.names.len(), references)?,
+            methods: methods_by_node(alloc, nodes)?,
         })
     }
 
@@ -248,11 +257,7 @@ impl<'s> ScopeResolver<'s> {
     pub fn ancestors(&self, scope: ScopeId) -> Ancestors<'s>
         ensures { around.outward result.scopes.now result.most result.next ≡ around.ancestors self.now.semantic.now.bindings.scopes scope }
     {
-        Ancestors {
-            scopes: self.semantic.bindings.scopes.as_slice(),
-            most: scope.0 as usize + 1,
-            next: Some(scope),
-        }
+        Ancestors::of(self.semantic.bindings.scopes.as_slice(), scope)
     }
 
     /// The index of the symbol that the nearest scope around a scope binds a name to. `None` if none binds it.
@@ -356,5 +361,31 @@ impl<'s> ScopeResolver<'s> {
             },
             None => false,
         }
+    }
+
+    /// The symbol that a name is bound to in a scope or in one inside it: in that with the least number, if several bind it. `None`
+    /// if none does. It takes a look-up for each scope behind the scope, and a walk outwards for each that binds the name.
+    pub fn find_binding_in_descendants(&self, name: &str, ancestor: ScopeId) -> Option<SymbolId>
+        ensures { result ≡ within.find_binding_in_descendants self.now.semantic.now.bindings.names self.now.semantic.now.bindings.symbols self.now.semantic.now.bindings.scopes name.now ancestor }
+    {
+        let bindings = &self.semantic.bindings;
+        match bindings.names.find(name) {
+            Some(number) => symbol_id(found_inside(
+                bindings.scopes.as_slice(),
+                &bindings.symbols,
+                ancestor,
+                number,
+            )),
+            None => None,
+        }
+    }
+
+    /// The scopes of the functions that a node stands inside of, the innermost first. The function of a method, getter or setter
+    /// of an object counts once for itself and once for its property: it is there twice for a node inside the function, and once
+    /// for one in the property's key. None for a number that is no node's.
+    pub fn containing_function_scopes(&self, node: NodeId) -> ContainingFunctionScopes<'_>
+        ensures { within.functions_out result.nodes.now result.most result.next ≡ within.containing_function_scopes self.now.semantic.now.nodes node.0 }
+    {
+        ContainingFunctionScopes::of(self.semantic.nodes.as_slice(), &self.methods, node)
     }
 }
