@@ -6,3 +6,4 @@ pub mod Functions
 pub mod Buckets
 pub mod Listed
 pub mod Inside
+pub mod Children

@@ -2,6 +2,7 @@
 #![tactic(auto)]
 
 mod buckets;
+mod children;
 mod functions;
 mod inside;
 pub mod iterators;

@@ -4,6 +4,7 @@ ghost use Rattle.std.specs.Prelude.{◌≡◌, ◌-◌, ◌<◌, ◌^◌, drop, 
 ghost use Rattle.std.specs.Option.{option_copied};
 ghost use Rattle.rl_bindings.specs.Symbols.{resolve};
 ghost use Rattle.rl_resolver.specs.Around as around;
+ghost use Rattle.rl_resolver.specs.Children as children;
 ghost use Rattle.rl_resolver.specs.Functions as made;
 ghost use Rattle.rl_resolver.specs.Buckets.{AreBuckets};
 ghost use Rattle.rl_resolver.specs.Inside as within;
@@ -11,6 +12,7 @@ ghost use Rattle.rl_resolver.specs.Listed as listed;
 ghost use Rattle.rl_resolver.specs.Lookups as spec;
 
 use crate::buckets::bucket;
+use crate::children::bindings_with_child_blocks;
 use crate::functions::{capture_root_node, function_scope_ranges, function_scopes};
 use crate::inside::{found_inside, methods_by_node};
 use crate::iterators::{Ancestors, Bindings, ContainingFunctionScopes, FunctionScopes, Symbols};
@@ -23,6 +25,7 @@ use rl_base::error::OutOfMemory;
 use rl_base::ids::{NodeId, ReferenceId, ScopeId, SymbolId};
 use rl_base::list::List;
 use rl_base::span::Span;
+use rl_base::text::Text;
 use rl_bindings::event::{Bound, ScopeKind};
 use std::alloc::Global;
 
@@ -387,5 +390,30 @@ impl<'s> ScopeResolver<'s> {
         ensures { within.functions_out result.nodes.now result.most result.next ≡ within.containing_function_scopes self.now.semantic.now.nodes node.0 }
     {
         ContainingFunctionScopes::of(self.semantic.nodes.as_slice(), &self.methods, node)
+    }
+
+    /// A copy of the name of a symbol. Empty for a number that is no symbol's. On `OutOfMemory`, an allocation failed.
+    pub fn symbol_ident(&self, alloc: Global, symbol: SymbolId) -> Result<Text, OutOfMemory>
+        ensures { IfOk result (λ text. text ≡ spec.symbol_name self.now.semantic.now.bindings.names self.now.semantic.now.bindings.symbols symbol.0) }
+    {
+        Text::from_str(alloc, self.symbol_name(symbol))
+    }
+
+    /// The symbols that a scope binds names to, and behind them those of each block right inside it, in the order of the scopes'
+    /// numbers. It takes a step for each scope of the unit. On `OutOfMemory`, an allocation failed.
+    pub fn bindings_with_child_blocks(
+        &self,
+        alloc: Global,
+        scope: ScopeId,
+    ) -> Result<List<SymbolId>, OutOfMemory>
+        ensures { IfOk result (λ found. found ≡ children.bindings_with_child_blocks self.now.semantic.now.bindings.scopes self.now.semantic.now.bindings.symbols scope.0) }
+    {
+        bindings_with_child_blocks(
+            alloc,
+            self.semantic.bindings.scopes.as_slice(),
+            &self.semantic.bindings.symbols,
+            &self.bindings,
+            scope.0 as usize,
+        )
     }
 }
