@@ -1,5 +1,5 @@
 -- The references of each symbol, the symbols of each scope, the symbol of each first declaration, and the names that no scope binds.
-use Rattle.std.specs.Prelude.{ℕ, ◌+◌, Bool, true, false, if◌then◌else◌, Option, Some, None, List, [], ◌∷◌, ◌++◌, length}
+use Rattle.std.specs.Prelude.{ℕ, ◌+◌, Bool, true, false, if◌then◌else◌, Option, Some, None, List, [], ◌∷◌, ◌++◌, length, map}
 use Rattle.rl_base.specs.declared.ids.NodeId.{NodeId}
 use Rattle.rl_base.specs.declared.ids.ReferenceId.{ReferenceId}
 use Rattle.rl_base.specs.declared.ids.SymbolId.{SymbolId}
@@ -8,10 +8,11 @@ use Rattle.rl_bindings.specs.Symbols.{binding}
 use Rattle.rl_bindings.specs.declared.event.Bound.{Bound}
 use Rattle.rl_bindings.specs.declared.event.ScopeEntry.{ScopeEntry}
 use Rattle.rl_bindings.specs.declared.names.Name.{Name}
+use Rattle.rl_bindings.specs.declared.resolve.Declaration.{Declaration}
 use Rattle.rl_bindings.specs.declared.resolve.Reference.{Reference}
 use Rattle.rl_resolver.specs.Buckets.{those_below}
 use Rattle.rl_resolver.specs.Kinds.{has_identifier}
-use Rattle.rl_resolver.specs.Lookups.{of_item, is_number}
+use Rattle.rl_resolver.specs.Lookups.{of_item, is_number, symbol_id}
 use Rattle.rl_syntax.specs.declared.nodes.NodeEntry.{NodeEntry}
 
 -- A reference with its id, at the symbol that it resolves to. None of a global.
@@ -73,3 +74,15 @@ has_some (x ∷ xs) = true
 -- True of a name that some reference has that resolves to no symbol.
 abbrev pub has_unresolved_reference : List Name → List Reference → (text : List ℕ) → Bool
 has_unresolved_reference names references text = of_item false (λ name. has_some (those_below (length names) name (unresolved_in references))) (number_of names text)
+
+-- The symbol that a declaration declares, at its node.
+abbrev pub declaration_pair : Declaration → ℕ × Option SymbolId
+declaration_pair d = (d.node.0, symbol_id d.symbol)
+
+abbrev pub of_first : List (Option SymbolId) → Option SymbolId
+of_first [] = None
+of_first (symbol ∷ symbols) = symbol
+
+-- The symbol that a node declares, be it the first to declare it or a later one. None for a node that declares none.
+abbrev pub declared_symbol : List NodeEntry → List Declaration → (node : ℕ) → Option SymbolId
+declared_symbol nodes declarations node = of_first (those_below (length nodes) node (map declaration_pair declarations))

@@ -1,6 +1,6 @@
 //! Look-ups of scopes, symbols and references by number, after the original's `ScopeResolver`.
 
-ghost use Rattle.std.specs.Prelude.{◌≡◌, ◌-◌, ◌<◌, ◌^◌, drop, length, slice_get, IfOk};
+ghost use Rattle.std.specs.Prelude.{◌≡◌, ◌-◌, ◌<◌, ◌^◌, drop, length, map, slice_get, IfOk};
 ghost use Rattle.std.specs.Option.{option_copied};
 ghost use Rattle.rl_bindings.specs.Symbols.{resolve};
 ghost use Rattle.rl_resolver.specs.Around as around;
@@ -19,7 +19,10 @@ use crate::iterators::{Ancestors, Bindings, ContainingFunctionScopes, FunctionSc
 use crate::kinds::{BindingKind, DeclKind, binding_kind, decl_kind, has_identifier, is_type_only};
 use crate::lookups::{id_count, scope_parent, symbol_id};
 use crate::semantic::Semantic;
-use crate::tables::{references_by_symbol, symbols_by_node, symbols_by_scope, unresolved_by_name};
+use crate::tables::{
+    declarations_by_node, references_by_symbol, symbols_by_node, symbols_by_scope,
+    unresolved_by_name,
+};
 use rl_ast::binding::{BindingIdentifier, IdentifierReference};
 use rl_base::error::OutOfMemory;
 use rl_base::ids::{NodeId, ReferenceId, ScopeId, SymbolId};
@@ -41,6 +44,8 @@ pub struct ScopeResolver<'s> {
     declarations: List<List<SymbolId>>,
     unresolved: List<List<NodeId>>,
     methods: List<List<ScopeId>>,
+    declared: List<List<Option<SymbolId>>>,
+    ghost declared_are: { AreBuckets declared (length semantic.now.nodes) (map listed.declaration_pair semantic.now.bindings.declarations) },
     ghost functions_are: { functions ≡ made.function_scopes semantic.now.bindings.scopes },
     ghost ranges_are: { ranges ≡ made.function_scope_ranges semantic.now.nodes semantic.now.bindings.scopes },
     ghost methods_are: { AreBuckets methods (length semantic.now.nodes) (within.methods_in semantic.now.nodes semantic.now.nodes) },
@@ -74,6 +79,7 @@ impl<'s> ScopeResolver<'s> {
             declarations: symbols_by_node(alloc, nodes.len(), symbols)?,
             unresolved: unresolved_by_name(alloc, bindings.names.len(), references)?,
             methods: methods_by_node(alloc, nodes)?,
+            declared: declarations_by_node(alloc, nodes.len(), bindings.declarations.as_slice())?,
         })
     }
 
@@ -415,5 +421,16 @@ impl<'s> ScopeResolver<'s> {
             &self.bindings,
             scope.0 as usize,
         )
+    }
+
+    /// The symbol that a `bind` node declares, be it the first to declare it or a later one. `None` for a node that is no `bind`
+    /// node of the unit.
+    pub fn declared_symbol(&self, identifier: &BindingIdentifier<'_>) -> Option<SymbolId>
+        ensures { result ≡ listed.declared_symbol self.now.semantic.now.nodes self.now.semantic.now.bindings.declarations identifier.now.at.id.0 }
+    {
+        match bucket(&self.declared, identifier.at.id.0 as usize) {
+            [first, ..] => *first,
+            [] => None,
+        }
     }
 }

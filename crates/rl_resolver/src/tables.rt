@@ -1,17 +1,18 @@
 //! Tables by number: the references of each symbol, the symbols of each scope, the symbol of each first declaration, and the
 //! references of each name that resolve to none.
 
-ghost use Rattle.std.specs.Prelude.{◌≡◌, ◌++◌, IfOk, OnOk};
+ghost use Rattle.std.specs.Prelude.{◌≡◌, ◌++◌, map, IfOk, OnOk};
 ghost use Rattle.rl_resolver.specs.Buckets.{AreBuckets};
 ghost use Rattle.rl_resolver.specs.Listed as spec;
 
 use crate::buckets::buckets;
 use crate::kinds::has_identifier;
+use crate::lookups::symbol_id;
 use rl_base::error::OutOfMemory;
 use rl_base::ids::{NodeId, ReferenceId, SymbolId};
 use rl_base::list::List;
 use rl_bindings::event::Bound;
-use rl_bindings::resolve::Reference;
+use rl_bindings::resolve::{Declaration, Reference};
 use rl_bindings::symbol_table::SymbolTable;
 use std::alloc::Global;
 
@@ -201,6 +202,33 @@ pub(crate) fn unresolved_by_name(
     ensures { IfOk result (λ table. AreBuckets table count (spec.unresolved_in references.now)) }
 {
     let pairs = unresolved(alloc, references)?;
+    let table = buckets(alloc, count, pairs.as_slice())?;
+    Ok(table)
+}
+
+/// The declarations, each at its node, with the symbol that it declares. On `OutOfMemory`, an allocation failed.
+fn declaring(
+    alloc: Global,
+    declarations: &[Declaration],
+) -> Result<List<(usize, Option<SymbolId>)>, OutOfMemory>
+    ensures { IfOk result (λ pairs. pairs ≡ map spec.declaration_pair declarations.now) }
+{
+    let mut pairs = List::new(alloc);
+    for declaration in declarations {
+        pairs.push((declaration.node.0 as usize, symbol_id(declaration.symbol)))?;
+    }
+    Ok(pairs)
+}
+
+/// The symbols that each of `count` nodes declares. On `OutOfMemory`, an allocation failed.
+pub(crate) fn declarations_by_node(
+    alloc: Global,
+    count: usize,
+    declarations: &[Declaration],
+) -> Result<List<List<Option<SymbolId>>>, OutOfMemory>
+    ensures { IfOk result (λ table. AreBuckets table count (map spec.declaration_pair declarations.now)) }
+{
+    let pairs = declaring(alloc, declarations)?;
     let table = buckets(alloc, count, pairs.as_slice())?;
     Ok(table)
 }
