@@ -32,7 +32,8 @@ use rl_base::text::Text;
 use rl_bindings::event::{Bound, ScopeKind};
 use std::alloc::Global;
 
-/// Look-ups by number in the semantic tables of a unit: `ScopeResolver` of the original. No call but `new` takes memory.
+/// Look-ups by number in the semantic tables of a unit: `ScopeResolver` of the original. Calls that take an allocator take memory,
+/// no others do.
 #[derive(Drop)]
 pub struct ScopeResolver<'s> {
     /// The semantic tables of the unit.
