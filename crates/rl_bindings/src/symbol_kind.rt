@@ -110,3 +110,28 @@ impl BindKind {
         }
     }
 }
+
+impl DeclKind {
+    /// The name of the kind, which is the variant's own name: `as_str` of the original.
+    pub fn as_str(self) -> &'static str
+        ensures { result.now ≡ kinds.decl_name self }
+    {
+        match self {
+            DeclKind::BindingIdentifier => "BindingIdentifier",
+            DeclKind::VariableDeclarator => "VariableDeclarator",
+            DeclKind::FunctionDeclaration => "FunctionDeclaration",
+            DeclKind::FunctionExpression => "FunctionExpression",
+            DeclKind::ClassDeclaration => "ClassDeclaration",
+            DeclKind::ClassExpression => "ClassExpression",
+            DeclKind::FormalParameter => "FormalParameter",
+            DeclKind::ImportSpecifier => "ImportSpecifier",
+            DeclKind::ImportDefaultSpecifier => "ImportDefaultSpecifier",
+            DeclKind::ImportNamespaceSpecifier => "ImportNamespaceSpecifier",
+            DeclKind::CatchClause => "CatchClause",
+            DeclKind::TSTypeAliasDeclaration => "TSTypeAliasDeclaration",
+            DeclKind::TSEnumDeclaration => "TSEnumDeclaration",
+            DeclKind::TSModuleDeclaration => "TSModuleDeclaration",
+            DeclKind::Unknown => "Unknown",
+        }
+    }
+}

@@ -4,7 +4,8 @@ use Rattle.rl_base.specs.declared.ids.NodeId.{NodeId}
 use Rattle.rl_base.specs.declared.ids.ScopeId.{ScopeId}
 use Rattle.rl_bindings.specs.declared.event.Bound.{Bound}
 use Rattle.rl_bindings.specs.declared.event.ScopeEntry.{ScopeEntry}
-use Rattle.rl_resolver.specs.Inside.{bound_inside, or_else, found_from, entry_at, functions_at, functions_out, function_scope, listed}
+use Rattle.rl_resolver.specs.Functions.{entry_at}
+use Rattle.rl_resolver.specs.Inside.{bound_inside, or_else, found_from, functions_at, functions_out, function_scope, listed}
 use Rattle.rl_syntax.specs.declared.nodes.NodeEntry.{NodeEntry}
 
 step_at : (scopes : List ScopeEntry) (symbols : List Bound) (ancestor : ScopeId) (name scope n : ℕ) (xs : List ScopeEntry) → n < length xs

@@ -29,9 +29,14 @@ abbrev pub is_function_expression : Word → Bool
 is_function_expression word.Funexpr = true
 is_function_expression _ = false
 
+-- The entry of a node. None of no node, and past the end of the table.
+abbrev pub entry_at : List NodeEntry → Option NodeId → Option NodeEntry
+entry_at nodes None = None
+entry_at nodes (Some node) = slice_get nodes node.0
+
 -- The node around a node. None around the unit.
 abbrev pub around : List NodeEntry → NodeEntry → Option NodeEntry
-around nodes e = of_item None (λ n. slice_get nodes n.0) e.parent
+around nodes e = entry_at nodes e.parent
 
 -- True of a method, a getter or a setter of an object.
 abbrev pub is_property : List NodeEntry → NodeEntry → Bool

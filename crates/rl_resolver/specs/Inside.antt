@@ -11,7 +11,7 @@ use Rattle.rl_bindings.specs.declared.event.ScopeEntry.{ScopeEntry}
 use Rattle.rl_bindings.specs.declared.names.Name.{Name}
 use Rattle.rl_resolver.specs.Around.{ancestors}
 use Rattle.rl_resolver.specs.Buckets.{those_below}
-use Rattle.rl_resolver.specs.Functions.{is_property, property_of}
+use Rattle.rl_resolver.specs.Functions.{entry_at, is_property, property_of}
 use Rattle.rl_resolver.specs.Lookups.{of_item, symbol_id}
 use Rattle.rl_syntax.specs.declared.nodes.NodeEntry.{NodeEntry}
 use Rattle.rl_syntax.specs.declared.word.Word.{Word}
@@ -74,10 +74,6 @@ function_scope nodes e = if is_function_word e.word then Some e.at.scope else (i
 abbrev pub listed : Option ScopeId → List ScopeId
 listed None = []
 listed (Some scope) = scope ∷ []
-
-abbrev pub entry_at : List NodeEntry → Option NodeId → Option NodeEntry
-entry_at nodes None = None
-entry_at nodes (Some node) = slice_get nodes node.0
 
 -- The scope of the function at an entry, before those that `outward` gives around it.
 abbrev pub functions_at : List NodeEntry → (outward : Option NodeId → List ScopeId) → Option NodeEntry → List ScopeId

@@ -54,14 +54,21 @@ fn is_function_expression(word: Word) -> bool
     }
 }
 
+/// The entry of a node. `None` of no node, and past the end of the table.
+pub(crate) fn entry_at(nodes: &[NodeEntry], node: Option<NodeId>) -> Option<NodeEntry>
+    ensures { result ≡ spec.entry_at nodes.now node }
+{
+    match node {
+        Some(node) => nodes.get(node.0 as usize).copied(),
+        None => None,
+    }
+}
+
 /// The node around a node. `None` around the unit.
 fn around(nodes: &[NodeEntry], entry: NodeEntry) -> Option<NodeEntry>
     ensures { result ≡ spec.around nodes.now entry }
 {
-    match entry.parent {
-        Some(parent) => nodes.get(parent.0 as usize).copied(),
-        None => None,
-    }
+    entry_at(nodes, entry.parent)
 }
 
 /// True of a method, a getter or a setter of an object.

@@ -5,7 +5,7 @@ ghost use Rattle.rl_resolver.specs.Buckets.{AreBuckets};
 ghost use Rattle.rl_resolver.specs.Inside as spec;
 
 use crate::buckets::{bucket, buckets};
-use crate::functions::{is_property, property_of};
+use crate::functions::{entry_at, is_property, property_of};
 use crate::iterators::Ancestors;
 use rl_base::error::OutOfMemory;
 use rl_base::ids::{NodeId, ScopeId};
@@ -162,16 +162,6 @@ fn function_scope(
         function_of(nodes, methods, entry)
     } else {
         None
-    }
-}
-
-/// The entry of a node. `None` of no node, and past the end of the table.
-fn entry_at(nodes: &[NodeEntry], node: Option<NodeId>) -> Option<NodeEntry>
-    ensures { result ≡ spec.entry_at nodes.now node }
-{
-    match node {
-        Some(node) => nodes.get(node.0 as usize).copied(),
-        None => None,
     }
 }
 

@@ -16,7 +16,7 @@ use crate::children::bindings_with_child_blocks;
 use crate::functions::{capture_root_node, function_scope_ranges, function_scopes};
 use crate::inside::{found_inside, methods_by_node};
 use crate::iterators::{Ancestors, Bindings, ContainingFunctionScopes, FunctionScopes, Symbols};
-use crate::kinds::{BindingKind, DeclKind, binding_kind, decl_kind, has_identifier, is_type_only};
+use crate::kinds::{has_identifier, is_type_only};
 use crate::lookups::{id_count, scope_parent, symbol_id};
 use crate::semantic::Semantic;
 use crate::tables::{
@@ -30,6 +30,7 @@ use rl_base::list::List;
 use rl_base::span::Span;
 use rl_base::text::Text;
 use rl_bindings::event::{Bound, ScopeKind};
+use rl_bindings::symbol_kind::{BindingKind, DeclKind};
 use std::alloc::Global;
 
 /// Look-ups by number in the semantic tables of a unit: `ScopeResolver` of the original. Calls that take an allocator take memory,
@@ -164,7 +165,7 @@ impl<'s> ScopeResolver<'s> {
         ensures { result ≡ spec.binding_kind self.now.semantic.now.bindings.symbols symbol.0 }
     {
         match self.symbol(symbol) {
-            Some(bound) => binding_kind(bound.kind),
+            Some(bound) => bound.kind.binding_kind(),
             None => BindingKind::Unknown,
         }
     }
@@ -174,7 +175,7 @@ impl<'s> ScopeResolver<'s> {
         ensures { result ≡ spec.decl_kind self.now.semantic.now.bindings.symbols symbol.0 }
     {
         match self.symbol(symbol) {
-            Some(bound) => decl_kind(bound.kind),
+            Some(bound) => bound.kind.decl_kind(),
             None => DeclKind::Unknown,
         }
     }
