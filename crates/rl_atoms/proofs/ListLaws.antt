@@ -1,4 +1,4 @@
--- Laws of options and lists of values: each has one spelling, no spelling begins another, and what stands at an offset is one.
+-- Laws of options and lists of values: each has one spelling, and at most one stands at an offset.
 use Rattle.std.proofs.Common.{◌≡◌, ℕ, ◌<◌, ◌+◌, Bool, true, false, Option, None, Some, List, [], ◌∷◌, ◌++◌, length, drop, refl, sym, ◌∙◌, ap, arith, append_assoc, true≢false}
 use Rattle.rl_text.specs.Atoms.{ends, StandsAt, NoneStandsAt, HaveOneSpelling, AreApart, NeverBegin}
 use Rattle.rl_text.proofs.Atoms.{stands_one}
@@ -8,7 +8,7 @@ use Rattle.rl_atoms.specs.Lists.{SpellsOption, SpellsRow, SpellsList, AddsRow, N
 use Rattle.rl_atoms.proofs.Rows.{rows_apart}
 
 module _ {X : Type 0} (spells : X → List ℕ → Type 0) where
-  -- The sign of absence stands.
+  -- `None` stands where `-` does, if a spelling may end behind it.
   pub absent_stands : (bytes : List ℕ) (at : ℕ) → at < length bytes → drop at bytes ≡ 45 ∷ drop (at + 1) bytes → ends (drop (at + 1) bytes) ≡ true
       → StandsAt (SpellsOption spells) bytes at None (at + 1)
   absent_stands bytes at low there h =
@@ -22,12 +22,12 @@ module _ {X : Type 0} (spells : X → List ℕ → Type 0) where
   stands_some bytes at next value s =
       record { spelling = s.spelling; spelled = s.spelled; there = s.there; forward = s.forward; within = s.within; ended = s.ended }
 
-  -- No option stands where neither `-` nor a value does.
+  -- No option stands where neither `-` nor a value stands.
   pub option_none : (bytes : List ℕ) (at : ℕ) → ((v : List ℕ) → drop at bytes ≡ 45 ∷ v → ⊥) → NoneStandsAt spells bytes at → NoneStandsAt (SpellsOption spells) bytes at
   option_none bytes at no_sign none None next s = no_sign _ (s.there ∙ ap (λ l. l ++ drop next bytes) s.spelled)
   option_none bytes at no_sign none (Some value) next s = none value next (stands_some bytes at next value s)
 
-  -- No option stands where a `-` does behind which no spelling may end.
+  -- No option stands where `-` stands, if no spelling may end behind it.
   pub absent_unended : NeverBegin spells 45 → (bytes : List ℕ) (at : ℕ) → drop at bytes ≡ 45 ∷ drop (at + 1) bytes → ends (drop (at + 1) bytes) ≡ false
       → NoneStandsAt (SpellsOption spells) bytes at
   absent_unended never bytes at there h None next s =
@@ -53,7 +53,7 @@ module _ {X : Type 0} (spells : X → List ℕ → Type 0) where
   list_inside values bytes rest s p e =
       (p.0, p.1, e ∙ ap (λ l. l ++ rest) p.2 ∙ ap (λ l. 91 ∷ l) (append_assoc p.0 (93 ∷ []) rest))
 
-  -- No list stands where no `[` does.
+  -- No list stands where no `[` stands.
   pub list_unopened : (bytes : List ℕ) (at : ℕ) → ((v : List ℕ) → drop at bytes ≡ 91 ∷ v → ⊥) → NoneStandsAt (SpellsList spells) bytes at
   list_unopened bytes at no_bracket values next s = no_bracket _ (list_inside values (drop at bytes) (drop next bytes) s.spelling s.spelled s.there).2
 
@@ -75,7 +75,7 @@ module _ {X : Type 0} (spells : X → List ℕ → Type 0) (one : HaveOneSpellin
   options_apart never (Some x) None s t u v p q m n e = absurd (never x s u v p (e ∙ ap (λ l. l ++ v) q))
   options_apart never (Some x) (Some y) s t u v p q m n e = ap Some (apart x y s t u v p q m n e)
 
-  -- One option at most stands at an offset, and in one way.
+  -- Options that stand at one offset are equal, and end at one offset.
   pub option_one : NeverBegin spells 45 → (bytes : List ℕ) (at n m : ℕ) (x y : Option X) → StandsAt (SpellsOption spells) bytes at x n → StandsAt (SpellsOption spells) bytes at y m → (x ≡ y) × (n ≡ m)
   option_one never bytes at n m x y p q = stands_one (SpellsOption spells) one_option (options_apart never) bytes at n m x y p q
 
@@ -94,11 +94,11 @@ module _ {X : Type 0} (spells : X → List ℕ → Type 0) (one : HaveOneSpellin
       let j = list_inside spells ys (t ++ v) v t q refl in
       (rows_apart spells one apart never xs ys i.0 j.0 u v i.1 j.1 (heads 91 91 _ _ (sym i.2 ∙ e ∙ j.2)).1).0
 
-  -- One list at most stands at an offset, and in one way.
+  -- Lists that stand at one offset are equal, and end at one offset.
   pub list_one : NeverBegin spells 93 → (bytes : List ℕ) (at n m : ℕ) (xs ys : List X) → StandsAt (SpellsList spells) bytes at xs n → StandsAt (SpellsList spells) bytes at ys m → (xs ≡ ys) × (n ≡ m)
   list_one never bytes at n m xs ys p q = stands_one (SpellsList spells) one_list (lists_apart never) bytes at n m xs ys p q
 
-  -- No list stands where one does behind which no spelling may end.
+  -- No list stands where a list is read, if no spelling may end behind it.
   pub list_unended : NeverBegin spells 93 → (bytes : List ℕ) (at next : ℕ) (old values : List X) → drop at bytes ≡ 91 ∷ drop (at + 1) bytes
       → AddsRow spells false bytes (at + 1) next old values → ends (drop next bytes) ≡ false → NoneStandsAt (SpellsList spells) bytes at
   list_unended never bytes at next old values opened adds h others n s =

@@ -10,7 +10,7 @@ use Rattle.rl_atoms.specs.Lists.{SpellsRow, AddsRow, NoRow}
 differ : (a b : ℕ) (x y : List ℕ) → a ∷ x ≡ b ∷ y → (a ≡ b → ⊥) → ⊥
 differ a b x y h other = other (heads a b x y h).0
 
--- A space stands in front of no closing bracket.
+-- A space is no closing bracket.
 space_close : (x y : List ℕ) → 32 ∷ x ≡ 93 ∷ y → ⊥
 space_close x y h = differ 32 93 x y h (λ e. omega (arith, e))
 
@@ -27,7 +27,7 @@ module _ {X : Type 0} (spells : X → List ℕ → Type 0) where
   row_more (first ∷ values) value row s p q =
       (p.0, p.1 ++ 32 ∷ s, p.2, row_more values value p.1 s p.3 q, ap (λ l. l ++ 32 ∷ s) p.4 ∙ ap (λ l. 32 ∷ l) (append_assoc p.0 p.1 (32 ∷ s)))
 
-  -- A spelling at an offset, behind which a spelling may end, stands there.
+  -- A value stands where a spelling of it begins the bytes, if a spelling may end behind it.
   stands_begun : NeverBegin spells 93 → (bytes : List ℕ) (at : ℕ) (value : X) (s rest : List ℕ) → spells value s → ends rest ≡ true
       → drop at bytes ≡ s ++ rest → StandsAt spells bytes at value (at + length s)
   stands_begun never bytes at value s rest p h e = record {
@@ -94,7 +94,7 @@ module _ {X : Type 0} (spells : X → List ℕ → Type 0) where
     within = omega (arith, low);
   }
 
-  -- No row stands where the value that its first space announces does not stand.
+  -- No row stands where no value stands behind the first space.
   row_no_value : NeverBegin spells 93 → (bytes : List ℕ) (place : ℕ) (others : List X) (row u : List ℕ) → SpellsRow spells true others row
       → drop place bytes ≡ row ++ 93 ∷ u → drop place bytes ≡ 32 ∷ drop (place + 1) bytes → NoneStandsAt spells bytes (place + 1) → ⊥
   row_no_value never bytes place [] row u m e space none = space_close _ _ (sym space ∙ e ∙ ap (λ l. l ++ 93 ∷ u) m)
@@ -103,7 +103,7 @@ module _ {X : Type 0} (spells : X → List ℕ → Type 0) where
       none value (place + 1 + length m.0) (stands_begun never bytes (place + 1) value m.0 (m.1 ++ 93 ∷ u) m.2
       (row_ends others m.1 (93 ∷ u) m.3 refl) (behind ∙ append_assoc m.0 m.1 (93 ∷ u)))
 
-  -- No row stands where neither a space nor `]` does.
+  -- No row stands where neither a space nor `]` stands.
   row_stopped : (bytes : List ℕ) (place : ℕ) (others : List X) (row u : List ℕ) → SpellsRow spells true others row
       → drop place bytes ≡ row ++ 93 ∷ u → ((v : List ℕ) → drop place bytes ≡ 32 ∷ v → ⊥) → ((v : List ℕ) → drop place bytes ≡ 93 ∷ v → ⊥) → ⊥
   row_stopped bytes place [] row u m e no_space no_close = no_close u (e ∙ ap (λ l. l ++ 93 ∷ u) m)
@@ -134,7 +134,7 @@ module _ {X : Type 0} (spells : X → List ℕ → Type 0) where
     within = adds.within;
   }
 
-  -- No row stands where neither a value nor `]` does.
+  -- No row stands where neither a value nor `]` stands.
   pub first_none : NeverBegin spells 93 → (bytes : List ℕ) (at : ℕ) → NoneStandsAt spells bytes at → ((v : List ℕ) → drop at bytes ≡ 93 ∷ v → ⊥) → NoRow spells false bytes at
   first_none never bytes at none no_close [] row u m e = no_close u (e ∙ ap (λ l. l ++ 93 ∷ u) m)
   first_none never bytes at none no_close (value ∷ values) row u m e =
@@ -155,21 +155,21 @@ module _ {X : Type 0} (spells : X → List ℕ → Type 0) (one : HaveOneSpellin
       (sym (append_assoc m.0 m.1 rest) ∙ behind ∙ append_assoc n.0 n.1 (93 ∷ u)) in
       row_on more values m.1 n.1 rest u m.3 n.3 h same.2
 
-  -- No row stands where the value behind a space does not stand.
+  -- No row stands where no value stands behind the space that follows the values that were read.
   pub row_unread : NeverBegin spells 93 → (bytes : List ℕ) (at place : ℕ) (old now : List X) → HasRow spells bytes at place old now
       → drop place bytes ≡ 32 ∷ drop (place + 1) bytes → NoneStandsAt spells bytes (place + 1) → NoRow spells true bytes at
   row_unread never bytes at place old now has space none values row u m e =
       let on = row_on has.more values has.row row (drop place bytes) u has.spelled m has.ended (sym has.there ∙ e) in
       row_no_value spells never bytes place on.0 on.1 u on.2 on.3 space none
 
-  -- No row stands that neither goes on nor closes.
+  -- No row stands where neither a space nor `]` stands behind the values that were read.
   pub row_unclosed : (bytes : List ℕ) (at place : ℕ) (old now : List X) → HasRow spells bytes at place old now
       → ((v : List ℕ) → drop place bytes ≡ 32 ∷ v → ⊥) → ((v : List ℕ) → drop place bytes ≡ 93 ∷ v → ⊥) → NoRow spells true bytes at
   row_unclosed bytes at place old now has no_space no_close values row u m e =
       let on = row_on has.more values has.row row (drop place bytes) u has.spelled m has.ended (sym has.there ∙ e) in
       row_stopped spells bytes place on.0 on.1 u on.2 on.3 no_space no_close
 
-  -- No row stands where none stands behind its first value.
+  -- No row stands where a value stands and no row stands behind it.
   pub first_no_row : (bytes : List ℕ) (at after : ℕ) (value : X) → StandsAt spells bytes at value after → NoRow spells true bytes after
       → ((v : List ℕ) → drop at bytes ≡ 93 ∷ v → ⊥) → NoRow spells false bytes at
   first_no_row bytes at after value s none no_close [] row u m e = no_close u (e ∙ ap (λ l. l ++ 93 ∷ u) m)

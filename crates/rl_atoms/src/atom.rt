@@ -11,8 +11,8 @@ pub trait Atom: Drop {
     /// The bytes spell the value.
     ghost spells: { Self → List ℕ → Type 0 };
 
-    /// Reads the value whose spelling stands at the byte offset `at`. Returns it and the offset behind its spelling. `None` if the
-    /// spelling of no value stands there. On `OutOfMemory`, an allocation failed.
+    /// Reads the value whose spelling stands at the byte offset `at`. Returns it and the offset behind its spelling. `None` if
+    /// the spelling of no value stands there. On `OutOfMemory`, an allocation failed.
     fn read(alloc: Global, bytes: &[u8], at: usize) -> Result<Option<(Self, usize)>, OutOfMemory>
         requires { at ≤ length bytes.now }
         ensures found { IfOk result (λ r. IfSome r (λ f. StandsAt spells bytes.now at f.0 f.1)) }
@@ -26,7 +26,7 @@ pub trait Atom: Drop {
     /// A value has one spelling at most.
     ghost one_spelling: { HaveOneSpelling spells };
 
-    /// No spelling begins that of another value where a space, `)`, `]` or the end follows.
+    /// Different values never begin the same bytes, if a space, `)`, `]` or the end stands behind each.
     ghost apart: { AreApart spells };
 
     /// No spelling begins with `]`, so that the end of a list is seen.
@@ -35,7 +35,7 @@ pub trait Atom: Drop {
     /// No spelling begins with `-`, the sign of what is absent.
     ghost not_absent: { NeverBegin spells 45 };
 
-    /// What is written is read back, whatever follows the byte behind it.
+    /// Each value is read back from its spelling, wherever that stands in front of a space, `)`, `]` or the end.
     ghost reads_back: { AreReadBack spells };
 }
 

@@ -10,8 +10,8 @@ use rl_base::name_table::NameTable;
 use std::alloc::Global;
 use std::marker::Model;
 
-/// Entities with an index by name. Contracts see the list of entities, in the order in which their names came. No two have one name,
-/// and each value is a Unicode scalar value.
+/// Entities with an index by name. Contracts see the list of entities, in the order in which their names came. No two have one
+/// name, and each value is a Unicode scalar value.
 #[derive(Drop)]
 pub struct EntityTable {
     table: NameTable<Entity>,

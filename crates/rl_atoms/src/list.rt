@@ -10,8 +10,8 @@ use rl_base::list::List;
 use rl_text::scan::has_byte;
 use std::alloc::Global;
 
-/// Reads `-`, the sign of what is absent, or the value whose spelling stands at the byte offset `at`. Returns it and the offset behind
-/// it. `None` if neither stands there. On `OutOfMemory`, an allocation failed.
+/// Reads `-`, the sign of what is absent, or the value whose spelling stands at the byte offset `at`. Returns it and the offset
+/// behind it. `None` if neither stands there. On `OutOfMemory`, an allocation failed.
 pub fn read_option<A: Atom>(
     alloc: Global,
     bytes: &[u8],
@@ -34,8 +34,8 @@ pub fn read_option<A: Atom>(
     Ok(Some((Some(value), next)))
 }
 
-/// Reads the list that stands at the byte offset `at`: `[`, values with a space between, and `]`. Returns the values and the offset
-/// behind the list. `None` if no list of values stands there. On `OutOfMemory`, an allocation failed.
+/// Reads the list that stands at the byte offset `at`: `[`, values with a space between, and `]`. Returns the values and the
+/// offset behind the list. `None` if no list of values stands there. On `OutOfMemory`, an allocation failed.
 pub fn read_list<A: Atom>(
     alloc: Global,
     bytes: &[u8],
@@ -59,8 +59,8 @@ pub fn read_list<A: Atom>(
     Ok(Some((values, next)))
 }
 
-/// Reads values from the byte offset `at` on, a space between them, up to `]`. Appends them to `values`, and returns the offset behind
-/// the bracket.
+/// Reads values from the byte offset `at` on, a space between them, up to `]`. Appends them to `values`, and returns the offset
+/// behind the bracket.
 fn read_first<A: Atom>(
     alloc: Global,
     bytes: &[u8],
@@ -84,8 +84,8 @@ fn read_first<A: Atom>(
     Ok(Some(next))
 }
 
-/// Reads values from the byte offset `at` on, each behind a space, up to `]`. Appends them to `values`, and returns the offset behind
-/// the bracket.
+/// Reads values from the byte offset `at` on, each behind a space, up to `]`. Appends them to `values`, and returns the offset
+/// behind the bracket.
 fn read_more<A: Atom>(
     alloc: Global,
     bytes: &[u8],

@@ -16,8 +16,8 @@ use rl_base::text::Text;
 use rl_text::written::{Literal, Written};
 use std::alloc::Global;
 
-/// Reads the value whose text stands in quotes at the byte offset `at`. Returns it and the offset behind its spelling. `None` if the
-/// text of no value stands there. On `OutOfMemory`, an allocation failed.
+/// Reads the value whose text stands in quotes at the byte offset `at`. Returns it and the offset behind its spelling. `None` if
+/// the text of no value stands there. On `OutOfMemory`, an allocation failed.
 fn read_closed<O: ClosedText>(
     alloc: Global,
     bytes: &[u8],

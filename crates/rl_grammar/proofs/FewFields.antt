@@ -1,4 +1,5 @@
--- Every node of the grammar has at most 8 fields: by computation, sort by sort. Written by tools/syntax.py from tools/grammar.txt.
+-- Every node of the grammar has at most 8 fields: by computation, sort by sort.
+-- Written by tools/syntax.py from tools/grammar.txt.
 use Rattle.std.proofs.Common.{◌≡◌, Bool, true, nat_le, Option, Some, None, List, length, refl}
 use Rattle.rl_grammar.specs.Rules.{rule, unit_rule, entity_rule, program_rule, statement_rule, block_statement_rule, switch_case_rule, catch_clause_rule, variable_declaration_rule, variable_declarator_rule, for_init_rule, for_head_rule, export_default_rule, class_element_rule, import_specifier_rule, arrow_rule, function_declaration_rule, function_expression_rule, formal_parameters_rule, formal_parameter_rule, binding_rest_element_rule, function_body_rule, arrow_body_rule, binding_identifier_rule, type_annotation_rule, identifier_reference_rule, binding_pattern_rule, binding_pattern_maybe_default_rule, binding_pattern_element_rule, binding_property_rule, property_key_rule, expression_rule, template_literal_rule, template_element_rule, array_element_rule, argument_rule, object_property_rule, assignment_target_rule, assignment_target_maybe_default_rule, assignment_target_element_rule, assignment_target_property_rule, assignment_target_rest_rule, jsx_element_rule, jsx_fragment_rule, jsx_opening_element_rule, jsx_closing_element_rule, jsx_element_name_rule, jsx_attribute_rule, jsx_attribute_name_rule, jsx_attribute_value_rule, jsx_child_rule}
 use Rattle.rl_grammar.specs.declared.kind.Field.{Field}

@@ -1,4 +1,5 @@
--- The grammar of units as one table, from the kind of a part and the word of a node to the fields of the node. Written by tools/syntax.py from tools/grammar.txt.
+-- The grammar of units as one table, from the kind of a part and the word of a node to the fields of the node.
+-- Written by tools/syntax.py from tools/grammar.txt.
 use Rattle.std.specs.Prelude.{Option, Some, None, List, [], ◌∷◌}
 use Rattle.rl_grammar.specs.declared.kind.Field.{Field}
 use Rattle.rl_grammar.specs.declared.kind.Field.TheVariants as field

@@ -1,4 +1,5 @@
--- The spelling of the words of nodes, and the words of the nodes that make a scope. Written by tools/syntax.py from tools/grammar.txt.
+-- The spelling of the words of nodes, and the words of the nodes that make a scope.
+-- Written by tools/syntax.py from tools/grammar.txt.
 use Rattle.std.specs.Prelude.{ℕ, ◌+◌, ◌-◌, ◌*◌, ◌/◌, ◌%◌, Bool, true, false, List, length, get_or, codes}
 use Rattle.rl_syntax.specs.declared.word.TheConstants.{ENTRIES, LAST, MIDDLE, LENGTH}
 use Rattle.rl_syntax.specs.declared.word.Word.{Word}

@@ -22,20 +22,20 @@ ends_no_digit [] h = tt
 ends_no_digit (byte ∷ rest) h = end_no_digit byte h
 
 module _ {X : Type 0} (spells : X → List ℕ → Type 0) (one : HaveOneSpelling spells) (apart : AreApart spells) where
-  -- Two values that begin the same bytes are one, and so is what follows them.
+  -- If spellings of `x` and `y` begin the same bytes, `x` and `y` are equal, and so are the spellings and the bytes behind them.
   pub same_begun : (x y : X) (s t u v : List ℕ) → spells x s → spells y t → ends u ≡ true → ends v ≡ true → s ++ u ≡ t ++ v → (x ≡ y) × (s ≡ t) × (u ≡ v)
   same_begun x y s t u v p q m n h =
       let same = apart x y s t u v p q m n h in
       let spelled : s ≡ t = one y s t (subst (λ z. spells z s) same p) q in
       (same, spelled, append_cancel_left s u v (h ∙ ap (λ l. l ++ v) (sym spelled)))
 
-  -- One value at most stands at an offset, and in one way.
+  -- Values that stand at one offset are equal, and end at one offset.
   pub stands_one : (bytes : List ℕ) (at n m : ℕ) (x y : X) → StandsAt spells bytes at x n → StandsAt spells bytes at y m → (x ≡ y) × (n ≡ m)
   stands_one bytes at n m x y p q =
       let both = same_begun x y p.spelling q.spelling (drop n bytes) (drop m bytes) p.spelled q.spelled p.ended q.ended (sym p.there ∙ q.there) in
       (both.0, omega (arith, p.within, q.within, length-drop n bytes, length-drop m bytes, ap length both.2))
 
-  -- What is written is read back.
+  -- A written value is read back.
   pub read_back : NeverBegin spells 93 → AreReadBack spells
   read_back never value before s rest p h = record {
     stands = record {
@@ -79,11 +79,11 @@ module _ {X : Type 0} (tree : X → Tree) where
   absent_of_tree present x s u v p h =
       present x (sym (form_at_byte (tree x) 45 v u (sym h ∙ ap (λ l. l ++ u) p.spelled)))
 
-  -- What is written is read back.
+  -- A written value is read back.
   pub back_of_tree : ((x y : X) → tree x ≡ tree y → x ≡ y) → AreReadBack (SpelledAs tree)
   back_of_tree injective = read_back (SpelledAs tree) one_of_tree (apart_of_tree injective) closing_of_tree
 
-  -- A value whose tree begins the bytes stands there, where a spelling may end.
+  -- A value stands where its tree begins the bytes, if a spelling may end behind the tree.
   pub tree_stands : (bytes : List ℕ) (at next : ℕ) (x : X) → at < next → next ≤ length bytes → Begins 0 (tree x) (drop at bytes) (drop next bytes)
       → ends (drop next bytes) ≡ true → StandsAt (SpelledAs tree) bytes at x next
   tree_stands bytes at next x forward within begins h = record {
@@ -107,7 +107,7 @@ module _ {X : Type 0} (tree : X → Tree) where
   pub tree_none : (bytes : List ℕ) (at : ℕ) → ((x : X) → height (tree x) ≡ 0) → NoneBegins 0 (drop at bytes) → NoneStandsAt (SpelledAs tree) bytes at
   tree_none bytes at low none x next s = none (tree x) (drop next bytes) (stands_begins bytes at next 0 x (omega (arith, low x)) s)
 
-  -- No value stands where a tree begins behind which no spelling may end.
+  -- No value stands where a tree begins, if no spelling may end behind the tree.
   pub tree_unended : (bytes : List ℕ) (at next : ℕ) (t : Tree) → Begins 0 t (drop at bytes) (drop next bytes) → ends (drop next bytes) ≡ false → NoneStandsAt (SpelledAs tree) bytes at
   tree_unended bytes at next t begins h x after s =
       let other = stands_begins bytes at after (height (tree x)) x (omega arith) s in
@@ -118,11 +118,11 @@ module _ {X : Type 0} (tree : X → Tree) where
   pub tree_appended : (old new : List ℕ) (x : X) → HasSpelling (SpelledAs tree) x → new ≡ old ++ spelling (tree x) → AppendsSpelling (SpelledAs tree) old new x
   tree_appended old new x has e = record { spelling = spelling (tree x); spelled = record { writable = has.1.writable; spelled = refl }; appended = e }
 
-  -- A value whose tree the notation has, has a spelling.
+  -- A value has a spelling if the notation has its tree.
   pub tree_spelled : (x : X) → IsWritable (tree x) → HasSpelling (SpelledAs tree) x
   tree_spelled x h = (spelling (tree x), record { writable = h; spelled = refl })
 
--- Trees of one form are one where they hold one value.
+-- The value in a text, a number or a flag: equal trees hold equal values.
 said : Tree → List ℕ
 said (Said text) = text
 said _ = []
@@ -147,7 +147,7 @@ pub flag_one : (a b : Bool) → Flag a ≡ Flag b → a ≡ b
 unfolding flag
 flag_one a b e = ap flag e
 
--- Leaves with a value are present.
+-- A text, a number and a flag are not `Absent`.
 pub said_present : (text : List ℕ) → form (Said text) ≡ 5 → ⊥
 said_present text e = omega (arith, e)
 
@@ -157,7 +157,7 @@ count_present number e = omega (arith, e)
 pub flag_present : (b : Bool) → form (Flag b) ≡ 5 → ⊥
 flag_present b e = omega (arith, e)
 
--- No two values have one text, and so one tree.
+-- Values of equal trees are equal, if no two values have one text.
 pub text_one : {X : Type 0} (text_of : X → List ℕ) (values : List X) → AreFound text_of values
     → (x y : X) → text_tree text_of x ≡ text_tree text_of y → x ≡ y
 text_one text_of values found x y e = one_text text_of values found x y (said_one (text_of x) (text_of y) e)
@@ -188,18 +188,18 @@ stands_text text_of bytes at next x s = record {
   ended = s.ended;
 }
 
--- No value stands where no text does.
+-- No value stands where no text stands.
 pub text_none : {X : Type 0} (text_of : X → List ℕ) (bytes : List ℕ) (at : ℕ)
     → NoneStandsAt (SpelledAs Said) bytes at → NoneStandsAt (SpelledAs (text_tree text_of)) bytes at
 text_none text_of bytes at none x next s = none (text_of x) next (stands_text text_of bytes at next x s)
 
--- No value stands where a text does that writes none.
+-- No value stands where a text stands that writes no value.
 pub text_unknown : {X : Type 0} (text_of : X → List ℕ) (bytes : List ℕ) (at next : ℕ) (text : List ℕ)
     → StandsAt (SpelledAs Said) bytes at text next → ((x : X) → text_of x ≡ text → ⊥) → NoneStandsAt (SpelledAs (text_tree text_of)) bytes at
 text_unknown text_of bytes at next text there differ x after s =
     differ x (sym (stands_one (SpelledAs Said) (one_of_tree Said) (apart_of_tree Said said_one) bytes at next after text (text_of x) there (stands_text text_of bytes at after x s)).0)
 
--- A number begins with a digit.
+-- A digit stands where a number stands.
 pub number_first : (bytes : List ℕ) (at next number : ℕ) → StandsAt (SpelledAs Count) bytes at number next
     → (at < length bytes) × (is_ascii_digit (get_or bytes at 0) ≡ true)
 number_first bytes at next number s =

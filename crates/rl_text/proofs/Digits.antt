@@ -1,8 +1,8 @@
 -- The digits of numbers of any size.
-use Rattle.std.proofs.Common.{◌≡◌, ℕ, zero, suc, ◌+◌, ◌-◌, ◌*◌, ◌/◌, ◌%◌, ◌^◌, ◌<◌, Bool, true, false, ◌==◌, ◌&&◌, cond, List, [], ◌∷◌, ◌++◌, ap, sym, ◌∙◌, refl, arith}
+use Rattle.std.proofs.Common.{◌≡◌, ℕ, zero, suc, ◌+◌, ◌-◌, ◌*◌, ◌/◌, ◌%◌, ◌^◌, ◌<◌, ◌≤◌, length, Bool, true, false, ◌==◌, ◌&&◌, cond, List, [], ◌∷◌, ◌++◌, ap, sym, ◌∙◌, refl, arith}
 use Rattle.std.proofs.Math.Nat.{pow-succ'}
 use Rattle.std.proofs.lemmas.Bool.Decides.{nat_tests}
-use Rattle.std.proofs.lemmas.Fmt.{decimal_digit}
+use Rattle.std.proofs.lemmas.Fmt.{decimal_digit, length-decimal-le}
 use Rattle.std.specs.List.{list_all}
 use Rattle.std.specs.Char.{is_ascii_digit}
 use Rattle.std.specs.Fmt.{decimal, digits, digits_onto, digit_glyph}
@@ -90,6 +90,10 @@ pub numeral-digit : (n : ℕ) → n < 10 → numeral n ≡ (48 + n) ∷ []
 numeral-digit n small = numeral-decimal n (omega arith) ∙ decimal_digit n small
 
 pub ruleset numerals = (numeral-decimal, numeral-digit)
+
+-- A number of 32 bits has at most 10 digits.
+pub decimal_short : (n : ℕ) → n < 2 ^ 32 → length (decimal n) ≤ 10
+decimal_short n small = length-decimal-le 10 n (omega arith) (omega arith) (omega arith)
 
 -- Numerals are injective, and no numeral is a prefix of another's with what follows, where no digit follows.
 pub numerals-apart : (m n : ℕ) (u v : List ℕ) → NoDigit u → NoDigit v → numeral m ++ u ≡ numeral n ++ v → (m ≡ n) × (u ≡ v)

@@ -38,21 +38,21 @@ pub record AppendsSpelling {X : Type 0} (spells : X → List ℕ → Type 0) (ol
 abbrev pub HaveOneSpelling : {X : Type 0} → (spells : X → List ℕ → Type 0) → Type 0
 HaveOneSpelling {X} spells = (value : X) (s t : List ℕ) → spells value s → spells value t → s ≡ t
 
--- No spelling begins that of another value, where what follows each may follow a spelling.
+-- Different values never begin the same bytes, if a spelling may end in front of the rest of them.
 abbrev pub AreApart : {X : Type 0} → (spells : X → List ℕ → Type 0) → Type 0
 AreApart {X} spells = (x y : X) (s t u v : List ℕ) → spells x s → spells y t → ends u ≡ true → ends v ≡ true → s ++ u ≡ t ++ v → x ≡ y
 
--- No spelling is empty, or begins with the byte.
+-- No spelling is empty, and none begins with the byte.
 abbrev pub NeverBegin : {X : Type 0} → (spells : X → List ℕ → Type 0) → (byte : ℕ) → Type 0
 NeverBegin {X} spells byte = (value : X) (s u v : List ℕ) → spells value s → s ++ u ≡ byte ∷ v → ⊥
 
--- A spelling of the value stands behind `before`, and no other value stands there, whatever follows where a spelling may end.
+-- The value stands behind `before`, up to `rest`, and no other value stands there.
 pub record IsReadBack {X : Type 0} (spells : X → List ℕ → Type 0) (value : X) (before spelling rest : List ℕ) : Type 0 where
   pub stands : StandsAt spells (before ++ (spelling ++ rest)) (length before) value (length before + length spelling)
   pub unique : (other : X) (next : ℕ) → StandsAt spells (before ++ (spelling ++ rest)) (length before) other next
       → (other ≡ value) × (next ≡ length before + length spelling)
 
--- What is written of any value is read back as that value.
+-- Each value is read back from its spelling, wherever that stands.
 abbrev pub AreReadBack : {X : Type 0} → (spells : X → List ℕ → Type 0) → Type 0
 AreReadBack {X} spells = (value : X) (before spelling rest : List ℕ) → spells value spelling → ends rest ≡ true → IsReadBack spells value before spelling rest
 

@@ -8,5 +8,6 @@ pub mod quoted;
 pub mod raw;
 pub mod read;
 pub mod scan;
+mod span;
 pub mod write;
 pub mod written;

@@ -9,6 +9,7 @@ ghost use Rattle.rl_text.specs.Spaced as spec;
 use crate::quoted::write_quoted;
 use crate::raw::Raw;
 use crate::read::{TextError, read_raw};
+use crate::span::{LONGEST_SPAN, write_span};
 use crate::write::write_number;
 use rl_base::error::OutOfMemory;
 use rl_base::ids::{
@@ -363,7 +364,10 @@ impl Written for Span {
     ghost shown = { spec.span };
 
     fn write(&self, out: &mut Vec<u8>) -> Result<(), OutOfMemory> {
-        write_node("at", &(self.start, self.end), out)
+        let mut buffer = [0; LONGEST_SPAN];
+        let start = write_span(*self, &mut buffer);
+        out.extend_from_slice(&buffer[start..])?;
+        Ok(())
     }
 }
 
