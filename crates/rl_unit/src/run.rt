@@ -17,6 +17,7 @@ use rl_base::ids::NodeId;
 use rl_base::infallible_io::{SteadySink, SteadySource};
 use rl_base::io::{ReadError, Sink, Source, read_up_to, write_all};
 use rl_hir::function::Lowered;
+use rl_hir::instruction::{Instruction, InstructionValue, PrimitiveValue};
 use rl_hir::listing::write_listing;
 use std::alloc::Global;
 use std::{env, io};
@@ -149,14 +150,43 @@ fn pending_line(alloc: Global, node: NodeId) -> Result<Vec<u8>, OutOfMemory>
     Ok(text)
 }
 
-/// Bytes of a listing for each instruction, as most have them.
-const BYTES_OF_INSTRUCTION: usize = 96;
+/// Number of bytes that a listing has for an instruction without its operands and texts, with its entries in the tables: about as
+/// many as where offsets have six digits and ids five.
+const BYTES_OF_INSTRUCTION: usize = 124;
+
+/// Number of bytes that a listing has for an operand, of the same digits.
+const BYTES_OF_OPERAND: usize = 29;
+
+/// Number of bytes that a listing has for the operands or the text of an instruction.
+fn room_for_parts(value: &InstructionValue) -> usize {
+    match value {
+        InstructionValue::Primitive(PrimitiveValue::String(text)) => text.as_bytes().len(),
+        InstructionValue::LoadLocal(_) => BYTES_OF_OPERAND,
+        InstructionValue::Binary { .. } => 2 * BYTES_OF_OPERAND,
+        InstructionValue::Call { arguments, .. } => {
+            BYTES_OF_OPERAND.saturating_mul(arguments.len().saturating_add(1))
+        }
+        _ => 0,
+    }
+}
+
+/// Number of bytes for which `listed` makes room at once: about as many as the listing has.
+fn room_for(instructions: &[Instruction]) -> usize {
+    let mut room = 0usize;
+    for instruction in instructions {
+        let parts = room_for_parts(&instruction.value);
+        room = room
+            .saturating_add(BYTES_OF_INSTRUCTION)
+            .saturating_add(parts);
+    }
+    room
+}
 
 /// The text of a result, and a line feed.
 fn listed(alloc: Global, lowered: &Lowered) -> Result<Vec<u8>, OutOfMemory>
     ensures { IfOk result (λ text. text.items ≡ output lowered.now) }
 {
-    let room = BYTES_OF_INSTRUCTION.saturating_mul(lowered.function.instructions.len());
+    let room = room_for(lowered.function.instructions.as_slice());
     let mut text = Vec::with_capacity(alloc, room)?;
     write_listing(lowered, &mut text)?;
     text.push(b'\n')?;
