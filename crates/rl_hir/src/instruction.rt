@@ -1,6 +1,7 @@
 ghost use Rattle.std.specs.Prelude.{◌≡◌};
 ghost use Rattle.rl_hir.specs.Instructions.{argument_shape, argument_place};
 
+use rl_base::boxed::Boxed;
 use rl_base::ids::{EvaluationOrder, IdentifierId};
 use rl_base::list::List;
 use rl_base::number::WholeNumber;
@@ -52,7 +53,8 @@ pub enum InstructionValue {
     },
 }
 
-/// The binding of a name that no local variable has (`NonLocalBinding` of the compiler).
+/// The binding of a name that no local variable has (`NonLocalBinding` of the compiler). What only imports have stands in
+/// boxes, so that it takes no room in other instructions.
 #[derive(Drop)]
 pub enum NonLocalBinding {
     /// A name that nothing in the module declares.
@@ -66,18 +68,18 @@ pub enum NonLocalBinding {
     /// An import of the default export of `module`.
     ImportDefault {
         name: Text,
-        module: Text,
+        module: Boxed<Text>,
     },
     /// An import of all exports of `module`, as one object.
     ImportNamespace {
         name: Text,
-        module: Text,
+        module: Boxed<Text>,
     },
     /// An import of the export of `module` whose name is `imported`.
     ImportSpecifier {
         name: Text,
-        module: Text,
-        imported: Text,
+        module: Boxed<Text>,
+        imported: Boxed<Text>,
     },
 }
 

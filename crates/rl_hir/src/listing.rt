@@ -53,16 +53,16 @@ impl Written for NonLocalBinding {
                 Listing(name, (Literal("module"),)).write(out)
             }
             NonLocalBinding::ImportDefault { name, module } => {
-                Listing(name, (Literal("default"), module)).write(out)
+                Listing(name, (Literal("default"), module.get())).write(out)
             }
             NonLocalBinding::ImportNamespace { name, module } => {
-                Listing(name, (Literal("namespace"), module)).write(out)
+                Listing(name, (Literal("namespace"), module.get())).write(out)
             }
             NonLocalBinding::ImportSpecifier {
                 name,
                 module,
                 imported,
-            } => Listing(name, (Literal("named"), module, imported)).write(out),
+            } => Listing(name, (Literal("named"), module.get(), imported.get())).write(out),
         }
     }
 }

@@ -146,7 +146,7 @@ fn lower_arguments(
     ensures lowered { IfOk result (λ given. LowersArguments semantic.now.symbols (pieces_of (map syntax arguments.entry.trees.now)) (state_of builder.old.env.now builder.old.work) (state_of builder.new.env.now builder.new.work) given) }
     ensures sound { IfOk result (λ given. SoundArguments (pieces_of (map syntax arguments.entry.trees.now)) (state_of builder.old.env.now builder.old.work) (state_of builder.new.env.now builder.new.work) given) }
 {
-    let mut given = List::new(alloc);
+    let mut given = List::with_capacity(alloc, arguments.trees.len())?;
     let mut left = arguments;
     'arguments: while let Some((argument, rest)) = left.split_first() {
         let place = lower_expression(alloc, builder, semantic, expression_of(argument))?;

@@ -69,7 +69,7 @@ fn lower_parameters(
     ensures goes_on { OnOk result (first_named (λ name. is_reserved name) semantic.now.symbols ≡ None) }
     ensures stopped { IfErr result (λ e. (d : Said) → e ≡ Stop.Diagnostic d → Some d ≡ stop_at row.S1 (first_named (λ name. is_reserved name) semantic.now.symbols) None) }
 {
-    let mut params = List::new(alloc);
+    let mut params = List::with_capacity(alloc, semantic.symbols.len())?;
     'parameters: for (place, symbol) in semantic.symbols.as_slice().iter().enumerate() {
         let identifier = builder.resolve_binding(
             &symbol.name,

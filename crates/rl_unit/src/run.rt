@@ -16,8 +16,8 @@ use rl_base::error::OutOfMemory;
 use rl_base::ids::NodeId;
 use rl_base::infallible_io::{SteadySink, SteadySource};
 use rl_base::io::{ReadError, Sink, Source, read_up_to, write_all};
-use rl_hir::function::Lowered;
-use rl_hir::instruction::{Instruction, InstructionValue, PrimitiveValue};
+use rl_hir::function::{HirFunction, Lowered};
+use rl_hir::instruction::{InstructionValue, PrimitiveValue};
 use rl_hir::listing::write_listing;
 use std::alloc::Global;
 use std::{env, io};
@@ -157,6 +157,9 @@ const BYTES_OF_INSTRUCTION: usize = 124;
 /// Number of bytes that a listing has for an operand, of the same digits.
 const BYTES_OF_OPERAND: usize = 29;
 
+/// Number of bytes that a listing has for a parameter, with its entries in the tables, of the same digits.
+const BYTES_OF_PARAMETER: usize = 110;
+
 /// Number of bytes that a listing has for the operands or the text of an instruction.
 fn room_for_parts(value: &InstructionValue) -> usize {
     match value {
@@ -171,9 +174,9 @@ fn room_for_parts(value: &InstructionValue) -> usize {
 }
 
 /// Number of bytes for which `listed` makes room at once: about as many as the listing has.
-fn room_for(instructions: &[Instruction]) -> usize {
-    let mut room = 0usize;
-    for instruction in instructions {
+fn room_for(function: &HirFunction) -> usize {
+    let mut room = BYTES_OF_PARAMETER.saturating_mul(function.params.len());
+    for instruction in function.instructions.as_slice() {
         let parts = room_for_parts(&instruction.value);
         room = room
             .saturating_add(BYTES_OF_INSTRUCTION)
@@ -186,7 +189,7 @@ fn room_for(instructions: &[Instruction]) -> usize {
 fn listed(alloc: Global, lowered: &Lowered) -> Result<Vec<u8>, OutOfMemory>
     ensures { IfOk result (λ text. text.items ≡ output lowered.now) }
 {
-    let room = room_for(lowered.function.instructions.as_slice());
+    let room = room_for(&lowered.function);
     let mut text = Vec::with_capacity(alloc, room)?;
     write_listing(lowered, &mut text)?;
     text.push(b'\n')?;
