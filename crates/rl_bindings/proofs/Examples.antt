@@ -1,4 +1,5 @@
--- The definitions, tried on small units: the symbols of their references, the scopes of their symbols, and the rules that they break.
+-- The definitions, tried on small units: the symbols of their references, the scopes of their symbols, and the rules that they
+-- break.
 use Rattle.std.proofs.Common.{◌≡◌, ℕ, ◌+◌, false, Option, Some, None, List, [], ◌∷◌, map, codes, refl}
 use Rattle.rl_bindings.specs.Tables.{least_broken, references_in, symbols_in}
 use Rattle.rl_syntax.specs.Syntax.{Syntax, Node, Listed, Said, Flag, Absent, pieces_of}
@@ -104,8 +105,8 @@ loop_head = refl
 class_name : bound (node word.Expr (maker 1 word.Classexpr (bind a ∷ Absent ∷ list [] ∷ []) ∷ []) ∷ []) ≡ 1 ∷ []
 class_name = refl
 
--- B2: a lexical name stands alone in its scope. A `var`, a function and a parameter may share a name there, but a function in a block
--- is lexical.
+-- B2: a lexical name stands alone in its scope. A `var`, a function and a parameter may share a name there, but a function in a
+-- block is lexical.
 two_lets : broken (vars (codes "let") a ∷ vars (codes "let") a ∷ []) ≡ Some 2
 two_lets = refl
 
@@ -150,7 +151,8 @@ two_parameters = refl
 parameter_and_var : broken (arrow 1 (a ∷ b ∷ []) (vars (codes "var") a ∷ []) ∷ []) ≡ None
 parameter_and_var = refl
 
--- B5: a type alias, an interface, an enum and a namespace share their names with nothing, and a namespace stands in the program's list.
+-- B5: a type alias, an interface, an enum and a namespace share their names with nothing, and a namespace stands in the
+-- program's list.
 interface_and_var : broken (node word.Interface (bind a ∷ []) ∷ vars (codes "var") a ∷ []) ≡ Some 5
 interface_and_var = refl
 

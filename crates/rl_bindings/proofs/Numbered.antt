@@ -128,7 +128,8 @@ module _ (names : List Name) where
         ∙ (λ i. scopes_are p a parent i ++ parts_are ps n a b parent i)
         ∙ sym (nodes-append makes_scope (entries_under parent p) (entries_among parent ps))
 
--- The scopes of a tree are those nodes of its table that make one. In a unit the ids of these are their indices (`scopes_numbered`).
+-- The scopes of a tree are those nodes of its table that make one. In a unit the ids of these are their indices
+-- (`scopes_numbered`).
 pub scopes_listed : (tree : Syntax) → map (λ s. s.node) (scopes_in tree) ≡ nodes_of makes_scope (entries tree)
 scopes_listed tree = scopes_are (names_in tree) tree top None
 

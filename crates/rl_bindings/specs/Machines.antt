@@ -33,8 +33,8 @@ entries_or_none (Some es) = es
 abbrev pub entries_at : (scopes : List (List Entry)) → ℕ → List Entry
 entries_at scopes s = entries_or_none (slice_get scopes s)
 
--- Events in order: at the beginning of a scope its entries are written, and what they overwrite is kept as a frame; at its end the
--- frame is written back. `frames` are those of the scopes that are open, the innermost first.
+-- Events in order: at the beginning of a scope its entries are written, and what they overwrite is kept as a frame; at its end
+-- the frame is written back. `frames` are those of the scopes that are open, the innermost first.
 abbrev pub run : (scopes : List (List Entry)) → (env : List (Option ℕ)) → (frames : List (List Entry)) → List Event → List Answer
 run scopes env frames [] = []
 run scopes env frames (event.Scope s ∷ es) = run scopes env frames es

@@ -17,8 +17,8 @@ is_own_list place.Program = true
 is_own_list place.Body = true
 is_own_list _ = false
 
--- True of a lexical declaration, by its kind and the list that it stands in: `let`, `const`, `using`, `await using`, classes, imports,
--- catch parameters, and functions that stand in no list of a program, a body or a static block.
+-- True of a lexical declaration, by its kind and the list that it stands in: `let`, `const`, `using`, `await using`, classes,
+-- imports, catch parameters, and functions that stand in no list of a program, a body or a static block.
 abbrev pub is_lexical_at : BindKind → Place → Bool
 is_lexical_at kind.Let p = true
 is_lexical_at kind.Const p = true
@@ -91,9 +91,9 @@ abbrev pub is_inside : (symbols : List Bound) → (scope : ℕ) → (symbol : Op
 is_inside symbols scope None = false
 is_inside symbols scope (Some k) = is_larger scope (slice_get symbols k)
 
--- `is_passing lexical x`: true of a `var` declaration whose name stands, where it is declared, for a lexical symbol of a scope inside
--- the one that the name is bound in. That scope is around the declaration, and scopes have larger numbers than those around them;
--- so a scope that the name passes on its way out binds it lexically.
+-- `is_passing lexical x`: true of a `var` declaration whose name stands, where it is declared, for a lexical symbol of a scope
+-- inside the one that the name is bound in. That scope is around the declaration, and scopes have larger numbers than those
+-- around them; so a scope that the name passes on its way out binds it lexically.
 abbrev pub is_passing : (lexical : List Bound) → Answer → Bool
 is_passing lexical x = elim x.event as (λ e. Bool) [ event.Bind b ↦ is_var b.kind && is_inside lexical b.scope.0 x.symbol | _ ↦ false ]
 

@@ -96,9 +96,9 @@ outside a word.Fundecl = record a { kind = kind.FunctionDeclaration }
 outside a word.Classdecl = record a { kind = kind.ClassDeclaration }
 outside a _ = record a { place = place.Inner }
 
--- The summary above the parts of a node, those before its scope aside. A node that makes a scope is the innermost scope; functions,
--- static blocks and the program take `var` too. Declarations say their kind. No list but the program's, a body's and a static
--- block's is the list of its function; the name in a namespace stands in the list that the namespace stands in.
+-- The summary above the parts of a node, those before its scope aside. A node that makes a scope is the innermost scope;
+-- functions, static blocks and the program take `var` too. Declarations say their kind. No list but the program's, a body's and
+-- a static block's is the list of its function; the name in a namespace stands in the list that the namespace stands in.
 abbrev pub below : Above → At → Word → Pieces → Above
 below a at word.Program parts = record a { scope = at.scope; function = at.scope; place = place.Program }
 below a at word.Static parts = record a { scope = at.scope; function = at.scope; place = place.Body }

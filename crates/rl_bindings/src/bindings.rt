@@ -127,8 +127,8 @@ fn any_var(events: &[Event]) -> bool
     false
 }
 
-/// True if B3 is broken by the declarations among events, if `lexical` are the lexical symbols. Names are resolved only if a `var`
-/// declaration is among them. On `OutOfMemory`, an allocation failed.
+/// True if B3 is broken by the declarations among events, if `lexical` are the lexical symbols. Names are resolved only if a
+/// `var` declaration is among them. On `OutOfMemory`, an allocation failed.
 #[tactic(auto, using(crate::proofs::Passing::none_passes))]
 fn passes(alloc: Global, lexical: &SymbolTable, events: &[Event]) -> Result<bool, OutOfMemory>
     ensures { IfOk result (λ b. b ≡ list_any (is_passing lexical.now) (machine.resolved lexical.now events.now)) }

@@ -137,8 +137,8 @@ pub fn run(
     Ok(found)
 }
 
-/// Number above the largest name of symbols: the length of a list that has a place for each; 0 without symbols. On `OutOfMemory`, it
-/// would not fit a `usize`.
+/// Number above the largest name of symbols: the length of a list that has a place for each; 0 without symbols. On
+/// `OutOfMemory`, it would not fit a `usize`.
 fn count_names(symbols: &[Bound]) -> Result<usize, OutOfMemory>
     ensures { IfOk result (λ count. count ≡ machine.count_names 0 symbols.now) }
 {

@@ -15,8 +15,8 @@ outward scopes zero scope = []
 outward scopes (suc most) None = []
 outward scopes (suc most) (Some scope) = scope ∷ outward scopes most (scope_parent scopes scope.0)
 
--- The scopes around a scope, itself first. A scope has a larger number than the one around it, so that they are no more than its number
--- and one.
+-- The scopes around a scope, itself first. A scope has a larger number than the one around it, so that they are no more than
+-- its number and one.
 abbrev pub ancestors : List ScopeEntry → ScopeId → List ScopeId
 ancestors scopes scope = outward scopes (scope.0 + 1) (Some scope)
 

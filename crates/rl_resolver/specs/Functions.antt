@@ -1,5 +1,5 @@
 -- The functions of a unit: their scopes, the properties of objects that they make, and the ranges of text that they take.
-use Rattle.std.specs.Prelude.{ℕ, ◌+◌, Bool, true, false, ◌&&◌, if◌then◌else◌, Option, Some, None, slice_get, List, [], ◌∷◌, ◌++◌}
+use Rattle.std.specs.Prelude.{ℕ, ◌+◌, Bool, true, false, ◌&&◌, if◌then◌else◌, nat_eq, Option, Some, None, slice_get, List, [], ◌∷◌, ◌++◌}
 use Rattle.rl_base.specs.declared.ids.NodeId.{NodeId}
 use Rattle.rl_base.specs.declared.ids.ScopeId.{ScopeId}
 use Rattle.rl_bindings.specs.declared.event.ScopeEntry.{ScopeEntry}
@@ -42,14 +42,18 @@ around nodes e = entry_at nodes e.parent
 abbrev pub is_property : List NodeEntry → NodeEntry → Bool
 is_property nodes e = is_accessor e.word && of_item false (λ o. is_object o.word) (around nodes e)
 
-abbrev pub if_property : List NodeEntry → NodeEntry → Option NodeEntry
-if_property nodes e = if is_property nodes e then Some e else None
+-- The node `p` around a node, if it is a method, a getter or a setter of an object and the node is its last part: then both end
+-- with the same node.
+abbrev pub if_property : List NodeEntry → NodeEntry → (p : NodeEntry) → Option NodeEntry
+if_property nodes e p = if is_property nodes p && nat_eq e.at.end.0 p.at.end.0 then Some p else None
 
--- The method, getter or setter of an object that a function expression is a part of. None for any other node.
+-- The method, getter or setter of an object that a function expression is the function of. None for any other node, and for one
+-- that is the computed key of a property.
 abbrev pub property_of : List NodeEntry → NodeEntry → Option NodeEntry
-property_of nodes e = if is_function_expression e.word then of_item None (if_property nodes) (around nodes e) else None
+property_of nodes e = if is_function_expression e.word then of_item None (if_property nodes e) (around nodes e) else None
 
--- The node that captures of a scope's node count from: the property that it is a part of, if it is a function of one, else itself.
+-- The node that captures of a scope's node count from: the property that it is the function of, if it is that of one, else
+-- itself.
 abbrev pub capture_root : List NodeEntry → NodeEntry → NodeId
 capture_root nodes e = of_item e.at.id (λ p. p.at.id) (property_of nodes e)
 

@@ -1,4 +1,4 @@
--- What the kind of a declaration says of its symbol.
+-- Kinds of declarations: those that make a type alone, and those with a declaration identifier.
 use Rattle.std.specs.Prelude.{Bool, true, false}
 use Rattle.rl_bindings.specs.declared.event.BindKind.{BindKind}
 use Rattle.rl_bindings.specs.declared.event.BindKind.TheVariants as bind

@@ -1,5 +1,7 @@
--- The references of each symbol, the symbols of each scope, the symbol of each first declaration, and the names that no scope binds.
+-- The references of each symbol, the symbols of each scope, the symbol of each first declaration, and the names that no scope
+-- binds.
 use Rattle.std.specs.Prelude.{ℕ, ◌+◌, Bool, true, false, if◌then◌else◌, Option, Some, None, List, [], ◌∷◌, ◌++◌, length, map}
+use Rattle.rl_ast.specs.Marked.{first}
 use Rattle.rl_base.specs.declared.ids.NodeId.{NodeId}
 use Rattle.rl_base.specs.declared.ids.ReferenceId.{ReferenceId}
 use Rattle.rl_base.specs.declared.ids.SymbolId.{SymbolId}
@@ -49,10 +51,6 @@ declared_pair symbol b = if has_identifier b.kind then (b.node.0, record { 0 = s
 abbrev pub declared_from : (symbol : ℕ) → List Bound → List (ℕ × SymbolId)
 declared_from symbol [] = []
 declared_from symbol (b ∷ bs) = declared_pair symbol b ++ declared_from (symbol + 1) bs
-
-abbrev pub first : {X : Type 0} → List X → Option X
-first [] = None
-first (x ∷ xs) = Some x
 
 -- The symbol that a node declares first. None for an interface, for a later declaration, and for any other node.
 abbrev pub symbol_declared : List NodeEntry → List Bound → (node : ℕ) → Option SymbolId

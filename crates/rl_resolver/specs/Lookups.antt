@@ -1,5 +1,5 @@
--- Look-ups of scopes, symbols and references by number, in the lists of a unit's names. Each is total: of a number that none has, it
--- says what is there in place of one.
+-- Look-ups of scopes, symbols and references by number, in the lists of a unit's names. Each is total: of a number that none
+-- has, it says what is there in place of one.
 use Rattle.std.specs.Prelude.{ℕ, Bool, false, ◌&&◌, if◌then◌else◌, nat_eq, nat_le, nat_lt, Option, Some, None, slice_get, List, []}
 use Rattle.rl_base.specs.declared.ids.NodeId.{NodeId}
 use Rattle.rl_base.specs.declared.ids.ScopeId.{ScopeId}
@@ -21,7 +21,7 @@ use Rattle.rl_bindings.specs.declared.symbol_kind.DeclKind.{DeclKind}
 use Rattle.rl_bindings.specs.declared.symbol_kind.DeclKind.TheVariants as decl_kinds
 use Rattle.rl_syntax.specs.declared.nodes.NodeEntry.{NodeEntry}
 
--- What a function gives of an item, or `other` where there is none.
+-- The value of a function at an item, or `other` where there is none.
 abbrev pub of_item : {X Y : Type 0} → (other : Y) → (X → Y) → Option X → Y
 of_item other f None = other
 of_item other f (Some x) = f x

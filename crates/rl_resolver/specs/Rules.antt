@@ -8,7 +8,8 @@ use Rattle.rl_rules.specs.Marks.{keeps_mark}
 use Rattle.rl_rules.specs.Variables.{keeps_variables}
 use Rattle.rl_syntax.specs.Syntax.{Syntax}
 
--- The least rule that is broken: B1 if it is not kept as `marked` says, else the rule `named` on names, else the rule `formed` on forms.
+-- The least rule that is broken: B1 if it is not kept as `marked` says, else the rule `named` on names, else the rule `formed`
+-- on forms.
 abbrev pub least : (marked : Bool) → (named formed : Option ℕ) → Option ℕ
 least marked named formed = if marked then (elim named as (λ _. Option ℕ) [ Some rule ↦ Some rule | None ↦ formed ]) else Some 1
 
@@ -16,8 +17,8 @@ least marked named formed = if marked then (elim named as (λ _. Option ℕ) [ S
 abbrev pub least_form : (chains variables declarations forms : Bool) → Option ℕ
 least_form chains variables declarations forms = if chains then (if variables then (if declarations then (if forms then None else Some 9) else Some 8) else Some 7) else Some 6
 
--- The least of the rules B6 to B9 that a tree breaks. A namespace outside the program's list breaks `keeps_declarations` too; it breaks
--- B5, which comes first.
+-- The least of the rules B6 to B9 that a tree breaks. A namespace outside the program's list breaks `keeps_declarations` too;
+-- it breaks B5, which comes first.
 abbrev pub least_broken_form : Syntax → Option ℕ
 least_broken_form tree = least_form (keeps_chains tree) (keeps_variables tree) (keeps_declarations tree) (keeps_forms tree)
 

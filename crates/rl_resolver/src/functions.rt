@@ -84,7 +84,8 @@ pub(crate) fn is_property(nodes: &[NodeEntry], entry: NodeEntry) -> bool
     }
 }
 
-/// The method, getter or setter of an object that a function expression is a part of. `None` for any other node.
+/// The method, getter or setter of an object that a function expression is the function of: its last part, so that both end with
+/// the same node. `None` for any other node, and for the computed key of a property.
 pub(crate) fn property_of(nodes: &[NodeEntry], entry: NodeEntry) -> Option<NodeEntry>
     ensures { result ≡ spec.property_of nodes.now entry }
 {
@@ -93,7 +94,7 @@ pub(crate) fn property_of(nodes: &[NodeEntry], entry: NodeEntry) -> Option<NodeE
     }
     match around(nodes, entry) {
         Some(property) => {
-            if is_property(nodes, property) {
+            if is_property(nodes, property) && entry.at.end.0 == property.at.end.0 {
                 Some(property)
             } else {
                 None
@@ -103,7 +104,7 @@ pub(crate) fn property_of(nodes: &[NodeEntry], entry: NodeEntry) -> Option<NodeE
     }
 }
 
-/// The node that captures of a scope count from: the property that its node is a part of, if it is a function of one, else its
+/// The node that captures of a scope count from: the property that its node is the function of, if it is that of one, else its
 /// node. The unit's node for a number that is no scope's.
 pub(crate) fn capture_root_node(
     nodes: &[NodeEntry],

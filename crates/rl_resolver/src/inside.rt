@@ -29,8 +29,8 @@ fn descends(scopes: &[ScopeEntry], ancestor: ScopeId, scope: ScopeId) -> bool
     false
 }
 
-/// The index of the symbol that a scope binds a name to, if it is `ancestor` or stands inside it. `None` if it is not, or does not
-/// bind the name.
+/// The index of the symbol that a scope binds a name to, if it is `ancestor` or stands inside it. `None` if it is not, or does
+/// not bind the name.
 fn bound_inside(
     scopes: &[ScopeEntry],
     symbols: &SymbolTable,
@@ -86,8 +86,8 @@ fn is_function_word(word: Word) -> bool
     }
 }
 
-/// Appends the scope of a function expression, at the method, getter or setter of an object that it is a part of; nothing for any
-/// other node. On `OutOfMemory`, an allocation failed.
+/// Appends the scope of a function expression, at the method, getter or setter of an object that it is the function of; nothing
+/// for any other node. On `OutOfMemory`, an allocation failed.
 fn push_method(
     pairs: &mut List<(usize, ScopeId)>,
     nodes: &[NodeEntry],
@@ -127,13 +127,6 @@ pub(crate) fn methods_by_node(
     Ok(table)
 }
 
-/// The last of some scopes. `None` if there is none.
-fn last(scopes: &[ScopeId]) -> Option<ScopeId>
-    ensures { result ≡ spec.last scopes.now }
-{
-    scopes.last().copied()
-}
-
 /// The scope of the function of a property. `None` of any other node.
 fn function_of(
     nodes: &[NodeEntry],
@@ -143,7 +136,7 @@ fn function_of(
     requires { AreBuckets methods.now (length nodes.now) (spec.methods_in nodes.now nodes.now) }
     ensures { result ≡ spec.function_of nodes.now entry }
 {
-    last(bucket(methods, entry.at.id.0 as usize))
+    bucket(methods, entry.at.id.0 as usize).first().copied()
 }
 
 /// The scope of the function that a node is, or whose property it is: a method, a getter or a setter of an object. `None` of any

@@ -1,4 +1,4 @@
-//! What the kind of a declaration says of its symbol.
+//! Kinds of declarations: those that make a type alone, and those with a declaration identifier.
 
 ghost use Rattle.std.specs.Prelude.{◌≡◌};
 ghost use Rattle.rl_resolver.specs.Kinds as spec;

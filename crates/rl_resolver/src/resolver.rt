@@ -33,8 +33,8 @@ use rl_bindings::event::{Bound, ScopeKind};
 use rl_bindings::symbol_kind::{BindingKind, DeclKind};
 use std::alloc::Global;
 
-/// Look-ups by number in the semantic tables of a unit: `ScopeResolver` of the original. Calls that take an allocator take memory,
-/// no others do.
+/// Look-ups by number in the semantic tables of a unit: `ScopeResolver` of the original. Calls that take an allocator take
+/// memory, no others do.
 #[derive(Drop)]
 pub struct ScopeResolver<'s> {
     /// The semantic tables of the unit.
@@ -253,8 +253,8 @@ impl<'s> ScopeResolver<'s> {
         }
     }
 
-    /// The symbol that a scope itself binds a name to: one that is no own name of a function or class expression, if there is one,
-    /// else the own name. `None` for a name that it does not bind, and for a number that is no scope's.
+    /// The symbol that a scope itself binds a name to: one that is no own name of a function or class expression, if there is
+    /// one, else the own name. `None` for a name that it does not bind, and for a number that is no scope's.
     pub fn get_binding(&self, scope: ScopeId, name: &str) -> Option<SymbolId>
         ensures { result ≡ spec.get_binding self.now.semantic.now.bindings.names self.now.semantic.now.bindings.symbols scope.0 name.now }
     {
@@ -284,7 +284,8 @@ impl<'s> ScopeResolver<'s> {
         None
     }
 
-    /// The symbol that a name stands for in a scope: that of the nearest scope around it that binds the name. `None` for a global.
+    /// The symbol that a name stands for in a scope: that of the nearest scope around it that binds the name. `None` for a
+    /// global.
     pub fn find_binding(&self, scope: ScopeId, name: &str) -> Option<SymbolId>
         ensures { result ≡ around.find_binding self.now.semantic.now.bindings.names self.now.semantic.now.bindings.symbols self.now.semantic.now.bindings.scopes scope name.now }
     {
@@ -304,8 +305,8 @@ impl<'s> ScopeResolver<'s> {
         }
     }
 
-    /// The node that captures of a scope's function count from: the method, getter or setter of an object that the function is a
-    /// part of, else the node of the scope. The unit's node for a number that is no scope's.
+    /// The node that captures of a scope's function count from: the method, getter or setter of an object that the function is
+    /// that of, else the node of the scope. The unit's node for a number that is no scope's.
     pub fn capture_root_node(&self, scope: ScopeId) -> NodeId
         ensures { result ≡ made.capture_root_node self.now.semantic.now.nodes self.now.semantic.now.bindings.scopes scope.0 }
     {
@@ -374,8 +375,9 @@ impl<'s> ScopeResolver<'s> {
         }
     }
 
-    /// The symbol that a name is bound to in a scope or in one inside it: in that with the least number, if several bind it. `None`
-    /// if none does. It takes a look-up for each scope behind the scope, and a walk outwards for each that binds the name.
+    /// The symbol that a name is bound to in a scope or in one inside it: in that with the least number, if several bind it.
+    /// `None` if none does. It takes a look-up for each scope behind the scope, and a walk outwards for each that binds the
+    /// name.
     pub fn find_binding_in_descendants(&self, name: &str, ancestor: ScopeId) -> Option<SymbolId>
         ensures { result ≡ within.find_binding_in_descendants self.now.semantic.now.bindings.names self.now.semantic.now.bindings.symbols self.now.semantic.now.bindings.scopes name.now ancestor }
     {

@@ -7,7 +7,7 @@ use Rattle.rl_syntax.specs.declared.numbered.Numbered.{Numbered}
 use Rattle.rl_rules.specs.Finding.{found_behind}
 use Rattle.rl_rules.specs.Marks.{is_one_true, bodies, bodies_among}
 
--- What is found behind a list more, from what was found before.
+-- The result of the search behind one more list, from its result before the list.
 abbrev then_found : Option Bool → List Bool → Option Bool
 then_found None bodies = None
 then_found (Some found) bodies = found_behind found bodies

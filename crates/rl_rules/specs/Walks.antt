@@ -3,8 +3,8 @@ use Rattle.std.specs.Prelude.{ℕ, ◌+◌, Bool, true, ◌&&◌}
 use Rattle.rl_syntax.specs.Syntax.{Syntax, Node, Listed, Said, Count, Flag, Absent, Pieces, End, Then}
 use Rattle.rl_syntax.specs.declared.word.Word.{Word}
 
--- `test` is a property of a node's context, its word and its parts. `below` gives the context of the part at an index of a node, by
--- the node's context and its word. The items of a list have the context of the list.
+-- `test` is a property of a node's context, its word and its parts. `below` gives the context of the part at an index of a
+-- node, by the node's context and its word. The items of a list have the context of the list.
 module _ {A : Type 0} (test : A → Word → Pieces → Bool) (below : A → Word → ℕ → A) where
   abbrev mutual
     -- True of a tree whose every node passes the test.

@@ -38,8 +38,8 @@ fn has_body(word: Word, parts: &[Numbered]) -> bool
     }
 }
 
-/// Looks for the marked function at one node, if `found` says that one was found before. Gives true if one is found by then. `None`
-/// if the node is a second one, or lacks a body.
+/// Looks for the marked function at one node, if `found` says that one was found before. Gives true if one is found by then.
+/// `None` if the node is a second one, or lacks a body.
 fn find_at(found: bool, word: Word, parts: &[Numbered]) -> Option<bool>
     ensures { result ≡ found_behind found (spec.body_of word (pieces_of (map syntax parts.now))) }
 {
@@ -53,8 +53,8 @@ fn find_at(found: bool, word: Word, parts: &[Numbered]) -> Option<bool>
     }
 }
 
-/// Looks for the marked function in a tree, if `found` says that one was found before. Gives true if one is found by then. `None` if
-/// there are two by then, or one without a body.
+/// Looks for the marked function in a tree, if `found` says that one was found before. Gives true if one is found by then.
+/// `None` if there are two by then, or one without a body.
 #[cycle(finding)]
 #[tactic(auto, using(rl_syntax::proofs::Layers::by_layer, crate::proofs::Found::found_on, crate::proofs::Found::found_none))]
 fn find_in(found: bool, tree: &Numbered) -> Option<bool>
