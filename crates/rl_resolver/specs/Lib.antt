@@ -1,9 +1,9 @@
-pub mod Rules
 pub mod Kinds
 pub mod Lookups
 pub mod Around
 pub mod Functions
 pub mod Buckets
 pub mod Listed
+pub mod Imported
 pub mod Inside
 pub mod Children

@@ -1,24 +1,26 @@
 //! Look-ups of scopes, symbols and references by number, after the original's `ScopeResolver`.
 
-ghost use Rattle.std.specs.Prelude.{◌≡◌, ◌-◌, ◌<◌, ◌^◌, drop, length, map, slice_get, IfOk};
+ghost use Rattle.std.specs.Prelude.{◌≡◌, ◌-◌, ◌<◌, ◌^◌, drop, length, map, option_map, slice_get, IfOk};
 ghost use Rattle.std.specs.Option.{option_copied};
 ghost use Rattle.rl_bindings.specs.Symbols.{resolve};
 ghost use Rattle.rl_resolver.specs.Around as around;
 ghost use Rattle.rl_resolver.specs.Children as children;
 ghost use Rattle.rl_resolver.specs.Functions as made;
 ghost use Rattle.rl_resolver.specs.Buckets.{AreBuckets};
+ghost use Rattle.rl_resolver.specs.Imported.{import_data, import_pair};
 ghost use Rattle.rl_resolver.specs.Inside as within;
 ghost use Rattle.rl_resolver.specs.Listed as listed;
 ghost use Rattle.rl_resolver.specs.Lookups as spec;
+ghost use Rattle.rl_semantic.specs.Imports.{data_of, seen};
 
 use crate::buckets::bucket;
 use crate::children::bindings_with_child_blocks;
 use crate::functions::{capture_root_node, function_scope_ranges, function_scopes};
+use crate::imported::{import_at, imports_by_node};
 use crate::inside::{found_inside, methods_by_node};
 use crate::iterators::{Ancestors, Bindings, ContainingFunctionScopes, FunctionScopes, Symbols};
 use crate::kinds::{has_identifier, is_type_only};
 use crate::lookups::{id_count, scope_parent, symbol_id};
-use crate::semantic::Semantic;
 use crate::tables::{
     declarations_by_node, references_by_symbol, symbols_by_node, symbols_by_scope,
     unresolved_by_name,
@@ -31,6 +33,8 @@ use rl_base::span::Span;
 use rl_base::text::Text;
 use rl_bindings::event::{Bound, ScopeKind};
 use rl_bindings::symbol_kind::{BindingKind, DeclKind};
+use rl_semantic::imports::{ImportBindingData, ImportEntry};
+use rl_semantic::semantic::Semantic;
 use std::alloc::Global;
 
 /// Look-ups by number in the semantic tables of a unit: `ScopeResolver` of the original. Calls that take an allocator take
@@ -38,7 +42,7 @@ use std::alloc::Global;
 #[derive(Drop)]
 pub struct ScopeResolver<'s> {
     /// The semantic tables of the unit.
-    pub semantic: &'s Semantic,
+    pub semantic: &'s Semantic<'s>,
     functions: List<ScopeId>,
     ranges: List<(u32, u32)>,
     references: List<List<ReferenceId>>,
@@ -47,26 +51,28 @@ pub struct ScopeResolver<'s> {
     unresolved: List<List<NodeId>>,
     methods: List<List<ScopeId>>,
     declared: List<List<Option<SymbolId>>>,
-    ghost declared_are: { AreBuckets declared (length semantic.now.nodes) (map listed.declaration_pair semantic.now.bindings.declarations) },
+    imports: List<List<ImportEntry<'s>>>,
+    ghost imports_are: { AreBuckets imports (length semantic.now.nodes.now) (map import_pair semantic.now.imports) },
+    ghost declared_are: { AreBuckets declared (length semantic.now.nodes.now) (map listed.declaration_pair semantic.now.bindings.declarations) },
     ghost functions_are: { functions ≡ made.function_scopes semantic.now.bindings.scopes },
-    ghost ranges_are: { ranges ≡ made.function_scope_ranges semantic.now.nodes semantic.now.bindings.scopes },
-    ghost methods_are: { AreBuckets methods (length semantic.now.nodes) (within.methods_in semantic.now.nodes semantic.now.nodes) },
+    ghost ranges_are: { ranges ≡ made.function_scope_ranges semantic.now.nodes.now semantic.now.bindings.scopes },
+    ghost methods_are: { AreBuckets methods (length semantic.now.nodes.now) (within.methods_in semantic.now.nodes.now semantic.now.nodes.now) },
     ghost few_scopes: { length semantic.now.bindings.scopes < 2 ^ 32 },
     ghost references_are: { AreBuckets references (length semantic.now.bindings.symbols) (listed.resolved_from 0 semantic.now.bindings.references) },
     ghost bindings_are: { AreBuckets bindings (length semantic.now.bindings.scopes) (listed.bound_from semantic.now.bindings.symbols 0 semantic.now.bindings.symbols) },
-    ghost declarations_are: { AreBuckets declarations (length semantic.now.nodes) (listed.declared_from 0 semantic.now.bindings.symbols) },
+    ghost declarations_are: { AreBuckets declarations (length semantic.now.nodes.now) (listed.declared_from 0 semantic.now.bindings.symbols) },
     ghost unresolved_are: { AreBuckets unresolved (length semantic.now.bindings.names) (listed.unresolved_in semantic.now.bindings.references) },
 }
 
 impl<'s> ScopeResolver<'s> {
     /// The look-ups in the semantic tables of a unit, in time that is linear in these. On `OutOfMemory`, an allocation failed, or
     /// there are more scopes, symbols or references than ids, which no unit has.
-    pub fn new(alloc: Global, semantic: &'s Semantic) -> Result<ScopeResolver<'s>, OutOfMemory>
+    pub fn new(alloc: Global, semantic: &'s Semantic<'s>) -> Result<ScopeResolver<'s>, OutOfMemory>
         ensures { IfOk result (λ resolver. resolver.semantic.now ≡ semantic.now) }
     {
         let bindings = &semantic.bindings;
         let scopes = bindings.scopes.as_slice();
-        let nodes = semantic.nodes.as_slice();
+        let nodes = semantic.nodes;
         let symbols = bindings.symbols.as_slice();
         let references = bindings.references.as_slice();
         if 4_294_967_295 < scopes.len() {
@@ -82,6 +88,7 @@ impl<'s> ScopeResolver<'s> {
             unresolved: unresolved_by_name(alloc, bindings.names.len(), references)?,
             methods: methods_by_node(alloc, nodes)?,
             declared: declarations_by_node(alloc, nodes.len(), bindings.declarations.as_slice())?,
+            imports: imports_by_node(alloc, nodes.len(), semantic.imports.as_slice())?,
         })
     }
 
@@ -245,7 +252,7 @@ impl<'s> ScopeResolver<'s> {
 
     /// True of a node that is `root` or stands inside it. False where `root` is no node of the unit.
     pub fn node_within(&self, node: NodeId, root: NodeId) -> bool
-        ensures { result ≡ spec.node_within self.now.semantic.now.nodes node.0 root.0 }
+        ensures { result ≡ spec.node_within self.now.semantic.now.nodes.now node.0 root.0 }
     {
         match self.semantic.nodes.get(root.0 as usize) {
             Some(entry) => root.0 <= node.0 && node.0 < entry.at.end.0,
@@ -308,10 +315,10 @@ impl<'s> ScopeResolver<'s> {
     /// The node that captures of a scope's function count from: the method, getter or setter of an object that the function is
     /// that of, else the node of the scope. The unit's node for a number that is no scope's.
     pub fn capture_root_node(&self, scope: ScopeId) -> NodeId
-        ensures { result ≡ made.capture_root_node self.now.semantic.now.nodes self.now.semantic.now.bindings.scopes scope.0 }
+        ensures { result ≡ made.capture_root_node self.now.semantic.now.nodes.now self.now.semantic.now.bindings.scopes scope.0 }
     {
         capture_root_node(
-            self.semantic.nodes.as_slice(),
+            self.semantic.nodes,
             self.semantic.bindings.scopes.as_slice(),
             scope,
         )
@@ -320,7 +327,7 @@ impl<'s> ScopeResolver<'s> {
     /// The half-open byte ranges of all functions in the unit's text, in the order of their scopes: that of the function, and for
     /// one in a method, getter or setter of an object, that from the start of this to the end of the function.
     pub fn function_scope_ranges(&self) -> &[(u32, u32)]
-        ensures { result.now ≡ made.function_scope_ranges self.now.semantic.now.nodes self.now.semantic.now.bindings.scopes }
+        ensures { result.now ≡ made.function_scope_ranges self.now.semantic.now.nodes.now self.now.semantic.now.bindings.scopes }
     {
         self.ranges.as_slice()
     }
@@ -354,7 +361,7 @@ impl<'s> ScopeResolver<'s> {
     /// The symbol that a `bind` node declares first. `None` for an interface, for a later declaration of a symbol, and for a node
     /// that is no `bind` node of the unit.
     pub fn resolve_binding_identifier(&self, identifier: &BindingIdentifier<'_>) -> Option<SymbolId>
-        ensures { result ≡ listed.symbol_declared self.now.semantic.now.nodes self.now.semantic.now.bindings.symbols identifier.now.at.id.0 }
+        ensures { result ≡ listed.symbol_declared self.now.semantic.now.nodes.now self.now.semantic.now.bindings.symbols identifier.now.at.id.0 }
     {
         match bucket(&self.declarations, identifier.at.id.0 as usize) {
             [first, ..] => Some(*first),
@@ -397,9 +404,9 @@ impl<'s> ScopeResolver<'s> {
     /// of an object counts once for itself and once for its property: it is there twice for a node inside the function, and once
     /// for one in the property's key. None for a number that is no node's.
     pub fn containing_function_scopes(&self, node: NodeId) -> ContainingFunctionScopes<'_>
-        ensures { within.functions_out result.nodes.now result.most result.next ≡ within.containing_function_scopes self.now.semantic.now.nodes node.0 }
+        ensures { within.functions_out result.nodes.now result.most result.next ≡ within.containing_function_scopes self.now.semantic.now.nodes.now node.0 }
     {
-        ContainingFunctionScopes::of(self.semantic.nodes.as_slice(), &self.methods, node)
+        ContainingFunctionScopes::of(self.semantic.nodes, &self.methods, node)
     }
 
     /// A copy of the name of a symbol. Empty for a number that is no symbol's. On `OutOfMemory`, an allocation failed.
@@ -430,11 +437,37 @@ impl<'s> ScopeResolver<'s> {
     /// The symbol that a `bind` node declares, be it the first to declare it or a later one. `None` for a node that is no `bind`
     /// node of the unit.
     pub fn declared_symbol(&self, identifier: &BindingIdentifier<'_>) -> Option<SymbolId>
-        ensures { result ≡ listed.declared_symbol self.now.semantic.now.nodes self.now.semantic.now.bindings.declarations identifier.now.at.id.0 }
+        ensures { result ≡ listed.declared_symbol self.now.semantic.now.nodes.now self.now.semantic.now.bindings.declarations identifier.now.at.id.0 }
     {
         match bucket(&self.declared, identifier.at.id.0 as usize) {
             [first, ..] => *first,
             [] => None,
+        }
+    }
+
+    /// The binding that a symbol's first declaration makes as an import specifier, in the texts of the unit. `None` of a symbol
+    /// whose first declaration is no import specifier, and for a number that is no symbol's.
+    pub fn import_entry(&self, symbol: SymbolId) -> Option<ImportEntry<'s>>
+        ensures { option_map data_of result ≡ import_data self.now.semantic.now.nodes.now (map seen self.now.semantic.now.imports) self.now.semantic.now.bindings.symbols symbol.0 }
+    {
+        match self.symbol(symbol) {
+            Some(bound) => import_at(&self.imports, bound.node),
+            None => None,
+        }
+    }
+
+    /// A copy of the binding that a symbol's first declaration makes as an import specifier. `None` of a symbol whose first
+    /// declaration is no import specifier, and for a number that is no symbol's. On `OutOfMemory`, an allocation failed.
+    pub fn import_data(
+        &self,
+        alloc: Global,
+        symbol: SymbolId,
+    ) -> Result<Option<ImportBindingData>, OutOfMemory>
+        ensures { IfOk result (λ found. found ≡ import_data self.now.semantic.now.nodes.now (map seen self.now.semantic.now.imports) self.now.semantic.now.bindings.symbols symbol.0) }
+    {
+        match self.import_entry(symbol) {
+            Some(entry) => Ok(Some(entry.to_data(alloc)?)),
+            None => Ok(None),
         }
     }
 }

@@ -5,6 +5,6 @@ pub mod chains;
 pub mod declarations;
 pub mod forms;
 pub mod marks;
-mod pieces;
+pub mod pieces;
 pub mod variables;
 mod walk;

@@ -110,7 +110,7 @@ fn items_of(tree: &Numbered) -> &[Numbered]
 }
 
 /// The items of the first part, if that is a list; none if it is not, or if there is no part.
-pub(crate) fn first_items(parts: &[Numbered]) -> &[Numbered]
+pub fn first_items(parts: &[Numbered]) -> &[Numbered]
     ensures { pieces_of (map syntax result.now) ≡ spec.first_items (pieces_of (map syntax parts.now)) }
 {
     match parts {
@@ -130,7 +130,7 @@ pub(crate) fn has_some(parts: &[Numbered]) -> bool
 }
 
 /// The parts behind the first.
-pub(crate) fn behind(parts: &[Numbered]) -> &[Numbered]
+pub fn behind(parts: &[Numbered]) -> &[Numbered]
     ensures { pieces_of (map syntax result.now) ≡ spec.behind (pieces_of (map syntax parts.now)) }
 {
     match parts {

@@ -1,12 +1,14 @@
 //! The names of a unit that keeps the binding rules, after `oxc_semantic`.
 
-ghost use Rattle.std.specs.Prelude.{◌≡◌, ◌+◌, ◌^◌, ◌<◌, ◌≤◌, ℕ, None, Some, length, IfOk, IfErr};
+ghost use Rattle.std.specs.Prelude.{◌≡◌, ℕ, None, Some, map, IfOk, IfErr};
 ghost use Rattle.rl_bindings.specs.Names.{names_in};
 ghost use Rattle.rl_bindings.specs.Tables.{declarations_in, references_in, scopes_in, symbols_in};
-ghost use Rattle.rl_resolver.specs.Rules as spec;
+ghost use Rattle.rl_semantic.specs.Imports.{imports_in, seen};
+ghost use Rattle.rl_semantic.specs.Rules as spec;
 ghost use Rattle.rl_syntax.specs.Nodes.{entries};
 ghost use Rattle.rl_syntax.specs.Syntax.{syntax};
 
+use crate::imports::{ImportEntry, imports_of};
 use rl_ast::unit::Unit;
 use rl_base::error::OutOfMemory;
 use rl_base::list::List;
@@ -16,7 +18,7 @@ use rl_rules::declarations::keeps_declarations;
 use rl_rules::forms::keeps_forms;
 use rl_rules::marks::keeps_mark;
 use rl_rules::variables::keeps_variables;
-use rl_syntax::nodes::{NodeEntry, table_of};
+use rl_syntax::nodes::NodeEntry;
 use rl_syntax::numbered::Numbered;
 use std::alloc::Global;
 use thiserror::Error;
@@ -33,7 +35,7 @@ pub enum RuleError {
 }
 
 impl From<OutOfMemory> for RuleError {
-    ghost use Rattle.rl_resolver.specs.declared.semantic.RuleError.TheVariants.{OutOfMemory};
+    ghost use Rattle.rl_semantic.specs.declared.semantic.RuleError.TheVariants.{OutOfMemory};
     ghost use Rattle.std.specs.Prelude.{◌≡◌};
 
     ghost from_gives = { λ _ e. e ≡ OutOfMemory };
@@ -75,18 +77,20 @@ fn least(marked: bool, named: Option<u8>, formed: Option<u8>) -> Option<u8>
 
 /// Semantic tables of a unit that keeps the binding rules: `Semantic` of the original.
 #[derive(Drop)]
-pub struct Semantic {
+pub struct Semantic<'u> {
     /// The names of the unit: its scopes, symbols and references.
     pub bindings: Bindings,
-    /// The nodes of the unit, by their ids.
-    pub nodes: List<NodeEntry>,
+    /// The bindings that the imports of the unit make, in the order of the nodes.
+    pub imports: List<ImportEntry<'u>>,
+    /// The nodes of the unit, by their ids: the unit's own table.
+    pub nodes: &'u [NodeEntry],
 }
 
-impl Semantic {
+impl<'u> Semantic<'u> {
     /// The semantic tables of a unit, in time that is linear in its nodes, up to the logarithms of the look-ups. On
     /// `Malformed(rule)`, the unit breaks that rule of B1 to B9 and none with a lower number; on `OutOfMemory`, an allocation
     /// failed.
-    pub fn of(alloc: Global, unit: &Unit) -> Result<Semantic, RuleError>
+    pub fn of(alloc: Global, unit: &'u Unit) -> Result<Semantic<'u>, RuleError>
         ensures kept { IfOk result (λ semantic. spec.least_broken (syntax unit.now.tree) ≡ None) }
         ensures malformed { IfErr result (λ e. (rule : ℕ) → e ≡ RuleError.Malformed rule → spec.least_broken (syntax unit.now.tree) ≡ Some rule) }
         ensures names { IfOk result (λ semantic. semantic.bindings.names ≡ names_in (syntax unit.now.tree)) }
@@ -94,14 +98,19 @@ impl Semantic {
         ensures symbols { IfOk result (λ semantic. semantic.bindings.symbols ≡ symbols_in (syntax unit.now.tree)) }
         ensures declarations { IfOk result (λ semantic. semantic.bindings.declarations ≡ declarations_in (syntax unit.now.tree)) }
         ensures references { IfOk result (λ semantic. semantic.bindings.references ≡ references_in (syntax unit.now.tree)) }
-        ensures nodes { IfOk result (λ semantic. semantic.nodes ≡ entries (syntax unit.now.tree)) }
+        ensures imports { IfOk result (λ semantic. map seen semantic.imports ≡ imports_in (syntax unit.now.tree)) }
+        ensures nodes { IfOk result (λ semantic. semantic.nodes.now ≡ entries (syntax unit.now.tree)) }
     {
         let bindings = Bindings::of(alloc, unit)?;
         let named = bindings.least_broken_name_rule;
         if let Some(rule) = least(keeps_mark(&unit.tree), named, least_broken_form(&unit.tree)) {
             return Err(RuleError::Malformed(rule));
         }
-        let nodes = table_of(alloc, &unit.tree)?;
-        Ok(Semantic { bindings, nodes })
+        let imports = imports_of(alloc, &unit.tree)?;
+        Ok(Semantic {
+            bindings,
+            imports,
+            nodes: unit.nodes.as_slice(),
+        })
     }
 }
