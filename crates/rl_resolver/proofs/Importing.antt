@@ -2,11 +2,10 @@
 use Rattle.std.proofs.Common.{◌≡◌, ℕ, Bool, true, false, if◌then◌else◌, nat_eq, nat_lt, Option, Some, None, slice_get, List, [], ◌∷◌, length, map, option_map, refl, ap, ◌∙◌}
 use Rattle.rl_ast.specs.Marked.{first}
 use Rattle.rl_bindings.specs.declared.event.Bound.{Bound}
-use Rattle.rl_resolver.specs.Buckets.{AreBuckets, bucket, those, those_below}
+use Rattle.rl_semantic.specs.Buckets.{AreBuckets, bucket, those, those_below}
 use Rattle.rl_resolver.specs.Imported.{import_data, import_pair}
-use Rattle.rl_resolver.specs.Lookups.{of_item}
+use Rattle.rl_semantic.specs.Items.{of_item}
 use Rattle.rl_semantic.specs.Imports.{data_of, seen}
-use Rattle.rl_semantic.specs.declared.imports.ImportBindingData.{ImportBindingData}
 use Rattle.rl_semantic.specs.declared.imports.ImportEntry.{ImportEntry}
 use Rattle.rl_syntax.specs.declared.nodes.NodeEntry.{NodeEntry}
 

@@ -1,3 +1,2 @@
-pub mod Filling
 pub mod Importing
 pub mod Stepping

@@ -5,7 +5,7 @@ use Rattle.rl_base.specs.declared.ids.ScopeId.{ScopeId}
 use Rattle.rl_bindings.specs.Symbols.{option_or}
 use Rattle.rl_bindings.specs.declared.event.Bound.{Bound}
 use Rattle.rl_bindings.specs.declared.event.ScopeEntry.{ScopeEntry}
-use Rattle.rl_resolver.specs.Functions.{entry_at}
+use Rattle.rl_semantic.specs.Functions.{entry_at}
 use Rattle.rl_resolver.specs.Inside.{bound_inside, found_from, functions_at, functions_out, function_scope, listed}
 use Rattle.rl_syntax.specs.declared.nodes.NodeEntry.{NodeEntry}
 

@@ -7,7 +7,8 @@ use Rattle.rl_bindings.specs.Symbols.{resolve}
 use Rattle.rl_bindings.specs.declared.event.Bound.{Bound}
 use Rattle.rl_bindings.specs.declared.event.ScopeEntry.{ScopeEntry}
 use Rattle.rl_bindings.specs.declared.names.Name.{Name}
-use Rattle.rl_resolver.specs.Lookups.{of_item, scope_parent, symbol_id}
+use Rattle.rl_resolver.specs.Lookups.{scope_parent, symbol_id}
+use Rattle.rl_semantic.specs.Items.{of_item}
 
 -- A scope, the one around it and so on, at most `most` of them.
 abbrev pub outward : List ScopeEntry → (most : ℕ) → Option ScopeId → List ScopeId

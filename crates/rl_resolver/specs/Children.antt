@@ -6,7 +6,7 @@ use Rattle.rl_bindings.specs.declared.event.ScopeEntry.{ScopeEntry}
 use Rattle.rl_bindings.specs.declared.event.ScopeKind.{ScopeKind}
 use Rattle.rl_bindings.specs.declared.event.ScopeKind.TheVariants as scope_kinds
 use Rattle.rl_resolver.specs.Listed.{bindings_in}
-use Rattle.rl_resolver.specs.Lookups.{of_item}
+use Rattle.rl_semantic.specs.Items.{of_item}
 
 abbrev pub is_block : ScopeKind → Bool
 is_block scope_kinds.Block = true

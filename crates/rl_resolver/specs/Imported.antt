@@ -2,8 +2,8 @@
 use Rattle.std.specs.Prelude.{ℕ, Option, None, slice_get, List, length}
 use Rattle.rl_ast.specs.Marked.{first}
 use Rattle.rl_bindings.specs.declared.event.Bound.{Bound}
-use Rattle.rl_resolver.specs.Buckets.{those_below}
-use Rattle.rl_resolver.specs.Lookups.{of_item}
+use Rattle.rl_semantic.specs.Buckets.{those_below}
+use Rattle.rl_semantic.specs.Items.{of_item}
 use Rattle.rl_semantic.specs.declared.imports.ImportBindingData.{ImportBindingData}
 use Rattle.rl_semantic.specs.declared.imports.ImportEntry.{ImportEntry}
 use Rattle.rl_syntax.specs.declared.nodes.NodeEntry.{NodeEntry}

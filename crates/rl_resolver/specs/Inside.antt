@@ -11,9 +11,10 @@ use Rattle.rl_bindings.specs.declared.event.Bound.{Bound}
 use Rattle.rl_bindings.specs.declared.event.ScopeEntry.{ScopeEntry}
 use Rattle.rl_bindings.specs.declared.names.Name.{Name}
 use Rattle.rl_resolver.specs.Around.{ancestors}
-use Rattle.rl_resolver.specs.Buckets.{those_below}
-use Rattle.rl_resolver.specs.Functions.{entry_at, is_property, property_of}
-use Rattle.rl_resolver.specs.Lookups.{of_item, symbol_id}
+use Rattle.rl_semantic.specs.Buckets.{those_below}
+use Rattle.rl_semantic.specs.Functions.{entry_at, is_property, property_of}
+use Rattle.rl_resolver.specs.Lookups.{symbol_id}
+use Rattle.rl_semantic.specs.Items.{of_item}
 use Rattle.rl_syntax.specs.declared.nodes.NodeEntry.{NodeEntry}
 use Rattle.rl_syntax.specs.declared.word.Word.{Word}
 use Rattle.rl_syntax.specs.declared.word.Word.TheVariants as word

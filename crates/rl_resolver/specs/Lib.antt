@@ -1,8 +1,6 @@
 pub mod Kinds
 pub mod Lookups
 pub mod Around
-pub mod Functions
-pub mod Buckets
 pub mod Listed
 pub mod Imported
 pub mod Inside

@@ -1,6 +1,6 @@
 -- The references of each symbol, the symbols of each scope, the symbol of each first declaration, and the names that no scope
 -- binds.
-use Rattle.std.specs.Prelude.{ℕ, ◌+◌, Bool, true, false, if◌then◌else◌, Option, Some, None, List, [], ◌∷◌, ◌++◌, length, map}
+use Rattle.std.specs.Prelude.{ℕ, ◌+◌, Bool, true, false, if◌then◌else◌, Option, None, List, [], ◌∷◌, ◌++◌, length, map}
 use Rattle.rl_ast.specs.Marked.{first}
 use Rattle.rl_base.specs.declared.ids.NodeId.{NodeId}
 use Rattle.rl_base.specs.declared.ids.ReferenceId.{ReferenceId}
@@ -12,9 +12,10 @@ use Rattle.rl_bindings.specs.declared.event.ScopeEntry.{ScopeEntry}
 use Rattle.rl_bindings.specs.declared.names.Name.{Name}
 use Rattle.rl_bindings.specs.declared.resolve.Declaration.{Declaration}
 use Rattle.rl_bindings.specs.declared.resolve.Reference.{Reference}
-use Rattle.rl_resolver.specs.Buckets.{those_below}
+use Rattle.rl_semantic.specs.Buckets.{those_below}
 use Rattle.rl_resolver.specs.Kinds.{has_identifier}
-use Rattle.rl_resolver.specs.Lookups.{of_item, is_number, symbol_id}
+use Rattle.rl_resolver.specs.Lookups.{is_number, symbol_id}
+use Rattle.rl_semantic.specs.Items.{of_item}
 use Rattle.rl_syntax.specs.declared.nodes.NodeEntry.{NodeEntry}
 
 -- A reference with its id, at the symbol that it resolves to. None of a global.

@@ -19,12 +19,8 @@ use Rattle.rl_bindings.specs.declared.symbol_kind.BindingKind.{BindingKind}
 use Rattle.rl_bindings.specs.declared.symbol_kind.BindingKind.TheVariants as binding_kinds
 use Rattle.rl_bindings.specs.declared.symbol_kind.DeclKind.{DeclKind}
 use Rattle.rl_bindings.specs.declared.symbol_kind.DeclKind.TheVariants as decl_kinds
+use Rattle.rl_semantic.specs.Items.{of_item}
 use Rattle.rl_syntax.specs.declared.nodes.NodeEntry.{NodeEntry}
-
--- The value of a function at an item, or `other` where there is none.
-abbrev pub of_item : {X Y : Type 0} → (other : Y) → (X → Y) → Option X → Y
-of_item other f None = other
-of_item other f (Some x) = f x
 
 -- The id with a number. None above the largest id: no symbol has such a number, since each has a node of its own.
 abbrev pub numbered : (number : ℕ) → Option SymbolId

@@ -1,16 +1,16 @@
 //! The symbols of a scope and of the blocks right inside it.
 
 ghost use Rattle.std.specs.Prelude.{◌≡◌, ◌++◌, length, IfOk, OnOk};
-ghost use Rattle.rl_resolver.specs.Buckets.{AreBuckets};
+ghost use Rattle.rl_semantic.specs.Buckets.{AreBuckets};
 ghost use Rattle.rl_resolver.specs.Children as spec;
 ghost use Rattle.rl_resolver.specs.Listed.{bound_from};
 
-use crate::buckets::bucket;
 use rl_base::error::OutOfMemory;
 use rl_base::ids::SymbolId;
 use rl_base::list::List;
 use rl_bindings::event::{ScopeEntry, ScopeKind};
 use rl_bindings::symbol_table::SymbolTable;
+use rl_semantic::buckets::bucket;
 use std::alloc::Global;
 
 /// True of the scope of a block.

@@ -2,14 +2,14 @@
 
 ghost use Rattle.std.specs.Prelude.{◌≡◌, map, IfOk};
 ghost use Rattle.rl_ast.specs.Marked.{first};
-ghost use Rattle.rl_resolver.specs.Buckets.{AreBuckets};
-ghost use Rattle.rl_resolver.specs.Buckets as table;
+ghost use Rattle.rl_semantic.specs.Buckets.{AreBuckets};
+ghost use Rattle.rl_semantic.specs.Buckets as table;
 ghost use Rattle.rl_resolver.specs.Imported as spec;
 
-use crate::buckets::{bucket, buckets};
 use rl_base::error::OutOfMemory;
 use rl_base::ids::NodeId;
 use rl_base::list::List;
+use rl_semantic::buckets::{bucket, buckets};
 use rl_semantic::imports::ImportEntry;
 use std::alloc::Global;
 

@@ -1,17 +1,17 @@
 //! The symbol that a name is bound to inside a scope, and the functions that a node stands in.
 
 ghost use Rattle.std.specs.Prelude.{◌≡◌, ◌<◌, ◌^◌, ◌++◌, ◌∷◌, [], drop, length, IfOk, OnOk, MatchOption};
-ghost use Rattle.rl_resolver.specs.Buckets.{AreBuckets};
+ghost use Rattle.rl_semantic.specs.Buckets.{AreBuckets};
 ghost use Rattle.rl_resolver.specs.Inside as spec;
 
-use crate::buckets::{bucket, buckets};
-use crate::functions::{entry_at, is_property, property_of};
 use crate::iterators::Ancestors;
 use rl_base::error::OutOfMemory;
 use rl_base::ids::{NodeId, ScopeId};
 use rl_base::list::List;
 use rl_bindings::event::ScopeEntry;
 use rl_bindings::symbol_table::SymbolTable;
+use rl_semantic::buckets::{bucket, buckets};
+use rl_semantic::functions::{entry_at, is_property, property_of};
 use rl_syntax::nodes::NodeEntry;
 use rl_syntax::word::Word;
 use std::alloc::Global;

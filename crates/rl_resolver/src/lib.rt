@@ -1,9 +1,7 @@
 //! Names of a unit by number: the look-up of scopes, symbols and references.
 #![tactic(auto)]
 
-mod buckets;
 mod children;
-mod functions;
 mod imported;
 mod inside;
 pub mod iterators;

@@ -2,10 +2,9 @@
 //! references of each name that resolve to none.
 
 ghost use Rattle.std.specs.Prelude.{◌≡◌, ◌++◌, map, IfOk, OnOk};
-ghost use Rattle.rl_resolver.specs.Buckets.{AreBuckets};
+ghost use Rattle.rl_semantic.specs.Buckets.{AreBuckets};
 ghost use Rattle.rl_resolver.specs.Listed as spec;
 
-use crate::buckets::buckets;
 use crate::kinds::has_identifier;
 use crate::lookups::symbol_id;
 use rl_base::error::OutOfMemory;
@@ -14,6 +13,7 @@ use rl_base::list::List;
 use rl_bindings::event::Bound;
 use rl_bindings::resolve::{Declaration, Reference};
 use rl_bindings::symbol_table::SymbolTable;
+use rl_semantic::buckets::buckets;
 use std::alloc::Global;
 
 /// Appends a reference with its id, at the symbol that it resolves to; nothing for a global. On `OutOfMemory`, an allocation

@@ -1,7 +1,7 @@
 -- The bindings that a tree's imports make, by the tree's form, behind those that were found before.
-use Rattle.std.proofs.Common.{◌≡◌, ℕ, Bool, Option, None, List, [], ◌∷◌, ◌++◌, map, append-nil, append_assoc, ap, sym, ◌∙◌}
-use Rattle.std.specs.Option.{option_map_or}
+use Rattle.std.proofs.Common.{◌≡◌, ℕ, Bool, None, List, [], ◌++◌, map, append-nil, append_assoc, ap, sym, ◌∙◌}
 use Rattle.rl_semantic.specs.Imports.{binding_of, kind_of, specifier, import_of, imports_in, imports_among}
+use Rattle.rl_semantic.specs.Items.{of_item}
 use Rattle.rl_semantic.specs.declared.imports.ImportBindingData.{ImportBindingData}
 use Rattle.rl_syntax.specs.Syntax.{Syntax, Said, Count, Flag, Absent, pieces_of, syntax}
 use Rattle.rl_syntax.specs.declared.numbered.At.{At}
@@ -17,7 +17,7 @@ module _ (source : List ℕ) (found : List (ℕ × ImportBindingData)) where
   pub other_specified : (at : At) (word : Word) (parts : List Numbered) → None ≡ kind_of word → found ≡ found ++ specifier source (syntax (numbered.Node at word parts))
   other_specified at word parts none =
       sym (append-nil found)
-      ∙ ap (λ k. found ++ option_map_or (binding_of source (pieces_of (map syntax parts))) k []) none
+      ∙ ap (λ k. found ++ of_item [] (binding_of source (pieces_of (map syntax parts))) k) none
       ∙ specified (numbered.Node at word parts) _ (syntax_node at word parts)
 
   pub list_specified : (parts : List Numbered) → found ≡ found ++ specifier source (syntax (numbered.List parts))

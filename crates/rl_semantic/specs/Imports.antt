@@ -1,8 +1,8 @@
 -- The bindings that the imports of a unit make: of which module, and of which of its exports.
 use Rattle.std.specs.Prelude.{ℕ, Option, Some, None, option_map, List, [], ◌∷◌, ◌++◌}
-use Rattle.std.specs.Option.{option_map_or}
 use Rattle.rl_base.specs.declared.ids.NodeId.{NodeId}
 use Rattle.rl_rules.specs.Pieces.{first_items, behind}
+use Rattle.rl_semantic.specs.Items.{of_item}
 use Rattle.rl_semantic.specs.declared.imports.ImportBindingData.{ImportBindingData}
 use Rattle.rl_semantic.specs.declared.imports.ImportBindingKind.{ImportBindingKind}
 use Rattle.rl_semantic.specs.declared.imports.ImportBindingKind.TheVariants as import
@@ -40,11 +40,11 @@ local_of _ parts = parts
 
 -- The binding that a specifier of the kind makes, at the id of its `bind` node.
 abbrev pub binding_of : (source : List ℕ) → Pieces → ImportBindingKind → List (ℕ × ImportBindingData)
-binding_of source parts kind = option_map_or (λ node. (node.0, record { source = source; kind = kind; imported = imported_of kind parts }) ∷ []) (first_node (local_of kind parts)) []
+binding_of source parts kind = of_item [] (λ node. (node.0, record { source = source; kind = kind; imported = imported_of kind parts }) ∷ []) (first_node (local_of kind parts))
 
 -- As `binding_of`, for a specifier of any kind. None of a part that is no specifier.
 abbrev pub specifier : (source : List ℕ) → Syntax → List (ℕ × ImportBindingData)
-specifier source (Node at w parts) = option_map_or (binding_of source parts) (kind_of w) []
+specifier source (Node at w parts) = of_item [] (binding_of source parts) (kind_of w)
 specifier source _ = []
 
 -- As `specifier`, for specifiers in a row.
@@ -54,7 +54,7 @@ specifiers source (Then piece pieces) = specifier source piece ++ specifiers sou
 
 -- The bindings that a node itself makes, if it is an import: its parts are the module's text and the list of specifiers.
 abbrev pub import_of : Word → Pieces → List (ℕ × ImportBindingData)
-import_of word.Import parts = option_map_or (λ source. specifiers source (first_items (behind parts))) (first_text parts) []
+import_of word.Import parts = of_item [] (λ source. specifiers source (first_items (behind parts))) (first_text parts)
 import_of _ parts = []
 
 abbrev mutual

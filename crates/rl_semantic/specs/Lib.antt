@@ -1,2 +1,5 @@
 pub mod Rules
+pub mod Items
 pub mod Imports
+pub mod Functions
+pub mod Buckets

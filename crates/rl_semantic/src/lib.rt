@@ -1,5 +1,7 @@
-//! Semantic tables of a unit: its names and its imports, or the least binding rule that it breaks.
+//! Semantic tables of a unit: its names, its imports and its functions, or the least binding rule that it breaks.
 #![tactic(auto)]
 
+pub mod buckets;
+pub mod functions;
 pub mod imports;
 pub mod semantic;

@@ -1,6 +1,6 @@
 -- Items by keys that are numbers: the items of each key, in order.
 use Rattle.std.specs.Prelude.{ℕ, ◌≡◌, if◌then◌else◌, nat_eq, nat_lt, slice_get, slice_set, List, [], ◌∷◌, ◌++◌, replicate}
-use Rattle.rl_resolver.specs.Lookups.{of_item}
+use Rattle.rl_semantic.specs.Items.{of_item}
 
 module _ {T : Type 0} where
   -- The items with a key, in order.

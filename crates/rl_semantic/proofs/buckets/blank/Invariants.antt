@@ -1,5 +1,5 @@
 use Rattle.std.proofs.Common.{◌≡◌, [], replicate}
-use Rattle.rl_resolver.proofs.buckets.blank.Given as goal
+use Rattle.rl_semantic.proofs.buckets.blank.Given as goal
 
 abbrev pub invariant-loop-key : goal.invariant-loop-key
 invariant-loop-key g l = l.table.items ≡ replicate l._key []

@@ -5,7 +5,7 @@ use Rattle.rl_base.specs.declared.ids.ScopeId.{ScopeId}
 use Rattle.rl_bindings.specs.declared.event.ScopeEntry.{ScopeEntry}
 use Rattle.rl_bindings.specs.declared.event.ScopeKind.{ScopeKind}
 use Rattle.rl_bindings.specs.declared.event.ScopeKind.TheVariants as scope_kinds
-use Rattle.rl_resolver.specs.Lookups.{of_item}
+use Rattle.rl_semantic.specs.Items.{of_item}
 use Rattle.rl_syntax.specs.declared.nodes.NodeEntry.{NodeEntry}
 use Rattle.rl_syntax.specs.declared.word.Word.{Word}
 use Rattle.rl_syntax.specs.declared.word.Word.TheVariants as word

@@ -1,7 +1,7 @@
 //! Items by keys that are numbers: the items of each key, in order.
 
 ghost use Rattle.std.specs.Prelude.{◌≡◌, [], replicate, IfOk, OnOk};
-ghost use Rattle.rl_resolver.specs.Buckets as spec;
+ghost use Rattle.rl_semantic.specs.Buckets as spec;
 
 use rl_base::error::OutOfMemory;
 use rl_base::list::List;
@@ -45,7 +45,7 @@ fn tabled<T: Copy>(
 
 /// The table that has for each key below `count` the items of that key. On `OutOfMemory`, an allocation failed.
 #[tactic(auto, using(crate::proofs::Filling::are_buckets))]
-pub(crate) fn buckets<T: Copy>(
+pub fn buckets<T: Copy>(
     alloc: Global,
     count: usize,
     pairs: &[(usize, T)],
@@ -57,7 +57,7 @@ pub(crate) fn buckets<T: Copy>(
 }
 
 /// The items that a table has for a key. None past its end.
-pub(crate) fn bucket<T>(table: &List<List<T>>, key: usize) -> &[T]
+pub fn bucket<T>(table: &List<List<T>>, key: usize) -> &[T]
     ensures { result.now ≡ spec.bucket table.now key }
 {
     match table.get(key) {

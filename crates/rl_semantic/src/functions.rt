@@ -2,7 +2,7 @@
 
 ghost use Rattle.std.specs.Prelude.{◌≡◌, ◌++◌, slice_get, IfOk, OnOk};
 ghost use Rattle.std.specs.Option.{option_copied};
-ghost use Rattle.rl_resolver.specs.Functions as spec;
+ghost use Rattle.rl_semantic.specs.Functions as spec;
 
 use rl_base::error::OutOfMemory;
 use rl_base::ids::{NodeId, ScopeId};
@@ -55,7 +55,7 @@ fn is_function_expression(word: Word) -> bool
 }
 
 /// The entry of a node. `None` of no node, and past the end of the table.
-pub(crate) fn entry_at(nodes: &[NodeEntry], node: Option<NodeId>) -> Option<NodeEntry>
+pub fn entry_at(nodes: &[NodeEntry], node: Option<NodeId>) -> Option<NodeEntry>
     ensures { result ≡ spec.entry_at nodes.now node }
 {
     match node {
@@ -72,7 +72,7 @@ fn around(nodes: &[NodeEntry], entry: NodeEntry) -> Option<NodeEntry>
 }
 
 /// True of a method, a getter or a setter of an object.
-pub(crate) fn is_property(nodes: &[NodeEntry], entry: NodeEntry) -> bool
+pub fn is_property(nodes: &[NodeEntry], entry: NodeEntry) -> bool
     ensures { result ≡ spec.is_property nodes.now entry }
 {
     if !is_accessor(entry.word) {
@@ -86,7 +86,7 @@ pub(crate) fn is_property(nodes: &[NodeEntry], entry: NodeEntry) -> bool
 
 /// The method, getter or setter of an object that a function expression is the function of: its last part, so that both end with
 /// the same node. `None` for any other node, and for the computed key of a property.
-pub(crate) fn property_of(nodes: &[NodeEntry], entry: NodeEntry) -> Option<NodeEntry>
+pub fn property_of(nodes: &[NodeEntry], entry: NodeEntry) -> Option<NodeEntry>
     ensures { result ≡ spec.property_of nodes.now entry }
 {
     if !is_function_expression(entry.word) {
@@ -106,11 +106,7 @@ pub(crate) fn property_of(nodes: &[NodeEntry], entry: NodeEntry) -> Option<NodeE
 
 /// The node that captures of a scope count from: the property that its node is the function of, if it is that of one, else its
 /// node. The unit's node for a number that is no scope's.
-pub(crate) fn capture_root_node(
-    nodes: &[NodeEntry],
-    scopes: &[ScopeEntry],
-    scope: ScopeId,
-) -> NodeId
+pub fn capture_root_node(nodes: &[NodeEntry], scopes: &[ScopeEntry], scope: ScopeId) -> NodeId
     ensures { result ≡ spec.capture_root_node nodes.now scopes.now scope.0 }
 {
     match scopes.get(scope.0 as usize) {
@@ -127,10 +123,7 @@ pub(crate) fn capture_root_node(
 
 /// The scopes of functions, in order. On `OutOfMemory`, an allocation failed, or there are more scopes than ids of scopes, which
 /// no unit has.
-pub(crate) fn function_scopes(
-    alloc: Global,
-    scopes: &[ScopeEntry],
-) -> Result<List<ScopeId>, OutOfMemory>
+pub fn function_scopes(alloc: Global, scopes: &[ScopeEntry]) -> Result<List<ScopeId>, OutOfMemory>
     ensures { IfOk result (λ found. found ≡ spec.function_scopes scopes.now) }
 {
     let mut found = List::new(alloc);
@@ -192,7 +185,7 @@ fn push_scope(
 }
 
 /// The ranges of text of all functions, in the order of their scopes. On `OutOfMemory`, an allocation failed.
-pub(crate) fn function_scope_ranges(
+pub fn function_scope_ranges(
     alloc: Global,
     nodes: &[NodeEntry],
     scopes: &[ScopeEntry],

@@ -2,8 +2,8 @@
 use Rattle.std.proofs.Common.{◌≡◌, ◌<◌, ◌≤◌, arith, ℕ, zero, suc, Bool, true, false, if◌then◌else◌, nat_eq, nat_lt, eqb-true, ltb-true, ltb-false, List, [], ◌∷◌, ◌++◌, length, length-set, slice_get, replicate, append-nil, append_assoc, refl, sym, ap, subst, ◌∙◌}
 use Rattle.std.proofs.lemmas.Bool.{eqb-false}
 use Rattle.rl_bindings.proofs.Looking.{get_set_same, get_set_other, by_test}
-use Rattle.rl_resolver.specs.Lookups.{of_item}
-use Rattle.rl_resolver.specs.Buckets.{those, those_below, itself, bucket, put, put_all, tabled, AreBuckets}
+use Rattle.rl_semantic.specs.Items.{of_item}
+use Rattle.rl_semantic.specs.Buckets.{those, those_below, itself, bucket, put, put_all, tabled, AreBuckets}
 
 length_blank : {X : Type 0} (count : ℕ) (x : X) → length (replicate count x) ≡ count
 length_blank zero x = refl
