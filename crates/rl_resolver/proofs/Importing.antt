@@ -2,8 +2,8 @@
 use Rattle.std.proofs.Common.{◌≡◌, ℕ, Bool, true, false, if◌then◌else◌, nat_eq, nat_lt, Option, Some, None, slice_get, List, [], ◌∷◌, length, map, option_map, refl, ap, ◌∙◌}
 use Rattle.rl_ast.specs.Marked.{first}
 use Rattle.rl_bindings.specs.declared.event.Bound.{Bound}
-use Rattle.rl_semantic.specs.Buckets.{AreBuckets, bucket, those, those_below}
-use Rattle.rl_resolver.specs.Imported.{import_data, import_pair}
+use Rattle.rl_semantic.specs.Buckets.{those, those_below}
+use Rattle.rl_resolver.specs.Imported.{import_data, import_entry, import_pair}
 use Rattle.rl_semantic.specs.Items.{of_item}
 use Rattle.rl_semantic.specs.Imports.{data_of, seen}
 use Rattle.rl_semantic.specs.declared.imports.ImportEntry.{ImportEntry}
@@ -32,10 +32,9 @@ those_seen_below count key es = by_case (nat_lt key count)
 found_seen : (count key : ℕ) (es : List ImportEntry) → option_map data_of (first (those_below count key (map import_pair es))) ≡ first (those_below count key (map seen es))
 found_seen count key es = first_seen (those_below count key (map import_pair es)) ∙ ap first (those_seen_below count key es)
 
-pub import_found : (nodes : List NodeEntry) (es : List ImportEntry) (symbols : List Bound) (symbol : ℕ) (table : List (List ImportEntry)) (b : Bound) (found : Option ImportEntry)
-    → AreBuckets table (length nodes) (map import_pair es) → Some b ≡ slice_get symbols symbol → found ≡ first (bucket table b.node.0) → option_map data_of found ≡ import_data nodes (map seen es) symbols symbol
-import_found nodes es symbols symbol table b found are is at =
-    ap (option_map data_of) at
-    ∙ ap (λ items. option_map data_of (first items)) (are.at b.node.0)
-    ∙ found_seen (length nodes) b.node.0 es
-    ∙ ap (of_item None (λ s. first (those_below (length nodes) s.node.0 (map seen es)))) is
+pub entry_shown : (nodes : List NodeEntry) (es : List ImportEntry) (symbols : List Bound) (symbol : ℕ) → option_map data_of (import_entry nodes es symbols symbol) ≡ import_data nodes (map seen es) symbols symbol
+entry_shown nodes es symbols symbol = by_case (slice_get symbols symbol)
+  where
+    by_case : (o : Option Bound) → option_map data_of (of_item None (λ b. first (those_below (length nodes) b.node.0 (map import_pair es))) o) ≡ of_item None (λ b. first (those_below (length nodes) b.node.0 (map seen es))) o
+    by_case None = refl
+    by_case (Some b) = found_seen (length nodes) b.node.0 es

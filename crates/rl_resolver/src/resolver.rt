@@ -7,7 +7,7 @@ ghost use Rattle.rl_resolver.specs.Around as around;
 ghost use Rattle.rl_resolver.specs.Children as children;
 ghost use Rattle.rl_semantic.specs.Functions as made;
 ghost use Rattle.rl_semantic.specs.Buckets.{AreBuckets};
-ghost use Rattle.rl_resolver.specs.Imported.{import_data, import_pair};
+ghost use Rattle.rl_resolver.specs.Imported.{import_data, import_entry, import_pair};
 ghost use Rattle.rl_resolver.specs.Inside as within;
 ghost use Rattle.rl_resolver.specs.Listed as listed;
 ghost use Rattle.rl_resolver.specs.Lookups as spec;
@@ -445,15 +445,25 @@ impl<'s> ScopeResolver<'s> {
         }
     }
 
-    /// The binding that a symbol's first declaration makes as an import specifier, in the texts of the unit. `None` of a symbol
-    /// whose first declaration is no import specifier, and for a number that is no symbol's.
-    pub fn import_entry(&self, symbol: SymbolId) -> Option<ImportEntry<'s>>
-        ensures { option_map data_of result ≡ import_data self.now.semantic.now.nodes.now (map seen self.now.semantic.now.imports) self.now.semantic.now.bindings.symbols symbol.0 }
+    /// The entry of the import specifier that is a symbol's first declaration. `None` of any other symbol, and for a number that is
+    /// no symbol's.
+    fn imported(&self, symbol: SymbolId) -> Option<ImportEntry<'s>>
+        ensures { result ≡ import_entry self.now.semantic.now.nodes.now self.now.semantic.now.imports self.now.semantic.now.bindings.symbols symbol.0 }
     {
         match self.symbol(symbol) {
             Some(bound) => import_at(&self.imports, bound.node),
             None => None,
         }
+    }
+
+    /// The binding that a symbol's first declaration makes as an import specifier, in the texts of the unit. `None` of a symbol
+    /// whose first declaration is no import specifier, and for a number that is no symbol's.
+    #[tactic(auto, using(crate::proofs::Importing::entry_shown))]
+    pub fn import_entry(&self, symbol: SymbolId) -> Option<ImportEntry<'s>>
+        ensures entry { result ≡ import_entry self.now.semantic.now.nodes.now self.now.semantic.now.imports self.now.semantic.now.bindings.symbols symbol.0 }
+        ensures shown { option_map data_of result ≡ import_data self.now.semantic.now.nodes.now (map seen self.now.semantic.now.imports) self.now.semantic.now.bindings.symbols symbol.0 }
+    {
+        self.imported(symbol)
     }
 
     /// A copy of the binding that a symbol's first declaration makes as an import specifier. `None` of a symbol whose first
