@@ -1,0 +1,3 @@
+pub mod Walking
+pub mod Captured
+pub mod Examples

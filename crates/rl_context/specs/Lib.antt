@@ -1,0 +1,5 @@
+pub mod Roles
+pub mod Sites
+pub mod Index
+pub mod Wrapped
+pub mod Context

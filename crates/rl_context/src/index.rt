@@ -1,0 +1,132 @@
+//! Index of a function: its references and declarations by number.
+
+ghost use Rattle.std.specs.Prelude.{◌≡◌, ℕ, if◌then◌else◌, nat_eq, Some, None, IfOk, OnOk};
+ghost use Rattle.std.specs.BTreeMap.{get_by};
+ghost use Rattle.std.specs.Option.{option_copied};
+ghost use Rattle.std.specs.Ordering.{nat_cmp};
+ghost use Rattle.rl_ast.specs.FunctionNodes.{seen_function_node};
+ghost use Rattle.rl_bindings.specs.Symbols.{option_or};
+ghost use Rattle.rl_context.specs.Index as spec;
+ghost use Rattle.rl_context.specs.Sites.{sites_in};
+
+use crate::site::{IdentEntry, Site};
+use crate::walk::sites_of;
+use rl_ast::function_node::FunctionNode;
+use rl_base::error::OutOfMemory;
+use rl_base::ids::{ReferenceId, SymbolId};
+use rl_base::list::List;
+use rl_base::span::Span;
+use rl_resolver::resolver::ScopeResolver;
+use std::alloc::Global;
+use std::collections::{BTreeMap, BTreeSet};
+use std::marker::Model;
+
+/// Gives an entry to a reference that has none yet. On `OutOfMemory`, an allocation failed.
+fn add_entry(
+    entries: &mut BTreeMap<u32, IdentEntry>,
+    reference: u32,
+    entry: IdentEntry,
+) -> Result<(), OutOfMemory>
+    ensures { OnOk result ((n : ℕ) → get_by (nat_cmp n) entries.new ≡ option_or (get_by (nat_cmp n) entries.old) (if nat_eq reference n then Some entry else None)) }
+{
+    if !entries.contains_key(&reference) {
+        entries.insert(reference, entry)?;
+    }
+    Ok(())
+}
+
+/// The entries of the references among sites, by number. On `OutOfMemory`, an allocation failed.
+fn entries_of(alloc: Global, sites: &[Site]) -> Result<BTreeMap<u32, IdentEntry>, OutOfMemory>
+    ensures { IfOk result (λ entries. spec.AreEntries entries sites.now) }
+{
+    let mut entries = BTreeMap::new(alloc);
+    for site in sites {
+        if let Site::Reference(found) = site {
+            add_entry(&mut entries, found.reference.0, found.entry)?;
+        }
+    }
+    Ok(entries)
+}
+
+/// The declarations among sites, by the ids of their nodes. On `OutOfMemory`, an allocation failed.
+fn declarations_of(alloc: Global, sites: &[Site]) -> Result<BTreeSet<u32>, OutOfMemory>
+    ensures { IfOk result (λ declarations. spec.AreDeclarations declarations sites.now) }
+{
+    let mut declarations = BTreeSet::new(alloc);
+    for site in sites {
+        if let Site::Declaration(node) = site {
+            declarations.insert(node.0)?;
+        }
+    }
+    Ok(declarations)
+}
+
+/// References and declarations of a function, by number: `IdentifierLocIndex` of the original. It holds the `id` and `bind` nodes
+/// inside the function's node, the function's own name among them, and outside classes in it. Contracts see the sites of the
+/// function, in the order of its nodes.
+#[derive(Drop)]
+pub struct IdentifierLocIndex {
+    list: List<Site>,
+    entries: BTreeMap<u32, IdentEntry>,
+    declarations: BTreeSet<u32>,
+}
+
+impl Model for IdentifierLocIndex {
+    ghost use Rattle.std.specs.Prelude.{List};
+    ghost use Rattle.rl_context.specs.Index.{AreEntries, AreDeclarations};
+    ghost use Rattle.rl_context.specs.declared.site.Site.{Site};
+
+    ghost Value = { List Site };
+
+    ghost view = { λ index. index.list };
+
+    ghost invariant = { λ index. AreEntries index.entries index.list × AreDeclarations index.declarations index.list };
+}
+
+impl IdentifierLocIndex {
+    /// The index of a function, in time that is linear in its nodes, up to the logarithm of the look-ups. On `OutOfMemory`, an
+    /// allocation failed.
+    pub fn of(alloc: Global, func: &FunctionNode<'_>) -> Result<IdentifierLocIndex, OutOfMemory>
+        ensures { IfOk result (λ index. index ≡ sites_in (seen_function_node func.now)) }
+    {
+        let list = sites_of(alloc, func)?;
+        let entries = entries_of(alloc, list.as_slice())?;
+        let declarations = declarations_of(alloc, list.as_slice())?;
+        Ok(IdentifierLocIndex {
+            list,
+            entries,
+            declarations,
+        })
+    }
+
+    /// The sites of the function, in the order of its nodes.
+    pub fn sites(&self) -> &[Site]
+        ensures { result.now ≡ self.now }
+    {
+        self.list.as_slice()
+    }
+
+    /// The entry of a reference. `None` of a reference that the index does not hold.
+    pub fn reference(&self, reference: ReferenceId) -> Option<&IdentEntry>
+        ensures { option_copied result ≡ spec.entry_among reference.0 self.now }
+    {
+        self.entries.get(&reference.0)
+    }
+
+    /// The span of the declaration identifier of a symbol, a half-open byte range in the unit's text. `None` if the index does
+    /// not hold it, and for a symbol without one.
+    pub fn declaration_span(&self, symbol: SymbolId, scope: &ScopeResolver<'_>) -> Option<Span>
+        ensures { result ≡ spec.declaration_span self.now scope.now.semantic.now.bindings.symbols symbol.0 }
+    {
+        match scope.declaration_ident(symbol) {
+            Some(declaration) => {
+                if self.declarations.contains(&declaration.node.0) {
+                    Some(declaration.span)
+                } else {
+                    None
+                }
+            }
+            None => None,
+        }
+    }
+}
