@@ -25,8 +25,9 @@ scope_node b symbol = of_item (record { 0 = 0 }) (λ s. s.node) (slice_get b.sco
 abbrev pub holds : NodeRange → NodeId → Bool
 holds range node = nat_le range.start.0 node.0 && nat_lt node.0 range.end.0
 
--- True in an inner function that does not declare the symbol: the node that makes the symbol's scope is not in it. Where the
--- innermost function declares a symbol, those around it hold that node too, so it is enough to look at the innermost.
+-- True in an inner function that does not declare the symbol: the node that makes the symbol's scope is not in it. `innermost`
+-- are the nodes of the function that a site stands in. Where it declares the symbol, so do those around it, since they hold its
+-- nodes too.
 abbrev pub is_outside : Bindings → (innermost : Option NodeRange) → SymbolId → Bool
 is_outside b None symbol = false
 is_outside b (Some range) symbol = not (holds range (scope_node b symbol.0))

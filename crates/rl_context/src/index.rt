@@ -84,8 +84,8 @@ impl Model for IdentifierLocIndex {
 }
 
 impl IdentifierLocIndex {
-    /// The index of a function: `build_identifier_loc_index` of the original. It takes time that is linear in the nodes, up to the
-    /// logarithm of the look-ups. On `OutOfMemory`, an allocation failed.
+    /// The index of a function: `build_identifier_loc_index` of the original. It takes time that is linear in the nodes, up to
+    /// the logarithm of the look-ups. On `OutOfMemory`, an allocation failed.
     pub fn of(alloc: Global, func: &FunctionNode<'_>) -> Result<IdentifierLocIndex, OutOfMemory>
         ensures { IfOk result (λ index. index ≡ sites_in (seen_function_node func.now)) }
     {

@@ -3,7 +3,7 @@
 
 pub mod context;
 pub mod index;
-pub mod role;
+mod role;
 pub mod site;
 mod walk;
 mod wrapped;
