@@ -1,19 +1,13 @@
 -- Each declaration declares a symbol.
-use Rattle.std.proofs.Common.{◌≡◌, ℕ, Bool, true, false, ◌&&◌, ◌||◌, eq-eqb, is_some, List, [], ◌∷◌, map, All, arith, refl, ap, ◌∙◌}
+use Rattle.std.proofs.Common.{◌≡◌, ℕ, Bool, true, false, ◌||◌, is_some, List, [], ◌∷◌, map, All, arith, refl, ap, ◌∙◌}
 use Rattle.std.proofs.lemmas.List.Elements.{All-cons}
 use Rattle.rl_bindings.specs.SymbolTables.{knows}
-use Rattle.rl_bindings.specs.Symbols.{same, is_own, is_at, add, add_all, bounds, symbols_of}
+use Rattle.rl_bindings.specs.Symbols.{is_own, is_at, add, add_all, bounds, symbols_of}
 use Rattle.rl_bindings.specs.Tables.{declared_by, declarations_of}
 use Rattle.rl_bindings.specs.declared.event.Bound.{Bound}
 use Rattle.rl_bindings.specs.declared.event.Event.{Event}
 use Rattle.rl_bindings.proofs.Checking.{knows-add}
-
-same_self : (a : Bool) → same a a ≡ true
-same_self true = refl
-same_self false = refl
-
-at_self : (b : Bound) → is_at (is_own b.kind) b.scope.0 b.name b ≡ true
-at_self b = λ i. same_self (is_own b.kind) i && (eq-eqb b.scope.0 b.scope.0 refl i && eq-eqb b.name b.name refl i)
+use Rattle.rl_bindings.proofs.SymbolTables.{at_self}
 
 or_true : (a : Bool) → (a || true) ≡ true
 or_true true = refl

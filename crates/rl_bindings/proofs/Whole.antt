@@ -1,7 +1,7 @@
 -- The loops give what the definitions say of a tree.
-use Rattle.std.proofs.Common.{◌≡◌, ℕ, zero, suc, Bool, ◌||◌, Option, None, List, [], replicate, append-nil, refl, sym, ap, ◌∙◌}
+use Rattle.std.proofs.Common.{◌≡◌, ◌<◌, ℕ, zero, suc, Bool, ◌||◌, Option, None, IfSome, List, [], length, All, replicate, append-nil, refl, sym, ap, subst, ◌∙◌}
 use Rattle.std.specs.List.{list_any}
-use Rattle.rl_bindings.specs.Checks.{steps, start}
+use Rattle.rl_bindings.specs.Checks.{steps, start, lexical_steps}
 use Rattle.rl_bindings.specs.Events.{events, top}
 use Rattle.rl_bindings.specs.NameRules.{clashes, is_lexical_clash, is_repeat, is_type_clash, is_misplaced, is_passing, least, least_of, lexical_of}
 use Rattle.rl_bindings.specs.Names.{names_in}
@@ -14,12 +14,12 @@ use Rattle.rl_bindings.specs.declared.event.Event.{Event}
 use Rattle.rl_bindings.specs.declared.event.ScopeEntry.{ScopeEntry}
 use Rattle.rl_bindings.specs.declared.names.Name.{Name}
 use Rattle.rl_bindings.specs.declared.resolve.Answer.{Answer}
-use Rattle.rl_bindings.specs.declared.resolve.Declaration.{Declaration}
 use Rattle.rl_bindings.specs.declared.resolve.Reference.{Reference}
 use Rattle.rl_bindings.specs.declared.rules.Found.{Found}
 use Rattle.rl_bindings.proofs.Entering.{named, entered, length-blank}
 use Rattle.rl_bindings.proofs.Running.{runs-tree}
-use Rattle.rl_bindings.proofs.Checking.{checked}
+use Rattle.rl_bindings.proofs.Checking.{checked, lexical_found}
+use Rattle.rl_bindings.proofs.Within.{declarations_within}
 use Rattle.rl_syntax.specs.Syntax.{Syntax}
 
 look-blank : (n k : ℕ) → look (replicate n None) k ≡ None
@@ -42,8 +42,8 @@ module _ (tree : Syntax) (names : List Name) (es : List Event) (found : Found) (
   symbols_of_events : found.symbols ≡ symbols_of es
   symbols_of_events = ap (λ f. f.symbols) is_found ∙ (checked es).symbols
 
-  lexical_of_events : found.lexical ≡ lexical_of es
-  lexical_of_events = ap (λ f. f.lexical) is_found ∙ (checked es).lexical
+  lexical_of_events : lexical_steps [] es ≡ lexical_of es
+  lexical_of_events = lexical_found es []
 
   pub scopes_made : (scopes : List ScopeEntry) → scopes ≡ scopes_of es → scopes ≡ scopes_in tree
   scopes_made scopes are = are ∙ ap scopes_of events_are
@@ -51,8 +51,14 @@ module _ (tree : Syntax) (names : List Name) (es : List Event) (found : Found) (
   pub symbols_made : found.symbols ≡ symbols_in tree
   symbols_made = symbols_of_events ∙ ap symbols_of events_are
 
-  pub declarations_made : (declarations : List Declaration) → declarations ≡ declarations_of found.symbols es → declarations ≡ declarations_in tree
-  declarations_made declarations are = are ∙ (λ i. declarations_of (symbols_made i) (events_are i))
+  declarations_found : found.declarations ≡ declarations_of found.symbols es
+  declarations_found = ap (λ f. f.declarations) is_found ∙ (checked es).declarations ∙ ap (λ s. declarations_of s es) (sym symbols_of_events)
+
+  pub declarations_made : found.declarations ≡ declarations_in tree
+  declarations_made = declarations_found ∙ (λ i. declarations_of (symbols_made i) (events_are i))
+
+  pub found_within : All (λ d. IfSome d.symbol (λ k. k < length found.symbols)) found.declarations
+  found_within = subst (All (λ d. IfSome d.symbol (λ k. k < length found.symbols))) (sym declarations_found) (declarations_within found.symbols (bounds es))
 
   answers_stand : (symbols : List Bound) (answers : List Answer) → answers ≡ resolved symbols es → answers ≡ standing (names_in tree) symbols top [] tree
   answers_stand symbols answers are =
@@ -62,13 +68,13 @@ module _ (tree : Syntax) (names : List Name) (es : List Event) (found : Found) (
   references_made answers found_references are is =
       is ∙ ap references (answers_stand found.symbols answers are ∙ ap (λ s. standing (names_in tree) s top [] tree) symbols_made)
 
-  pub broken_made : (passing : Bool) (broken : Option ℕ) → passing ≡ list_any (is_passing found.lexical) (resolved found.lexical es) → broken ≡ least found.clashed passing found.repeated found.shared → broken ≡ least_broken tree
+  pub broken_made : (passing : Bool) (broken : Option ℕ) → passing ≡ list_any (is_passing (lexical_steps [] es)) (resolved (lexical_steps [] es) es) → broken ≡ least found.clashed passing found.repeated found.shared → broken ≡ least_broken tree
   broken_made passing broken passes is =
       let lexical = lexical_of_events in
       let clashed : found.clashed ≡ clashes is_lexical_clash [] (bounds es) = ap (λ f. f.clashed) is_found ∙ (checked es).clashed in
       let repeated : found.repeated ≡ clashes is_repeat [] (bounds es) = ap (λ f. f.repeated) is_found ∙ (checked es).repeated in
       let shared : found.shared ≡ (clashes is_type_clash [] (bounds es) || list_any is_misplaced (bounds es)) = ap (λ f. f.shared) is_found ∙ (checked es).shared in
-      let standing_is : resolved found.lexical es ≡ standing (names_in tree) (lexical_of es) top [] tree = answers_stand found.lexical (resolved found.lexical es) refl ∙ ap (λ s. standing (names_in tree) s top [] tree) lexical in
+      let standing_is : resolved (lexical_steps [] es) es ≡ standing (names_in tree) (lexical_of es) top [] tree = answers_stand (lexical_steps [] es) (resolved (lexical_steps [] es) es) refl ∙ ap (λ s. standing (names_in tree) s top [] tree) lexical in
       is ∙ ap (λ p. least found.clashed p found.repeated found.shared) passes
       ∙ (λ i. least (clashed i) (list_any (is_passing (lexical i)) (standing_is i)) (repeated i) (shared i))
       ∙ ap (λ e. least_of e (standing (names_in tree) (lexical_of e) top [] tree)) events_are

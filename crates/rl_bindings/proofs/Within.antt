@@ -30,7 +30,7 @@ position-below p i n (b ∷ bs) same = at (p b) (position_from p (i + 1) bs) (po
     at true o more = omega (arith, same)
     at false o more = more
 
-number-below : (own : Bool) (s n : ℕ) (symbols : List Bound) → IsBelow (length symbols) (number_at own s n symbols)
+pub number-below : (own : Bool) (s n : ℕ) (symbols : List Bound) → IsBelow (length symbols) (number_at own s n symbols)
 number-below own s n symbols = position-below (is_at own s n) 0 (length symbols) symbols (omega arith)
 
 or-below : (n : ℕ) (a b : Option ℕ) → IsBelow n a → IsBelow n b → IsBelow n (option_or a b)

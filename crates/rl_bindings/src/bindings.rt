@@ -1,6 +1,7 @@
 //! The names of a unit: its scopes and symbols, the symbol of each reference, and the least rule on names that it breaks.
 
-ghost use Rattle.std.specs.Prelude.{◌≡◌, ◌<◌, true, is_some, length, All, IfOk, IfSome};
+ghost use Rattle.std.specs.Prelude.{◌≡◌, ◌<◌, [], true, is_some, length, All, IfOk, IfSome};
+ghost use Rattle.rl_bindings.specs.Checks as check;
 ghost use Rattle.rl_bindings.specs.Machines as machine;
 ghost use Rattle.rl_bindings.specs.NameRules.{is_inside, is_passing};
 ghost use Rattle.rl_bindings.specs.NameRules as rules;
@@ -13,8 +14,8 @@ ghost use Rattle.std.specs.List.{list_any};
 use crate::event::{Bound, Event, ScopeEntry};
 use crate::names::{Name, names_of};
 use crate::resolve::{Answer, Declaration, Reference, resolve_all};
-use crate::rules::{check_all, is_var};
-use crate::symbol_table::{SymbolTable, is_own};
+use crate::rules::{check_all, is_var, lexical_of};
+use crate::symbol_table::SymbolTable;
 use crate::walk::events_of;
 use rl_ast::unit::Unit;
 use rl_base::error::OutOfMemory;
@@ -47,27 +48,6 @@ fn scopes_of(alloc: Global, events: &[Event]) -> Result<List<ScopeEntry>, OutOfM
     for event in events {
         if let Event::Scope(scope) = event {
             found.push(*scope)?;
-        }
-    }
-    Ok(found)
-}
-
-/// The declarations among events, in order, each with the symbol of the table that it declares. On `OutOfMemory`, an allocation
-/// failed.
-fn declarations_of(
-    alloc: Global,
-    table: &SymbolTable,
-    events: &[Event],
-) -> Result<List<Declaration>, OutOfMemory>
-    ensures { IfOk result (λ found. found ≡ tables.declarations_of table.now events.now) }
-{
-    let mut found = List::new(alloc);
-    for event in events {
-        if let Event::Bind(bound) = event {
-            found.push(Declaration {
-                node: bound.node,
-                symbol: table.find(is_own(bound.kind), bound.scope, bound.name),
-            })?;
         }
     }
     Ok(found)
@@ -127,16 +107,17 @@ fn any_var(events: &[Event]) -> bool
     false
 }
 
-/// True if B3 is broken by the declarations among events, if `lexical` are the lexical symbols. Names are resolved only if a
-/// `var` declaration is among them. On `OutOfMemory`, an allocation failed.
+/// True if B3 is broken by the declarations among events. Names are resolved by the lexical symbols alone, and only if a `var`
+/// declaration is among the events. On `OutOfMemory`, an allocation failed.
 #[tactic(auto, using(crate::proofs::Passing::none_passes))]
-fn passes(alloc: Global, lexical: &SymbolTable, events: &[Event]) -> Result<bool, OutOfMemory>
-    ensures { IfOk result (λ b. b ≡ list_any (is_passing lexical.now) (machine.resolved lexical.now events.now)) }
+fn passes(alloc: Global, events: &[Event]) -> Result<bool, OutOfMemory>
+    ensures { IfOk result (λ b. b ≡ list_any (is_passing (check.lexical_steps [] events.now)) (machine.resolved (check.lexical_steps [] events.now) events.now)) }
 {
     if !any_var(events) {
         return Ok(false);
     }
-    let answers = resolve_all(alloc, lexical, events)?;
+    let lexical = lexical_of(alloc, events)?;
+    let answers = resolve_all(alloc, &lexical, events)?;
     Ok(any_passing(lexical.as_slice(), &answers))
 }
 
@@ -191,17 +172,16 @@ impl Bindings {
         let names = names_of(alloc, &unit.tree)?;
         let events = events_of(alloc, &names, &unit.tree)?;
         let found = check_all(alloc, &events)?;
-        let passing = passes(alloc, &found.lexical, &events)?;
+        let passing = passes(alloc, &events)?;
         let broken = least(found.clashed, passing, found.repeated, found.shared);
         let answers = resolve_all(alloc, &found.symbols, &events)?;
         let scopes = scopes_of(alloc, &events)?;
-        let declarations = declarations_of(alloc, &found.symbols, &events)?;
         let references = references_of(alloc, &answers)?;
         Ok(Bindings {
             names,
             scopes,
             symbols: found.symbols,
-            declarations,
+            declarations: found.declarations,
             references,
             least_broken_name_rule: broken,
         })

@@ -1,25 +1,43 @@
 //! The rules B2, B4 and B5 on names, and the symbols of declarations.
 
-ghost use Rattle.std.specs.Prelude.{◌≡◌, [], false, IfOk};
+ghost use Rattle.std.specs.Prelude.{◌≡◌, [], IfOk, OnOk};
 ghost use Rattle.rl_bindings.specs.Checks as check;
 ghost use Rattle.rl_bindings.specs.NameRules as rules;
 
 use crate::event::{BindKind, Bound, Event, Place};
+use crate::resolve::Declaration;
 use crate::symbol_table::{SymbolTable, is_own};
 use rl_base::error::OutOfMemory;
+use rl_base::list::List;
 use std::alloc::Global;
+
+/// The rules that the declarations of a symbol are subject to.
+#[derive(Clone, Copy)]
+pub struct Marks {
+    /// True if one of them is lexical.
+    pub lexical: bool,
+    /// True if one of them is a parameter.
+    pub param: bool,
+    /// True if one of them is a type alias, an interface, an enum or a namespace.
+    pub type_name: bool,
+}
+
+/// The marks of a symbol without declarations.
+const NO_MARKS: Marks = Marks {
+    lexical: false,
+    param: false,
+    type_name: false,
+};
 
 /// Result of the declarations so far: their symbols, and the rules that they break.
 #[derive(Drop)]
 pub struct Found {
     /// The symbols.
     pub symbols: SymbolTable,
-    /// The symbols that the lexical declarations make by themselves.
-    pub lexical: SymbolTable,
-    /// The symbols that the parameters make by themselves.
-    pub params: SymbolTable,
-    /// The symbols that type aliases, interfaces, enums and namespaces make by themselves.
-    pub types: SymbolTable,
+    /// The marks of the symbols, by their numbers.
+    pub marks: List<Marks>,
+    /// The declarations, each with its symbol.
+    pub declarations: List<Declaration>,
     /// True if B2 is broken.
     pub clashed: bool,
     /// True if B4 is broken.
@@ -109,87 +127,124 @@ fn is_misplaced(kind: BindKind, place: Place) -> bool
     }
 }
 
-/// The table with the symbol of a declaration, if `when` is true. On `OutOfMemory`, an allocation failed.
-fn add_if(when: bool, table: SymbolTable, bound: Bound) -> Result<SymbolTable, OutOfMemory>
-    ensures { IfOk result (λ added. added ≡ check.add_if when table bound) }
+/// The marks of a declaration.
+fn marks_of(bound: &Bound) -> Marks
+    ensures { result ≡ check.marks_of bound.now }
 {
-    if when { table.add(bound) } else { Ok(table) }
-}
-
-/// True if the table has a symbol of the declaration's name and scope that is no own name.
-fn knows(table: &SymbolTable, bound: &Bound) -> bool
-    ensures { result ≡ check.knows_other table.now bound.now }
-{
-    table.knows(false, bound.scope, bound.name)
-}
-
-/// True if the table has a symbol of the declaration's name and scope.
-fn knows_any(table: &SymbolTable, bound: &Bound) -> bool
-    ensures { result ≡ check.knows_any table.now bound.now }
-{
-    table.knows(false, bound.scope, bound.name) || table.knows(true, bound.scope, bound.name)
-}
-
-/// True if B2 is broken by a declaration or by one before it.
-fn clashed_with(found: &Found, bound: &Bound) -> bool
-    ensures { result ≡ check.clashed_with found.now bound.now }
-{
-    if found.clashed {
-        return true;
+    Marks {
+        lexical: is_lexical(bound.kind, bound.place),
+        param: is_param(bound.kind),
+        type_name: is_type(bound.kind),
     }
+}
+
+/// The marks of a symbol with the marks `first`, and with one more declaration with the marks `second`.
+fn both_marks(first: Marks, second: Marks) -> Marks
+    ensures { result ≡ check.both_marks first second }
+{
+    Marks {
+        lexical: first.lexical || second.lexical,
+        param: first.param || second.param,
+        type_name: first.type_name || second.type_name,
+    }
+}
+
+/// The marks of a symbol, by those of all symbols. None for no symbol.
+fn marks_at(marks: &[Marks], symbol: Option<usize>) -> Marks
+    ensures { result ≡ check.marks_at marks.now symbol }
+{
+    match symbol {
+        Some(number) => match marks.get(number) {
+            Some(found) => *found,
+            None => NO_MARKS,
+        },
+        None => NO_MARKS,
+    }
+}
+
+/// Adds the marks of a declaration to those of its symbol, or appends them as those of a new symbol. On `OutOfMemory`, an
+/// allocation failed.
+fn add_marks(marks: &mut List<Marks>, symbol: Option<usize>, more: Marks) -> Result<(), OutOfMemory>
+    ensures { OnOk result (marks.new ≡ check.add_marks marks.old symbol more) }
+{
+    match symbol {
+        Some(number) => {
+            if number < marks.len() {
+                let both = both_marks(marks_at(marks.as_slice(), symbol), more);
+                *marks.item_mut(number) = both;
+            }
+            Ok(())
+        }
+        None => {
+            marks.push(more)?;
+            Ok(())
+        }
+    }
+}
+
+/// The symbol of the declaration's name and scope that is an own name if the declaration is none, and the other way round. `None`
+/// if the declaration is neither an own name nor a type: it is no one's concern then.
+fn other_symbol(symbols: &SymbolTable, bound: &Bound) -> Option<usize>
+    ensures { result ≡ check.other_symbol symbols.now bound.now }
+{
+    let own = is_own(bound.kind);
+    if own || is_type(bound.kind) {
+        symbols.find(!own, bound.scope, bound.name)
+    } else {
+        None
+    }
+}
+
+/// True if B2 is broken by a declaration whose symbol is `known`, with the marks `earlier`.
+fn is_clash(bound: &Bound, known: bool, earlier: Marks) -> bool
+    ensures { result ≡ check.is_clash bound.now known earlier }
+{
     if is_own(bound.kind) {
-        return false;
-    }
-    if is_lexical(bound.kind, bound.place) {
-        knows(&found.symbols, bound)
+        false
+    } else if is_lexical(bound.kind, bound.place) {
+        known
     } else {
-        knows(&found.lexical, bound)
+        earlier.lexical
     }
 }
 
-/// True if B4 is broken by a declaration or by one before it.
-fn repeated_with(found: &Found, bound: &Bound) -> bool
-    ensures { result ≡ check.repeated_with found.now bound.now }
+/// True if B5 is broken by a declaration, if `known` says whether its symbol or the other one has declarations, of a type if
+/// `typed` is true.
+fn is_share(bound: &Bound, known: bool, typed: bool) -> bool
+    ensures { result ≡ check.is_share bound.now known typed }
 {
-    if found.repeated {
-        return true;
-    }
-    is_param(bound.kind) && knows(&found.params, bound)
-}
-
-/// True if B5 is broken by a declaration or by one before it.
-fn shared_with(found: &Found, bound: &Bound) -> bool
-    ensures { result ≡ check.shared_with found.now bound.now }
-{
-    if found.shared {
-        return true;
-    }
     if is_misplaced(bound.kind, bound.place) {
-        return true;
-    }
-    if is_type(bound.kind) {
-        knows_any(&found.symbols, bound)
+        true
+    } else if is_type(bound.kind) {
+        known
     } else {
-        knows_any(&found.types, bound)
+        typed
     }
 }
 
-/// Result of the declarations so far, with one more. On `OutOfMemory`, an allocation failed.
-fn step(found: Found, bound: Bound) -> Result<Found, OutOfMemory>
-    ensures { IfOk result (λ after. after ≡ check.step found bound) }
+/// Adds a declaration to the result of those so far. On `OutOfMemory`, an allocation failed.
+fn step(found: &mut Found, bound: Bound) -> Result<(), OutOfMemory>
+    ensures { OnOk result (found.new ≡ check.step found.old bound) }
 {
-    let clashed = clashed_with(&found, &bound);
-    let repeated = repeated_with(&found, &bound);
-    let shared = shared_with(&found, &bound);
-    Ok(Found {
-        symbols: found.symbols.add(bound)?,
-        lexical: add_if(is_lexical(bound.kind, bound.place), found.lexical, bound)?,
-        params: add_if(is_param(bound.kind), found.params, bound)?,
-        types: add_if(is_type(bound.kind), found.types, bound)?,
-        clashed,
-        repeated,
-        shared,
-    })
+    let other = other_symbol(&found.symbols, &bound);
+    let next = found.symbols.as_slice().len();
+    let known = found.symbols.add(bound)?;
+    let earlier = marks_at(found.marks.as_slice(), known);
+    let others = marks_at(found.marks.as_slice(), other);
+    add_marks(&mut found.marks, known, marks_of(&bound))?;
+    found.declarations.push(Declaration {
+        node: bound.node,
+        symbol: Some(known.unwrap_or(next)),
+    })?;
+    found.clashed = found.clashed || is_clash(&bound, known.is_some(), earlier);
+    found.repeated = found.repeated || (is_param(bound.kind) && earlier.param);
+    found.shared = found.shared
+        || is_share(
+            &bound,
+            known.is_some() || other.is_some(),
+            earlier.type_name || others.type_name,
+        );
+    Ok(())
 }
 
 /// Result of the declarations among events. On `OutOfMemory`, an allocation failed.
@@ -198,17 +253,31 @@ pub fn check_all(alloc: Global, events: &[Event]) -> Result<Found, OutOfMemory>
 {
     let mut found = Found {
         symbols: SymbolTable::new(alloc),
-        lexical: SymbolTable::new(alloc),
-        params: SymbolTable::new(alloc),
-        types: SymbolTable::new(alloc),
+        marks: List::new(alloc),
+        declarations: List::new(alloc),
         clashed: false,
         repeated: false,
         shared: false,
     };
     for event in events {
         if let Event::Bind(bound) = event {
-            found = step(found, *bound)?;
+            step(&mut found, *bound)?;
         }
     }
     Ok(found)
+}
+
+/// The symbols that the lexical declarations among events make by themselves. On `OutOfMemory`, an allocation failed.
+pub fn lexical_of(alloc: Global, events: &[Event]) -> Result<SymbolTable, OutOfMemory>
+    ensures { IfOk result (λ symbols. symbols ≡ check.lexical_steps [] events.now) }
+{
+    let mut symbols = SymbolTable::new(alloc);
+    for event in events {
+        if let Event::Bind(bound) = event {
+            if is_lexical(bound.kind, bound.place) {
+                symbols.add(*bound)?;
+            }
+        }
+    }
+    Ok(symbols)
 }

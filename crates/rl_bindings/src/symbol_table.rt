@@ -1,15 +1,17 @@
 //! Lists of symbols with an index by scope and name.
 
-ghost use Rattle.std.specs.Prelude.{◌≡◌, [], List, length, IfOk, IfSome};
-ghost use Rattle.rl_bindings.specs.Symbols.{add, binding, number_at, option_or};
+ghost use Rattle.std.specs.Prelude.{◌≡◌, [], Some, MatchOption, IfOk, OnOk, OnErr};
+ghost use Rattle.std.specs.BTreeMap.{Updates, IsUnchanged, get};
+ghost use Rattle.rl_bindings.specs.Symbols.{add, binding, number_at};
 ghost use Rattle.rl_bindings.specs.Symbols as names;
-ghost use Rattle.rl_bindings.specs.SymbolTables.{knows};
+ghost use Rattle.rl_bindings.specs.SymbolTables.{key_cmp};
 
 use crate::event::{BindKind, Bound};
 use rl_base::error::OutOfMemory;
 use rl_base::ids::ScopeId;
 use std::alloc::Global;
 use std::collections::BTreeMap;
+use std::collections::btree_map::Entry;
 use std::marker::Model;
 
 /// Symbols with an index by scope and name: a look-up takes a number of comparisons that is logarithmic in the number of symbols.
@@ -17,7 +19,8 @@ use std::marker::Model;
 #[derive(Drop)]
 pub struct SymbolTable {
     symbols: Vec<Bound>,
-    numbers: BTreeMap<(bool, u32, usize), usize>,
+    /// The number of each symbol, by its name, its scope, and whether it is an own name.
+    numbers: BTreeMap<(usize, u32, bool), usize>,
 }
 
 impl Model for SymbolTable {
@@ -66,14 +69,7 @@ impl SymbolTable {
     pub fn find(&self, own: bool, scope: ScopeId, name: usize) -> Option<usize>
         ensures { result ≡ number_at own scope.0 name self.now }
     {
-        self.numbers.get(&(own, scope.0, name)).copied()
-    }
-
-    /// True if a scope has a symbol of the name, as an own name or otherwise.
-    pub fn knows(&self, own: bool, scope: ScopeId, name: usize) -> bool
-        ensures { result ≡ knows self.now own scope.0 name }
-    {
-        self.find(own, scope, name).is_some()
+        self.numbers.get(&(name, scope.0, own)).copied()
     }
 
     /// The symbol that a scope binds a name to: one that is no own name, if there is one, else the own name.
@@ -86,22 +82,43 @@ impl SymbolTable {
         }
     }
 
-    /// The table with the symbol of a declaration, if its scope has none of its name yet. On `OutOfMemory`, an allocation failed,
-    /// and the table is dropped.
-    pub fn add(self, bound: Bound) -> Result<SymbolTable, OutOfMemory>
-        ensures { IfOk result (λ table. table ≡ add self bound) }
+    /// Adds the symbol of a declaration, if its scope has none of its name yet. Otherwise returns the number of the one that it has. It
+    /// takes one look-up. On `OutOfMemory`, an allocation failed, and nothing has changed.
+    pub fn add(&mut self, bound: Bound) -> Result<Option<usize>, OutOfMemory>
+        ensures known { IfOk result (λ known. known ≡ number_at (names.is_own bound.kind) bound.scope.0 bound.name self.old) }
+        ensures added { OnOk result (self.new ≡ add self.old bound) }
+        ensures err { OnErr result (self.new ≡ self.old) }
     {
-        let own = is_own(bound.kind);
-        if self.knows(own, bound.scope, bound.name) {
-            return Ok(self);
+        let key = (bound.name, bound.scope.0, is_own(bound.kind));
+        let number = self.symbols.len();
+        // With room for the symbol, nothing fails once its number is in the index.
+        self.symbols.reserve(1)?;
+        match find_or_insert(&mut self.numbers, key, number)? {
+            Some(known) => Ok(Some(known)),
+            None => {
+                self.symbols.push(bound)?;
+                Ok(None)
+            }
         }
-        let SymbolTable {
-            mut symbols,
-            mut numbers,
-        } = self;
-        let number = symbols.len();
-        symbols.push(bound)?;
-        numbers.insert((own, bound.scope.0, bound.name), number)?;
-        Ok(SymbolTable { symbols, numbers })
+    }
+}
+
+/// The number of a key. A key without one gets `number`, and the result is `None`. On `OutOfMemory`, an allocation failed, and
+/// nothing has changed.
+fn find_or_insert(
+    numbers: &mut BTreeMap<(usize, u32, bool), usize>,
+    key: (usize, u32, bool),
+    number: usize,
+) -> Result<Option<usize>, OutOfMemory>
+    ensures known { IfOk result (λ known. known ≡ get key_cmp numbers.old key) }
+    ensures changed { IfOk result (λ known. MatchOption known (Updates key_cmp numbers.old numbers.new key (Some number)) (λ _. IsUnchanged numbers.old numbers.new)) }
+    ensures err { OnErr result (IsUnchanged numbers.old numbers.new) }
+{
+    match numbers.entry(key)? {
+        Entry::Vacant(entry) => {
+            entry.insert(number);
+            Ok(None)
+        }
+        Entry::Occupied(entry) => Ok(Some(*entry.get())),
     }
 }

@@ -1,14 +1,13 @@
-use Rattle.std.proofs.Common.{◌≡◌, ◌<◌, true, is_some, length, All, IfSome, ap, sym, subst, ◌∙◌}
+use Rattle.std.proofs.Common.{◌≡◌, ◌<◌, [], true, is_some, length, All, IfSome, ap, sym, subst, ◌∙◌}
 use Rattle.std.specs.List.{list_any}
-use Rattle.rl_bindings.specs.Checks.{steps, start}
+use Rattle.rl_bindings.specs.Checks.{steps, start, lexical_steps}
 use Rattle.rl_bindings.specs.Machines.{resolved}
 use Rattle.rl_bindings.specs.NameRules.{is_passing}
 use Rattle.rl_bindings.specs.Standing.{references}
-use Rattle.rl_bindings.specs.Tables.{references_in, events_in, declarations_of, scopes_of}
+use Rattle.rl_bindings.specs.Tables.{references_in, events_in, scopes_of}
 use Rattle.rl_bindings.proofs.Declared.{each_declared}
-use Rattle.rl_bindings.specs.Symbols.{bounds}
-use Rattle.rl_bindings.proofs.Within.{declarations_within, references_within}
-use Rattle.rl_bindings.proofs.Whole.{scopes_made, symbols_made, declarations_made, references_made, broken_made}
+use Rattle.rl_bindings.proofs.Within.{references_within}
+use Rattle.rl_bindings.proofs.Whole.{scopes_made, symbols_made, declarations_made, found_within, references_made, broken_made}
 use Rattle.rl_syntax.specs.Syntax.{syntax}
 use Rattle.rl_bindings.proofs.bindings.Bindings.of.Goals as goal
 
@@ -27,7 +26,6 @@ pub returns-clause-declarations : goal.returns-clause-declarations
 returns-clause-declarations c =
     declarations_made (syntax c.args.unit.now.tree) c.in_ok-names.names c.in_ok-events.events.items c.in_ok-found.found c.in_ok-names.ensures c.in_ok-events.ensures
     (c.in_ok-found.ensures ∙ ap (steps start) c.deref.ensures.value)
-    c.in_ok-declarations.declarations (c.in_ok-declarations.ensures ∙ ap (declarations_of c.in_ok-found.found.symbols) c.deref-5.ensures.value)
 
 pub returns-clause-references : goal.returns-clause-references
 returns-clause-references c =
@@ -35,33 +33,27 @@ returns-clause-references c =
     (c.in_ok-found.ensures ∙ ap (steps start) c.deref.ensures.value)
     c.in_ok-answers.answers.items c.in_ok-references.references
     (c.in_ok-answers.ensures ∙ ap (resolved c.in_ok-found.found.symbols) c.deref-3.ensures.value)
-    (c.in_ok-references.ensures ∙ ap references c.deref-6.ensures.value)
+    (c.in_ok-references.ensures ∙ ap references c.deref-5.ensures.value)
 
 pub returns-clause-least_broken : goal.returns-clause-least_broken
 returns-clause-least_broken c =
     broken_made (syntax c.args.unit.now.tree) c.in_ok-names.names c.in_ok-events.events.items c.in_ok-found.found c.in_ok-names.ensures c.in_ok-events.ensures
     (c.in_ok-found.ensures ∙ ap (steps start) c.deref.ensures.value)
     c.in_ok-passing.passing c.least-broken.result
-    (c.in_ok-passing.ensures ∙ ap (λ e. list_any (is_passing c.in_ok-found.found.lexical) (resolved c.in_ok-found.found.lexical e)) c.deref-2.ensures.value)
+    (c.in_ok-passing.ensures ∙ ap (λ e. list_any (is_passing (lexical_steps [] e)) (resolved (lexical_steps [] e) e)) c.deref-2.ensures.value)
     c.least-broken.ensures
 
 pub returns-clause-declared : goal.returns-clause-declared
 returns-clause-declared c =
-    subst (All (λ d. is_some d.symbol ≡ true))
-    (sym (declarations_made (syntax c.args.unit.now.tree) c.in_ok-names.names c.in_ok-events.events.items c.in_ok-found.found c.in_ok-names.ensures c.in_ok-events.ensures
-    (c.in_ok-found.ensures ∙ ap (steps start) c.deref.ensures.value)
-    c.in_ok-declarations.declarations (c.in_ok-declarations.ensures ∙ ap (declarations_of c.in_ok-found.found.symbols) c.deref-5.ensures.value)))
-    (each_declared (events_in (syntax c.args.unit.now.tree)))
+    subst (All (λ d. is_some d.symbol ≡ true)) (sym (returns-clause-declarations c)) (each_declared (events_in (syntax c.args.unit.now.tree)))
 
 pub returns-clause-declarations_within : goal.returns-clause-declarations_within
 returns-clause-declarations_within c =
-    subst (All (λ d. IfSome d.symbol (λ k. k < length c.in_ok-found.found.symbols)))
-    (sym (c.in_ok-declarations.ensures ∙ ap (declarations_of c.in_ok-found.found.symbols) c.deref-5.ensures.value))
-    (declarations_within c.in_ok-found.found.symbols (bounds c.in_ok-events.events.items))
+    found_within (syntax c.args.unit.now.tree) c.in_ok-names.names c.in_ok-events.events.items c.in_ok-found.found c.in_ok-names.ensures c.in_ok-events.ensures
+    (c.in_ok-found.ensures ∙ ap (steps start) c.deref.ensures.value)
 
 pub returns-clause-references_within : goal.returns-clause-references_within
 returns-clause-references_within c =
     let tree = syntax c.args.unit.now.tree in
-    let symbols = symbols_made tree c.in_ok-names.names c.in_ok-events.events.items c.in_ok-found.found c.in_ok-names.ensures c.in_ok-events.ensures (c.in_ok-found.ensures ∙ ap (steps start) c.deref.ensures.value) in
     subst (All (λ r. IfSome r.symbol (λ k. k < length c.in_ok-found.found.symbols))) (sym (returns-clause-references c))
-    (subst (λ l. All (λ r. IfSome r.symbol (λ k. k < length l)) (references_in tree)) (sym symbols) (references_within tree))
+    (subst (λ l. All (λ r. IfSome r.symbol (λ k. k < length l)) (references_in tree)) (sym (returns-clause-symbols c)) (references_within tree))
