@@ -13,3 +13,4 @@ pub mod Examples
 pub mod Passing
 pub mod Numbering
 pub mod Within
+pub mod Guessing

@@ -9,7 +9,7 @@ use Rattle.rl_bindings.specs.declared.names.Name.{Name}
 use Rattle.rl_bindings.proofs.Looking.{by_test}
 use Rattle.rl_syntax.specs.Syntax.{Syntax}
 
-at_head : (first : ℕ) (x : Name) (names : List Name) (text : List ℕ) (b : Bool) → bytes_eq x.text text ≡ b → index_from (λ n. n.text) first (x ∷ names) text ≡ (if b then Some first else index_from (λ n. n.text) (first + 1) names text)
+pub at_head : (first : ℕ) (x : Name) (names : List Name) (text : List ℕ) (b : Bool) → bytes_eq x.text text ≡ b → index_from (λ n. n.text) first (x ∷ names) text ≡ (if b then Some first else index_from (λ n. n.text) (first + 1) names text)
 at_head first x names text b is = ap (λ (c : Bool). if c then Some first else index_from (λ n. n.text) (first + 1) names text) is
 
 above : (first : ℕ) (names : List Name) (text : List ℕ) (k : ℕ) → index_from (λ n. n.text) first names text ≡ Some k → first ≤ k

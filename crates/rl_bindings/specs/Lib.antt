@@ -1,4 +1,5 @@
 pub mod Names
+pub mod Guesses
 pub mod Roles
 pub mod Events
 pub mod Symbols

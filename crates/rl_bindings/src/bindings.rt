@@ -12,7 +12,7 @@ ghost use Rattle.rl_syntax.specs.Syntax.{syntax};
 ghost use Rattle.std.specs.List.{list_any};
 
 use crate::event::{Bound, Event, ScopeEntry};
-use crate::names::{Name, names_of};
+use crate::names::{Name, Numbering, names_of};
 use crate::resolve::{Answer, Declaration, Reference, resolve_all};
 use crate::rules::{check_all, is_var, lexical_of};
 use crate::symbol_table::SymbolTable;
@@ -169,8 +169,12 @@ impl Bindings {
         ensures references_within { IfOk result (λ b. All (λ r. IfSome r.symbol (λ k. k < length b.symbols)) b.references) }
         ensures least_broken { IfOk result (λ b. b.least_broken_name_rule ≡ tables.least_broken (syntax unit.now.tree)) }
     {
-        let names = names_of(alloc, &unit.tree)?;
-        let events = events_of(alloc, &names, &unit.tree)?;
+        let (names, guesses) = names_of(alloc, unit.nodes.len(), &unit.tree)?;
+        let numbering = Numbering {
+            names: &names,
+            guesses: &guesses,
+        };
+        let events = events_of(alloc, &numbering, &unit.tree)?;
         let found = check_all(alloc, &events)?;
         let passing = passes(alloc, &events)?;
         let broken = least(found.clashed, passing, found.repeated, found.shared);

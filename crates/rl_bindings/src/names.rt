@@ -1,7 +1,8 @@
 //! Names that a unit declares or uses, by number.
 
 ghost use Rattle.std.specs.Prelude.{◌≡◌, ◌∷◌, [], map, MatchOption, IfOk, OnOk};
-ghost use Rattle.rl_bindings.specs.Names.{add_name, add_names, name_of, named_by, names_in, said, texts, texts_of};
+ghost use Rattle.rl_bindings.specs.Guesses.{AreDistinct, is_named};
+ghost use Rattle.rl_bindings.specs.Names.{add_name, add_names, name_of, named_by, names_in, number_of, said, texts, texts_of};
 ghost use Rattle.rl_syntax.specs.Syntax.{Said, Pieces, Then, pieces_of, syntax};
 
 use rl_base::error::OutOfMemory;
@@ -26,20 +27,123 @@ impl Named for Name {
     }
 }
 
-/// Adds a name, if it is new. On `OutOfMemory`, an allocation failed.
-fn add_name(alloc: Global, names: &mut NameTable<Name>, text: &Text) -> Result<(), OutOfMemory>
-    ensures { OnOk result (names.new ≡ add_name names.old text.now) }
-{
-    match names.find(text.as_str()) {
-        Some(_) => Ok(()),
-        None => {
-            let name = Name {
-                text: text.copy(alloc)?,
-            };
-            names.insert_new(alloc, name)?;
-            Ok(())
+/// The names of a unit, each once, with a guess at the number of the name of each `bind` and `id` node, in order. A guess saves a
+/// look-up where it is right. It is compared with the name before it is taken, so no proof asks for more of it.
+#[derive(Drop)]
+pub struct Numbering<'n> {
+    /// The names.
+    pub names: &'n NameTable<Name>,
+    /// The guesses.
+    pub guesses: &'n [usize],
+    ghost distinct: { AreDistinct names.now },
+}
+
+/// Guesses at the numbers of names, while names are collected.
+#[derive(Drop)]
+pub struct Guesses {
+    /// For each hash of a name, the number of the last name with that hash; past all numbers where there is none. Names with one
+    /// hash are looked up in the ordered table, so that names that are made to collide take no more than that.
+    slots: Vec<u32>,
+    /// The numbers of the names of the `bind` and `id` nodes so far, in order.
+    numbers: Vec<usize>,
+}
+
+/// A hash of a text (FNV-1a).
+fn hash_of(text: &str) -> u32 {
+    let mut hash: u32 = 2_166_136_261;
+    for byte in text.as_bytes() {
+        hash = (hash ^ u32::from(*byte)).wrapping_mul(16_777_619);
+    }
+    hash
+}
+
+impl Guesses {
+    /// No guesses, with room for those of a unit with `nodes` nodes. On `OutOfMemory`, an allocation failed.
+    fn new(alloc: Global, nodes: usize) -> Result<Guesses, OutOfMemory> {
+        let mut slots = Vec::new(alloc);
+        slots.resize(nodes, u32::MAX)?;
+        Ok(Guesses {
+            slots,
+            numbers: Vec::new(alloc),
+        })
+    }
+
+    /// The slot of a text.
+    fn slot_of(&self, text: &str) -> usize {
+        let place = u64::from(hash_of(text)).wrapping_mul(self.slots.len() as u64);
+        (place >> 32) as usize
+    }
+
+    /// The number that a slot has, or one past all numbers.
+    fn guess(&self, slot: usize) -> usize {
+        match self.slots.get(slot) {
+            Some(number) => *number as usize,
+            None => u32::MAX as usize,
         }
     }
+
+    /// Keeps the number of the next name, whose slot this is. On `OutOfMemory`, an allocation failed.
+    fn keep(&mut self, slot: usize, number: usize) -> Result<(), OutOfMemory> {
+        if slot < self.slots.len() {
+            self.slots[slot] = u32::try_from(number).unwrap_or(u32::MAX);
+        }
+        self.numbers.push(number)?;
+        Ok(())
+    }
+}
+
+/// True if the name with this number is `text`.
+fn is_named(names: &NameTable<Name>, number: usize, text: &str) -> bool
+    ensures { result ≡ is_named names.now number text.now }
+{
+    match names.as_slice().get(number) {
+        Some(name) => name.text.as_str() == text,
+        None => false,
+    }
+}
+
+/// Adds a name, if it is new, and returns its number. One with the number `guess` takes no look-up, and a new one takes one look-up
+/// if no name has that number. On `OutOfMemory`, an allocation failed.
+#[tactic(auto, using(crate::proofs::Guessing::named_kept))]
+fn find_or_add(
+    alloc: Global,
+    names: &mut NameTable<Name>,
+    guess: usize,
+    text: &Text,
+) -> Result<usize, OutOfMemory>
+    ensures { OnOk result (names.new ≡ add_name names.old text.now) }
+{
+    if is_named(names, guess, text.as_str()) {
+        return Ok(guess);
+    }
+    if guess < names.len() {
+        if let Some(number) = names.find(text.as_str()) {
+            return Ok(number);
+        }
+    }
+    let number = names.len();
+    let name = Name {
+        text: text.copy(alloc)?,
+    };
+    if names.insert_new(alloc, name)? {
+        return Ok(number);
+    }
+    Ok(names.find(text.as_str()).unwrap_or(number))
+}
+
+/// Adds a name, if it is new, and keeps its number. On `OutOfMemory`, an allocation failed.
+fn add_name(
+    alloc: Global,
+    names: &mut NameTable<Name>,
+    guesses: &mut Guesses,
+    text: &Text,
+) -> Result<(), OutOfMemory>
+    ensures { OnOk result (names.new ≡ add_name names.old text.now) }
+{
+    let slot = guesses.slot_of(text.as_str());
+    let number = find_or_add(alloc, names, guesses.guess(slot), text)?;
+    guesses.keep(slot, number)?;
+    Ok(())
 }
 
 /// The text of a part. `None` at any other part.
@@ -67,16 +171,28 @@ pub(crate) fn said(parts: &[Numbered]) -> Option<&Text>
     }
 }
 
-/// The number of the name that a `bind` or `id` node with these parts says; the number of all names where it is none of them.
-pub fn name_of(names: &NameTable<Name>, parts: &[Numbered]) -> usize
-    ensures { result ≡ name_of names.now (pieces_of (map syntax parts.now)) }
+/// The number of a name, by a guess at it. `None` if it is none of the names.
+#[tactic(auto, using(crate::proofs::Guessing::guessed))]
+fn number_of(numbering: &Numbering<'_>, guess: usize, text: &str) -> Option<usize>
+    ensures { result ≡ number_of numbering.now.names.now text.now }
+{
+    if is_named(numbering.names, guess, text) {
+        return Some(guess);
+    }
+    numbering.names.find(text)
+}
+
+/// The number of the name that a `bind` or `id` node with these parts says, by a guess at it; the number of all names where the
+/// parts say none.
+pub fn name_of(numbering: &Numbering<'_>, guess: usize, parts: &[Numbered]) -> usize
+    ensures { result ≡ name_of numbering.now.names.now (pieces_of (map syntax parts.now)) }
 {
     match said(parts) {
-        Some(text) => match names.find(text.as_str()) {
+        Some(text) => match number_of(numbering, guess, text.as_str()) {
             Some(number) => number,
-            None => names.len(),
+            None => numbering.names.len(),
         },
-        None => names.len(),
+        None => numbering.names.len(),
     }
 }
 
@@ -95,6 +211,7 @@ fn named_by(word: Word, parts: &[Numbered]) -> Option<&Text>
 fn add_own(
     alloc: Global,
     names: &mut NameTable<Name>,
+    guesses: &mut Guesses,
     word: Word,
     parts: &[Numbered],
 ) -> Result<(), OutOfMemory>
@@ -102,7 +219,7 @@ fn add_own(
 {
     match named_by(word, parts) {
         Some(text) => {
-            add_name(alloc, names, text)?;
+            add_name(alloc, names, guesses, text)?;
             Ok(())
         }
         None => Ok(()),
@@ -112,15 +229,20 @@ fn add_own(
 /// Adds the names of a tree's `bind` and `id` nodes. On `OutOfMemory`, an allocation failed.
 #[cycle(collecting)]
 #[tactic(auto, using(crate::proofs::Naming::by_form, rl_syntax::proofs::Layers::by_layer))]
-fn collect(alloc: Global, names: &mut NameTable<Name>, tree: &Numbered) -> Result<(), OutOfMemory>
+fn collect(
+    alloc: Global,
+    names: &mut NameTable<Name>,
+    guesses: &mut Guesses,
+    tree: &Numbered,
+) -> Result<(), OutOfMemory>
     ensures { OnOk result (names.new ≡ add_names names.old (texts (syntax tree.now))) }
 {
     match tree {
         Numbered::Node(_, word, parts) => {
-            add_own(alloc, names, *word, parts.as_slice())?;
-            collect_all(alloc, names, parts.as_slice())
+            add_own(alloc, names, guesses, *word, parts.as_slice())?;
+            collect_all(alloc, names, guesses, parts.as_slice())
         }
-        Numbered::List(parts) => collect_all(alloc, names, parts.as_slice()),
+        Numbered::List(parts) => collect_all(alloc, names, guesses, parts.as_slice()),
         Numbered::Text(_) => Ok(()),
         Numbered::Number(_) => Ok(()),
         Numbered::Flag(_) => Ok(()),
@@ -134,21 +256,28 @@ fn collect(alloc: Global, names: &mut NameTable<Name>, tree: &Numbered) -> Resul
 fn collect_all(
     alloc: Global,
     names: &mut NameTable<Name>,
+    guesses: &mut Guesses,
     trees: &[Numbered],
 ) -> Result<(), OutOfMemory>
     ensures { OnOk result (names.new ≡ add_names names.old (texts_of (pieces_of (map syntax trees.now)))) }
 {
     'trees: for tree in trees {
-        collect(alloc, names, tree)?;
+        collect(alloc, names, guesses, tree)?;
     }
     Ok(())
 }
 
-/// The names of a tree, each once, in the order in which they come first. On `OutOfMemory`, an allocation failed.
-pub fn names_of(alloc: Global, tree: &Numbered) -> Result<NameTable<Name>, OutOfMemory>
-    ensures { IfOk result (λ names. names ≡ names_in (syntax tree.now)) }
+/// The names of a tree, each once, in the order in which they come first, and guesses at their numbers, in the order of the nodes
+/// that say them. `nodes` is about the number of nodes of the tree. On `OutOfMemory`, an allocation failed.
+pub fn names_of(
+    alloc: Global,
+    nodes: usize,
+    tree: &Numbered,
+) -> Result<(NameTable<Name>, Vec<usize>), OutOfMemory>
+    ensures { IfOk result (λ found. found.0 ≡ names_in (syntax tree.now)) }
 {
     let mut names = NameTable::new(alloc);
-    collect(alloc, &mut names, tree)?;
-    Ok(names)
+    let mut guesses = Guesses::new(alloc, nodes)?;
+    collect(alloc, &mut names, &mut guesses, tree)?;
+    Ok((names, guesses.numbers))
 }

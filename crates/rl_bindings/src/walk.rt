@@ -5,16 +5,22 @@ ghost use Rattle.rl_bindings.specs.Events.{events, lead, trail, sign, front, bac
 ghost use Rattle.rl_syntax.specs.Syntax.{pieces_of, syntax};
 
 use crate::event::{BindKind, Bound, Event, Place, ScopeEntry};
-use crate::names::{Name, name_of};
+use crate::names::{Numbering, name_of};
 use crate::role::{
     Above, Role, below, outside, parent_of, parts_ahead, role_of, scope_kind, scope_of,
 };
 use rl_base::error::OutOfMemory;
 use rl_base::ids::ScopeId;
-use rl_base::name_table::NameTable;
 use rl_syntax::numbered::{At, Numbered};
 use rl_syntax::word::Word;
 use std::alloc::Global;
+
+/// The guess at the number of the name of the next `bind` or `id` node, which `next` counts.
+fn next_guess(numbering: &Numbering<'_>, next: &mut usize) -> usize {
+    let guess = numbering.guesses.get(*next).copied().unwrap_or(0);
+    *next = next.wrapping_add(1);
+    guess
+}
 
 /// Appends the scope that a node makes, if it makes one. On `OutOfMemory`, an allocation failed.
 fn push_sign(
@@ -44,13 +50,14 @@ fn push_sign(
 /// Appends the event of a node before the parts that stand in its scope. On `OutOfMemory`, an allocation failed.
 fn push_front(
     out: &mut Vec<Event>,
-    names: &NameTable<Name>,
+    numbering: &Numbering<'_>,
+    next: &mut usize,
     role: Role,
     above: Above,
     at: At,
     parts: &[Numbered],
 ) -> Result<(), OutOfMemory>
-    ensures { OnOk result (out.new.items ≡ out.old.items ++ front names.now role above at (pieces_of (map syntax parts.now))) }
+    ensures { OnOk result (out.new.items ≡ out.old.items ++ front numbering.now.names.now role above at (pieces_of (map syntax parts.now))) }
 {
     match role {
         Role::Maker => {
@@ -58,10 +65,11 @@ fn push_front(
             Ok(())
         }
         Role::Binder => {
+            let guess = next_guess(numbering, next);
             out.push(Event::Bind(Bound {
                 node: at.id,
                 span: at.span,
-                name: name_of(names, parts),
+                name: name_of(numbering, guess, parts),
                 scope: scope_of(above),
                 kind: above.kind,
                 place: above.place,
@@ -69,7 +77,8 @@ fn push_front(
             Ok(())
         }
         Role::User => {
-            out.push(Event::Use(at.id, name_of(names, parts)))?;
+            let guess = next_guess(numbering, next);
+            out.push(Event::Use(at.id, name_of(numbering, guess, parts)))?;
             Ok(())
         }
         Role::Plain => Ok(()),
@@ -96,11 +105,12 @@ fn push_back(out: &mut Vec<Event>, role: Role) -> Result<(), OutOfMemory>
 #[tactic(auto, using(crate::proofs::Walking::by_form, rl_syntax::proofs::Layers::by_layer))]
 fn push_events(
     out: &mut Vec<Event>,
-    names: &NameTable<Name>,
+    numbering: &Numbering<'_>,
+    next: &mut usize,
     above: Above,
     tree: &Numbered,
 ) -> Result<(), OutOfMemory>
-    ensures { OnOk result (out.new.items ≡ out.old.items ++ events names.now above (syntax tree.now)) }
+    ensures { OnOk result (out.new.items ≡ out.old.items ++ events numbering.now.names.now above (syntax tree.now)) }
 {
     match tree {
         Numbered::Node(at, word, parts) => {
@@ -108,14 +118,21 @@ fn push_events(
             let count = parts_ahead(*word);
             let parts = parts.as_slice();
             push_sign(out, role, above, *at, *word)?;
-            push_lead(out, names, count, outside(above, *word), parts)?;
-            push_front(out, names, role, above, *at, parts)?;
-            push_trail(out, names, count, below(above, *at, *word, parts), parts)?;
+            push_lead(out, numbering, next, count, outside(above, *word), parts)?;
+            push_front(out, numbering, next, role, above, *at, parts)?;
+            push_trail(
+                out,
+                numbering,
+                next,
+                count,
+                below(above, *at, *word, parts),
+                parts,
+            )?;
             push_back(out, role)?;
             Ok(())
         }
         Numbered::List(parts) => {
-            push_all(out, names, above, parts.as_slice())?;
+            push_all(out, numbering, next, above, parts.as_slice())?;
             Ok(())
         }
         Numbered::Text(_) => Ok(()),
@@ -129,20 +146,21 @@ fn push_events(
 #[cycle(walking)]
 fn push_lead(
     out: &mut Vec<Event>,
-    names: &NameTable<Name>,
+    numbering: &Numbering<'_>,
+    next: &mut usize,
     count: usize,
     above: Above,
     parts: &[Numbered],
 ) -> Result<(), OutOfMemory>
-    ensures { OnOk result (out.new.items ≡ out.old.items ++ lead names.now count above (pieces_of (map syntax parts.now))) }
+    ensures { OnOk result (out.new.items ≡ out.old.items ++ lead numbering.now.names.now count above (pieces_of (map syntax parts.now))) }
 {
     match parts {
         [first, rest @ ..] => {
             if count == 0 {
                 Ok(())
             } else {
-                push_events(out, names, above, first)?;
-                push_lead(out, names, count - 1, above, rest)?;
+                push_events(out, numbering, next, above, first)?;
+                push_lead(out, numbering, next, count - 1, above, rest)?;
                 Ok(())
             }
         }
@@ -154,20 +172,21 @@ fn push_lead(
 #[cycle(walking)]
 fn push_trail(
     out: &mut Vec<Event>,
-    names: &NameTable<Name>,
+    numbering: &Numbering<'_>,
+    next: &mut usize,
     count: usize,
     above: Above,
     parts: &[Numbered],
 ) -> Result<(), OutOfMemory>
-    ensures { OnOk result (out.new.items ≡ out.old.items ++ trail names.now count above (pieces_of (map syntax parts.now))) }
+    ensures { OnOk result (out.new.items ≡ out.old.items ++ trail numbering.now.names.now count above (pieces_of (map syntax parts.now))) }
 {
     if count == 0 {
-        push_all(out, names, above, parts)?;
+        push_all(out, numbering, next, above, parts)?;
         return Ok(());
     }
     match parts {
         [_, rest @ ..] => {
-            push_trail(out, names, count - 1, above, rest)?;
+            push_trail(out, numbering, next, count - 1, above, rest)?;
             Ok(())
         }
         [] => Ok(()),
@@ -178,14 +197,15 @@ fn push_trail(
 #[cycle(walking)]
 fn push_all(
     out: &mut Vec<Event>,
-    names: &NameTable<Name>,
+    numbering: &Numbering<'_>,
+    next: &mut usize,
     above: Above,
     trees: &[Numbered],
 ) -> Result<(), OutOfMemory>
-    ensures { OnOk result (out.new.items ≡ out.old.items ++ trail names.now 0 above (pieces_of (map syntax trees.now))) }
+    ensures { OnOk result (out.new.items ≡ out.old.items ++ trail numbering.now.names.now 0 above (pieces_of (map syntax trees.now))) }
 {
     'trees: for tree in trees {
-        push_events(out, names, above, tree)?;
+        push_events(out, numbering, next, above, tree)?;
     }
     Ok(())
 }
@@ -193,10 +213,10 @@ fn push_all(
 /// The events of a unit's tree. On `OutOfMemory`, an allocation failed.
 pub fn events_of(
     alloc: Global,
-    names: &NameTable<Name>,
+    numbering: &Numbering<'_>,
     tree: &Numbered,
 ) -> Result<Vec<Event>, OutOfMemory>
-    ensures { IfOk result (λ found. found.items ≡ events names.now top (syntax tree.now)) }
+    ensures { IfOk result (λ found. found.items ≡ events numbering.now.names.now top (syntax tree.now)) }
 {
     let above = Above {
         scope: ScopeId(0),
@@ -205,6 +225,7 @@ pub fn events_of(
         place: Place::Inner,
     };
     let mut out = Vec::new(alloc);
-    push_events(&mut out, names, above, tree)?;
+    let mut next = 0;
+    push_events(&mut out, numbering, &mut next, above, tree)?;
     Ok(out)
 }

@@ -18,6 +18,6 @@ decreases-push_all l = 2 * size_of (pieces_of (map syntax l.trees.now))
 
 abbrev pub invariant-push_all-trees : goal.invariant-push_all-trees
 invariant-push_all-trees l = record {
-  walked : l.out.items ++ trail l.names 0 l.above (pieces_of (map syntax (drop l.tree-index l.trees))) ≡ l.initial.out.items ++ trail l.names 0 l.above (pieces_of (map syntax l.trees));
+  walked : l.out.items ++ trail l.numbering.names.now 0 l.above (pieces_of (map syntax (drop l.tree-index l.trees))) ≡ l.initial.out.items ++ trail l.numbering.names.now 0 l.above (pieces_of (map syntax l.trees));
   fewer : size_of (pieces_of (map syntax (drop l.tree-index l.trees))) ≤ size_of (pieces_of (map syntax l.trees));
 }
