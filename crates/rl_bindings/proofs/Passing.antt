@@ -16,6 +16,10 @@ neither_right : (a b : Bool) → (a || b) ≡ false → b ≡ false
 neither_right true b none = absurd (true≢false none)
 neither_right false b none = none
 
+pub or_regroup : (a b c : Bool) → ((a || b) || c) ≡ (a || (b || c))
+or_regroup true b c = refl
+or_regroup false b c = refl
+
 passes-none : (lexical : List Bound) (m : List (List Entry)) (es : List Event) (env : List (Option ℕ)) (fs : List (List Entry)) → any_var es ≡ false → list_any (is_passing lexical) (run m env fs es) ≡ false
 passes-none lexical m [] env fs none = refl
 passes-none lexical m (event.Scope s ∷ es) env fs none = passes-none lexical m es env fs none

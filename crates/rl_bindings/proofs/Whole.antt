@@ -15,6 +15,7 @@ use Rattle.rl_bindings.specs.declared.event.ScopeEntry.{ScopeEntry}
 use Rattle.rl_bindings.specs.declared.names.Name.{Name}
 use Rattle.rl_bindings.specs.declared.resolve.Answer.{Answer}
 use Rattle.rl_bindings.specs.declared.resolve.Reference.{Reference}
+use Rattle.rl_bindings.specs.declared.resolve.Reference.{Reference}
 use Rattle.rl_bindings.specs.declared.rules.Found.{Found}
 use Rattle.rl_bindings.proofs.Entering.{named, entered, length-blank}
 use Rattle.rl_bindings.proofs.Running.{runs-tree}
@@ -64,9 +65,9 @@ module _ (tree : Syntax) (names : List Name) (es : List Event) (found : Found) (
   answers_stand symbols answers are =
       are ∙ ap (resolved symbols) are_events ∙ resolved_is names symbols tree ∙ ap (λ n. standing n symbols top [] tree) are_names
 
-  pub references_made : (answers : List Answer) (found_references : List Reference) → answers ≡ resolved found.symbols es → found_references ≡ references answers → found_references ≡ references_in tree
-  references_made answers found_references are is =
-      is ∙ ap references (answers_stand found.symbols answers are ∙ ap (λ s. standing (names_in tree) s top [] tree) symbols_made)
+  pub references_made : (found_references : List Reference) → found_references ≡ references (resolved found.symbols es) → found_references ≡ references_in tree
+  references_made found_references is =
+      is ∙ ap references (answers_stand found.symbols (resolved found.symbols es) refl ∙ ap (λ s. standing (names_in tree) s top [] tree) symbols_made)
 
   pub broken_made : (passing : Bool) (broken : Option ℕ) → passing ≡ list_any (is_passing (lexical_steps [] es)) (resolved (lexical_steps [] es) es) → broken ≡ least found.clashed passing found.repeated found.shared → broken ≡ least_broken tree
   broken_made passing broken passes is =

@@ -3,17 +3,16 @@
 ghost use Rattle.std.specs.Prelude.{◌≡◌, ◌<◌, [], true, is_some, length, All, IfOk, IfSome};
 ghost use Rattle.rl_bindings.specs.Checks as check;
 ghost use Rattle.rl_bindings.specs.Machines as machine;
-ghost use Rattle.rl_bindings.specs.NameRules.{is_inside, is_passing};
+ghost use Rattle.rl_bindings.specs.NameRules.{is_passing};
 ghost use Rattle.rl_bindings.specs.NameRules as rules;
-ghost use Rattle.rl_bindings.specs.Standing as standing;
 ghost use Rattle.rl_bindings.specs.Tables as tables;
 ghost use Rattle.rl_bindings.specs.Names.{names_in};
 ghost use Rattle.rl_syntax.specs.Syntax.{syntax};
 ghost use Rattle.std.specs.List.{list_any};
 
-use crate::event::{Bound, Event, ScopeEntry};
+use crate::event::{Event, ScopeEntry};
 use crate::names::{Name, Numbering, names_of};
-use crate::resolve::{Answer, Declaration, Reference, resolve_all};
+use crate::resolve::{Declaration, Reference, resolve_all};
 use crate::rules::{check_all, is_var, lexical_of};
 use crate::symbol_table::SymbolTable;
 use crate::walk::events_of;
@@ -22,23 +21,6 @@ use rl_base::error::OutOfMemory;
 use rl_base::list::List;
 use rl_base::name_table::NameTable;
 use std::alloc::Global;
-
-/// The uses among answers, in order. On `OutOfMemory`, an allocation failed.
-fn references_of(alloc: Global, answers: &[Answer]) -> Result<List<Reference>, OutOfMemory>
-    ensures { IfOk result (λ found. found ≡ standing.references answers.now) }
-{
-    let mut found = List::new(alloc);
-    for answer in answers {
-        if let Event::Use(node, name) = answer.event {
-            found.push(Reference {
-                node,
-                name,
-                symbol: answer.symbol,
-            })?;
-        }
-    }
-    Ok(found)
-}
 
 /// The scopes among events, in order. On `OutOfMemory`, an allocation failed.
 fn scopes_of(alloc: Global, events: &[Event]) -> Result<List<ScopeEntry>, OutOfMemory>
@@ -51,46 +33,6 @@ fn scopes_of(alloc: Global, events: &[Event]) -> Result<List<ScopeEntry>, OutOfM
         }
     }
     Ok(found)
-}
-
-/// True if a symbol is one of a scope with a larger number than `scope`.
-fn is_inside(symbols: &[Bound], scope: u32, symbol: Option<usize>) -> bool
-    ensures { result ≡ is_inside symbols.now scope symbol }
-{
-    match symbol {
-        Some(number) => match symbols.get(number) {
-            Some(bound) => scope < bound.scope.0,
-            None => false,
-        },
-        None => false,
-    }
-}
-
-/// True of a `var` declaration whose name passes a scope that binds it lexically, if the answer is by the lexical symbols.
-fn is_passing(lexical: &[Bound], answer: &Answer) -> bool
-    ensures { result ≡ is_passing lexical.now answer.now }
-{
-    match answer.event {
-        Event::Bind(bound) => {
-            is_var(bound.kind) && is_inside(lexical, bound.scope.0, answer.symbol)
-        }
-        Event::Scope(_) => false,
-        Event::Open(_) => false,
-        Event::Close => false,
-        Event::Use(_, _) => false,
-    }
-}
-
-/// True if B3 is broken, if the answers are by the lexical symbols.
-fn any_passing(lexical: &[Bound], answers: &[Answer]) -> bool
-    ensures { result ≡ list_any (is_passing lexical.now) answers.now }
-{
-    for answer in answers {
-        if is_passing(lexical, answer) {
-            return true;
-        }
-    }
-    false
 }
 
 /// True if a `var` declaration is among events.
@@ -117,8 +59,8 @@ fn passes(alloc: Global, events: &[Event]) -> Result<bool, OutOfMemory>
         return Ok(false);
     }
     let lexical = lexical_of(alloc, events)?;
-    let answers = resolve_all(alloc, &lexical, events)?;
-    Ok(any_passing(lexical.as_slice(), &answers))
+    let resolved = resolve_all(alloc, &lexical, events)?;
+    Ok(resolved.passing)
 }
 
 /// The least of the rules B2 to B5 that is broken, if each is broken or not as the arguments say.
@@ -178,15 +120,14 @@ impl Bindings {
         let found = check_all(alloc, &events)?;
         let passing = passes(alloc, &events)?;
         let broken = least(found.clashed, passing, found.repeated, found.shared);
-        let answers = resolve_all(alloc, &found.symbols, &events)?;
+        let resolved = resolve_all(alloc, &found.symbols, &events)?;
         let scopes = scopes_of(alloc, &events)?;
-        let references = references_of(alloc, &answers)?;
         Ok(Bindings {
             names,
             scopes,
             symbols: found.symbols,
             declarations: found.declarations,
-            references,
+            references: resolved.references,
             least_broken_name_rule: broken,
         })
     }

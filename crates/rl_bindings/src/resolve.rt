@@ -1,9 +1,14 @@
 //! Resolution of names: the symbol that each name stands for where it is declared or used.
 
-ghost use Rattle.std.specs.Prelude.{◌≡◌, ◌++◌, ◌∷◌, [], List, IfOk, OnOk, replicate, None};
+ghost use Rattle.std.specs.Prelude.{◌≡◌, ◌&&◌, ◌++◌, ◌∷◌, [], List, IfOk, OnOk, replicate, None};
+ghost use Rattle.std.specs.List.{list_any};
 ghost use Rattle.rl_bindings.specs.Machines as machine;
+ghost use Rattle.rl_bindings.specs.NameRules.{is_inside, is_var};
+ghost use Rattle.rl_bindings.specs.NameRules as rules;
+ghost use Rattle.rl_bindings.specs.Standing.{references};
 
 use crate::event::{Bound, Event};
+use crate::rules::is_var;
 use crate::symbol_table::SymbolTable;
 use rl_base::error::OutOfMemory;
 use rl_base::ids::NodeId;
@@ -93,17 +98,51 @@ fn entries_at(scopes: &[List<Entry>], scope: usize) -> &[Entry]
     }
 }
 
-/// The names that events declare and use, each with the symbol that it stands for, if `scopes` has the entries of each scope, and
-/// `env` the symbols that names stand for around the events. On `OutOfMemory`, an allocation failed.
-pub fn run(
+/// True if a symbol is one of a scope with a larger number than `scope`.
+fn is_inside(symbols: &[Bound], scope: u32, symbol: Option<usize>) -> bool
+    ensures { result ≡ is_inside symbols.now scope symbol }
+{
+    match symbol {
+        Some(number) => match symbols.get(number) {
+            Some(bound) => scope < bound.scope.0,
+            None => false,
+        },
+        None => false,
+    }
+}
+
+/// True of a `var` declaration whose name passes, on its way out, a scope that binds it, if its name stands for `symbol` by the
+/// symbols.
+fn is_passing(symbols: &[Bound], bound: &Bound, symbol: Option<usize>) -> bool
+    ensures { result ≡ (is_var bound.now.kind && is_inside symbols.now bound.now.scope.0 symbol) }
+{
+    is_var(bound.kind) && is_inside(symbols, bound.scope.0, symbol)
+}
+
+/// Result of a run over events.
+#[derive(Drop)]
+pub struct Resolved {
+    /// The uses, in order, each with the symbol that it resolves to.
+    pub references: List<Reference>,
+    /// True if a `var` declaration passes a scope that binds its name.
+    pub passing: bool,
+}
+
+/// The names that events use and declare, each by the symbol that it stands for, if `scopes` has the entries of each scope of
+/// `symbols`, and `env` the symbols that names stand for around the events. On `OutOfMemory`, an allocation failed.
+#[tactic(auto, using(crate::proofs::Passing::or_regroup))]
+fn run(
     alloc: Global,
+    symbols: &[Bound],
     scopes: &[List<Entry>],
     env: &mut [Option<usize>],
     events: &[Event],
-) -> Result<Vec<Answer>, OutOfMemory>
-    ensures { IfOk result (λ found. found.items ≡ machine.run scopes.now env.old [] events.now) }
+) -> Result<Resolved, OutOfMemory>
+    ensures references { IfOk result (λ r. r.references ≡ references (machine.run scopes.now env.old [] events.now)) }
+    ensures passing { IfOk result (λ r. r.passing ≡ list_any (rules.is_passing symbols.now) (machine.run scopes.now env.old [] events.now)) }
 {
-    let mut found = Vec::new(alloc);
+    let mut found = List::new(alloc);
+    let mut passing = false;
     let mut frames: Vec<List<Entry>> = Vec::new(alloc);
     for event in events {
         match event {
@@ -120,21 +159,22 @@ pub fn run(
             }
             Event::Bind(bound) => {
                 let symbol = look(env, bound.name);
-                found.push(Answer {
-                    event: *event,
-                    symbol,
-                })?;
+                passing = passing || is_passing(symbols, bound, symbol);
             }
-            Event::Use(_, name) => {
+            Event::Use(node, name) => {
                 let symbol = look(env, *name);
-                found.push(Answer {
-                    event: *event,
+                found.push(Reference {
+                    node: *node,
+                    name: *name,
                     symbol,
                 })?;
             }
         }
     }
-    Ok(found)
+    Ok(Resolved {
+        references: found,
+        passing,
+    })
 }
 
 /// Number above the largest name of symbols: the length of a list that has a place for each; 0 without symbols. On
@@ -215,16 +255,16 @@ fn entries_of(alloc: Global, table: &SymbolTable) -> Result<Vec<List<Entry>>, Ou
     Ok(scopes)
 }
 
-/// The names that events declare and use, each with the symbol of the table that it stands for. On `OutOfMemory`, an allocation
-/// failed.
+/// The names that events use and declare, each by the symbol of the table that it stands for. On `OutOfMemory`, an allocation failed.
 pub fn resolve_all(
     alloc: Global,
     table: &SymbolTable,
     events: &[Event],
-) -> Result<Vec<Answer>, OutOfMemory>
-    ensures { IfOk result (λ found. found.items ≡ machine.resolved table.now events.now) }
+) -> Result<Resolved, OutOfMemory>
+    ensures references { IfOk result (λ r. r.references ≡ references (machine.resolved table.now events.now)) }
+    ensures passing { IfOk result (λ r. r.passing ≡ list_any (rules.is_passing table.now) (machine.resolved table.now events.now)) }
 {
     let scopes = entries_of(alloc, table)?;
     let mut env = blank_names(alloc, count_names(table.as_slice())?)?;
-    run(alloc, &scopes, &mut env, events)
+    run(alloc, table.as_slice(), &scopes, &mut env, events)
 }

@@ -33,9 +33,8 @@ pub returns-clause-references : goal.returns-clause-references
 returns-clause-references c =
     references_made (syntax c.args.unit.now.tree) c.in_ok-names.names c.in_ok-events.events.items c.in_ok-found.found c.in_ok-names.ensures c.in_ok-events.ensures
     (c.in_ok-found.ensures ∙ ap (steps start) c.deref-2.ensures.value)
-    c.in_ok-answers.answers.items c.in_ok-references.references
-    (c.in_ok-answers.ensures ∙ ap (resolved c.in_ok-found.found.symbols) c.deref-4.ensures.value)
-    (c.in_ok-references.ensures ∙ ap references c.deref-6.ensures.value)
+    c.in_ok-resolved.resolved.references
+    (c.in_ok-resolved.ensures.references ∙ ap (λ e. references (resolved c.in_ok-found.found.symbols e)) c.deref-4.ensures.value)
 
 pub returns-clause-least_broken : goal.returns-clause-least_broken
 returns-clause-least_broken c =
