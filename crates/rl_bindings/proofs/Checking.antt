@@ -17,7 +17,7 @@ use Rattle.rl_bindings.specs.declared.rules.Found.{Found}
 use Rattle.rl_bindings.specs.declared.rules.Marks.{Marks}
 use Rattle.rl_bindings.proofs.Entering.{some_at}
 use Rattle.rl_bindings.proofs.Looking.{by_test, get_set_same, get_set_other}
-use Rattle.rl_bindings.proofs.SymbolTables.{at_self, at_both, number-same, number-push}
+use Rattle.rl_bindings.proofs.SymbolTables.{at_self, at_both, number-same, number-push, position-kept}
 use Rattle.rl_bindings.proofs.Within.{number-below}
 
 or_false : (a : Bool) → (a || false) ≡ a
@@ -368,14 +368,6 @@ pub record Comes (before : List Bound) (f : Found) (es : List Event) : Type 0 wh
   pub clashed : (steps f es).clashed ≡ (f.clashed || clashes is_lexical_clash before (bounds es))
   pub repeated : (steps f es).repeated ≡ (f.repeated || clashes is_repeat before (bounds es))
   pub shared : (steps f es).shared ≡ (f.shared || (clashes is_type_clash before (bounds es) || list_any is_misplaced (bounds es)))
-
-position-kept : (p : Bound → Bool) (i k : ℕ) (xs ys : List Bound) → position_from p i xs ≡ Some k → position_from p i (xs ++ ys) ≡ Some k
-position-kept p i k [] ys found = absurd (cc)
-position-kept p i k (x ∷ xs) ys found = kept (p x) (position_from p (i + 1) xs) (position_from p (i + 1) (xs ++ ys)) (position-kept p (i + 1) k xs ys) found
-  where
-    kept : (c : Bool) (before after : Option ℕ) → (before ≡ Some k → after ≡ Some k) → cond c (Some i) before ≡ Some k → cond c (Some i) after ≡ Some k
-    kept true before after more is = is
-    kept false before after more is = more is
 
 number-add : (symbols : List Bound) (b : Bound) (own : Bool) (s n k : ℕ) → number_at own s n symbols ≡ Some k → number_at own s n (add symbols b) ≡ Some k
 number-add symbols b own s n k found = by_option (known_symbol symbols b)

@@ -8,6 +8,7 @@ use Rattle.rl_bindings.specs.Names.{number_of, add_name, add_names, texts, names
 use Rattle.rl_bindings.specs.declared.names.Name.{Name}
 use Rattle.rl_bindings.proofs.Looking.{by_test}
 use Rattle.rl_bindings.proofs.Numbering.{at_head}
+use Rattle.rl_bindings.proofs.Steps.{get_pushed}
 use Rattle.rl_syntax.specs.Syntax.{Syntax}
 
 known-from : (first : ℕ) (names : List Name) (k : ℕ) (text : List ℕ) → is_named names k text ≡ true → is_some (index_from (λ n. n.text) first names text) ≡ true
@@ -40,16 +41,9 @@ index-end first last (y ∷ names) x same new = by_test (bytes_eq y.text x.text)
     (λ here. absurd (true≢false (sym (ap is_some (at_head first y names x.text true here)) ∙ new)))
     (λ later. at_head first y (names ++ x ∷ []) x.text false later ∙ index-end (first + 1) last names x (omega (arith, same)) (sym (ap is_some (at_head first y names x.text false later)) ∙ new))
 
--- The item of a list with one more item.
-pushed : {P : Type 0} (names : List Name) (x name : Name) (k : ℕ) → slice_get (names ++ x ∷ []) k ≡ Some name → (slice_get names k ≡ Some name → P) → (k ≡ length names → x ≡ name → P) → P
-pushed [] x name zero got before last = last refl (let e : Some x ≡ Some name = got in cc)
-pushed [] x name (suc k) got before last = absurd (let e : None ≡ Some name = got in cc)
-pushed (y ∷ names) x name zero got before last = before got
-pushed (y ∷ names) x name (suc k) got before last = pushed names x name k got before (λ at is. last (ap suc at) is)
-
 distinct_push : (names : List Name) (x : Name) → AreDistinct names → is_some (number_of names x.text) ≡ false → AreDistinct (names ++ x ∷ [])
 distinct_push names x distinct new = record {
-  at = λ k name got. pushed names x name k got
+  at = λ k name got. get_pushed names x name k got
       (λ before. index-kept 0 k names x name.text (distinct.at k name before))
       (λ last is. ap (λ (n : Name). number_of (names ++ x ∷ []) n.text) (sym is) ∙ index-end 0 (length names) names x (omega arith) new ∙ ap Some (sym last));
 }

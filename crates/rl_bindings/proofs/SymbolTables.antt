@@ -1,17 +1,19 @@
 -- The index of a table of symbols, as symbols are added.
-use Rattle.std.proofs.Common.{◌≡◌, ℕ, ◌+◌, Bool, true, false, cond, ◌&&◌, nat_eq, is_eq, true≢false, Option, Some, None, List, [], ◌∷◌, ◌++◌, length, BTreeMap, nat_cmp, Less, Equal, Greater, nat_lt, ◌<◌, ltb-true, eqb-true, eq-eqb, refl, sym, ap, ◌∙◌, arith}
+use Rattle.std.proofs.Common.{◌≡◌, ℕ, ◌+◌, Bool, true, false, cond, ◌&&◌, nat_eq, is_eq, true≢false, Option, Some, None, List, [], ◌∷◌, ◌++◌, length, BTreeMap, nat_cmp, Less, Equal, Greater, nat_lt, ◌<◌, ltb-true, eqb-true, eq-eqb, refl, sym, ap, ◌∙◌, arith, slice_get}
 use Rattle.std.specs.BTreeMap.{IsEmpty, IsUnchanged, Updates}
 use Rattle.std.specs.Cmp.{tied_then}
 use Rattle.std.specs.List.{position_from}
 use Rattle.std.specs.Map.{lookup}
 use Rattle.std.specs.Ordering.{bool_cmp, ordering_then}
-use Rattle.rl_bindings.specs.Symbols.{is_own, same, is_at, number_at}
+use Rattle.rl_bindings.specs.Symbols.{is_own, same, is_at, number_at, option_or, binding}
 use Rattle.rl_bindings.specs.SymbolTables.{key_cmp, found_at, IsTable}
 use Rattle.rl_bindings.specs.declared.event.Bound.{Bound}
+use Rattle.rl_bindings.proofs.Steps.{get_pushed}
 
 pub table_empty : (numbers : BTreeMap (ℕ × ℕ × Bool) ℕ) (symbols : List Bound) → IsEmpty numbers → symbols ≡ [] → IsTable numbers symbols
 table_empty numbers symbols empty none = record {
   found = λ own scope name. ap (λ es. lookup (λ k. is_eq (key_cmp (name, scope, own) k)) es) empty ∙ sym (ap (number_at own scope name) none);
+  unique = λ k b got. absurd (let e : None ≡ Some b = sym (ap (λ l. slice_get l k) none) ∙ got in cc);
 }
 
 pub position_push : (p : Bound → Bool) (i last : ℕ) (xs : List Bound) (x : Bound) → i + length xs ≡ last → (p x ≡ true → position_from p i xs ≡ None) → position_from p i (xs ++ x ∷ []) ≡ cond (p x) (Some last) (position_from p i xs)
@@ -113,6 +115,14 @@ pub number-push : (symbols : List Bound) (b : Bound) (own : Bool) (s n : ℕ) �
     → number_at own s n (symbols ++ b ∷ []) ≡ cond (is_at own s n b) (Some (length symbols)) (number_at own s n symbols)
 number-push symbols b own s n new = position_push (is_at own s n) 0 (length symbols) symbols b (omega arith) (λ at. number-same symbols b own s n at ∙ new)
 
+pub position-kept : (p : Bound → Bool) (i k : ℕ) (xs ys : List Bound) → position_from p i xs ≡ Some k → position_from p i (xs ++ ys) ≡ Some k
+position-kept p i k [] ys found = absurd (cc)
+position-kept p i k (x ∷ xs) ys found = kept (p x) (position_from p (i + 1) xs) (position_from p (i + 1) (xs ++ ys)) (position-kept p (i + 1) k xs ys) found
+  where
+    kept : (c : Bool) (before after : Option ℕ) → (before ≡ Some k → after ≡ Some k) → cond c (Some i) before ≡ Some k → cond c (Some i) after ≡ Some k
+    kept true before after more is = is
+    kept false before after more is = more is
+
 pub table_push : (before after : BTreeMap (ℕ × ℕ × Bool) ℕ) (kept added : List Bound) (b : Bound) (mine : Bool) (count : ℕ) → IsTable before kept → mine ≡ is_own b.kind → number_at (is_own b.kind) b.scope.0 b.name kept ≡ None → count ≡ length kept → Updates key_cmp before after (b.name, b.scope.0, mine) (Some count) → added ≡ kept ++ b ∷ [] → IsTable after added
 table_push before after kept added b mine count table is new counted updated grown = record {
   found = λ own scope name.
@@ -122,7 +132,20 @@ table_push before after kept added b mine count table is new counted updated gro
       ∙ ap (λ c. cond (is_at own scope name b) (Some c) (number_at own scope name kept)) counted
       ∙ sym (number-push kept b own scope name new)
       ∙ sym (ap (number_at own scope name) grown);
+  unique = λ k x got.
+      ap (number_at (is_own x.kind) x.scope.0 x.name) grown
+      ∙ get_pushed kept b x k (sym (ap (λ l. slice_get l k) grown) ∙ got)
+      (λ before. position-kept (is_at (is_own x.kind) x.scope.0 x.name) 0 k kept (b ∷ []) (table.unique k x before))
+      (λ last is. sym (λ i. number_at (is_own (is i).kind) (is i).scope.0 (is i).name (kept ++ b ∷ []))
+      ∙ number-push kept b (is_own b.kind) b.scope.0 b.name new
+      ∙ ap (λ c. cond c (Some (length kept)) (number_at (is_own b.kind) b.scope.0 b.name kept)) (at_self b)
+      ∙ ap Some (sym last));
 }
+
+-- A symbol that is no own name is what its scope binds its name to.
+pub binding_first : (numbers : BTreeMap (ℕ × ℕ × Bool) ℕ) (symbols : List Bound) (k : ℕ) (b : Bound) → IsTable numbers symbols → slice_get symbols k ≡ Some b → is_own b.kind ≡ false → Some k ≡ binding symbols b.scope.0 b.name
+binding_first numbers symbols k b table got other =
+    sym (ap (λ o. option_or o (number_at true b.scope.0 b.name symbols)) (sym (ap (λ own. number_at own b.scope.0 b.name symbols) other) ∙ table.unique k b got))
 
 pub table_same : (before after : BTreeMap (ℕ × ℕ × Bool) ℕ) (symbols kept : List Bound) → IsTable before symbols → IsUnchanged before after → kept ≡ symbols → IsTable after kept
 table_same before after symbols kept table unchanged same = record {
@@ -130,4 +153,5 @@ table_same before after symbols kept table unchanged same = record {
       ap (λ es. lookup (λ k. is_eq (key_cmp (name, scope, own) k)) es) unchanged
       ∙ table.found own scope name
       ∙ sym (ap (number_at own scope name) same);
+  unique = λ k x got. ap (number_at (is_own x.kind) x.scope.0 x.name) same ∙ table.unique k x (sym (ap (λ l. slice_get l k) same) ∙ got);
 }

@@ -74,18 +74,32 @@ fn write_all(env: &mut [Option<usize>], entries: &[Entry])
     }
 }
 
-/// Entries with the symbols that the list has at the names of `entries`. On `OutOfMemory`, an allocation failed.
-fn kept(alloc: Global, env: &[Option<usize>], entries: &[Entry]) -> Result<List<Entry>, OutOfMemory>
+/// Entries with the symbols that the list has at the names of `entries`, in the memory of `room`. On `OutOfMemory`, an allocation
+/// failed.
+fn kept(
+    room: List<Entry>,
+    env: &[Option<usize>],
+    entries: &[Entry],
+) -> Result<List<Entry>, OutOfMemory>
     ensures { IfOk result (λ k. k ≡ machine.kept env.now entries.now) }
 {
-    let mut found = List::with_capacity(alloc, entries.len())?;
+    let mut found = room.into_vec();
+    found.clear();
     for entry in entries {
         found.push(Entry {
             name: entry.name,
             symbol: look(env, entry.name),
         })?;
     }
-    Ok(found)
+    Ok(List::from_vec(found))
+}
+
+/// Memory for a list of entries: that of a list that is done with, if there is one.
+fn take_room(alloc: Global, done: &mut Vec<List<Entry>>) -> List<Entry> {
+    match done.pop() {
+        Some(list) => list,
+        None => List::new(alloc),
+    }
 }
 
 /// The entries of a scope, by its number. None past the end of the list.
@@ -144,17 +158,19 @@ fn run(
     let mut found = List::new(alloc);
     let mut passing = false;
     let mut frames: Vec<List<Entry>> = Vec::new(alloc);
+    let mut done: Vec<List<Entry>> = Vec::new(alloc);
     for event in events {
         match event {
             Event::Scope(_) => {}
             Event::Open(scope) => {
                 let entries = entries_at(scopes, scope.0 as usize);
-                frames.push(kept(alloc, env, entries)?)?;
+                frames.push(kept(take_room(alloc, &mut done), env, entries)?)?;
                 write_all(env, entries);
             }
             Event::Close => {
                 if let Some(frame) = frames.pop() {
                     write_all(env, frame.as_slice());
+                    done.push(frame)?;
                 }
             }
             Event::Bind(bound) => {
@@ -245,10 +261,11 @@ fn entries_of(alloc: Global, table: &SymbolTable) -> Result<Vec<List<Entry>>, Ou
     ensures { IfOk result (λ v. v.items ≡ machine.put_all table.now (replicate (machine.count_scopes 0 table.now) []) table.now) }
 {
     let mut scopes = blank_scopes(alloc, count_scopes(table.as_slice()))?;
-    for symbol in table.as_slice() {
+    let symbols = table.as_slice();
+    'symbols: for (number, symbol) in symbols.iter().enumerate() {
         let entry = Entry {
             name: symbol.name,
-            symbol: table.binding(symbol.scope, symbol.name),
+            symbol: table.binding_of(number, symbol),
         };
         put(&mut scopes, symbol.scope.0 as usize, entry)?;
     }

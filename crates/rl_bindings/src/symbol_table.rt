@@ -1,6 +1,6 @@
 //! Lists of symbols with an index by scope and name.
 
-ghost use Rattle.std.specs.Prelude.{◌≡◌, [], Some, MatchOption, IfOk, OnOk, OnErr};
+ghost use Rattle.std.specs.Prelude.{◌≡◌, [], Some, slice_get, MatchOption, IfOk, OnOk, OnErr};
 ghost use Rattle.std.specs.BTreeMap.{Updates, IsUnchanged, get};
 ghost use Rattle.rl_bindings.specs.Symbols.{add, binding, number_at};
 ghost use Rattle.rl_bindings.specs.Symbols as names;
@@ -79,6 +79,20 @@ impl SymbolTable {
         match self.find(false, scope, name) {
             Some(number) => Some(number),
             None => self.find(true, scope, name),
+        }
+    }
+
+    /// The symbol that the scope of a symbol binds its name to. It takes a look-up only for an own name.
+    #[tactic(auto, using(crate::proofs::SymbolTables::binding_first))]
+    pub fn binding_of(&self, number: usize, symbol: &Bound) -> Option<usize>
+        requires { slice_get self.now number ≡ Some symbol.now }
+        ensures { result ≡ binding self.now symbol.now.scope.0 symbol.now.name }
+    {
+        let _ = &self.numbers;
+        if is_own(symbol.kind) {
+            self.binding(symbol.scope, symbol.name)
+        } else {
+            Some(number)
         }
     }
 
