@@ -61,7 +61,7 @@ impl Guesses {
     /// No guesses, with room for those of a unit with `nodes` nodes. On `OutOfMemory`, an allocation failed.
     fn new(alloc: Global, nodes: usize) -> Result<Guesses, OutOfMemory> {
         let mut slots = Vec::new(alloc);
-        slots.resize(nodes, u32::MAX)?;
+        slots.resize(nodes.saturating_mul(2), u32::MAX)?;
         Ok(Guesses {
             slots,
             numbers: Vec::new(alloc),

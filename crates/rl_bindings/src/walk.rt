@@ -115,21 +115,33 @@ fn push_events(
     match tree {
         Numbered::Node(at, word, parts) => {
             let role = role_of(*word);
-            let count = parts_ahead(*word);
             let parts = parts.as_slice();
-            push_sign(out, role, above, *at, *word)?;
-            push_lead(out, numbering, next, count, outside(above, *word), parts)?;
-            push_front(out, numbering, next, role, above, *at, parts)?;
-            push_trail(
-                out,
-                numbering,
-                next,
-                count,
-                below(above, *at, *word, parts),
-                parts,
-            )?;
-            push_back(out, role)?;
-            Ok(())
+            let inner = below(above, *at, *word, parts);
+            match role {
+                Role::Maker => {
+                    let count = parts_ahead(*word);
+                    push_sign(out, role, above, *at, *word)?;
+                    push_lead(out, numbering, next, count, outside(above, *word), parts)?;
+                    push_front(out, numbering, next, role, above, *at, parts)?;
+                    push_trail(out, numbering, next, count, inner, parts)?;
+                    push_back(out, role)?;
+                    Ok(())
+                }
+                Role::Binder => {
+                    push_front(out, numbering, next, role, above, *at, parts)?;
+                    push_all(out, numbering, next, inner, parts)?;
+                    Ok(())
+                }
+                Role::User => {
+                    push_front(out, numbering, next, role, above, *at, parts)?;
+                    push_all(out, numbering, next, inner, parts)?;
+                    Ok(())
+                }
+                Role::Plain => {
+                    push_all(out, numbering, next, inner, parts)?;
+                    Ok(())
+                }
+            }
         }
         Numbered::List(parts) => {
             push_all(out, numbering, next, above, parts.as_slice())?;
