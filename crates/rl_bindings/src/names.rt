@@ -102,7 +102,7 @@ fn is_named(names: &NameTable<Name>, number: usize, text: &str) -> bool
     }
 }
 
-/// Adds a name, if it is new, and returns its number. One with the number `guess` takes no look-up, and a new one takes one look-up
+/// Adds a name, if it is new, and returns its number. The name with the number `guess` takes no look-up, and a new one takes one
 /// if no name has that number. On `OutOfMemory`, an allocation failed.
 #[tactic(auto, using(crate::proofs::Guessing::named_kept))]
 fn find_or_add(

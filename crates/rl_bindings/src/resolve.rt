@@ -272,7 +272,8 @@ fn entries_of(alloc: Global, table: &SymbolTable) -> Result<Vec<List<Entry>>, Ou
     Ok(scopes)
 }
 
-/// The names that events use and declare, each by the symbol of the table that it stands for. On `OutOfMemory`, an allocation failed.
+/// The names that events use and declare, each by the symbol of the table that it stands for. On `OutOfMemory`, an allocation
+/// failed.
 pub fn resolve_all(
     alloc: Global,
     table: &SymbolTable,

@@ -183,7 +183,7 @@ fn add_marks(marks: &mut List<Marks>, symbol: Option<usize>, more: Marks) -> Res
 }
 
 /// The symbol of the declaration's name and scope that is an own name if the declaration is none, and the other way round. `None`
-/// if the declaration is neither an own name nor a type: it is no one's concern then.
+/// for a declaration that is neither an own name nor a type: no rule asks for its other symbol.
 fn other_symbol(symbols: &SymbolTable, bound: &Bound) -> Option<usize>
     ensures { result ≡ check.other_symbol symbols.now bound.now }
 {
@@ -208,8 +208,8 @@ fn is_clash(bound: &Bound, known: bool, earlier: Marks) -> bool
     }
 }
 
-/// True if B5 is broken by a declaration, if `known` says whether its symbol or the other one has declarations, of a type if
-/// `typed` is true.
+/// True if B5 is broken by a declaration. `known` says that its symbol or the other one has declarations before it, and `typed`
+/// that one of these is a type.
 fn is_share(bound: &Bound, known: bool, typed: bool) -> bool
     ensures { result ≡ check.is_share bound.now known typed }
 {

@@ -96,8 +96,8 @@ impl SymbolTable {
         }
     }
 
-    /// Adds the symbol of a declaration, if its scope has none of its name yet. Otherwise returns the number of the one that it has. It
-    /// takes one look-up. On `OutOfMemory`, an allocation failed, and nothing has changed.
+    /// Adds the symbol of a declaration, if its scope has none of its name yet. Otherwise returns the number of the symbol that
+    /// the scope has. It takes one look-up. On `OutOfMemory`, an allocation failed, and nothing has changed.
     pub fn add(&mut self, bound: Bound) -> Result<Option<usize>, OutOfMemory>
         ensures known { IfOk result (λ known. known ≡ number_at (names.is_own bound.kind) bound.scope.0 bound.name self.old) }
         ensures added { OnOk result (self.new ≡ add self.old bound) }

@@ -1,6 +1,6 @@
 //! Times the semantic tables of a unit against the reading of it. The unit stands on standard input. Without an argument, or with
-//! 0, the program writes the numbers of nodes, scopes, symbols and references of the unit. With a number, it makes as many calls of
-//! `read_tree` and of `Semantic::of`, and writes the number of nodes and the nanoseconds of the shortest call of each.
+//! 0, the program writes the numbers of nodes, scopes, symbols and references of the unit. With a number, it makes as many calls
+//! of `read_tree` and of `Semantic::of`, and writes the number of nodes and the nanoseconds of the shortest call of each.
 #![tactic(auto)]
 
 use anyhow::{Context, Result, bail};
