@@ -1,0 +1,108 @@
+-- The local variables of a plain function are its parameters, each with a symbol and a name of its own.
+use Rattle.std.proofs.Common.{◌≡◌, ◌≤◌, ◌<◌, true, false, Some, None, [], ◌++◌, map, All, Contains, refl, sym, ap, subst, ◌∙◌, arith}
+use Rattle.std.proofs.lemmas.List.Elements.{All-from_recursion}
+use Rattle.std.specs.List.{AllByRecursion, list_any}
+use Rattle.rl_base.specs.declared.ids.SymbolId.{SymbolId}
+use Rattle.rl_ast.specs.Marked.{first, is_marked, marked_functions}
+use Rattle.rl_ast.specs.Units.{IsOfGrammar}
+use Rattle.rl_ast.proofs.MarkedFunctions.{Inside, IsMarked, first_found, marked_fits}
+use Rattle.rl_bindings.specs.Events.{top}
+use Rattle.rl_bindings.specs.NameRules.{clashes, is_lexical_clash, is_passing, is_repeat, lexical_of}
+use Rattle.rl_bindings.specs.Names.{names_in, texts, texts_of}
+use Rattle.rl_bindings.specs.Standing.{standing}
+use Rattle.rl_bindings.specs.Symbols.{bounds}
+use Rattle.rl_bindings.specs.Tables.{events_in, references_in, scopes_in, symbols_in}
+use Rattle.rl_bindings.specs.declared.event.Bound.{Bound}
+use Rattle.rl_resolver.specs.Imported.{import_data}
+use Rattle.rl_semantic.specs.Imports.{imports_in}
+use Rattle.rl_syntax.specs.Nodes.{entries}
+use Rattle.rl_resolver.specs.Lookups.{symbol_name, symbol_of_reference}
+use Rattle.rl_semantic.specs.Rules.{least_broken}
+use Rattle.rl_syntax.specs.Syntax.{Syntax, Node, Pieces, nodes, outset, IsPlaced}
+use Rattle.rl_syntax.specs.declared.numbered.At.{At}
+use Rattle.rl_syntax.specs.declared.word.Word.{Word}
+use Rattle.rl_names.specs.Locals.{AreApart, DeclaresAll, LocalsAreParameters}
+use Rattle.rl_names.specs.Names.{at_of, function_names, is_local, parameters_among, parameters_in}
+use Rattle.rl_names.specs.Plain.{IsPlainFunction}
+use Rattle.rl_names.proofs.Declarations.{declares, declared_by_nodes}
+use Rattle.rl_names.proofs.FunctionScopes.{IsOther, Splits, found, splits_further}
+use Rattle.rl_names.proofs.MarkedScopes.{scope_above}
+use Rattle.rl_names.proofs.Marks.{keeps_named}
+use Rattle.rl_names.proofs.NameTexts.{IsKnown, texts_inside, texts_known}
+use Rattle.rl_names.proofs.ParameterNames.{IsTold, all_apart, all_named, are_declared, clashes_last, symbol_of_parameter}
+use Rattle.rl_names.proofs.PlainFunctions.{PlainParts, param_bounds, plain_parts}
+use Rattle.rl_names.proofs.ScopeNodes.{scope_of_function}
+use Rattle.rl_names.proofs.SymbolNumbers.{symbol_declared, symbols_numbered}
+use Rattle.rl_names.proofs.UnitSymbols.{has_split, local_bound, meaning_local, not_repeated, split_has, told, unit_names}
+use Rattle.rl_names.proofs.Items.{Has, contains}
+
+marked_again : (f : Syntax) (at : At) (w : Word) (ps : Pieces) → f ≡ Node at w ps → IsMarked f → is_marked w ps ≡ true
+marked_again f at w ps is m =
+    let words : w ≡ m.word = cc in
+    let pieces : ps ≡ m.parts = cc in
+    (λ i. is_marked (words i) (pieces i)) ∙ m.marked
+
+-- A function of a unit that is marked, and plain by its parts.
+module _ (u f : Syntax) (placed : IsPlaced outset u) (p : PlainParts f) (there : Inside (Node p.at p.w p.parts) u) where
+  -- The declarations of a unit that bind in the scope of the function are those of its parameters.
+  params_split : 0 < p.at.scope.0 → Splits p.at.scope.0 (bounds (events_in u)) (param_bounds (names_in u) p.at p.items)
+  params_split above =
+      let other : IsOther p.at.scope.0 top = record { scope = λ same. absurd (omega (arith, above, same)); function = λ same. absurd (omega (arith, above, same)) } in
+      let place = found p.at p.w p.parts p.maker (names_in u) u top outset placed other there in
+      subst (λ l. Splits p.at.scope.0 l (param_bounds (names_in u) p.at p.items)) (sym (declared_by_nodes (names_in u) u top))
+      (splits_further p.at.scope.0 (declares (names_in u) top u) (declares (names_in u) place.over (Node p.at p.w p.parts)) (param_bounds (names_in u) p.at p.items) place.splits
+      (subst (λ t. Splits p.at.scope.0 (declares (names_in u) place.over t) (param_bounds (names_in u) p.at p.items)) p.is (p.splits (names_in u) place.over place.other)))
+
+  no_repeat : least_broken u ≡ None → clashes is_repeat [] (bounds (events_in u)) ≡ false
+  no_repeat kept =
+      let es = events_in u in
+      not_repeated (clashes is_lexical_clash [] (bounds es)) (list_any (is_passing (lexical_of es)) (standing (names_in u) (lexical_of es) top [] u)) (clashes is_repeat [] (bounds es)) _ (keeps_named u kept)
+
+  module _ (above : 0 < p.at.scope.0) (kept : least_broken u ≡ None) (few : nodes u ≤ 65536) where
+    -- The names tell of each parameter's declaration which symbol it declares.
+    params_told : (b : Bound) → Has (param_bounds (names_in u) p.at p.items) b → IsTold (names_in u) (symbols_in u) (unit_names u p.at) p.at b
+    params_told b has = told u p.at placed few b (has_split p.at.scope.0 (bounds (events_in u)) (param_bounds (names_in u) p.at p.items) b (params_split above) has)
+
+    params_known : AllByRecursion (IsKnown (names_in u)) (texts_of p.items)
+    params_known = p.said (names_in u) (subst (λ t. AllByRecursion (IsKnown (names_in u)) (texts t)) (sym p.is) (texts_inside (IsKnown (names_in u)) u (Node p.at p.w p.parts) there (texts_known u)))
+
+    params_apart : AreApart (parameters_among (unit_names u p.at) p.items)
+    params_apart =
+        let s = params_split above in
+        all_apart (names_in u) (symbols_in u) (unit_names u p.at) p.at p.items s.before s.after p.plain params_told params_known
+        (clashes_last is_repeat [] s.before (param_bounds (names_in u) p.at p.items ++ s.after) (subst (λ l. clashes is_repeat [] l ≡ false) s.is (no_repeat kept)))
+
+    -- A local variable is a parameter.
+    local_parameter : (symbol : SymbolId) → is_local p.at (scopes_in u) (symbols_in u) symbol.0 ≡ true → Has (map (λ q. q.symbol) (parameters_among (unit_names u p.at) p.items)) symbol
+    local_parameter symbol local =
+        let all = bounds (events_in u) in
+        let some = param_bounds (names_in u) p.at p.items in
+        let l = local_bound p.at (scopes_in u) (symbols_in u) symbol.0 above (scope_of_function u p.at p.w p.parts placed there p.few) local in
+        symbol_of_parameter (names_in u) (symbols_in u) (unit_names u p.at) p.at p.items p.plain params_told l.bound
+        (split_has p.at.scope.0 all some l.bound (params_split above) l.scope_is (symbol_declared all symbol.0 l.bound l.there))
+        symbol.0 ((symbols_numbered all).own symbol.0 l.bound l.there)
+
+    plain_locals : LocalsAreParameters (unit_names u p.at) f
+    plain_locals = record {
+      declared = subst (λ t. DeclaresAll (unit_names u p.at) t) (sym p.params) (are_declared (names_in u) (symbols_in u) (unit_names u p.at) p.at p.items p.plain params_told);
+      apart = subst (λ t. AreApart (parameters_in (unit_names u p.at) t)) (sym p.params) params_apart;
+      locals = record {
+        named = subst (λ t. All (λ q. symbol_name (names_in u) (symbols_in u) q.symbol.0 ≡ q.name) (parameters_in (unit_names u p.at) t)) (sym p.params)
+            (All-from_recursion (λ q. symbol_name (names_in u) (symbols_in u) q.symbol.0 ≡ q.name) (parameters_among (unit_names u p.at) p.items)
+            (all_named (names_in u) (symbols_in u) (unit_names u p.at) p.at p.items (λ s. refl) p.plain params_told params_known));
+        locals = λ reference name symbol is.
+            subst (λ t. Contains (map (λ q. q.symbol) (parameters_in (unit_names u p.at) t)) symbol) (sym p.params)
+            (contains (map (λ q. q.symbol) (parameters_among (unit_names u p.at) p.items)) symbol
+            (local_parameter symbol (meaning_local (λ n. import_data (entries u) (imports_in u) (symbols_in u) n) p.at (scopes_in u) (symbols_in u) (symbol_of_reference (references_in u) reference) name symbol is)));
+      };
+    }
+
+-- In the names of a unit that breaks no rule, the parameters of its marked function, if that is plain, are its local variables.
+pub locals_are_parameters : (u f : Syntax) → IsOfGrammar u → IsPlaced outset u → first (marked_functions u) ≡ Some f → IsPlainFunction f → least_broken u ≡ None → nodes u ≤ 65536 → LocalsAreParameters (function_names u f) f
+locals_are_parameters u f grammar placed is plain kept few =
+    let there = first_found u f is in
+    let p = plain_parts f plain (marked_fits u f is grammar) in
+    let inside : Inside (Node p.at p.w p.parts) u = subst (λ t. Inside t u) p.is there.0 in
+    let marked : is_marked p.w p.parts ≡ true = marked_again f p.at p.w p.parts p.is there.1 in
+    subst (λ a. LocalsAreParameters (unit_names u a) f) (sym (ap at_of p.is))
+    (plain_locals u f placed p inside (scope_above p.at p.w p.parts marked p.maker u outset grammar placed inside) kept few)
