@@ -221,7 +221,7 @@ impl<'e> Over<'e, Work> {
     /// nothing changed. On `Stop::OutOfMemory` an allocation failed, and the state is unspecified.
     pub fn resolve_binding(
         &mut self,
-        name: &Text,
+        name: &str,
         symbol: SymbolId,
         declaration: Span,
     ) -> Result<IdentifierId, Stop>
@@ -240,9 +240,10 @@ impl<'e> Over<'e, Work> {
         if let Some(identifier) = known {
             return Ok(identifier);
         }
-        if is_always_reserved_word(name.as_str()) {
+        if is_always_reserved_word(name) {
             let alloc = self.work.alloc;
-            let diagnostic = reserved_identifier_diagnostic(alloc, name, declaration)?;
+            let name = Text::from_str(alloc, name)?;
+            let diagnostic = reserved_identifier_diagnostic(alloc, &name, declaration)?;
             return Err(Stop::Diagnostic(diagnostic));
         }
         Ok(self.add_binding(name, symbol, declaration)?)
@@ -251,14 +252,14 @@ impl<'e> Over<'e, Work> {
     /// Records row F40 where the name is `fbt` and `known`, the symbol's identifier, is none or still has that name.
     fn refuse_fbt(
         &mut self,
-        name: &Text,
+        name: &str,
         known: Option<IdentifierId>,
         declaration: Span,
     ) -> Result<(), OutOfMemory>
         ensures same_reference { self.new.env.ghost_name ≡ self.old.env.ghost_name }
         ensures state { OnOk result (state_of self.new.env.now self.new.work ≡ with_refused (option_map (λ i. i.0) known) (state_of self.old.env.now self.old.work) name.now declaration) }
     {
-        if name.as_str() == "fbt" && is_fbt(&self.env.identifiers, known) {
+        if name == "fbt" && is_fbt(&self.env.identifiers, known) {
             let diagnostic = fbt_diagnostic(self.work.alloc, declaration)?;
             return self.record_diagnostic(diagnostic);
         }
@@ -269,7 +270,7 @@ impl<'e> Over<'e, Work> {
     /// unspecified.
     fn add_binding(
         &mut self,
-        name: &Text,
+        name: &str,
         symbol: SymbolId,
         declaration: Span,
     ) -> Result<IdentifierId, OutOfMemory>
@@ -282,7 +283,7 @@ impl<'e> Over<'e, Work> {
         ensures names { OnOk result (NamesAgree (state_of self.old.env.now self.old.work) → NamesAgree (state_of self.new.env.now self.new.work)) }
     {
         let alloc = self.work.alloc;
-        let free = self.work.used_names.claim(alloc, name.as_str(), symbol)?;
+        let free = self.work.used_names.claim(alloc, name, symbol)?;
         let identifier = new_temporary(self.env, Some(declaration))?;
         self.work.bindings.insert(symbol, identifier)?;
         self.env.add_pair(symbol, identifier)?;

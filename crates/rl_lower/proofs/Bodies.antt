@@ -15,7 +15,7 @@ use Rattle.rl_grammar.specs.declared.kind.Field.TheVariants as field
 use Rattle.rl_grammar.specs.declared.kind.Kind.TheVariants as sort
 use Rattle.rl_grammar.proofs.Viewing.{rest_fit}
 use Rattle.rl_model.specs.declared.trace.Answer.{Answer}
-use Rattle.rl_scope.specs.declared.semantic.Symbol.{Symbol}
+use Rattle.rl_names.specs.Names.{Names}
 use Rattle.rl_model.specs.Held.{calls_in, calls_among, calls_of, live_in_body}
 use Rattle.rl_lower.specs.Reachable.{can_body_complete}
 use Rattle.rl_lower.proofs.Reachable.{adds_same, adds_value_returned}
@@ -31,43 +31,43 @@ use Rattle.rl_lower.proofs.Parts.{means_same}
 
 -- A body that is an expression returns its value: all its calls are reachable, and its end is not.
 pub record ReturnsValue (e : Syntax) : Type 0 where
-  pub means : (symbols : List Symbol) (source : Store) (answers : List Answer) (exits : Exits)
-      → eval_expr symbols e source answers
-      (λ v after rest. returned returns.Implicit v) exits.throws ≡ exec_before_end symbols e source answers exits
+  pub means : (names : Names) (source : Store) (answers : List Answer) (exits : Exits)
+      → eval_expr names e source answers
+      (λ v after rest. returned returns.Implicit v) exits.throws ≡ exec_before_end names e source answers exits
   pub reached : calls_in e ≡ live_in_body e
   pub ends : false ≡ can_body_complete e
 
 pub returns_value : (e : Syntax) → fits (field.One sort.Expression) e ≡ true → ReturnsValue e
 returns_value (Node at word.Body parts) fit = absurd (cc)
-returns_value _ fit = record { means = λ symbols source answers exits. refl; reached = refl; ends = refl }
+returns_value _ fit = record { means = λ names source answers exits. refl; reached = refl; ends = refl }
 
-pub expression_body_call : (symbols : List Symbol) (tree e : Syntax) (s later mid new : State) (place : Place)
+pub expression_body_call : (names : Names) (tree e : Syntax) (s later mid new : State) (place : Place)
     (next : WipBlock) (kind : BlockKind) (span : Option Span) → tree ≡ e → fits (field.One sort.Expression) e ≡ true → later ≡ reserved s
-    → next ≡ new_block s.env.next_block kind → LowersExpression symbols e later mid place.identifier.0
-    → new ≡ completed_by mid (return_of span returns.Implicit place) next → LowersBody symbols tree s new
-expression_body_call symbols tree e s later mid new place next kind span is fit opened fresh l moved =
-    let l2 : LowersExpression symbols e (reserved s) mid place.identifier.0 = subst (λ (o : State). LowersExpression symbols e o mid place.identifier.0) opened l in
-    subst (λ (t : Syntax). LowersBody symbols t s new) (sym is)
-    (subst (λ (n : State). LowersBody symbols e s n) (sym (moved ∙ ap (λ (w : WipBlock). completed_by mid (return_of span returns.Implicit place) w) fresh)) (record {
+    → next ≡ new_block s.env.next_block kind → LowersExpression names e later mid place.identifier.0
+    → new ≡ completed_by mid (return_of span returns.Implicit place) next → LowersBody names tree s new
+expression_body_call names tree e s later mid new place next kind span is fit opened fresh l moved =
+    let l2 : LowersExpression names e (reserved s) mid place.identifier.0 = subst (λ (o : State). LowersExpression names e o mid place.identifier.0) opened l in
+    subst (λ (t : Syntax). LowersBody names t s new) (sym is)
+    (subst (λ (n : State). LowersBody names e s n) (sym (moved ∙ ap (λ (w : WipBlock). completed_by mid (return_of span returns.Implicit place) w) fresh)) (record {
       keeps = keeps_more s _ (1 + (4 * nodes e + 1)) _ (omega arith) (keeps_then s (reserved s) _ 1 (4 * nodes e + 1) (keeps_reserved s) (keeps_then (reserved s) mid _ (4 * nodes e) 1 l2.keeps (keeps_completed mid (return_of span returns.Implicit place) (new_block s.env.next_block kind) refl)));
       blocks = blocks_value_returned s mid span place kind l2.blocks;
       refused = l2.refused;
       calls = l2.calls;
       reachable = adds_same (calls_in e) _ false _ s _ (returns_value e fit).reached (returns_value e fit).ends (adds_value_returned s mid (calls_in e) (return_of span returns.Implicit place) kind l2.reachable (λ listed. l2.keeps.listed ((keeps_reserved s).listed listed)));
-      runs = λ supported. means_same s _ ((returns_value e fit).means symbols) (value_returned s mid (eval_expr symbols e) place.identifier.0 span place kind refl (l2.runs supported));
+      runs = λ supported. means_same s _ ((returns_value e fit).means names) (value_returned s mid (eval_expr names e) place.identifier.0 span place kind refl (l2.runs supported));
     }))
 
 -- Directives are texts, which have no refusals and no calls.
-texts_alone : (symbols : List Symbol) (texts : Pieces) → every sort.Text texts ≡ true
-    → (refusals_in symbols texts ≡ []) × (calls_among texts ≡ [])
-texts_alone symbols End fit = (refl, refl)
-texts_alone symbols (Then (Said text) texts) fit = texts_alone symbols texts (rest_fit sort.Text (Then (Said text) texts) (Said text) texts refl fit)
-texts_alone symbols (Then _ texts) fit = absurd (cc)
+texts_alone : (names : Names) (texts : Pieces) → every sort.Text texts ≡ true
+    → (refusals_in names texts ≡ []) × (calls_among texts ≡ [])
+texts_alone names End fit = (refl, refl)
+texts_alone names (Then (Said text) texts) fit = texts_alone names texts (rest_fit sort.Text (Then (Said text) texts) (Said text) texts refl fit)
+texts_alone names (Then _ texts) fit = absurd (cc)
 
-pub statements_body_call : (symbols : List Symbol) (tree : Syntax) (at : At) (directives statements : Pieces) (s new : State)
+pub statements_body_call : (names : Names) (tree : Syntax) (at : At) (directives statements : Pieces) (s new : State)
     → every sort.Text directives ≡ true → tree ≡ Node at word.Body (Then (Listed directives) (Then (Listed statements) End))
-    → LowersStatements symbols statements s new → LowersBody symbols tree s new
-statements_body_call symbols tree at directives statements s new texts is l = subst (λ (t : Syntax). LowersBody symbols t s new) (sym is) (record {
+    → LowersStatements names statements s new → LowersBody names tree s new
+statements_body_call names tree at directives statements s new texts is l = subst (λ (t : Syntax). LowersBody names t s new) (sym is) (record {
   keeps = keeps_more s new (4 * nodes_of statements) _ (omega arith) l.keeps;
   blocks = l.blocks;
   refused = l.refused ∙ ap (λ (ds : List Diagnostic). s.env.diagnostics ++ ds) (sym same);
@@ -76,8 +76,8 @@ statements_body_call symbols tree at directives statements s new texts is l = su
   runs = λ supported. means_same s new (λ source answers exits. refl) (l.runs (sym same ∙ supported));
 })
   where
-    same : refusals symbols (Node at word.Body (Then (Listed directives) (Then (Listed statements) End))) ≡ refusals_in symbols statements
-    same = ap (λ (ds : List Diagnostic). ds ++ (refusals_in symbols statements ++ [])) (texts_alone symbols directives texts).0 ∙ append-nil (refusals_in symbols statements)
+    same : refusals names (Node at word.Body (Then (Listed directives) (Then (Listed statements) End))) ≡ refusals_in names statements
+    same = ap (λ (ds : List Diagnostic). ds ++ (refusals_in names statements ++ [])) (texts_alone names directives texts).0 ∙ append-nil (refusals_in names statements)
 
     same_calls : calls_in (Node at word.Body (Then (Listed directives) (Then (Listed statements) End))) ≡ calls_among statements
-    same_calls = ap (λ (cs : List (Option Span)). cs ++ (calls_among statements ++ [])) (texts_alone symbols directives texts).1 ∙ append-nil (calls_among statements)
+    same_calls = ap (λ (cs : List (Option Span)). cs ++ (calls_among statements ++ [])) (texts_alone names directives texts).1 ∙ append-nil (calls_among statements)

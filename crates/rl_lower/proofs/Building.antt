@@ -6,7 +6,7 @@ use Rattle.rl_builder.specs.Builder.{State, placeholder}
 use Rattle.rl_builder.specs.Order.{orders_of, reached_blocks}
 use Rattle.rl_builder.specs.Temporaries.{temporary}
 use Rattle.rl_syntax.specs.Syntax.{Syntax, nodes}
-use Rattle.rl_scope.specs.declared.semantic.Symbol.{Symbol}
+use Rattle.rl_names.specs.Names.{Names}
 use Rattle.rl_lower.specs.Listed.{AreBelow, IsListed}
 use Rattle.rl_lower.specs.Lowering.{HasRoom, Preserves, LowersBody}
 use Rattle.rl_lower.specs.Endings.{return_of, with_undefined, closed_off}
@@ -50,23 +50,23 @@ fewer_orders p (x ∷ xs) = let rest : orders_of (filter p xs) ≤ orders_of xs 
     by_test rest true = omega (arith, rest)
     by_test rest false = omega (arith, rest)
 
-pub closed_listed : (symbols : List Symbol) (begun : State) (body : Syntax) (s : State) → IsFresh begun
-    → LowersBody symbols body begun s → IsListed (closed_off s)
-closed_listed symbols begun body s fresh l = (keeps_closed s).listed (l.keeps.listed (listed_fresh begun fresh))
+pub closed_listed : (names : Names) (begun : State) (body : Syntax) (s : State) → IsFresh begun
+    → LowersBody names body begun s → IsListed (closed_off s)
+closed_listed names begun body s fresh l = (keeps_closed s).listed (l.keeps.listed (listed_fresh begun fresh))
 
-pub listed_reached : (symbols : List Symbol) (begun : State) (body : Syntax) (s : State) → IsFresh begun
-    → LowersBody symbols body begun s
+pub listed_reached : (names : Names) (begun : State) (body : Syntax) (s : State) → IsFresh begun
+    → LowersBody names body begun s
     → All (λ b. AreBelow (length (closed_off s).table) b.block.instructions)
     (reached_blocks (closed_off s).entry (closed_off s).completed)
-listed_reached symbols begun body s fresh l =
-    filtered (λ b. AreBelow (length (closed_off s).table) b.block.instructions) _ (closed_off s).completed (closed_listed symbols begun body s fresh l).completed
+listed_reached names begun body s fresh l =
+    filtered (λ b. AreBelow (length (closed_off s).table) b.block.instructions) _ (closed_off s).completed (closed_listed names begun body s fresh l).completed
 
-pub orders_fit : (symbols : List Symbol) (begun : State) (body : Syntax) (s : State) → IsFresh begun
-    → LowersBody symbols body begun s → HasRoom begun (4 * (nodes body + 2))
+pub orders_fit : (names : Names) (begun : State) (body : Syntax) (s : State) → IsFresh begun
+    → LowersBody names body begun s → HasRoom begun (4 * (nodes body + 2))
     → 1 + orders_of (reached_blocks (closed_off s).entry (closed_off s).completed) < 2 ^ 32
-orders_fit symbols begun body s fresh l room =
+orders_fit names begun body s fresh l room =
     let keeps : Preserves begun (closed_off s) (4 * (nodes body + 1) + 2) = keeps_then begun s (closed_off s) (4 * (nodes body + 1)) 2 l.keeps (keeps_closed s) in
-    let counted : orders_of (closed_off s).completed + 0 ≡ length (closed_off s).table + length (closed_off s).completed = (closed_listed symbols begun body s fresh l).counted in
+    let counted : orders_of (closed_off s).completed + 0 ≡ length (closed_off s).table + length (closed_off s).completed = (closed_listed names begun body s fresh l).counted in
     let fewer : orders_of (reached_blocks (closed_off s).entry (closed_off s).completed) ≤ orders_of (closed_off s).completed = fewer_orders _ (closed_off s).completed in
     let table : length (closed_off s).table ≤ length begun.table + (4 * (nodes body + 1) + 2) = keeps.uses.instructions in
     let blocks : length (closed_off s).completed ≤ length begun.completed + (4 * (nodes body + 1) + 2) = keeps.uses.completed in

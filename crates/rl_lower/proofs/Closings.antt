@@ -4,7 +4,8 @@ use Rattle.rl_syntax.specs.Syntax.{Syntax, nodes}
 use Rattle.rl_hir.specs.declared.environment.Environment.{Environment}
 use Rattle.rl_hir.specs.declared.function.BlockKind.TheVariants as kinds
 use Rattle.rl_hir.specs.declared.function.Param.{Param}
-use Rattle.rl_scope.specs.declared.semantic.Symbol.{Symbol}
+use Rattle.rl_names.specs.Names.{Names}
+use Rattle.rl_names.specs.declared.parameters.Parameter.{Parameter}
 use Rattle.rl_hir.specs.declared.instruction.Place.{Place}
 use Rattle.rl_hir.specs.declared.terminal.ReturnVariant.TheVariants as returns
 use Rattle.rl_builder.specs.Builder.{State, started, completed_by, placeholder}
@@ -24,22 +25,22 @@ closed_is s s1 s2 place given placed ended =
     ended ∙ ap (λ (m : State). completed_by m (return_of None returns.Void place) placeholder) given
     ∙ ap (λ (p : Place). completed_by (with_undefined s) (return_of None returns.Void p) placeholder) placed
 
-pub listed_call : (symbols : List Symbol) (begun : State) (body : Syntax) (s s1 s2 : State) (place : Place) → IsFresh begun → LowersBody symbols body begun s → s1 ≡ with_undefined s → place ≡ temporary s None → s2 ≡ completed_by s1 (return_of None returns.Void place) placeholder
+pub listed_call : (names : Names) (begun : State) (body : Syntax) (s s1 s2 : State) (place : Place) → IsFresh begun → LowersBody names body begun s → s1 ≡ with_undefined s → place ≡ temporary s None → s2 ≡ completed_by s1 (return_of None returns.Void place) placeholder
     → All (λ b. AreBelow (length s2.table) b.block.instructions) (reached_blocks s2.entry s2.completed)
-listed_call symbols begun body s s1 s2 place fresh l given placed ended =
-    subst (λ (t : State). All (λ b. AreBelow (length t.table) b.block.instructions) (reached_blocks t.entry t.completed)) (sym (closed_is s s1 s2 place given placed ended)) (listed_reached symbols begun body s fresh l)
+listed_call names begun body s s1 s2 place fresh l given placed ended =
+    subst (λ (t : State). All (λ b. AreBelow (length t.table) b.block.instructions) (reached_blocks t.entry t.completed)) (sym (closed_is s s1 s2 place given placed ended)) (listed_reached names begun body s fresh l)
 
-pub orders_call : (symbols : List Symbol) (begun : State) (body : Syntax) (s s1 s2 : State) (place : Place) → IsFresh begun → LowersBody symbols body begun s → s1 ≡ with_undefined s → place ≡ temporary s None → s2 ≡ completed_by s1 (return_of None returns.Void place) placeholder
+pub orders_call : (names : Names) (begun : State) (body : Syntax) (s s1 s2 : State) (place : Place) → IsFresh begun → LowersBody names body begun s → s1 ≡ with_undefined s → place ≡ temporary s None → s2 ≡ completed_by s1 (return_of None returns.Void place) placeholder
     → HasRoom begun (4 * (nodes body + 2)) → 1 + orders_of (reached_blocks s2.entry s2.completed) < 2 ^ 32
-orders_call symbols begun body s s1 s2 place fresh l given placed ended room =
-    subst (λ (t : State). 1 + orders_of (reached_blocks t.entry t.completed) < 2 ^ 32) (sym (closed_is s s1 s2 place given placed ended)) (orders_fit symbols begun body s fresh l room)
+orders_call names begun body s s1 s2 place fresh l given placed ended room =
+    subst (λ (t : State). 1 + orders_of (reached_blocks t.entry t.completed) < 2 ^ 32) (sym (closed_is s s1 s2 place given placed ended)) (orders_fit names begun body s fresh l room)
 
-pub graph_call : (symbols : List Symbol) (env new : Environment) (body : Syntax) (begun s s1 s2 : State) (place : Place) (params : List Param) (built : Built) → begun ≡ with_parameters (started env kinds.Block) symbols → params ≡ places_from (length env.identifiers) symbols → LowersBody symbols body begun s → s1 ≡ with_undefined s → place ≡ temporary s None → s2 ≡ completed_by s1 (return_of None returns.Void place) placeholder
-    → built ≡ built_of s2 → new ≡ s2.env → IsGraphOf symbols body env new params built
-graph_call symbols env new body begun s s1 s2 place params built is given_params l given placed ended graph after = record {
+pub graph_call : (names : Names) (parameters : List Parameter) (env new : Environment) (body : Syntax) (begun s s1 s2 : State) (place : Place) (params : List Param) (built : Built) → begun ≡ with_parameters (started env kinds.Block) parameters → params ≡ places_from (length env.identifiers) parameters → LowersBody names body begun s → s1 ≡ with_undefined s → place ≡ temporary s None → s2 ≡ completed_by s1 (return_of None returns.Void place) placeholder
+    → built ≡ built_of s2 → new ≡ s2.env → IsGraphOf names parameters body env new params built
+graph_call names parameters env new body begun s s1 s2 place params built is given_params l given placed ended graph after = record {
   state = s;
   places = given_params;
-  lowers = subst (λ (o : State). LowersBody symbols body o s) is l;
+  lowers = subst (λ (o : State). LowersBody names body o s) is l;
   graph = graph ∙ ap built_of (closed_is s s1 s2 place given placed ended);
   after = after ∙ ap (λ (t : State). t.env) (closed_is s s1 s2 place given placed ended);
 }

@@ -16,8 +16,10 @@ use Rattle.rl_hir.specs.declared.instruction.Instruction.{Instruction}
 use Rattle.rl_builder.specs.Builder.{State, started}
 use Rattle.rl_builder.specs.Order.{reached_blocks, ordered_blocks, ordered_table, order_after}
 use Rattle.rl_builder.specs.declared.builder.Built.{Built}
-use Rattle.rl_scope.specs.declared.semantic.Symbol.{Symbol}
-use Rattle.rl_scope.specs.Symbols.{are_distinct, symbols_of}
+use Rattle.rl_names.specs.Names.{Names}
+use Rattle.rl_names.specs.declared.parameters.Parameter.{Parameter}
+use Rattle.rl_names.specs.Functions.{params_in, parameters_of}
+use Rattle.rl_names.specs.Locals.{AreApart, DeclaresAll}
 use Rattle.rl_model.specs.declared.trace.Answer.{Answer}
 use Rattle.rl_model.specs.declared.trace.Assignment.{Assignment}
 use Rattle.rl_model.specs.declared.trace.Trace.{Trace}
@@ -25,11 +27,11 @@ use Rattle.rl_model.specs.declared.trace.Value.{Value}
 use Rattle.rl_model.specs.declared.trace.Value.TheVariants as value
 use Rattle.rl_model.specs.Closed.{IsClosed}
 use Rattle.rl_model.specs.Headline.{NeverStuck, SameRuns}
-use Rattle.rl_model.specs.Held.{call_at, calls_in, calls_of, graph_calls, live_calls_in, live_in_body, HoldsCalls}
+use Rattle.rl_model.specs.Held.{call_at, calls_in, calls_of, graph_calls, live_in_body, HoldsCalls}
 use Rattle.rl_model.specs.Machine.{set_by, take_arguments, trace_by}
 use Rattle.rl_model.specs.Rows.{refusals, refusals_of}
 use Rattle.rl_model.specs.Size.{function_size}
-use Rattle.rl_model.specs.Source.{source_trace, exec_body, take_from}
+use Rattle.rl_model.specs.Source.{source_trace, exec_body, take}
 use Rattle.rl_model.specs.Traces.{Store, ValueCont, returned, threw, unset, set_all, waiting}
 use Rattle.rl_base.specs.declared.ids.BlockId.{BlockId}
 use Rattle.rl_hir.specs.declared.function.Hir.{Hir}
@@ -40,7 +42,7 @@ use Rattle.rl_lower.proofs.Reachable.{completed_calls, graph_plain, adds_value, 
 use Rattle.rl_lower.specs.Lowering.{HasRoom, Preserves, LowersBody, exec_before_end}
 use Rattle.rl_model.specs.Fields.{AddsUnnamed, known_from, pairs_from}
 use Rattle.rl_lower.specs.Simulation.{Agrees}
-use Rattle.rl_lower.specs.Parameters.{said_of_symbols, with_parameters}
+use Rattle.rl_lower.specs.Parameters.{said_of_parameters, with_parameters}
 use Rattle.rl_lower.proofs.Building.{IsFresh, keeps_closed, listed_fresh}
 use Rattle.rl_lower.proofs.FunctionTrees.{IsFunction, function_calls, function_nodes, function_refusals}
 use Rattle.rl_lower.proofs.Functions.{function_finished, function_runs_by}
@@ -51,23 +53,23 @@ use Rattle.rl_lower.proofs.Finished.{finished_closed}
 
 -- The builder behind the parameters.
 
-pub begun_fresh : (env : Environment) (symbols : List Symbol) → IsFresh (state_with (started env kinds.Block) symbols)
-begun_fresh env symbols = record { completed = refl; instructions = refl; table = refl; entry = refl; below = omega arith }
+pub begun_fresh : (env : Environment) (parameters : List Parameter) → IsFresh (state_with (started env kinds.Block) parameters)
+begun_fresh env parameters = record { completed = refl; instructions = refl; table = refl; entry = refl; below = omega arith }
 
-pub begun_is : (env : Environment) (symbols : List Symbol) → are_distinct symbols ≡ true
-    → with_parameters (started env kinds.Block) symbols ≡ state_with (started env kinds.Block) symbols
-begun_is env symbols distinct = parameters_given (started env kinds.Block) symbols refl refl distinct
+pub begun_is : (env : Environment) (parameters : List Parameter) → AreApart parameters
+    → with_parameters (started env kinds.Block) parameters ≡ state_with (started env kinds.Block) parameters
+begun_is env parameters distinct = parameters_given (started env kinds.Block) parameters refl refl distinct
 
-pub begun_call : (env : Environment) (symbols : List Symbol) (s0 begun : State) → are_distinct symbols ≡ true
-    → s0 ≡ started env kinds.Block → begun ≡ with_parameters s0 symbols → begun ≡ state_with (started env kinds.Block) symbols
-begun_call env symbols s0 begun distinct is moved =
-    moved ∙ ap (λ (s : State). with_parameters s symbols) is ∙ begun_is env symbols distinct
+pub begun_call : (env : Environment) (parameters : List Parameter) (s0 begun : State) → AreApart parameters
+    → s0 ≡ started env kinds.Block → begun ≡ with_parameters s0 parameters → begun ≡ state_with (started env kinds.Block) parameters
+begun_call env parameters s0 begun distinct is moved =
+    moved ∙ ap (λ (s : State). with_parameters s parameters) is ∙ begun_is env parameters distinct
 
 -- The room that is left behind them.
-pub begun_room : (env : Environment) (symbols : List Symbol) (more : ℕ)
-    → HasRoom (started env kinds.Block) (more + length symbols) → HasRoom (state_with (started env kinds.Block) symbols) more
-begun_room env symbols more room =
-    let given : length (env.identifiers ++ known_from env.next_type symbols) ≡ length env.identifiers + length symbols = length-append env.identifiers (known_from env.next_type symbols) ∙ ap (λ (n : ℕ). length env.identifiers + n) (known_length env.next_type symbols) in
+pub begun_room : (env : Environment) (parameters : List Parameter) (more : ℕ)
+    → HasRoom (started env kinds.Block) (more + length parameters) → HasRoom (state_with (started env kinds.Block) parameters) more
+begun_room env parameters more room =
+    let given : length (env.identifiers ++ known_from env.next_type parameters) ≡ length env.identifiers + length parameters = length-append env.identifiers (known_from env.next_type parameters) ∙ ap (λ (n : ℕ). length env.identifiers + n) (known_length env.next_type parameters) in
     record {
       blocks = omega (arith, room.blocks);
       types = omega (arith, room.types);
@@ -76,67 +78,66 @@ begun_room env symbols more room =
       completed = omega (arith, room.completed);
     }
 
-pub lowered_from : (symbols : List Symbol) (body : Syntax) (env new : Environment) (params : List Param) (built : Built)
-    (g : IsGraphOf symbols body env new params built) → are_distinct symbols ≡ true
-    → LowersBody symbols body (state_with (started env kinds.Block) symbols) g.state
-lowered_from symbols body env new params built g distinct =
-    subst (λ (o : State). LowersBody symbols body o g.state) (begun_is env symbols distinct) g.lowers
+pub lowered_from : (names : Names) (parameters : List Parameter) (body : Syntax) (env new : Environment) (params : List Param) (built : Built)
+    (g : IsGraphOf names parameters body env new params built) → AreApart parameters
+    → LowersBody names body (state_with (started env kinds.Block) parameters) g.state
+lowered_from names parameters body env new params built g distinct =
+    subst (λ (o : State). LowersBody names body o g.state) (begun_is env parameters distinct) g.lowers
 
 -- The state behind the graph.
-graph_keeps : (symbols : List Symbol) (body : Syntax) (env new : Environment) (params : List Param) (built : Built)
-    (g : IsGraphOf symbols body env new params built) → are_distinct symbols ≡ true
-    → Preserves (state_with (started env kinds.Block) symbols) (closed_off g.state) (4 * (nodes body + 1) + 2)
-graph_keeps symbols body env new params built g distinct =
-    keeps_then (state_with (started env kinds.Block) symbols) g.state (closed_off g.state) (4 * (nodes body + 1)) 2 (lowered_from symbols body env new params built g distinct).keeps (keeps_closed g.state)
+graph_keeps : (names : Names) (parameters : List Parameter) (body : Syntax) (env new : Environment) (params : List Param) (built : Built)
+    (g : IsGraphOf names parameters body env new params built) → AreApart parameters
+    → Preserves (state_with (started env kinds.Block) parameters) (closed_off g.state) (4 * (nodes body + 1) + 2)
+graph_keeps names parameters body env new params built g distinct =
+    keeps_then (state_with (started env kinds.Block) parameters) g.state (closed_off g.state) (4 * (nodes body + 1)) 2 (lowered_from names parameters body env new params built g distinct).keeps (keeps_closed g.state)
 
-pub identifiers_fit : (symbols : List Symbol) (body : Syntax) (env new : Environment) (params : List Param) (built : Built)
-    → IsGraphOf symbols body env new params built → are_distinct symbols ≡ true
-    → HasRoom (started env kinds.Block) (4 * (nodes body + 2) + length symbols) → length new.identifiers < 2 ^ 32
-identifiers_fit symbols body env new params built g distinct room =
-    let keeps = graph_keeps symbols body env new params built g distinct in
-    let given : length (env.identifiers ++ known_from env.next_type symbols) ≡ length env.identifiers + length symbols = length-append env.identifiers (known_from env.next_type symbols) ∙ ap (λ (n : ℕ). length env.identifiers + n) (known_length env.next_type symbols) in
-    let used : length (closed_off g.state).env.identifiers ≤ length (env.identifiers ++ known_from env.next_type symbols) + (4 * (nodes body + 1) + 2) = keeps.uses.identifiers in
-    let free : length env.identifiers + (4 * (nodes body + 2) + length symbols) < 2 ^ 31 = room.identifiers in
+pub identifiers_fit : (names : Names) (parameters : List Parameter) (body : Syntax) (env new : Environment) (params : List Param) (built : Built)
+    → IsGraphOf names parameters body env new params built → AreApart parameters
+    → HasRoom (started env kinds.Block) (4 * (nodes body + 2) + length parameters) → length new.identifiers < 2 ^ 32
+identifiers_fit names parameters body env new params built g distinct room =
+    let keeps = graph_keeps names parameters body env new params built g distinct in
+    let given : length (env.identifiers ++ known_from env.next_type parameters) ≡ length env.identifiers + length parameters = length-append env.identifiers (known_from env.next_type parameters) ∙ ap (λ (n : ℕ). length env.identifiers + n) (known_length env.next_type parameters) in
+    let used : length (closed_off g.state).env.identifiers ≤ length (env.identifiers ++ known_from env.next_type parameters) + (4 * (nodes body + 1) + 2) = keeps.uses.identifiers in
+    let free : length env.identifiers + (4 * (nodes body + 2) + length parameters) < 2 ^ 31 = room.identifiers in
     let same : length new.identifiers ≡ length (closed_off g.state).env.identifiers = ap (λ (e : Environment). length e.identifiers) g.after in
     omega (arith, given, used, free, same)
 
-pub types_fit : (symbols : List Symbol) (body : Syntax) (env new : Environment) (params : List Param) (built : Built)
-    → IsGraphOf symbols body env new params built → are_distinct symbols ≡ true
-    → HasRoom (started env kinds.Block) (4 * (nodes body + 2) + length symbols) → new.next_type + 1 < 2 ^ 32
-types_fit symbols body env new params built g distinct room =
-    let keeps = graph_keeps symbols body env new params built g distinct in
-    let used : (closed_off g.state).env.next_type ≤ env.next_type + length symbols + (4 * (nodes body + 1) + 2) = keeps.uses.types in
-    let free : env.next_type + (4 * (nodes body + 2) + length symbols) < 2 ^ 31 = room.types in
+pub types_fit : (names : Names) (parameters : List Parameter) (body : Syntax) (env new : Environment) (params : List Param) (built : Built)
+    → IsGraphOf names parameters body env new params built → AreApart parameters
+    → HasRoom (started env kinds.Block) (4 * (nodes body + 2) + length parameters) → new.next_type + 1 < 2 ^ 32
+types_fit names parameters body env new params built g distinct room =
+    let keeps = graph_keeps names parameters body env new params built g distinct in
+    let used : (closed_off g.state).env.next_type ≤ env.next_type + length parameters + (4 * (nodes body + 1) + 2) = keeps.uses.types in
+    let free : env.next_type + (4 * (nodes body + 2) + length parameters) < 2 ^ 31 = room.types in
     let same : new.next_type ≡ (closed_off g.state).env.next_type = ap (λ (e : Environment). e.next_type) g.after in
     omega (arith, used, free, same)
 
-pub graph_refused : (symbols : List Symbol) (body : Syntax) (env new : Environment) (params : List Param) (built : Built)
-    → IsGraphOf symbols body env new params built → are_distinct symbols ≡ true
-    → new.diagnostics ≡ env.diagnostics ++ (said_of_symbols symbols ++ refusals symbols body)
-graph_refused symbols body env new params built g distinct =
-    ap (λ (e : Environment). e.diagnostics) g.after ∙ (lowered_from symbols body env new params built g distinct).refused ∙ append_assoc env.diagnostics (said_of_symbols symbols) (refusals symbols body)
+pub graph_refused : (names : Names) (parameters : List Parameter) (body : Syntax) (env new : Environment) (params : List Param) (built : Built)
+    → IsGraphOf names parameters body env new params built → AreApart parameters
+    → new.diagnostics ≡ env.diagnostics ++ (said_of_parameters parameters ++ refusals names body)
+graph_refused names parameters body env new params built g distinct =
+    ap (λ (e : Environment). e.diagnostics) g.after ∙ (lowered_from names parameters body env new params built g distinct).refused ∙ append_assoc env.diagnostics (said_of_parameters parameters) (refusals names body)
 
-pub graph_closed : (symbols : List Symbol) (body : Syntax) (env new : Environment) (params : List Param) (built : Built)
-    → IsGraphOf symbols body env new params built → are_distinct symbols ≡ true → IsClosed built.hir
-graph_closed symbols body env new params built g distinct =
+pub graph_closed : (names : Names) (parameters : List Parameter) (body : Syntax) (env new : Environment) (params : List Param) (built : Built)
+    → IsGraphOf names parameters body env new params built → AreApart parameters → IsClosed built.hir
+graph_closed names parameters body env new params built g distinct =
     subst (λ (b : Built). IsClosed b.hir) (sym g.graph)
-    (finished_closed (closed_off g.state) (function_finished (state_with (started env kinds.Block) symbols) g.state (begun_fresh env symbols) (lowered_from symbols body env new params built g distinct).blocks))
+    (finished_closed (closed_off g.state) (function_finished (state_with (started env kinds.Block) parameters) g.state (begun_fresh env parameters) (lowered_from names parameters body env new params built g distinct).blocks))
 
 -- `exec_body` is the meaning of the body before its end, continued by a return of Undefined.
-body_means : (symbols : List Symbol) (b : Syntax) (store : Store) (answers : List Answer) (throws : ValueCont)
-    → exec_body symbols b store answers
-    (λ v after rest. returned returns.Implicit v) throws ≡ exec_before_end symbols b store answers
+body_means : (names : Names) (b : Syntax) (store : Store) (answers : List Answer) (throws : ValueCont)
+    → exec_body names b store answers
+    (λ v after rest. returned returns.Implicit v) throws ≡ exec_before_end names b store answers
     (record { normal = λ after rest. returned returns.Void value.Undefined; throws = throws })
-body_means symbols (Node at word.Body (Then directives (Then (Listed statements) End))) store answers throws = refl
-body_means symbols _ store answers throws = refl
+body_means names (Node at word.Body (Then directives (Then (Listed statements) End))) store answers throws = refl
+body_means names _ store answers throws = refl
 
-function_runs : (f body : Syntax) → IsFunction f body → (start : List Assignment) (arguments : List Value) (answers : List Answer)
-    → source_trace f start arguments answers ≡ exec_body (symbols_of f) body
-    (take_from 0 (symbols_of f) arguments (set_all start unset)) answers
+function_runs : (names : Names) (f body : Syntax) → IsFunction f body → (start : List Assignment) (arguments : List Value) (answers : List Answer)
+    → source_trace names f start arguments answers ≡ exec_body names body
+    (take (parameters_of names f) arguments (set_all start unset)) answers
     (λ v store rest. returned returns.Implicit v) (λ v store rest. threw v)
-function_runs f body w start arguments answers =
-    ap (λ (t : Syntax). source_trace t start arguments answers) w.is
-    ∙ ap (λ (symbols : List Symbol). exec_body symbols body (take_from 0 symbols arguments (set_all start unset)) answers (λ v store rest. returned returns.Implicit v) (λ v store rest. threw v)) (sym (ap symbols_of w.is))
+function_runs names f body w start arguments answers =
+    ap (λ (b : Syntax). exec_body names b (take (parameters_of names f) arguments (set_all start unset)) answers (λ v store rest. returned returns.Implicit v) (λ v store rest. threw v)) w.is_body
 
 -- Its size.
 
@@ -161,11 +162,11 @@ fewer p (x ∷ xs) = by_test (fewer p xs) (p x)
     by_test rest true = omega (arith, rest)
     by_test rest false = omega (arith, rest)
 
-pub graph_bounded : (symbols : List Symbol) (body : Syntax) (env new : Environment) (params : List Param) (built : Built)
-    → IsGraphOf symbols body env new params built → are_distinct symbols ≡ true → (f : HirFunction) (count : ℕ)
+pub graph_bounded : (names : Names) (parameters : List Parameter) (body : Syntax) (env new : Environment) (params : List Param) (built : Built)
+    → IsGraphOf names parameters body env new params built → AreApart parameters → (f : HirFunction) (count : ℕ)
     → f.body ≡ built.hir → f.instructions ≡ built.instructions → nodes body + 2 ≤ count → function_size f ≤ 64 * count
-graph_bounded symbols body env new params built g distinct f count body_is instructions_is counted =
-    let keeps = graph_keeps symbols body env new params built g distinct in
+graph_bounded names parameters body env new params built g distinct f count body_is instructions_is counted =
+    let keeps = graph_keeps names parameters body env new params built g distinct in
     let s : State = closed_off g.state in
     let table : length s.table ≤ 0 + (4 * (nodes body + 1) + 2) = keeps.uses.instructions in
     let blocks : length s.completed ≤ 0 + (4 * (nodes body + 1) + 2) = keeps.uses.completed in
@@ -180,25 +181,25 @@ calls_plain : (xs : List Instruction) → calls_of (map without_order xs) ≡ ca
 calls_plain [] = refl
 calls_plain (x ∷ xs) = ap (λ (l : List (Option Span)). call_at x ++ l) (calls_plain xs)
 
-pub graph_calls_held : (symbols : List Symbol) (body : Syntax) (env new : Environment) (params : List Param) (built : Built)
-    → IsGraphOf symbols body env new params built → are_distinct symbols ≡ true → (f : HirFunction)
+pub graph_calls_held : (names : Names) (parameters : List Parameter) (body : Syntax) (env new : Environment) (params : List Param) (built : Built)
+    → IsGraphOf names parameters body env new params built → AreApart parameters → (f : HirFunction)
     → f.instructions ≡ built.instructions → calls_of f.instructions ≡ calls_in body
-graph_calls_held symbols body env new params built g distinct f instructions_is =
+graph_calls_held names parameters body env new params built g distinct f instructions_is =
     let s : State = closed_off g.state in
     ap calls_of (instructions_is ∙ ap (λ (b : Built). b.instructions) g.graph)
     ∙ sym (calls_plain (ordered_table 1 (reached_blocks s.entry s.completed) s.table)) ∙ ap calls_of (ordered_table_plain 1 (reached_blocks s.entry s.completed) s.table) ∙ calls_plain s.table
-    ∙ Rattle.rl_lower.proofs.Calls.calls_same g.state.table _ refl ∙ (lowered_from symbols body env new params built g distinct).calls
+    ∙ Rattle.rl_lower.proofs.Calls.calls_same g.state.table _ refl ∙ (lowered_from names parameters body env new params built g distinct).calls
 
 -- The calls that its blocks list.
-pub graph_blocks_held : (symbols : List Symbol) (body : Syntax) (env new : Environment) (params : List Param) (built : Built)
-    → IsGraphOf symbols body env new params built → are_distinct symbols ≡ true → (f : HirFunction) → f.body ≡ built.hir
+pub graph_blocks_held : (names : Names) (parameters : List Parameter) (body : Syntax) (env new : Environment) (params : List Param) (built : Built)
+    → IsGraphOf names parameters body env new params built → AreApart parameters → (f : HirFunction) → f.body ≡ built.hir
     → f.instructions ≡ built.instructions → graph_calls f.instructions f.body.blocks ≡ live_in_body body
-graph_blocks_held symbols body env new params built g distinct f body_is instructions_is =
+graph_blocks_held names parameters body env new params built g distinct f body_is instructions_is =
     let s : State = closed_off g.state in
-    let begun : State = state_with (started env kinds.Block) symbols in
-    let lowered = lowered_from symbols body env new params built g distinct in
+    let begun : State = state_with (started env kinds.Block) parameters in
+    let lowered = lowered_from names parameters body env new params built g distinct in
     let below : begun.entry.0 < begun.env.next_block = omega arith in
-    let listed : IsListed begun = listed_fresh begun (begun_fresh env symbols) in
+    let listed : IsListed begun = listed_fresh begun (begun_fresh env parameters) in
     let later : g.state.entry.0 < g.state.env.next_block = (let same : g.state.entry.0 ≡ begun.entry.0 = ap (λ (b : BlockId). b.0) lowered.reachable.entry in omega (arith, same, lowered.reachable.counted)) in
     let stands : is_reachable begun ≡ true = eq-eqb env.next_block env.next_block refl in
     ap (λ (t : List Instruction). graph_calls t f.body.blocks) (instructions_is ∙ ap (λ (b : Built). b.instructions) g.graph)
@@ -210,113 +211,117 @@ graph_blocks_held symbols body env new params built g distinct f body_is instruc
     ∙ ap (λ (l : List (Option Span)). l ++ where_reachable (is_reachable begun) (live_in_body body)) (none_where (is_reachable begun))
     ∙ ap (λ (b : Bool). where_reachable b (live_in_body body)) stands
 
--- The clauses of `lower`, whose caller hands it the function's symbols.
+-- The clauses of `lower`, whose caller hands it the function's parameters.
 
 nothing_twice : (xs ys : List Diagnostic) → xs ++ ys ≡ [] → ys ≡ []
 nothing_twice [] ys e = e
 nothing_twice (x ∷ xs) ys e = absurd (cc)
 
-body_supported : (f body : Syntax) → IsFunction f body → refusals_of f ≡ [] → refusals (symbols_of f) body ≡ []
-body_supported f body w none = nothing_twice (said_of_symbols (symbols_of f)) (refusals (symbols_of f) body) (sym (function_refusals f body w) ∙ none)
+body_supported : (names : Names) (f body : Syntax) → IsFunction f body → DeclaresAll names (params_in f) → refusals_of names f ≡ [] → refusals names body ≡ []
+body_supported names f body w declared none =
+    nothing_twice (said_of_parameters (parameters_of names f)) (refusals names body) (sym (function_refusals names f body w declared) ∙ none)
 
-pub lower_room : (f body : Syntax) (symbols : List Symbol) (s : State) → IsFunction f body → symbols ≡ symbols_of f
-    → HasRoom s (4 * nodes f) → HasRoom s (4 * (nodes body + 2) + length symbols)
-lower_room f body symbols s w is room =
-    let same : length symbols ≡ length (symbols_of f) = ap (λ (l : List Symbol). length l) is in
-    let counted : nodes body + 2 + 2 * length (symbols_of f) ≤ nodes f = function_nodes f body w in
-    room_less s (4 * nodes f) (4 * (nodes body + 2) + length symbols) (omega (arith, same, counted)) room
+pub lower_room : (f body : Syntax) (names : Names) (parameters : List Parameter) (s : State) → IsFunction f body → parameters ≡ parameters_of names f
+    → HasRoom s (4 * nodes f) → HasRoom s (4 * (nodes body + 2) + length parameters)
+lower_room f body names parameters s w is room =
+    let same : length parameters ≡ length (parameters_of names f) = ap (λ (l : List Parameter). length l) is in
+    let counted : nodes body + 2 + 2 * length (parameters_of names f) ≤ nodes f = function_nodes names f body w in
+    room_less s (4 * nodes f) (4 * (nodes body + 2) + length parameters) (omega (arith, same, counted)) room
 
-pub lower_refused : (f body : Syntax) (symbols : List Symbol) (env new : Environment) (params : List Param) (built : Built)
-    → IsFunction f body → symbols ≡ symbols_of f → are_distinct symbols ≡ true → IsGraphOf symbols body env new params built
-    → new.diagnostics ≡ env.diagnostics ++ refusals_of f
-lower_refused f body symbols env new params built w is distinct g =
-    graph_refused symbols body env new params built g distinct
-    ∙ ap (λ (l : List Symbol). env.diagnostics ++ (said_of_symbols l ++ refusals l body)) is
-    ∙ ap (λ (l : List Diagnostic). env.diagnostics ++ l) (sym (function_refusals f body w))
+pub lower_refused : (f body : Syntax) (names : Names) (parameters : List Parameter) (env new : Environment) (params : List Param) (built : Built)
+    → IsFunction f body → DeclaresAll names (params_in f) → parameters ≡ parameters_of names f → AreApart parameters
+    → IsGraphOf names parameters body env new params built → new.diagnostics ≡ env.diagnostics ++ refusals_of names f
+lower_refused f body names parameters env new params built w declared is distinct g =
+    graph_refused names parameters body env new params built g distinct
+    ∙ ap (λ (l : List Parameter). env.diagnostics ++ (said_of_parameters l ++ refusals names body)) is
+    ∙ ap (λ (l : List Diagnostic). env.diagnostics ++ l) (sym (function_refusals names f body w declared))
 
-lower_runs_by : (f body : Syntax) (symbols : List Symbol) (env new : Environment) (params : List Param) (built : Built)
-    → IsFunction f body → symbols ≡ symbols_of f → are_distinct symbols ≡ true → IsGraphOf symbols body env new params built
-    → refusals_of f ≡ []
+lower_runs_by : (f body : Syntax) (names : Names) (parameters : List Parameter) (env new : Environment) (params : List Param) (built : Built)
+    → IsFunction f body → DeclaresAll names (params_in f) → parameters ≡ parameters_of names f → AreApart parameters
+    → IsGraphOf names parameters body env new params built → refusals_of names f ≡ []
     → (h : HirFunction) (pairs : List Pair) → h.body ≡ built.hir → h.instructions ≡ built.instructions → h.params ≡ params
     → (stuck : Trace) (start : List Assignment) (arguments : List Value) (answers : List Answer)
-    → trace_by stuck h pairs start arguments answers ≡ source_trace f start arguments answers
-lower_runs_by f body given env new params built w is distinct g supported h pairs body_is instructions_is params_is =
-    function_runs_by begun graph.state (exec_before_end symbols body) (begun_fresh env symbols) (parameters_made (started env kinds.Block) symbols)
-    lowered.blocks (lowered.runs (body_supported f body w supported)) h pairs f
+    → trace_by stuck h pairs start arguments answers ≡ source_trace names f start arguments answers
+lower_runs_by f body names given env new params built w declared is distinct g supported h pairs body_is instructions_is params_is =
+    function_runs_by begun graph.state (exec_before_end names body) (begun_fresh env parameters) (parameters_made (started env kinds.Block) parameters)
+    lowered.blocks (lowered.runs (body_supported names f body w declared supported)) h pairs names f
     (body_is ∙ ap (λ (b : Built). b.hir) graph.graph) (instructions_is ∙ ap (λ (b : Built). b.instructions) graph.graph)
-    (λ start arguments. take_from 0 symbols arguments (set_all start unset))
-    (λ start arguments. subst (λ (ps : List Param). Agrees begun.bindings (take_from 0 symbols arguments (set_all start unset))
+    (λ start arguments. take parameters arguments (set_all start unset))
+    (λ start arguments. subst (λ (ps : List Param). Agrees begun.bindings (take parameters arguments (set_all start unset))
     (take_arguments ps arguments (set_by pairs start unset))) (sym (params_is ∙ graph.places))
-    (parameters_agree (started env kinds.Block) symbols arguments (set_all start unset) (set_by pairs start unset)))
-    (λ start arguments answers. function_runs f body w start arguments answers
-    ∙ body_means symbols body (take_from 0 symbols arguments (set_all start unset)) answers (λ v after rest. threw v))
+    (parameters_agree (started env kinds.Block) parameters apart arguments (set_all start unset) (set_by pairs start unset)))
+    (λ start arguments answers. function_runs names f body w start arguments answers
+    ∙ body_means names body (take parameters arguments (set_all start unset)) answers (λ v after rest. threw v))
   where
-    symbols : List Symbol
-    symbols = symbols_of f
+    parameters : List Parameter
+    parameters = parameters_of names f
+
+    apart : AreApart parameters
+    apart = subst AreApart is distinct
 
     begun : State
-    begun = state_with (started env kinds.Block) symbols
+    begun = state_with (started env kinds.Block) parameters
 
-    graph : IsGraphOf symbols body env new params built
-    graph = subst (λ (l : List Symbol). IsGraphOf l body env new params built) is g
+    graph : IsGraphOf names parameters body env new params built
+    graph = subst (λ (l : List Parameter). IsGraphOf names l body env new params built) is g
 
-    lowered : LowersBody symbols body begun graph.state
-    lowered = lowered_from symbols body env new params built graph (subst (λ (l : List Symbol). are_distinct l ≡ true) is distinct)
+    lowered : LowersBody names body begun graph.state
+    lowered = lowered_from names parameters body env new params built graph apart
 
-pub lower_same_runs : (f body : Syntax) (symbols : List Symbol) (env new : Environment) (params : List Param) (built : Built)
-    → IsFunction f body → symbols ≡ symbols_of f → are_distinct symbols ≡ true → IsGraphOf symbols body env new params built
-    → refusals_of f ≡ []
+pub lower_same_runs : (f body : Syntax) (names : Names) (parameters : List Parameter) (env new : Environment) (params : List Param) (built : Built)
+    → IsFunction f body → DeclaresAll names (params_in f) → parameters ≡ parameters_of names f → AreApart parameters
+    → IsGraphOf names parameters body env new params built → refusals_of names f ≡ []
     → (h : HirFunction) (pairs : List Pair) → h.body ≡ built.hir → h.instructions ≡ built.instructions → h.params ≡ params
-    → SameRuns f h pairs
-lower_same_runs f body symbols env new params built w is distinct g supported h pairs body_is instructions_is params_is start arguments answers =
-    lower_runs_by f body symbols env new params built w is distinct g supported h pairs body_is instructions_is params_is waiting start arguments answers
+    → SameRuns names f h pairs
+lower_same_runs f body names parameters env new params built w declared is distinct g supported h pairs body_is instructions_is params_is start arguments answers =
+    lower_runs_by f body names parameters env new params built w declared is distinct g supported h pairs body_is instructions_is params_is waiting start arguments answers
 
-pub lower_never_stuck : (f body : Syntax) (symbols : List Symbol) (env new : Environment) (params : List Param) (built : Built)
-    → IsFunction f body → symbols ≡ symbols_of f → are_distinct symbols ≡ true → IsGraphOf symbols body env new params built
-    → refusals_of f ≡ []
+pub lower_never_stuck : (f body : Syntax) (names : Names) (parameters : List Parameter) (env new : Environment) (params : List Param) (built : Built)
+    → IsFunction f body → DeclaresAll names (params_in f) → parameters ≡ parameters_of names f → AreApart parameters
+    → IsGraphOf names parameters body env new params built → refusals_of names f ≡ []
     → (h : HirFunction) (pairs : List Pair) → h.body ≡ built.hir → h.instructions ≡ built.instructions → h.params ≡ params
     → NeverStuck h pairs
-lower_never_stuck f body symbols env new params built w is distinct g supported h pairs body_is instructions_is params_is stuck start arguments answers =
-    lower_runs_by f body symbols env new params built w is distinct g supported h pairs body_is instructions_is params_is stuck start arguments answers
-    ∙ sym (lower_same_runs f body symbols env new params built w is distinct g supported h pairs body_is instructions_is params_is start arguments answers)
+lower_never_stuck f body names parameters env new params built w declared is distinct g supported h pairs body_is instructions_is params_is stuck start arguments answers =
+    lower_runs_by f body names parameters env new params built w declared is distinct g supported h pairs body_is instructions_is params_is stuck start arguments answers
+    ∙ sym (lower_same_runs f body names parameters env new params built w declared is distinct g supported h pairs body_is instructions_is params_is start arguments answers)
 
-pub lower_bounded : (f body : Syntax) (symbols : List Symbol) (env new : Environment) (params : List Param) (built : Built)
-    → IsFunction f body → are_distinct symbols ≡ true → IsGraphOf symbols body env new params built
+pub lower_bounded : (f body : Syntax) (names : Names) (parameters : List Parameter) (env new : Environment) (params : List Param) (built : Built)
+    → IsFunction f body → AreApart parameters → IsGraphOf names parameters body env new params built
     → (h : HirFunction) → h.body ≡ built.hir → h.instructions ≡ built.instructions → function_size h ≤ 64 * nodes f
-lower_bounded f body symbols env new params built w distinct g h body_is instructions_is =
-    let counted : nodes body + 2 + 2 * length (symbols_of f) ≤ nodes f = function_nodes f body w in
-    graph_bounded symbols body env new params built g distinct h (nodes f) body_is instructions_is (omega (arith, counted))
+lower_bounded f body names parameters env new params built w distinct g h body_is instructions_is =
+    let counted : nodes body + 2 + 2 * length (parameters_of names f) ≤ nodes f = function_nodes names f body w in
+    graph_bounded names parameters body env new params built g distinct h (nodes f) body_is instructions_is (omega (arith, counted))
 
-pub lower_functions : (symbols : List Symbol) (body : Syntax) (env new : Environment) (params : List Param) (built : Built)
-    → are_distinct symbols ≡ true → IsGraphOf symbols body env new params built → new.functions ≡ env.functions
-lower_functions symbols body env new params built distinct g =
-    ap (λ (e : Environment). e.functions) g.after ∙ (graph_keeps symbols body env new params built g distinct).functions
+pub lower_functions : (names : Names) (parameters : List Parameter) (body : Syntax) (env new : Environment) (params : List Param) (built : Built)
+    → AreApart parameters → IsGraphOf names parameters body env new params built → new.functions ≡ env.functions
+lower_functions names parameters body env new params built distinct g =
+    ap (λ (e : Environment). e.functions) g.after ∙ (graph_keeps names parameters body env new params built g distinct).functions
 
-pub lower_pairs : (symbols : List Symbol) (body : Syntax) (env new : Environment) (params : List Param) (built : Built)
-    → are_distinct symbols ≡ true → IsGraphOf symbols body env new params built
-    → new.pairs ≡ env.pairs ++ pairs_from 0 (length env.identifiers) symbols
-lower_pairs symbols body env new params built distinct g =
-    ap (λ (e : Environment). e.pairs) g.after ∙ (graph_keeps symbols body env new params built g distinct).pairs
+pub lower_pairs : (names : Names) (parameters : List Parameter) (body : Syntax) (env new : Environment) (params : List Param) (built : Built)
+    → AreApart parameters → IsGraphOf names parameters body env new params built
+    → new.pairs ≡ env.pairs ++ pairs_from (length env.identifiers) parameters
+lower_pairs names parameters body env new params built distinct g =
+    ap (λ (e : Environment). e.pairs) g.after ∙ (graph_keeps names parameters body env new params built g distinct).pairs
 
 -- The identifiers behind the graph and one more without a name, that of the returned place.
-pub lower_identifiers : (symbols : List Symbol) (body : Syntax) (env new last : Environment) (params : List Param)
-    (built : Built) (i : Identifier) → are_distinct symbols ≡ true → IsGraphOf symbols body env new params built
+pub lower_identifiers : (names : Names) (parameters : List Parameter) (body : Syntax) (env new last : Environment) (params : List Param)
+    (built : Built) (i : Identifier) → AreApart parameters → IsGraphOf names parameters body env new params built
     → last.identifiers ≡ new.identifiers ++ i ∷ [] → i.name ≡ None
-    → AddsUnnamed (env.identifiers ++ known_from env.next_type symbols) last.identifiers
-lower_identifiers symbols body env new last params built i distinct g more none =
-    added_then (env.identifiers ++ known_from env.next_type symbols) new.identifiers last.identifiers
-    (subst (λ (e : Environment). AddsUnnamed (env.identifiers ++ known_from env.next_type symbols) e.identifiers) (sym g.after) (graph_keeps symbols body env new params built g distinct).identifiers)
+    → AddsUnnamed (env.identifiers ++ known_from env.next_type parameters) last.identifiers
+lower_identifiers names parameters body env new last params built i distinct g more none =
+    added_then (env.identifiers ++ known_from env.next_type parameters) new.identifiers last.identifiers
+    (subst (λ (e : Environment). AddsUnnamed (env.identifiers ++ known_from env.next_type parameters) e.identifiers) (sym g.after) (graph_keeps names parameters body env new params built g distinct).identifiers)
     (record { more = i ∷ []; added = more; unnamed = one_unnamed i none })
 
-pub lower_fn_type : (symbols : List Symbol) (body : Syntax) (env new : Environment) (params : List Param) (built : Built)
-    → are_distinct symbols ≡ true → IsGraphOf symbols body env new params built → new.fn_type ≡ env.fn_type
-lower_fn_type symbols body env new params built distinct g =
-    ap (λ (e : Environment). e.fn_type) g.after ∙ (graph_keeps symbols body env new params built g distinct).fn_type
+pub lower_fn_type : (names : Names) (parameters : List Parameter) (body : Syntax) (env new : Environment) (params : List Param) (built : Built)
+    → AreApart parameters → IsGraphOf names parameters body env new params built → new.fn_type ≡ env.fn_type
+lower_fn_type names parameters body env new params built distinct g =
+    ap (λ (e : Environment). e.fn_type) g.after ∙ (graph_keeps names parameters body env new params built g distinct).fn_type
 
-pub lower_held : (f body : Syntax) (symbols : List Symbol) (env new : Environment) (params : List Param) (built : Built)
-    → IsFunction f body → are_distinct symbols ≡ true → IsGraphOf symbols body env new params built
+pub lower_held : (f body : Syntax) (names : Names) (parameters : List Parameter) (env new : Environment) (params : List Param) (built : Built)
+    → IsFunction f body → AreApart parameters → IsGraphOf names parameters body env new params built
     → (h : HirFunction) → h.body ≡ built.hir → h.instructions ≡ built.instructions → HoldsCalls f h
-lower_held f body symbols env new params built w distinct g h body_is instructions_is = record {
-  table = graph_calls_held symbols body env new params built g distinct h instructions_is ∙ sym (function_calls f body w);
-  blocks = graph_blocks_held symbols body env new params built g distinct h body_is instructions_is ∙ sym (ap live_calls_in w.is);
+lower_held f body names parameters env new params built w distinct g h body_is instructions_is = record {
+  table = graph_calls_held names parameters body env new params built g distinct h instructions_is ∙ sym (function_calls f body w);
+  blocks = graph_blocks_held names parameters body env new params built g distinct h body_is instructions_is ∙ sym (ap live_in_body w.is_body);
 }

@@ -26,6 +26,7 @@ use Rattle.rl_model.specs.Traces.{Store, ValueCont, ExprMeaning, StmtMeaning, re
 use Rattle.rl_model.specs.Machine.{Ends, Code, Notes, no_notes, code_in, set_by, take_arguments, trace_by}
 use Rattle.rl_model.specs.Source.{source_trace}
 use Rattle.rl_syntax.specs.Syntax.{Syntax}
+use Rattle.rl_names.specs.Names.{Names}
 use Rattle.rl_hir.specs.declared.function.Hir.{Hir}
 use Rattle.rl_hir.specs.declared.instruction.Instruction.{Instruction}
 use Rattle.rl_lower.specs.Simulation.{Agrees, AreMade, IsCompleted, IsCurrentOrCompleted, Extends, IsContainedIn, UniqueIds, AreEnded, PreservesBlocks, TracesAt, TracesFrom, Throws, RunsExpression, RunsStatement}
@@ -133,14 +134,14 @@ function_runs begun s m fresh made b r throws source store notes answers agrees 
 
 -- The function that is built has the traces of its source, whatever trace a stuck run has.
 pub function_runs_by : (begun s : State) (m : StmtMeaning) → IsFresh begun → AreMade begun → PreservesBlocks begun s
-    → RunsStatement m begun s → (f : HirFunction) (pairs : List Pair) (function : Syntax)
+    → RunsStatement m begun s → (f : HirFunction) (pairs : List Pair) (names : Names) (function : Syntax)
     → f.body ≡ (built_of (closed_off s)).hir → f.instructions ≡ (built_of (closed_off s)).instructions
     → (source : List Assignment → List Value → Store) →
     ((start : List Assignment) (arguments : List Value) → Agrees begun.bindings (source start arguments) (take_arguments f.params arguments (set_by pairs start unset)))
-    → ((start : List Assignment) (arguments : List Value) (answers : List Answer) → source_trace function start arguments answers ≡ m (source start arguments) answers (record { normal = λ after rest. returned returns.Void value.Undefined; throws = λ v after rest. threw v }))
+    → ((start : List Assignment) (arguments : List Value) (answers : List Answer) → source_trace names function start arguments answers ≡ m (source start arguments) answers (record { normal = λ after rest. returned returns.Void value.Undefined; throws = λ v after rest. threw v }))
     → (stuck : Trace) (start : List Assignment) (arguments : List Value) (answers : List Answer)
-    → trace_by stuck f pairs start arguments answers ≡ source_trace function start arguments answers
-function_runs_by begun s m fresh made b r f pairs function body_is instructions_is source agrees means stuck start arguments answers =
+    → trace_by stuck f pairs start arguments answers ≡ source_trace names function start arguments answers
+function_runs_by begun s m fresh made b r f pairs names function body_is instructions_is source agrees means stuck start arguments answers =
     here ∙ total_runs stuck (built_of last).hir.blocks (built_of last).instructions last.entry.0 store no_notes answers trace (entry_built last finished) goes ∙ sym (means start arguments answers)
   where
     last : State

@@ -11,36 +11,36 @@ use Rattle.rl_builder.specs.declared.builder.WipBlock.{WipBlock}
 use Rattle.rl_hir.specs.Pairs.{identifier_of}
 use Rattle.rl_hir.specs.declared.function.Identifier.{Identifier}
 use Rattle.rl_hir.specs.declared.function.Pair.{Pair}
-use Rattle.rl_scope.specs.declared.semantic.Symbol.{Symbol}
+use Rattle.rl_names.specs.Names.{Names}
 use Rattle.rl_lower.specs.Lowering.{HasRoom, CountersGrowBy, Preserves}
 use Rattle.rl_model.specs.Fields.{AddsUnnamed}
 use Rattle.rl_lower.specs.Named.{IsNamed}
 use Rattle.rl_lower.proofs.Listed.{listed_completed, listed_value}
 use Rattle.rl_lower.proofs.Steps.{get_more}
 
--- Identifiers of symbols stay.
-named_same : (symbols : List Symbol) (s new : State) → new.bindings ≡ s.bindings → new.env.identifiers ≡ s.env.identifiers
-    → IsNamed symbols s → IsNamed symbols new
-named_same symbols s new bindings identifiers n = record {
-  few = n.few;
-  each = λ number symbol there.
-      let h = n.each number symbol there in record {
+-- Identifiers of local variables stay.
+named_same : (names : Names) (s new : State) → new.bindings ≡ s.bindings → new.env.identifiers ≡ s.env.identifiers
+    → IsNamed names s → IsNamed names new
+named_same names s new bindings identifiers n = record {
+  texts = n.texts;
+  each = λ reference name symbol is.
+      let h = n.each reference name symbol is in record {
         identifier = h.identifier;
-        bound = ap (λ (b : List Pair). identifier_of b number) bindings ∙ h.bound;
+        bound = ap (λ (b : List Pair). identifier_of b symbol.0) bindings ∙ h.bound;
         known = h.known;
         made = ap (λ (l : List Identifier). slice_get l h.identifier) identifiers ∙ h.made;
         named = h.named;
       };
 }
 
-named_more : (symbols : List Symbol) (s new : State) (more : List Identifier) → new.bindings ≡ s.bindings
-    → new.env.identifiers ≡ s.env.identifiers ++ more → IsNamed symbols s → IsNamed symbols new
-named_more symbols s new more bindings identifiers n = record {
-  few = n.few;
-  each = λ number symbol there.
-      let h = n.each number symbol there in record {
+named_more : (names : Names) (s new : State) (more : List Identifier) → new.bindings ≡ s.bindings
+    → new.env.identifiers ≡ s.env.identifiers ++ more → IsNamed names s → IsNamed names new
+named_more names s new more bindings identifiers n = record {
+  texts = n.texts;
+  each = λ reference name symbol is.
+      let h = n.each reference name symbol is in record {
         identifier = h.identifier;
-        bound = ap (λ (b : List Pair). identifier_of b number) bindings ∙ h.bound;
+        bound = ap (λ (b : List Pair). identifier_of b symbol.0) bindings ∙ h.bound;
         known = h.known;
         made = ap (λ (l : List Identifier). slice_get l h.identifier) identifiers ∙ get_more s.env.identifiers more h.identifier h.known h.made;
         named = h.named;
@@ -67,7 +67,7 @@ added_then old mid new a b = record {
 
 pub keeps_refl : (s : State) → Preserves s s 0
 keeps_refl s =
-    record { uses = record { blocks = omega arith; types = omega arith; identifiers = omega arith; instructions = omega arith; completed = omega arith }; listed = λ l. l; named = λ symbols n. n; identifiers = none_added s.env.identifiers; pairs = refl; functions = refl; fn_type = refl }
+    record { uses = record { blocks = omega arith; types = omega arith; identifiers = omega arith; instructions = omega arith; completed = omega arith }; listed = λ l. l; named = λ names n. n; identifiers = none_added s.env.identifiers; pairs = refl; functions = refl; fn_type = refl }
 
 pub keeps_then : (a b c : State) (m n : ℕ) → Preserves a b m → Preserves b c n → Preserves a c (m + n)
 keeps_then a b c m n j k = record {
@@ -79,7 +79,7 @@ keeps_then a b c m n j k = record {
     completed = omega (arith, j.uses.completed, k.uses.completed);
   };
   listed = λ l. k.listed (j.listed l);
-  named = λ symbols n. k.named symbols (j.named symbols n);
+  named = λ names n. k.named names (j.named names n);
   identifiers = added_then a.env.identifiers b.env.identifiers c.env.identifiers j.identifiers k.identifiers;
   pairs = k.pairs ∙ j.pairs;
   functions = k.functions ∙ j.functions;
@@ -107,7 +107,7 @@ pub keeps_value : (s : State) (v : InstructionValue) (span : Option Span) → Pr
 keeps_value s v span = record {
   uses = record { blocks = omega arith; types = omega arith; identifiers = simp length-append (omega arith); instructions = simp length-append (omega arith); completed = omega arith };
   listed = listed_value s v span;
-  named = λ symbols n. named_more symbols s (with_value s v span) _ refl refl n;
+  named = λ names n. named_more names s (with_value s v span) _ refl refl n;
   identifiers = record { more = _; added = refl; unnamed = one_unnamed _ refl };
   pairs = refl;
   functions = refl;
@@ -116,18 +116,18 @@ keeps_value s v span = record {
 
 pub keeps_reserved : (s : State) → Preserves s (reserved s) 1
 keeps_reserved s =
-    record { uses = record { blocks = omega arith; types = omega arith; identifiers = omega arith; instructions = omega arith; completed = omega arith }; listed = λ l. record { completed = l.completed; current = l.current; counted = l.counted; once = l.once; unordered = l.unordered; predecessors = l.predecessors }; named = λ symbols n. named_same symbols s _ refl refl n; identifiers = none_added s.env.identifiers; pairs = refl; functions = refl; fn_type = refl }
+    record { uses = record { blocks = omega arith; types = omega arith; identifiers = omega arith; instructions = omega arith; completed = omega arith }; listed = λ l. record { completed = l.completed; current = l.current; counted = l.counted; once = l.once; unordered = l.unordered; predecessors = l.predecessors }; named = λ names n. named_same names s _ refl refl n; identifiers = none_added s.env.identifiers; pairs = refl; functions = refl; fn_type = refl }
 
 pub keeps_recorded : (s : State) (d : Diagnostic) → Preserves s (recorded s d) 0
 keeps_recorded s d =
-    record { uses = record { blocks = omega arith; types = omega arith; identifiers = omega arith; instructions = omega arith; completed = omega arith }; listed = λ l. record { completed = l.completed; current = l.current; counted = l.counted; once = l.once; unordered = l.unordered; predecessors = l.predecessors }; named = λ symbols n. named_same symbols s _ refl refl n; identifiers = none_added s.env.identifiers; pairs = refl; functions = refl; fn_type = refl }
+    record { uses = record { blocks = omega arith; types = omega arith; identifiers = omega arith; instructions = omega arith; completed = omega arith }; listed = λ l. record { completed = l.completed; current = l.current; counted = l.counted; once = l.once; unordered = l.unordered; predecessors = l.predecessors }; named = λ names n. named_same names s _ refl refl n; identifiers = none_added s.env.identifiers; pairs = refl; functions = refl; fn_type = refl }
 
 pub keeps_completed : (s : State) (t : Terminal) (next : WipBlock) → next.instructions ≡ []
     → Preserves s (completed_by s t next) 1
 keeps_completed s t next none = record {
   uses = record { blocks = omega arith; types = omega arith; identifiers = omega arith; instructions = omega arith; completed = simp length-append (omega arith) };
   listed = listed_completed s t next none;
-  named = λ symbols n. named_same symbols s _ refl refl n;
+  named = λ names n. named_same names s _ refl refl n;
   identifiers = none_added s.env.identifiers;
   pairs = refl;
   functions = refl;

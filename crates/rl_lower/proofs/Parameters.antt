@@ -1,76 +1,72 @@
 -- The builder after the parameters of a function.
-use Rattle.std.proofs.Common.{◌≡◌, ℕ, zero, suc, ◌+◌, ◌<◌, ◌≤◌, ◌^◌, ◌++◌, ◌&&◌, Bool, true, false, not, nat_eq, if◌then◌else◌, List, [], ◌∷◌, length, length-append, Option, Some, None, slice_get, refl, sym, ap, ◌∙◌, subst, arith, append-nil, append_assoc, codes, eq-eqb, inl, inr}
+use Rattle.std.proofs.Common.{◌≡◌, ℕ, zero, suc, ◌+◌, ◌<◌, ◌++◌, ◌&&◌, Bool, true, false, nat_eq, if◌then◌else◌, List, [], ◌∷◌, map, All, get_or, length, length-append, Option, Some, None, slice_get, refl, sym, ap, ◌∙◌, subst, arith, append-nil, append_assoc, codes, eq-eqb, inl, inr}
 use Rattle.std.specs.Str.{bytes_eq}
-use Rattle.std.specs.Option.{is_some, option_map_or}
-use Rattle.std.proofs.lemmas.Bool.{cases_lt, ne_eqb}
+use Rattle.std.specs.Option.{option_map_or}
+use Rattle.std.proofs.lemmas.Bool.{ne_eqb}
 use Rattle.std.proofs.lemmas.Bool.Decides.{eqb_tells}
+use Rattle.std.proofs.lemmas.List.Elements.{All-cons, All-head, All-tail}
+use Rattle.std.proofs.lemmas.Slice.Eq.{bytes_eq-Decides}
 use Rattle.rl_base.specs.declared.diagnostic.Diagnostic.{Diagnostic}
+use Rattle.rl_base.specs.declared.ids.SymbolId.{SymbolId}
 use Rattle.rl_base.specs.declared.row.Row.TheVariants as row
-use Rattle.rl_hir.specs.Pairs.{identifier_of}
+use Rattle.rl_hir.specs.Pairs.{identifier_of, pair}
 use Rattle.rl_hir.specs.declared.environment.Environment.{Environment}
 use Rattle.rl_hir.specs.declared.function.Identifier.{Identifier}
+use Rattle.rl_hir.specs.declared.function.IdentifierName.TheVariants.{Named}
 use Rattle.rl_hir.specs.declared.function.Pair.{Pair}
 use Rattle.rl_builder.specs.Builder.{State}
 use Rattle.rl_builder.specs.Names.{candidate, chosen, fbt, fbt_diagnostic, is_free, place_from, resolved, resolved_by, user_of, with_user}
 use Rattle.rl_hir.specs.Identifiers.{named_identifier}
-use Rattle.rl_hir.specs.Pairs.{pair}
 use Rattle.rl_builder.specs.UsedName.{UsedName}
-use Rattle.rl_scope.specs.declared.semantic.Symbol.{Symbol}
-use Rattle.rl_scope.specs.Symbols.{are_distinct, symbol_from, symbol_named}
 use Rattle.rl_model.specs.declared.trace.Value.{Value}
 use Rattle.rl_model.specs.declared.trace.Value.TheVariants as value
+use Rattle.rl_model.specs.Fields.{known_from, pairs_from, places_from}
 use Rattle.rl_model.specs.Machine.{take_arguments}
 use Rattle.rl_model.specs.Rows.{is_text, refusal}
-use Rattle.rl_model.specs.Source.{take_from}
+use Rattle.rl_model.specs.Source.{take}
 use Rattle.rl_model.specs.Traces.{Store, set}
-use Rattle.rl_lower.specs.Named.{IsNamed}
-use Rattle.rl_lower.specs.Parameters.{resolved_from, said_of_symbols, with_parameters}
-use Rattle.rl_model.specs.Fields.{places_from}
-use Rattle.rl_model.specs.Fields.{pairs_from}
-use Rattle.rl_model.specs.Fields.{known_from}
+use Rattle.rl_names.specs.Locals.{AreApart, AreLocals, HasTexts, IsApart}
+use Rattle.rl_names.specs.Names.{Names}
+use Rattle.rl_names.specs.declared.parameters.Parameter.{Parameter}
+use Rattle.rl_lower.specs.Named.{HasIdentifier, IsNamed}
+use Rattle.rl_lower.specs.Parameters.{said_of_parameters, with_parameters}
 use Rattle.rl_lower.specs.Simulation.{Agrees, AreMade}
 use Rattle.rl_lower.proofs.Steps.{set_same, set_other}
 
-abbrev users_from : ℕ → List Symbol → List UsedName
-users_from number [] = []
-users_from number (symbol ∷ symbols) = record { name = symbol.name; symbol = number } ∷ users_from (number + 1) symbols
+abbrev user_of_parameter : Parameter → UsedName
+user_of_parameter p = record { name = p.name; symbol = p.symbol.0 }
 
--- lists that grow at their end
+abbrev users_of : List Parameter → List UsedName
+users_of parameters = map user_of_parameter parameters
 
-pairs_end : (number identifier : ℕ) (done : List Symbol) (x : Symbol) → pairs_from number identifier (done ++ x ∷ []) ≡ pairs_from number identifier done ++ pair (number + length done) (identifier + length done) ∷ []
-pairs_end number identifier [] x =
-    let one : number ≡ number + 0 = omega arith in
-    let two : identifier ≡ identifier + 0 = omega arith in
-    ap (λ (n : ℕ). pair n identifier ∷ []) one ∙ ap (λ (n : ℕ). pair (number + 0) n ∷ []) two
-pairs_end number identifier (y ∷ done) x =
-    let one : number + 1 + length done ≡ number + length (y ∷ done) = omega arith in
-    let two : identifier + 1 + length done ≡ identifier + length (y ∷ done) = omega arith in
-    ap (λ (l : List Pair). pair number identifier ∷ l) (pairs_end (number + 1) (identifier + 1) done x
-    ∙ ap (λ (n : ℕ). pairs_from (number + 1) (identifier + 1) done ++ pair n (identifier + 1 + length done) ∷ []) one
-    ∙ ap (λ (n : ℕ). pairs_from (number + 1) (identifier + 1) done ++ pair (number + length (y ∷ done)) n ∷ []) two)
+-- Lists that grow at their end.
 
-known_end : (type : ℕ) (done : List Symbol) (x : Symbol) → known_from type (done ++ x ∷ []) ≡ known_from type done ++ named_identifier x.name x.declaration (type + length done) ∷ []
-known_end type [] x = let one : type ≡ type + 0 = omega arith in ap (λ (n : ℕ). named_identifier x.name x.declaration n ∷ []) one
-known_end type (y ∷ done) x =
-    let one : type + 1 + length done ≡ type + length (y ∷ done) = omega arith in
-    ap (λ (l : List Identifier). named_identifier y.name y.declaration type ∷ l) (known_end (type + 1) done x
-    ∙ ap (λ (n : ℕ). known_from (type + 1) done ++ named_identifier x.name x.declaration n ∷ []) one)
+pairs_end : (identifier : ℕ) (done : List Parameter) (p : Parameter) → pairs_from identifier (done ++ p ∷ []) ≡ pairs_from identifier done ++ pair p.symbol.0 (identifier + length done) ∷ []
+pairs_end identifier [] p = ap (λ (n : ℕ). pair p.symbol.0 n ∷ []) (omega arith)
+pairs_end identifier (q ∷ done) p =
+    let one : identifier + 1 + length done ≡ identifier + length (q ∷ done) = omega arith in
+    ap (λ (l : List Pair). pair q.symbol.0 identifier ∷ l) (pairs_end (identifier + 1) done p
+    ∙ ap (λ (n : ℕ). pairs_from (identifier + 1) done ++ pair p.symbol.0 n ∷ []) one)
 
-users_end : (number : ℕ) (done : List Symbol) (x : Symbol) → users_from number (done ++ x ∷ []) ≡ users_from number done ++ record { name = x.name; symbol = number + length done } ∷ []
-users_end number [] x = let one : number ≡ number + 0 = omega arith in ap (λ (n : ℕ). record { name = x.name; symbol = n } ∷ []) one
-users_end number (y ∷ done) x =
-    let one : number + 1 + length done ≡ number + length (y ∷ done) = omega arith in
-    ap (λ (l : List UsedName). record { name = y.name; symbol = number } ∷ l) (users_end (number + 1) done x
-    ∙ ap (λ (n : ℕ). users_from (number + 1) done ++ record { name = x.name; symbol = n } ∷ []) one)
+known_end : (type : ℕ) (done : List Parameter) (p : Parameter) → known_from type (done ++ p ∷ []) ≡ known_from type done ++ named_identifier p.name p.declaration (type + length done) ∷ []
+known_end type [] p = ap (λ (n : ℕ). named_identifier p.name p.declaration n ∷ []) (omega arith)
+known_end type (q ∷ done) p =
+    let one : type + 1 + length done ≡ type + length (q ∷ done) = omega arith in
+    ap (λ (l : List Identifier). named_identifier q.name q.declaration type ∷ l) (known_end (type + 1) done p
+    ∙ ap (λ (n : ℕ). known_from (type + 1) done ++ named_identifier p.name p.declaration n ∷ []) one)
 
-abbrev said_of : Symbol → List Diagnostic
-said_of symbol = if is_text (codes "fbt") symbol.name then refusal row.F40 symbol.declaration ∷ [] else []
+users_end : (done : List Parameter) (p : Parameter) → users_of (done ++ p ∷ []) ≡ users_of done ++ user_of_parameter p ∷ []
+users_end [] p = refl
+users_end (q ∷ done) p = ap (λ (l : List UsedName). user_of_parameter q ∷ l) (users_end done p)
 
-said_end : (done : List Symbol) (x : Symbol) → said_of_symbols (done ++ x ∷ []) ≡ said_of_symbols done ++ said_of_symbols (x ∷ [])
-said_end [] x = refl
-said_end (y ∷ done) x = ap (λ (l : List Diagnostic). said_of y ++ l) (said_end done x) ∙ sym (append_assoc (said_of y) (said_of_symbols done) (said_of_symbols (x ∷ [])))
+abbrev said_of : Parameter → List Diagnostic
+said_of p = if is_text (codes "fbt") p.name then refusal row.F40 p.declaration ∷ [] else []
 
--- a name that nobody has is given as it is
+said_end : (done : List Parameter) (p : Parameter) → said_of_parameters (done ++ p ∷ []) ≡ said_of_parameters done ++ said_of_parameters (p ∷ [])
+said_end [] p = refl
+said_end (q ∷ done) p = ap (λ (l : List Diagnostic). said_of q ++ l) (said_end done p) ∙ sym (append_assoc (said_of q) (said_of_parameters done) (said_of_parameters (p ∷ [])))
+
+-- A name that nobody has is given as it is.
 
 chosen_free : (used : List UsedName) (symbol : ℕ) (name : List ℕ) → user_of used name ≡ None → chosen used symbol name ≡ name
 unfolding chosen
@@ -87,106 +83,143 @@ user_last (u ∷ used) name symbol free = by_test (user_last used name symbol) (
     by_test rest true is = absurd ((let never : Some u.symbol ≡ None = sym (ap (λ (b : Bool). if b then Some u.symbol else user_of used name) is) ∙ free in cc))
     by_test rest false is = ap (λ (l : List UsedName). u ∷ l) (rest (sym (ap (λ (b : Bool). if b then Some u.symbol else user_of used name) is) ∙ free))
 
--- numbers that were not given yet have no identifier
-unbound : (number identifier : ℕ) (done : List Symbol) (other : ℕ) → number + length done ≤ other → identifier_of (pairs_from number identifier done) other ≡ None
-unbound number identifier [] other later = refl
-unbound number identifier (y ∷ done) other later = elim (eqb_tells number other) [
-  | inl same ↦ absurd (omega (arith, same.1))
-  | inr apart ↦ ap (λ (b : Bool). if b then Some identifier else identifier_of (pairs_from (number + 1) (identifier + 1) done) other) apart.0 ∙ unbound (number + 1) (identifier + 1) done other (omega arith)
+-- A fact about each item of a list, at an item.
+pub all_at : {X : Type 0} (P : X → Type 0) (xs : List X) (place : ℕ) (x : X) → slice_get xs place ≡ Some x → All P xs → P x
+all_at P [] place x there all = absurd (cc)
+all_at P (y ∷ xs) zero x there all = (let same : y ≡ x = cc in subst P same (All-head P y xs all))
+all_at P (y ∷ xs) (suc place) x there all = all_at P xs place x there (All-tail P y xs all)
+
+-- Parameters that are apart, taken apart.
+
+apart_in : (q : Parameter) (ps : List Parameter) (p : Parameter) (rest : List Parameter) → All (IsApart q) (ps ++ p ∷ rest) → IsApart q p
+apart_in q [] p rest all = All-head (IsApart q) p rest all
+apart_in q (x ∷ ps) p rest all = apart_in q ps p rest (All-tail (IsApart q) x (ps ++ p ∷ rest) all)
+
+apart_from : (done : List Parameter) (p : Parameter) (rest : List Parameter) → AreApart (done ++ p ∷ rest) → All (λ q. IsApart q p) done
+apart_from [] p rest apart = λ k d within. absurd (omega (arith, within))
+apart_from (q ∷ done) p rest apart = All-cons (λ q. IsApart q p) q done (apart_in q done p rest apart.0) (apart_from done p rest apart.1)
+
+-- A parameter's name is none of those before it, and its symbol has no identifier.
+
+unused : (done : List Parameter) (p : Parameter) → All (λ q. IsApart q p) done → user_of (users_of done) p.name ≡ None
+unused [] p apart = refl
+unused (q ∷ done) p apart = other (unused done p (All-tail (λ q. IsApart q p) q done apart)) (bytes_eq p.name q.name) refl
+  where
+    here : IsApart q p
+    here = All-head (λ q. IsApart q p) q done apart
+
+    other : user_of (users_of done) p.name ≡ None → (b : Bool) → bytes_eq p.name q.name ≡ b → user_of (users_of (q ∷ done)) p.name ≡ None
+    other rest true is =
+        let same : p.name ≡ q.name = (bytes_eq-Decides p.name q.name).0 is in
+        let never : true ≡ false = sym ((bytes_eq-Decides q.name p.name).1 (sym same)) ∙ here.names in
+        absurd (cc)
+    other rest false is = ap (λ (b : Bool). if b then Some q.symbol.0 else user_of (users_of done) p.name) is ∙ rest
+
+unbound : (identifier : ℕ) (done : List Parameter) (p : Parameter) → All (λ q. IsApart q p) done → identifier_of (pairs_from identifier done) p.symbol.0 ≡ None
+unbound identifier [] p apart = refl
+unbound identifier (q ∷ done) p apart =
+    ap (λ (b : Bool). if b then Some identifier else identifier_of (pairs_from (identifier + 1) done) p.symbol.0) (ne_eqb q.symbol.0 p.symbol.0 (All-head (λ q. IsApart q p) q done apart).symbols)
+    ∙ unbound (identifier + 1) done p (All-tail (λ q. IsApart q p) q done apart)
+
+-- The identifier of a symbol is that of the parameter which has it.
+
+-- The parameter at a place has the symbol.
+pub record IsAt (parameters : List Parameter) (symbol : ℕ) : Type 0 where
+  pub place : ℕ
+  pub parameter : Parameter
+  pub there : slice_get parameters place ≡ Some parameter
+  pub has : parameter.symbol.0 ≡ symbol
+
+pub pair_tells : (identifier : ℕ) (parameters : List Parameter) (symbol found : ℕ) → identifier_of (pairs_from identifier parameters) symbol ≡ Some found → (at : IsAt parameters symbol) × (found ≡ identifier + at.place)
+pair_tells identifier [] symbol found is = absurd (cc)
+pair_tells identifier (p ∷ parameters) symbol found is = elim (eqb_tells p.symbol.0 symbol) [
+  | inl same ↦ (
+      let first : Some identifier ≡ Some found = sym (ap (λ (b : Bool). if b then Some identifier else identifier_of (pairs_from (identifier + 1) parameters) symbol) same.0) ∙ is in
+      let one : identifier ≡ found = cc in
+      (record { place = 0; parameter = p; there = refl; has = same.1 }, omega (arith, one)))
+  | inr apart ↦ (
+      let later = pair_tells (identifier + 1) parameters symbol found (sym (ap (λ (b : Bool). if b then Some identifier else identifier_of (pairs_from (identifier + 1) parameters) symbol) apart.0) ∙ is) in
+      (record { place = suc later.0.place; parameter = later.0.parameter; there = later.0.there; has = later.0.has }, omega (arith, later.1)))
 ]
 
--- stores
+pub pair_found : (identifier : ℕ) (parameters : List Parameter) (place : ℕ) (p : Parameter) → AreApart parameters → slice_get parameters place ≡ Some p → identifier_of (pairs_from identifier parameters) p.symbol.0 ≡ Some (identifier + place)
+pair_found identifier [] place p apart there = absurd (cc)
+pair_found identifier (q ∷ parameters) zero p apart there =
+    let same : q ≡ p = cc in
+    ap (λ (b : Bool). if b then Some identifier else identifier_of (pairs_from (identifier + 1) parameters) p.symbol.0) (eq-eqb q.symbol.0 p.symbol.0 (ap (λ (x : Parameter). x.symbol.0) same))
+    ∙ ap (λ (n : ℕ). Some n) (omega arith)
+pair_found identifier (q ∷ parameters) (suc place) p apart there =
+    ap (λ (b : Bool). if b then Some identifier else identifier_of (pairs_from (identifier + 1) parameters) p.symbol.0) (ne_eqb q.symbol.0 p.symbol.0 (all_at (IsApart q) parameters place p there apart.0).symbols)
+    ∙ pair_found (identifier + 1) parameters place p apart.1 there ∙ ap (λ (n : ℕ). Some n) (omega arith)
 
-both_set : (number base : ℕ) (source store : Store) (v : Value) → ((other : ℕ) → other < number → store (base + other) ≡ source other) → (other : ℕ) → other < number + 1 → set store (base + number) v (base + other) ≡ set source number v other
-both_set number base source store v before other within = elim (eqb_tells other number) [
-  | inl same ↦ ap (λ (n : ℕ). set store (base + number) v (base + n)) same.1 ∙ set_same store (base + number) v ∙ sym (set_same source number v) ∙ ap (λ (n : ℕ). set source number v n) (sym same.1)
-  | inr apart ↦ (let ne : other ≡ number → ⊥ = λ e. (let never : true ≡ false = sym (eq-eqb other number e) ∙ apart.0 in cc) in
-      let small : other < number = below_other other number within ne in
-      set_other store (base + number) (base + other) v (λ e. ne (omega arith)) ∙ before other small ∙ sym (set_other source number other v ne))
-]
-  where
-    below_other : (a b : ℕ) → a < b + 1 → (a ≡ b → ⊥) → a < b
-    below_other a b lt ne = elim (cases_lt a b) [ inl less ↦ less | inr more ↦ absurd (ne (omega arith)) ]
+-- Stores: each parameter takes the argument at its place, on both sides.
 
--- each parameter takes the argument at its place, on both sides
-pub taken_agree : (number base : ℕ) (symbols : List Symbol) (arguments : List Value) (source store : Store)
-    → ((other : ℕ) → other < number → store (base + other) ≡ source other)
-    → (other : ℕ) → other < number + length symbols → take_arguments (places_from (base + number) symbols) arguments store (base + other) ≡ take_from number symbols arguments source other
-taken_agree number base [] arguments source store before other within = before other (omega arith)
-taken_agree number base (x ∷ symbols) [] source store before other within =
-    subst (λ (n : ℕ). take_arguments (places_from n symbols) [] (set store (base + number) value.Undefined) (base + other) ≡ take_from (number + 1) symbols [] (set source number value.Undefined) other) (omega arith)
-    (taken_agree (number + 1) base symbols [] (set source number value.Undefined) (set store (base + number) value.Undefined) (both_set number base source store value.Undefined before) other (omega arith))
-taken_agree number base (x ∷ symbols) (v ∷ arguments) source store before other within =
-    subst (λ (n : ℕ). take_arguments (places_from n symbols) arguments (set store (base + number) v) (base + other) ≡ take_from (number + 1) symbols arguments (set source number v) other) (omega arith)
-    (taken_agree (number + 1) base symbols arguments (set source number v) (set store (base + number) v) (both_set number base source store v before) other (omega arith))
+-- What is set later is another symbol's.
+taken_later : (parameters : List Parameter) (arguments : List Value) (store : Store) (p : Parameter) → All (IsApart p) parameters → take parameters arguments store p.symbol.0 ≡ store p.symbol.0
+taken_later [] arguments store p apart = refl
+taken_later (q ∷ parameters) [] store p apart =
+    taken_later parameters [] (set store q.symbol.0 value.Undefined) p (All-tail (IsApart p) q parameters apart)
+    ∙ set_other store q.symbol.0 p.symbol.0 value.Undefined (All-head (IsApart p) q parameters apart).symbols
+taken_later (q ∷ parameters) (v ∷ arguments) store p apart =
+    taken_later parameters arguments (set store q.symbol.0 v) p (All-tail (IsApart p) q parameters apart)
+    ∙ set_other store q.symbol.0 p.symbol.0 v (All-head (IsApart p) q parameters apart).symbols
 
--- a symbol's id and its identifier determine each other
-pub pair_tells : (number identifier : ℕ) (symbols : List Symbol) (other found : ℕ) → identifier_of (pairs_from number identifier symbols) other ≡ Some found → (place : ℕ) × (other ≡ number + place) × (found ≡ identifier + place) × (place < length symbols)
-pair_tells number identifier [] other found is = absurd (cc)
-pair_tells number identifier (x ∷ symbols) other found is = elim (eqb_tells number other) [
-  | inl same ↦ (let first : Some identifier ≡ Some found = sym (ap (λ (b : Bool). if b then Some identifier else identifier_of (pairs_from (number + 1) (identifier + 1) symbols) other) same.0) ∙ is in
-      let one : identifier ≡ found = cc in (0, omega (arith, same.1), omega (arith, one), omega arith))
-  | inr apart ↦ (let later = pair_tells (number + 1) (identifier + 1) symbols other found (sym (ap (λ (b : Bool). if b then Some identifier else identifier_of (pairs_from (number + 1) (identifier + 1) symbols) other) apart.0) ∙ is) in
-      (later.0 + 1, omega (arith, later.1), omega (arith, later.2), omega (arith, later.3)))
-]
+given_later : (base : ℕ) (parameters : List Parameter) (arguments : List Value) (store : Store) (identifier : ℕ) → identifier < base → take_arguments (places_from base parameters) arguments store identifier ≡ store identifier
+given_later base [] arguments store identifier before = refl
+given_later base (q ∷ parameters) [] store identifier before =
+    given_later (base + 1) parameters [] (set store base value.Undefined) identifier (omega (arith, before))
+    ∙ set_other store base identifier value.Undefined (λ e. absurd (omega (arith, before, e)))
+given_later base (q ∷ parameters) (v ∷ arguments) store identifier before =
+    given_later (base + 1) parameters arguments (set store base v) identifier (omega (arith, before))
+    ∙ set_other store base identifier v (λ e. absurd (omega (arith, before, e)))
 
--- the other way around
-pub pair_found : (number identifier : ℕ) (symbols : List Symbol) (place : ℕ) → place < length symbols → identifier_of (pairs_from number identifier symbols) (number + place) ≡ Some (identifier + place)
-pair_found number identifier [] place within = absurd (omega arith)
-pair_found number identifier (x ∷ symbols) zero within = ap (λ (b : Bool). if b then Some identifier else identifier_of (pairs_from (number + 1) (identifier + 1) symbols) (number + 0)) (eq-eqb number (number + 0) (omega arith)) ∙ ap (λ (n : ℕ). Some n) (omega arith)
-pair_found number identifier (x ∷ symbols) (suc place) within =
-    ap (λ (b : Bool). if b then Some identifier else identifier_of (pairs_from (number + 1) (identifier + 1) symbols) (number + suc place)) (ne_eqb number (number + suc place) (λ e. omega arith))
-    ∙ ap (λ (n : ℕ). identifier_of (pairs_from (number + 1) (identifier + 1) symbols) n) (omega arith)
-    ∙ pair_found (number + 1) (identifier + 1) symbols place (omega arith) ∙ ap (λ (n : ℕ). Some n) (omega arith)
+pub taken_agree : (base : ℕ) (parameters : List Parameter) (arguments : List Value) (source store : Store) (place : ℕ) (p : Parameter) → AreApart parameters → slice_get parameters place ≡ Some p
+    → take_arguments (places_from base parameters) arguments store (base + place) ≡ take parameters arguments source p.symbol.0
+taken_agree base [] arguments source store place p apart there = absurd (cc)
+taken_agree base (q ∷ parameters) [] source store zero p apart there =
+    let same : q ≡ p = cc in
+    ap (λ (n : ℕ). take_arguments (places_from (base + 1) parameters) [] (set store base value.Undefined) n) (omega arith)
+    ∙ given_later (base + 1) parameters [] (set store base value.Undefined) base (omega arith)
+    ∙ set_same store base value.Undefined ∙ sym (set_same source q.symbol.0 value.Undefined)
+    ∙ sym (taken_later parameters [] (set source q.symbol.0 value.Undefined) q apart.0)
+    ∙ ap (λ (x : Parameter). take parameters [] (set source q.symbol.0 value.Undefined) x.symbol.0) same
+taken_agree base (q ∷ parameters) (v ∷ arguments) source store zero p apart there =
+    let same : q ≡ p = cc in
+    ap (λ (n : ℕ). take_arguments (places_from (base + 1) parameters) arguments (set store base v) n) (omega arith)
+    ∙ given_later (base + 1) parameters arguments (set store base v) base (omega arith)
+    ∙ set_same store base v ∙ sym (set_same source q.symbol.0 v)
+    ∙ sym (taken_later parameters arguments (set source q.symbol.0 v) q apart.0)
+    ∙ ap (λ (x : Parameter). take parameters arguments (set source q.symbol.0 v) x.symbol.0) same
+taken_agree base (q ∷ parameters) [] source store (suc place) p apart there =
+    ap (λ (n : ℕ). take_arguments (places_from (base + 1) parameters) [] (set store base value.Undefined) n) (omega arith)
+    ∙ taken_agree (base + 1) parameters [] (set source q.symbol.0 value.Undefined) (set store base value.Undefined) place p apart.1 there
+taken_agree base (q ∷ parameters) (v ∷ arguments) source store (suc place) p apart there =
+    ap (λ (n : ℕ). take_arguments (places_from (base + 1) parameters) arguments (set store base v) n) (omega arith)
+    ∙ taken_agree (base + 1) parameters arguments (set source q.symbol.0 v) (set store base v) place p apart.1 there
 
--- names that are distinct
-
-not_there : (number : ℕ) (done : List Symbol) (x : Symbol) (rest : List Symbol) (name : List ℕ) → is_some (symbol_from number (done ++ x ∷ rest) name) ≡ false → bytes_eq x.name name ≡ false
-not_there number [] x rest name none = by_test (bytes_eq x.name name) refl
-  where
-    by_test : (b : Bool) → bytes_eq x.name name ≡ b → bytes_eq x.name name ≡ false
-    by_test false is = is
-    by_test true is = absurd ((let never : true ≡ false = sym (ap (λ (b : Bool). is_some (if b then Some number else symbol_from (number + 1) rest name)) is) ∙ none in cc))
-not_there number (y ∷ done) x rest name none = by_test (not_there (number + 1) done x rest name) (bytes_eq y.name name) refl
-  where
-    by_test : (is_some (symbol_from (number + 1) (done ++ x ∷ rest) name) ≡ false → bytes_eq x.name name ≡ false) → (b : Bool) → bytes_eq y.name name ≡ b → bytes_eq x.name name ≡ false
-    by_test before true is = absurd ((let never : true ≡ false = sym (ap (λ (b : Bool). is_some (if b then Some number else symbol_from (number + 1) (done ++ x ∷ rest) name)) is) ∙ none in cc))
-    by_test before false is = before (sym (ap (λ (b : Bool). is_some (if b then Some number else symbol_from (number + 1) (done ++ x ∷ rest) name)) is) ∙ none)
-
-both_true : (a b : Bool) → not a && b ≡ true → (a ≡ false) × (b ≡ true)
-both_true false b e = (refl, e)
-both_true true b e = absurd (cc)
-
--- a symbol's name is none of those before it
-unused : (number : ℕ) (done : List Symbol) (x : Symbol) (rest : List Symbol) → are_distinct (done ++ x ∷ rest) ≡ true → user_of (users_from number done) x.name ≡ None
-unused number [] x rest distinct = refl
-unused number (y ∷ done) x rest distinct =
-    let told = both_true (is_some (symbol_named (done ++ x ∷ rest) y.name)) (are_distinct (done ++ x ∷ rest)) distinct in
-    ap (λ (b : Bool). if b then Some number else user_of (users_from (number + 1) done) x.name) (not_there 0 done x rest y.name told.0) ∙ unused (number + 1) done x rest told.1
-
-pub known_length : (type : ℕ) (done : List Symbol) → length (known_from type done) ≡ length done
+pub known_length : (type : ℕ) (done : List Parameter) → length (known_from type done) ≡ length done
 known_length type [] = refl
 known_length type (x ∷ done) = let rest : length (known_from (type + 1) done) ≡ length done = known_length (type + 1) done in omega (arith, rest)
 
-said_first : (x : Symbol) → (if bytes_eq x.name fbt && true then fbt_diagnostic x.declaration ∷ [] else []) ≡ said_of_symbols (x ∷ [])
+said_first : (x : Parameter) → (if bytes_eq x.name fbt && true then fbt_diagnostic x.declaration ∷ [] else []) ≡ said_of_parameters (x ∷ [])
 said_first x = by_test (bytes_eq x.name fbt) refl
   where
-    by_test : (b : Bool) → bytes_eq x.name fbt ≡ b → (if bytes_eq x.name fbt && true then fbt_diagnostic x.declaration ∷ [] else []) ≡ said_of_symbols (x ∷ [])
+    by_test : (b : Bool) → bytes_eq x.name fbt ≡ b → (if bytes_eq x.name fbt && true then fbt_diagnostic x.declaration ∷ [] else []) ≡ said_of_parameters (x ∷ [])
     by_test true is = ap (λ (c : Bool). if c && true then fbt_diagnostic x.declaration ∷ [] else []) is ∙ sym (ap (λ (c : Bool). (if c then refusal row.F40 x.declaration ∷ [] else []) ++ []) is)
     by_test false is = ap (λ (c : Bool). if c && true then fbt_diagnostic x.declaration ∷ [] else []) is ∙ sym (ap (λ (c : Bool). (if c then refusal row.F40 x.declaration ∷ [] else []) ++ []) is)
 
 -- the environment after some symbols got identifiers
-abbrev pub env_with : Environment → List Symbol → Environment
+abbrev pub env_with : Environment → List Parameter → Environment
 env_with env done = record env {
   next_type = env.next_type + length done;
   identifiers = env.identifiers ++ known_from env.next_type done;
-  pairs = env.pairs ++ pairs_from 0 (length env.identifiers) done;
-  diagnostics = env.diagnostics ++ said_of_symbols done;
+  pairs = env.pairs ++ pairs_from (length env.identifiers) done;
+  diagnostics = env.diagnostics ++ said_of_parameters done;
 }
 
 -- the same for a builder that had none
-abbrev pub state_with : State → List Symbol → State
-state_with s done = record s { env = env_with s.env done; bindings = pairs_from 0 (length s.env.identifiers) done; used_names = users_from 0 done }
+abbrev pub state_with : State → List Parameter → State
+state_with s done = record s { env = env_with s.env done; bindings = pairs_from (length s.env.identifiers) done; used_names = users_of done }
 
 -- a builder, by what names change of it
 abbrev made : State → ℕ → List Identifier → List Pair → List Diagnostic → List Pair → List UsedName → State
@@ -206,41 +239,38 @@ made_same s {types} {types1} {identifiers} {identifiers1} {pairs} {pairs1} {diag
 ended_by : {X : Type 0} (first more : List X) (last all : List X) → all ≡ more ++ last → (first ++ more) ++ last ≡ first ++ all
 ended_by first more last all is = append_assoc first more last ∙ ap (λ (l : List _). first ++ l) (sym is)
 
--- a symbol more, of a name that nobody has
-next_with : (s : State) (done : List Symbol) (x : Symbol) → user_of (users_from 0 done) x.name ≡ None → resolved (state_with s done) x.name (length done) x.declaration ≡ state_with s (done ++ x ∷ [])
-next_with s done x free =
+-- A parameter more, of a name that nobody has and a symbol without an identifier.
+next_with : (s : State) (done : List Parameter) (x : Parameter) → All (λ q. IsApart q x) done → resolved (state_with s done) x.name x.symbol.0 x.declaration ≡ state_with s (done ++ x ∷ [])
+next_with s done x apart =
     let base : ℕ = length s.env.identifiers in
     let type : ℕ = s.env.next_type + length done in
-    let zero_more : 0 + length done ≡ length done = omega arith in
-    let none : identifier_of (pairs_from 0 base done) (length done) ≡ None = unbound 0 base done (length done) (omega arith) in
-    let name_is : chosen (users_from 0 done) (length done) x.name ≡ x.name = chosen_free (users_from 0 done) (length done) x.name free in
+    let free : user_of (users_of done) x.name ≡ None = unused done x apart in
+    let none : identifier_of (pairs_from base done) x.symbol.0 ≡ None = unbound base done x apart in
+    let name_is : chosen (users_of done) x.symbol.0 x.name ≡ x.name = chosen_free (users_of done) x.symbol.0 x.name free in
     let counted : length (s.env.identifiers ++ known_from s.env.next_type done) ≡ base + length done = length-append s.env.identifiers (known_from s.env.next_type done) ∙ ap (λ (n : ℕ). base + n) (known_length s.env.next_type done) in
     let types : type + 1 ≡ s.env.next_type + length (done ++ x ∷ []) = (let long : length (done ++ x ∷ []) ≡ length done + 1 = length-append done (x ∷ []) in omega (arith, long)) in
-    let pairs : pairs_from 0 base (done ++ x ∷ []) ≡ pairs_from 0 base done ++ pair (length done) (length (s.env.identifiers ++ known_from s.env.next_type done)) ∷ [] =
-    pairs_end 0 base done x ∙ ap (λ (n : ℕ). pairs_from 0 base done ++ pair n (base + length done) ∷ []) zero_more ∙ ap (λ (n : ℕ). pairs_from 0 base done ++ pair (length done) n ∷ []) (sym counted) in
-    let known : known_from s.env.next_type (done ++ x ∷ []) ≡ known_from s.env.next_type done ++ named_identifier (chosen (users_from 0 done) (length done) x.name) x.declaration type ∷ [] =
+    let pairs : pairs_from base (done ++ x ∷ []) ≡ pairs_from base done ++ pair x.symbol.0 (length (s.env.identifiers ++ known_from s.env.next_type done)) ∷ [] =
+    pairs_end base done x ∙ ap (λ (n : ℕ). pairs_from base done ++ pair x.symbol.0 n ∷ []) (sym counted) in
+    let known : known_from s.env.next_type (done ++ x ∷ []) ≡ known_from s.env.next_type done ++ named_identifier (chosen (users_of done) x.symbol.0 x.name) x.declaration type ∷ [] =
     known_end s.env.next_type done x ∙ ap (λ (n : List ℕ). known_from s.env.next_type done ++ named_identifier n x.declaration type ∷ []) (sym name_is) in
-    let used : with_user (users_from 0 done) (chosen (users_from 0 done) (length done) x.name) (length done) ≡ users_from 0 (done ++ x ∷ []) =
-    ap (λ (n : List ℕ). with_user (users_from 0 done) n (length done)) name_is ∙ user_last (users_from 0 done) x.name (length done) free
-    ∙ ap (λ (n : ℕ). users_from 0 done ++ record { name = x.name; symbol = n } ∷ []) (sym zero_more) ∙ sym (users_end 0 done x) in
-    ap (λ (o : Option ℕ). resolved_by o (state_with s done) x.name (length done) x.declaration) none
+    let used : with_user (users_of done) (chosen (users_of done) x.symbol.0 x.name) x.symbol.0 ≡ users_of (done ++ x ∷ []) =
+    ap (λ (n : List ℕ). with_user (users_of done) n x.symbol.0) name_is ∙ user_last (users_of done) x.name x.symbol.0 free ∙ sym (users_end done x) in
+    ap (λ (o : Option ℕ). resolved_by o (state_with s done) x.name x.symbol.0 x.declaration) none
     ∙ made_same s types
     (ended_by s.env.identifiers (known_from s.env.next_type done) _ _ known)
-    (ended_by s.env.pairs (pairs_from 0 base done) _ _ pairs)
-    (ended_by s.env.diagnostics (said_of_symbols done) _ _ (said_end done x ∙ ap (λ (l : List Diagnostic). said_of_symbols done ++ l) (sym (said_first x))))
+    (ended_by s.env.pairs (pairs_from base done) _ _ pairs)
+    (ended_by s.env.diagnostics (said_of_parameters done) _ _ (said_end done x ∙ ap (λ (l : List Diagnostic). said_of_parameters done ++ l) (sym (said_first x))))
     (sym pairs)
     used
 
--- symbols one after the other
-all_with : (s : State) (done rest : List Symbol) → are_distinct (done ++ rest) ≡ true → resolved_from (length done) (state_with s done) rest ≡ state_with s (done ++ rest)
-all_with s done [] distinct = ap (λ (l : List Symbol). state_with s l) (sym (append-nil done))
-all_with s done (x ∷ rest) distinct =
+-- Parameters one after the other.
+all_with : (s : State) (done rest : List Parameter) → AreApart (done ++ rest) → with_parameters (state_with s done) rest ≡ state_with s (done ++ rest)
+all_with s done [] apart = ap (λ (l : List Parameter). state_with s l) (sym (append-nil done))
+all_with s done (x ∷ rest) apart =
     let regrouped : done ++ x ∷ rest ≡ (done ++ x ∷ []) ++ rest = sym (append_assoc done (x ∷ []) rest) in
-    let long : length done + 1 ≡ length (done ++ x ∷ []) = sym (length-append done (x ∷ [])) in
-    ap (λ (t : State). resolved_from (length done + 1) t rest) (next_with s done x (unused 0 done x rest distinct))
-    ∙ ap (λ (n : ℕ). resolved_from n (state_with s (done ++ x ∷ [])) rest) long
-    ∙ all_with s (done ++ x ∷ []) rest (subst (λ (l : List Symbol). are_distinct l ≡ true) regrouped distinct)
-    ∙ ap (λ (l : List Symbol). state_with s l) (sym regrouped)
+    ap (λ (t : State). with_parameters t rest) (next_with s done x (apart_from done x rest apart))
+    ∙ all_with s (done ++ x ∷ []) rest (subst AreApart regrouped apart)
+    ∙ ap (λ (l : List Parameter). state_with s l) (sym regrouped)
 
 empty_env : (env : Environment) → env_with env [] ≡ env
 empty_env env =
@@ -255,14 +285,14 @@ empty_with s bindings used =
     ∙ ap (λ (l : List Pair). record s { bindings = l; used_names = [] }) (sym bindings)
     ∙ ap (λ (l : List UsedName). record s { used_names = l }) (sym used)
 
--- behind the parameters of a function each symbol has its own identifier, in order
-pub parameters_given : (s : State) (symbols : List Symbol) → s.bindings ≡ [] → s.used_names ≡ [] → are_distinct symbols ≡ true → with_parameters s symbols ≡ state_with s symbols
-parameters_given s symbols bindings used distinct = ap (λ (t : State). resolved_from 0 t symbols) (sym (empty_with s bindings used)) ∙ all_with s [] symbols distinct
+-- Behind the parameters of a function each has its own identifier, in order.
+pub parameters_given : (s : State) (parameters : List Parameter) → s.bindings ≡ [] → s.used_names ≡ [] → AreApart parameters → with_parameters s parameters ≡ state_with s parameters
+parameters_given s parameters bindings used apart = ap (λ (t : State). with_parameters t parameters) (sym (empty_with s bindings used)) ∙ all_with s [] parameters apart
 
--- facts about the identifier of a place
-known_at : (type : ℕ) (symbols : List Symbol) (place : ℕ) (x : Symbol) → slice_get symbols place ≡ Some x → slice_get (known_from type symbols) place ≡ Some (named_identifier x.name x.declaration (type + place))
+-- The identifier of a place.
+known_at : (type : ℕ) (symbols : List Parameter) (place : ℕ) (x : Parameter) → slice_get symbols place ≡ Some x → slice_get (known_from type symbols) place ≡ Some (named_identifier x.name x.declaration (type + place))
 known_at type [] place x is = absurd (cc)
-known_at type (y ∷ symbols) zero x is = (let same : y ≡ x = cc in let none : type ≡ type + 0 = omega arith in ap (λ (z : Symbol). Some (named_identifier z.name z.declaration type)) same ∙ ap (λ (n : ℕ). Some (named_identifier x.name x.declaration n)) none)
+known_at type (y ∷ symbols) zero x is = (let same : y ≡ x = cc in let none : type ≡ type + 0 = omega arith in ap (λ (z : Parameter). Some (named_identifier z.name z.declaration type)) same ∙ ap (λ (n : ℕ). Some (named_identifier x.name x.declaration n)) none)
 known_at type (y ∷ symbols) (suc place) x is = (let one : type + 1 + place ≡ type + suc place = omega arith in known_at (type + 1) symbols place x is ∙ ap (λ (n : ℕ). Some (named_identifier x.name x.declaration n)) one)
 
 get_behind : {X : Type 0} (xs ys : List X) (place : ℕ) → slice_get (xs ++ ys) (length xs + place) ≡ slice_get ys place
@@ -274,36 +304,50 @@ within [] place x e = absurd (cc)
 within (y ∷ xs) zero x e = omega arith
 within (y ∷ xs) (suc place) x e = let rest : place < length xs = within xs place x e in omega arith
 
-pub parameters_named : (s : State) (symbols : List Symbol) → length symbols < 2 ^ 32 → IsNamed symbols (state_with s symbols)
-parameters_named s symbols few = record {
-  few = few;
-  each = λ number x there. record {
-    identifier = length s.env.identifiers + number;
-    bound = ap (λ (n : ℕ). identifier_of (pairs_from 0 (length s.env.identifiers) symbols) n) (omega arith) ∙ pair_found 0 (length s.env.identifiers) symbols number (within symbols number x there);
-    known = named_identifier x.name x.declaration (s.env.next_type + number);
-    made = get_behind s.env.identifiers (known_from s.env.next_type symbols) number ∙ known_at s.env.next_type symbols number x there;
-    named = refl;
-  };
+-- The identifier of the parameter at a place.
+identified : (s : State) (names : Names) (parameters : List Parameter) → AreApart parameters → All (λ p. names.name p.symbol.0 ≡ p.name) parameters → (place : ℕ) (p : Parameter) → slice_get parameters place ≡ Some p → HasIdentifier (state_with s parameters) p.symbol.0 (names.name p.symbol.0)
+identified s names parameters apart named place p there = record {
+  identifier = length s.env.identifiers + place;
+  bound = pair_found (length s.env.identifiers) parameters place p apart there;
+  known = named_identifier p.name p.declaration (s.env.next_type + place);
+  made = get_behind s.env.identifiers (known_from s.env.next_type parameters) place ∙ known_at s.env.next_type parameters place p there;
+  named = ap (λ (n : List ℕ). Some (Named n)) (sym (all_at (λ (x : Parameter). names.name x.symbol.0 ≡ x.name) parameters place p there named));
 }
 
-pub parameters_made : (s : State) (symbols : List Symbol) → AreMade (state_with s symbols)
-parameters_made s symbols = record {
+-- The parameter that has a symbol of the parameters.
+found_in : (parameters : List Parameter) (symbol : SymbolId) (place : ℕ) → place < length (map (λ (p : Parameter). p.symbol) parameters) → get_or (map (λ (p : Parameter). p.symbol) parameters) place symbol ≡ symbol
+    → (at : ℕ) × (p : Parameter) × (slice_get parameters at ≡ Some p) × (p.symbol ≡ symbol)
+found_in [] symbol place within is = absurd (omega (arith, within))
+found_in (p ∷ parameters) symbol zero within is = (0, p, refl, is)
+found_in (p ∷ parameters) symbol (suc place) within is =
+    let later = found_in parameters symbol place (omega (arith, within)) is in
+    (suc later.0, later.1, later.2, later.3)
+
+pub parameters_named : (s : State) (names : Names) (parameters : List Parameter) → HasTexts names → AreApart parameters → AreLocals names parameters → IsNamed names (state_with s parameters)
+parameters_named s names parameters texts apart l = record {
+  texts = texts;
+  each = λ reference name symbol is.
+      let there = l.locals reference name symbol is in
+      let found = found_in parameters symbol there.0 there.1 there.2 in
+      subst (λ (x : SymbolId). HasIdentifier (state_with s parameters) x.0 (names.name x.0)) found.3
+      (identified s names parameters apart l.named found.0 found.1 found.2);
+}
+
+pub parameters_made : (s : State) (parameters : List Parameter) → AreMade (state_with s parameters)
+parameters_made s parameters = record {
   below = λ symbol identifier is.
-      let told = pair_tells 0 (length s.env.identifiers) symbols symbol identifier is in
-      let long : length (s.env.identifiers ++ known_from s.env.next_type symbols) ≡ length s.env.identifiers + length symbols = length-append s.env.identifiers (known_from s.env.next_type symbols) ∙ ap (λ (n : ℕ). length s.env.identifiers + n) (known_length s.env.next_type symbols) in
-      omega (arith, told.2, told.3, long);
+      let told = pair_tells (length s.env.identifiers) parameters symbol identifier is in
+      let short : told.0.place < length parameters = within parameters told.0.place told.0.parameter told.0.there in
+      let long : length (s.env.identifiers ++ known_from s.env.next_type parameters) ≡ length s.env.identifiers + length parameters = length-append s.env.identifiers (known_from s.env.next_type parameters) ∙ ap (λ (n : ℕ). length s.env.identifiers + n) (known_length s.env.next_type parameters) in
+      omega (arith, told.1, short, long);
 }
 
--- and the stores agree where each took its argument, whatever was there before
-pub parameters_agree : (s : State) (symbols : List Symbol) (arguments : List Value) (source store : Store) → Agrees (state_with s symbols).bindings (take_from 0 symbols arguments source) (take_arguments (places_from (length s.env.identifiers) symbols) arguments store)
-parameters_agree s symbols arguments source store = record {
+-- The stores agree where each took its argument, whatever was there before.
+pub parameters_agree : (s : State) (parameters : List Parameter) → AreApart parameters → (arguments : List Value) (source store : Store) → Agrees (state_with s parameters).bindings (take parameters arguments source) (take_arguments (places_from (length s.env.identifiers) parameters) arguments store)
+parameters_agree s parameters apart arguments source store = record {
   at = λ symbol identifier is.
-      let told = pair_tells 0 (length s.env.identifiers) symbols symbol identifier is in
-      let number : told.0 ≡ symbol = omega (arith, told.1) in
-      let place : length s.env.identifiers + told.0 ≡ identifier = omega (arith, told.2) in
-      let zero_more : length s.env.identifiers + 0 ≡ length s.env.identifiers = omega arith in
-      subst (λ (i : ℕ). take_arguments (places_from (length s.env.identifiers) symbols) arguments store i ≡ take_from 0 symbols arguments source symbol) place
-      (subst (λ (n : ℕ). take_arguments (places_from (length s.env.identifiers) symbols) arguments store (length s.env.identifiers + told.0) ≡ take_from 0 symbols arguments source n) number
-      (subst (λ (b : ℕ). take_arguments (places_from b symbols) arguments store (length s.env.identifiers + told.0) ≡ take_from 0 symbols arguments source told.0) zero_more
-      (taken_agree 0 (length s.env.identifiers) symbols arguments source store (λ other below. absurd (omega arith)) told.0 (omega (arith, told.3)))));
+      let told = pair_tells (length s.env.identifiers) parameters symbol identifier is in
+      ap (λ (n : ℕ). take_arguments (places_from (length s.env.identifiers) parameters) arguments store n) told.1
+      ∙ taken_agree (length s.env.identifiers) parameters arguments source store told.0.place told.0.parameter apart told.0.there
+      ∙ ap (λ (n : ℕ). take parameters arguments source n) told.0.has;
 }

@@ -7,7 +7,7 @@ use Rattle.rl_hir.specs.Pairs.{identifier_of}
 use Rattle.rl_hir.specs.declared.instruction.Place.{Place}
 use Rattle.rl_hir.specs.declared.instruction.InstructionValue.{InstructionValue}
 use Rattle.rl_hir.specs.declared.instruction.InstructionValue.TheVariants as values
-use Rattle.rl_hir.specs.declared.instruction.NonLocalBinding.TheVariants as bindings
+use Rattle.rl_hir.specs.declared.instruction.NonLocalBinding.{NonLocalBinding}
 use Rattle.rl_hir.specs.declared.instruction.PlaceOrSpread.{PlaceOrSpread}
 use Rattle.rl_hir.specs.declared.instruction.PrimitiveValue.{PrimitiveValue}
 use Rattle.rl_hir.specs.declared.terminal.Terminal.TheVariants as terminals
@@ -27,7 +27,7 @@ use Rattle.rl_model.specs.Traces.{Store, set, set_open, ValueCont, ExprMeaning, 
 use Rattle.rl_model.specs.Source.{asks}
 use Rattle.rl_model.specs.Source as source_side
 use Rattle.rl_model.specs.Machine.{Item, Runs, Ends, Code, Notes, Next, Computes, Asks, act, executed, value_of}
-use Rattle.rl_hir.specs.Instructions.{argument_place, argument_shape}
+use Rattle.rl_hir.specs.Instructions.{argument_place, argument_shape, binding_texts}
 use Rattle.rl_model.specs.Machine as machine
 use Rattle.rl_lower.specs.Endings.{returned_from}
 use Rattle.rl_lower.specs.Simulation.{Agrees, AreMade, Eventually, Continues, Extends, IsContainedIn, TracesFrom, TracesAt, Later, Throws, RunsAll, RunsExpression, RunsStatement, walk}
@@ -115,13 +115,13 @@ asked_from s base value span event c k h source store first notes answers g cove
     by_answers [] = stepped [] _ (comes_at_once c _ _ (λ stuck next. refl))
     by_answers (answer ∷ rest) = stepped (answer ∷ rest) _ (emitted _ _ (given answer.kind answer.value answer.assignments rest))
 
--- A global that is read.
-pub global_runs : (s : State) (name : List ℕ) (span : Option Span)
-    → RunsExpression (λ source answers onward throws. asks (global (name ∷ [])) source answers onward throws) s
-    (with_value s (values.LoadGlobal (bindings.Global name)) span) (length s.env.identifiers)
-global_runs s name span = record {
+-- A name that is read and is no local.
+pub outer_runs : (s : State) (binding : NonLocalBinding) (span : Option Span)
+    → RunsExpression (λ source answers onward throws. asks (global (binding_texts binding)) source answers onward throws) s
+    (with_value s (values.LoadGlobal binding) span) (length s.env.identifiers)
+outer_runs s binding span = record {
   runs = λ c cover m k h source store notes answers a throws onward.
-      asked_from s s (values.LoadGlobal (bindings.Global name)) span (global (name ∷ [])) c k h source store store notes answers (extends_refl s) cover m refl a (later_refl s store) throws onward;
+      asked_from s s (values.LoadGlobal binding) span (global (binding_texts binding)) c k h source store store notes answers (extends_refl s) cover m refl a (later_refl s store) throws onward;
 }
 
 -- Two operands from left to right, then the operator's event.

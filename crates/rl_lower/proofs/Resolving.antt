@@ -1,5 +1,6 @@
 -- A parameter that gets its identifier.
-use Rattle.std.proofs.Common.{◌≡◌, ℕ, ◌+◌, ◌≤◌, ◌++◌, Bool, true, false, nat_eq, if◌then◌else◌, List, [], ◌∷◌, length, length-append, Option, Some, None, refl, sym, ap, ◌∙◌, subst, arith, append_assoc}
+use Rattle.std.proofs.Common.{◌≡◌, ℕ, ◌+◌, ◌++◌, Bool, true, false, nat_eq, if◌then◌else◌, List, [], ◌∷◌, length, length-append, Option, Some, None, refl, sym, ap, ◌∙◌, subst, arith, append_assoc, All}
+use Rattle.std.proofs.lemmas.List.Elements.{All-nil, All-cons, All-head, All-tail}
 use Rattle.std.proofs.lemmas.Bool.{ne_eqb}
 use Rattle.std.proofs.Common.{eq-eqb}
 use Rattle.rl_base.specs.Reserved.{is_reserved}
@@ -11,12 +12,13 @@ use Rattle.rl_hir.specs.declared.function.Param.TheVariants as params
 use Rattle.rl_builder.specs.Builder.{State}
 use Rattle.rl_builder.specs.Names.{resolved, resolved_by}
 use Rattle.rl_hir.specs.Pairs.{pair}
-use Rattle.rl_scope.specs.declared.semantic.Symbol.{Symbol}
+use Rattle.rl_names.specs.Locals.{IsApart}
+use Rattle.rl_names.specs.declared.parameters.Parameter.{Parameter}
 use Rattle.rl_model.specs.Rows.{first_named}
 use Rattle.rl_lower.specs.Lowering.{HasRoom}
 use Rattle.rl_model.specs.Fields.{places_from}
 
--- look-ups in pairs that got one more
+-- Look-ups in pairs that got one more.
 unbound_more : (bindings : List Pair) (number identifier other : ℕ) → (number ≡ other → ⊥) → identifier_of bindings other ≡ None → identifier_of (bindings ++ pair number identifier ∷ []) other ≡ None
 unbound_more [] number identifier other ne none = ap (λ (b : Bool). if b then Some identifier else None) (ne_eqb number other ne)
 unbound_more (p ∷ bindings) number identifier other ne none = by_test (unbound_more bindings number identifier other ne) (nat_eq p.symbol.0 other) refl
@@ -33,7 +35,7 @@ bound_last (p ∷ bindings) number identifier none = by_test (bound_last binding
     by_test rest true is = absurd ((let never : Some p.identifier.0 ≡ None = sym (ap (λ (b : Bool). if b then Some p.identifier.0 else identifier_of bindings number) is) ∙ none in cc))
     by_test rest false is = ap (λ (b : Bool). if b then Some p.identifier.0 else identifier_of (bindings ++ pair number identifier ∷ []) number) is ∙ rest (sym (ap (λ (b : Bool). if b then Some p.identifier.0 else identifier_of bindings number) is) ∙ none)
 
--- a symbol that had no identifier
+-- A symbol that had no identifier.
 pub resolved_fresh : (s new : State) (name : List ℕ) (number : ℕ) (declaration : Span) → identifier_of s.bindings number ≡ None → new ≡ resolved s name number declaration → new ≡ resolved_by None s name number declaration
 resolved_fresh s new name number declaration none moved = moved ∙ ap (λ (o : Option ℕ). resolved_by o s name number declaration) none
 
@@ -46,15 +48,21 @@ fresh_room s new name number declaration left more moved is room = subst (λ (t 
   completed = omega (arith, is, room.completed);
 })
 
-pub fresh_unbound : (s new : State) (name : List ℕ) (number : ℕ) (declaration : Span) → new ≡ resolved_by None s name number declaration → ((other : ℕ) → number ≤ other → identifier_of s.bindings other ≡ None) → (other : ℕ) → number + 1 ≤ other → identifier_of new.bindings other ≡ None
-fresh_unbound s new name number declaration moved none other later =
-    ap (λ (t : State). identifier_of t.bindings other) moved ∙ unbound_more s.bindings number (length s.env.identifiers) other (λ e. absurd (omega (arith, later, e))) (none other (omega (arith, later)))
+-- The parameters behind one that gets its identifier have none still.
+pub fresh_unbound : (s new : State) (p : Parameter) (rest : List Parameter) → new ≡ resolved_by None s p.name p.symbol.0 p.declaration → All (IsApart p) rest
+    → All (λ q. identifier_of s.bindings q.symbol.0 ≡ None) rest → All (λ q. identifier_of new.bindings q.symbol.0 ≡ None) rest
+fresh_unbound s new p [] moved apart none = All-nil (λ q. identifier_of new.bindings q.symbol.0 ≡ None)
+fresh_unbound s new p (q ∷ rest) moved apart none =
+    All-cons (λ q. identifier_of new.bindings q.symbol.0 ≡ None) q rest
+    (ap (λ (t : State). identifier_of t.bindings q.symbol.0) moved
+    ∙ unbound_more s.bindings p.symbol.0 (length s.env.identifiers) q.symbol.0 (All-head (IsApart p) q rest apart).symbols (All-head (λ q. identifier_of s.bindings q.symbol.0 ≡ None) q rest none))
+    (fresh_unbound s new p rest moved (All-tail (IsApart p) q rest apart) (All-tail (λ q. identifier_of s.bindings q.symbol.0 ≡ None) q rest none))
 
--- its place among the parameters
-pub fresh_place : (s new : State) (x : Symbol) (number identifier : ℕ) (rest : List Symbol) (given more all : List Param) → new ≡ resolved_by None s x.name number x.declaration → identifier_of s.bindings number ≡ None → identifier_of new.bindings number ≡ Some identifier
+-- Its place among the parameters.
+pub fresh_place : (s new : State) (x : Parameter) (identifier : ℕ) (rest : List Parameter) (given more all : List Param) → new ≡ resolved_by None s x.name x.symbol.0 x.declaration → identifier_of s.bindings x.symbol.0 ≡ None → identifier_of new.bindings x.symbol.0 ≡ Some identifier
     → more ≡ given ++ params.Place (record { identifier = record { 0 = identifier }; span = Some x.declaration }) ∷ [] → given ++ places_from (length s.env.identifiers) (x ∷ rest) ≡ all → more ++ places_from (length new.env.identifiers) rest ≡ all
-fresh_place s new x number identifier rest given more all moved none bound pushed before =
-    let told : Some (length s.env.identifiers) ≡ Some identifier = sym (bound_last s.bindings number (length s.env.identifiers) none) ∙ ap (λ (t : State). identifier_of t.bindings number) (sym moved) ∙ bound in
+fresh_place s new x identifier rest given more all moved none bound pushed before =
+    let told : Some (length s.env.identifiers) ≡ Some identifier = sym (bound_last s.bindings x.symbol.0 (length s.env.identifiers) none) ∙ ap (λ (t : State). identifier_of t.bindings x.symbol.0) (sym moved) ∙ bound in
     let is : length s.env.identifiers ≡ identifier = cc in
     let long : length new.env.identifiers ≡ length s.env.identifiers + 1 = ap (λ (t : State). length t.env.identifiers) moved ∙ length-append s.env.identifiers _ in
     ap (λ (n : ℕ). more ++ places_from n rest) long
@@ -62,5 +70,5 @@ fresh_place s new x number identifier rest given more all moved none bound pushe
     ∙ append_assoc given (params.Place (record { identifier = record { 0 = length s.env.identifiers }; span = Some x.declaration }) ∷ []) (places_from (length s.env.identifiers + 1) rest)
     ∙ before
 
-pub unreserved_more : (x : Symbol) (rest : List Symbol) (all : Option Symbol) → is_reserved x.name ≡ false → first_named (λ name. is_reserved name) (x ∷ rest) ≡ all → first_named (λ name. is_reserved name) rest ≡ all
+pub unreserved_more : (x : Parameter) (rest : List Parameter) (all : Option Parameter) → is_reserved x.name ≡ false → first_named (λ name. is_reserved name) (x ∷ rest) ≡ all → first_named (λ name. is_reserved name) rest ≡ all
 unreserved_more x rest all free is = sym (ap (λ (b : Bool). if b then Some x else first_named (λ name. is_reserved name) rest) free) ∙ is

@@ -30,14 +30,15 @@ use Rattle.rl_builder.specs.Temporaries.{temporary}
 use Rattle.rl_builder.specs.declared.builder.Built.{Built}
 use Rattle.rl_model.specs.Fields.{known_from, places_from}
 use Rattle.rl_model.specs.WellFormed.{AreKnown, HasKnownPlaces, instruction_places, param_place, terminal_places}
-use Rattle.rl_scope.specs.Symbols.{symbols_of}
-use Rattle.rl_scope.specs.declared.semantic.Symbol.{Symbol}
+use Rattle.rl_names.specs.Functions.{name_in, parameters_of}
+use Rattle.rl_names.specs.Names.{Names}
+use Rattle.rl_names.specs.declared.parameters.Parameter.{Parameter}
 use Rattle.rl_lower.specs.Endings.{closed_off, return_of, with_undefined}
 use Rattle.rl_lower.specs.Lowering.{CountersGrowBy, HasRoom, LowersBody}
-use Rattle.rl_lower.specs.Sound.{AreWritableIdentifiers, HasKnownParts, HasSmallCounters, HasWritableParts, IsSmallSymbol, IsSmallTree, IsSoundGraph, IsWritableGraph, StaysSound}
+use Rattle.rl_lower.specs.Sound.{AreWritableIdentifiers, HasKnownParts, HasSmallCounters, HasWritableParts, IsSmallParameter, IsSmallTree, IsSoundGraph, IsWritableGraph, StaysSound}
 use Rattle.rl_lower.proofs.Building.{keeps_closed, orders_fit}
 use Rattle.rl_lower.proofs.Closings.{closed_is}
-use Rattle.rl_lower.proofs.FunctionTrees.{IsFunction, function_body, function_span, function_symbols}
+use Rattle.rl_lower.proofs.FunctionTrees.{IsFunction, function_parameters}
 use Rattle.rl_lower.proofs.Keeping.{keeps_then, room_less}
 use Rattle.rl_lower.proofs.Parameters.{known_length, state_with}
 use Rattle.rl_lower.proofs.SoundListing.{function_writable, named_writable, place_writable, span_writable, undefined_writable, unnamed_writable}
@@ -49,61 +50,61 @@ use Rattle.rl_lower.proofs.SoundOrders.{built_table_known, built_terminals_known
 abbrev IsWritableIdentifier : Identifier → Type 0
 IsWritableIdentifier i = IsWritable (listing.identifier i)
 
-known_writable : (type : ℕ) (symbols : List Symbol) → All IsSmallSymbol symbols → type + length symbols ≤ largest
-    → AreWritableIdentifiers (known_from type symbols)
+known_writable : (type : ℕ) (parameters : List Parameter) → All IsSmallParameter parameters → type + length parameters ≤ largest
+    → AreWritableIdentifiers (known_from type parameters)
 known_writable type [] small fits = All-nil IsWritableIdentifier
-known_writable type (x ∷ symbols) small fits =
-    let here : IsSmallSymbol x = All-head IsSmallSymbol x symbols small in
-    All-cons IsWritableIdentifier (named_identifier x.name x.declaration type) (known_from (type + 1) symbols)
+known_writable type (x ∷ parameters) small fits =
+    let here : IsSmallParameter x = All-head IsSmallParameter x parameters small in
+    All-cons IsWritableIdentifier (named_identifier x.name x.declaration type) (known_from (type + 1) parameters)
     (named_writable x.name x.declaration type here.0 here.1 (omega (arith, fits)))
-    (known_writable (type + 1) symbols (All-tail IsSmallSymbol x symbols small) (omega (arith, fits)))
+    (known_writable (type + 1) parameters (All-tail IsSmallParameter x parameters small) (omega (arith, fits)))
 
-params_known : (base count : ℕ) (symbols : List Symbol) → base + length symbols ≤ count
-    → AreKnown count (map param_place (places_from base symbols))
+params_known : (base count : ℕ) (parameters : List Parameter) → base + length parameters ≤ count
+    → AreKnown count (map param_place (places_from base parameters))
 params_known base count [] fits = none_known count
-params_known base count (x ∷ symbols) fits =
+params_known base count (x ∷ parameters) fits =
     All-cons (λ (p : Place). p.identifier.0 < count) (record { identifier = record { 0 = base }; span = Some x.declaration })
-    (map param_place (places_from (base + 1) symbols)) (omega (arith, fits))
-    (params_known (base + 1) count symbols (omega (arith, fits)))
+    (map param_place (places_from (base + 1) parameters)) (omega (arith, fits))
+    (params_known (base + 1) count parameters (omega (arith, fits)))
 
-params_writable : (base : ℕ) (symbols : List Symbol) → All IsSmallSymbol symbols → base + length symbols ≤ largest
-    → All (λ p. IsWritable (listing.param p)) (places_from base symbols)
+params_writable : (base : ℕ) (parameters : List Parameter) → All IsSmallParameter parameters → base + length parameters ≤ largest
+    → All (λ p. IsWritable (listing.param p)) (places_from base parameters)
 params_writable base [] small fits = All-nil (λ (p : Param). IsWritable (listing.param p))
-params_writable base (x ∷ symbols) small fits =
-    let here : IsSmallSymbol x = All-head IsSmallSymbol x symbols small in
+params_writable base (x ∷ parameters) small fits =
+    let here : IsSmallParameter x = All-head IsSmallParameter x parameters small in
     All-cons (λ (p : Param). IsWritable (listing.param p))
-    (given.Place (record { identifier = record { 0 = base }; span = Some x.declaration })) (places_from (base + 1) symbols)
+    (given.Place (record { identifier = record { 0 = base }; span = Some x.declaration })) (places_from (base + 1) parameters)
     (place_writable (record { identifier = record { 0 = base }; span = Some x.declaration }) (omega (arith, fits))
     (span_writable x.declaration here.1))
-    (params_writable (base + 1) symbols (All-tail IsSmallSymbol x symbols small) (omega (arith, fits)))
+    (params_writable (base + 1) parameters (All-tail IsSmallParameter x parameters small) (omega (arith, fits)))
 
 -- a builder behind the parameters, and one that was closed off
 
-abbrev begun : Environment → List Symbol → State
-begun env symbols = state_with (started env kinds.Block) symbols
+abbrev begun : Environment → List Parameter → State
+begun env parameters = state_with (started env kinds.Block) parameters
 
-begun_known : (env : Environment) (symbols : List Symbol) → HasKnownParts (begun env symbols)
-begun_known env symbols = record {
-  table = All-nil (λ (i : Instruction). AreKnown (length (begun env symbols).env.identifiers) (instruction_places i));
-  terminals = All-nil (λ (b : NumberedBlock). AreKnown (length (begun env symbols).env.identifiers)
+begun_known : (env : Environment) (parameters : List Parameter) → HasKnownParts (begun env parameters)
+begun_known env parameters = record {
+  table = All-nil (λ (i : Instruction). AreKnown (length (begun env parameters).env.identifiers) (instruction_places i));
+  terminals = All-nil (λ (b : NumberedBlock). AreKnown (length (begun env parameters).env.identifiers)
       (terminal_places b.block.terminal));
 }
 
-begun_writable : (env : Environment) (symbols : List Symbol) → HasSmallCounters (begun env symbols)
-    → HasWritableParts (begun env symbols)
-begun_writable env symbols fits = record {
+begun_writable : (env : Environment) (parameters : List Parameter) → HasSmallCounters (begun env parameters)
+    → HasWritableParts (begun env parameters)
+begun_writable env parameters fits = record {
   table = All-nil (λ (i : Instruction). IsWritable (listing.instruction i));
   completed = All-nil (λ (b : NumberedBlock). IsWritable (listing.block b));
   current = omega (arith, fits.blocks);
   listed = All-nil (λ (id : InstructionId). id.0 ≤ largest);
 }
 
-begun_identifiers : (env : Environment) (symbols : List Symbol) → All IsSmallSymbol symbols
-    → HasSmallCounters (begun env symbols) → AreWritableIdentifiers env.identifiers
-    → AreWritableIdentifiers (begun env symbols).env.identifiers
-begun_identifiers env symbols small fits w =
-    All-append IsWritableIdentifier env.identifiers (known_from env.next_type symbols) w
-    (known_writable env.next_type symbols small fits.types)
+begun_identifiers : (env : Environment) (parameters : List Parameter) → All IsSmallParameter parameters
+    → HasSmallCounters (begun env parameters) → AreWritableIdentifiers env.identifiers
+    → AreWritableIdentifiers (begun env parameters).env.identifiers
+begun_identifiers env parameters small fits w =
+    All-append IsWritableIdentifier env.identifiers (known_from env.next_type parameters) w
+    (known_writable env.next_type parameters small fits.types)
 
 sound_closed : (small : Type 0) (s : State) → StaysSound small s (closed_off s)
 sound_closed small s =
@@ -122,78 +123,78 @@ small_behind old new more uses room = record {
 }
 
 -- the graph of a function whose body was lowered and closed off
-pub graph_sound : (symbols : List Symbol) (body : Syntax) (env new : Environment) (s : State) (more : ℕ) (built : Built)
-    → StaysSound (IsSmallTree body) (begun env symbols) s → CountersGrowBy (begun env symbols) (closed_off s) more
-    → HasRoom (begun env symbols) more → s.entry ≡ (begun env symbols).entry
+pub graph_sound : (parameters : List Parameter) (body : Syntax) (env new : Environment) (s : State) (more : ℕ) (built : Built)
+    → StaysSound (IsSmallTree body) (begun env parameters) s → CountersGrowBy (begun env parameters) (closed_off s) more
+    → HasRoom (begun env parameters) more → s.entry ≡ (begun env parameters).entry
     → 1 + orders_of (reached_blocks (closed_off s).entry (closed_off s).completed) < 2 ^ 32 → built ≡ built_of (closed_off s)
-    → new ≡ (closed_off s).env → IsSoundGraph symbols body env new built
-graph_sound symbols body env new s more built sound uses room entry orders graph after =
-    subst (λ (b : Built). IsSoundGraph symbols body env new b) (sym graph)
-    (subst (λ (e : Environment). IsSoundGraph symbols body env e (built_of (closed_off s))) (sym after) (record {
+    → new ≡ (closed_off s).env → IsSoundGraph parameters body env new built
+graph_sound parameters body env new s more built sound uses room entry orders graph after =
+    subst (λ (b : Built). IsSoundGraph parameters body env new b) (sym graph)
+    (subst (λ (e : Environment). IsSoundGraph parameters body env e (built_of (closed_off s))) (sym after) (record {
       given = omega (arith, longer, whole.counters.identifiers);
       count = fits.identifiers;
       types = fits.types;
       table = built_table_known (length (closed_off s).env.identifiers) (closed_off s) known.table;
       terminals = built_terminals_known (length (closed_off s).env.identifiers) (closed_off s) known.terminals;
       graph = λ small. built_writable (closed_off s) (omega (arith, at_entry, fits0.blocks)) (omega (arith, orders))
-          (whole.parts small fits (begun_writable env symbols fits0));
-      identifiers = λ named small w. whole.identifiers small fits (begun_identifiers env symbols named fits0 w);
+          (whole.parts small fits (begun_writable env parameters fits0));
+      identifiers = λ named small w. whole.identifiers small fits (begun_identifiers env parameters named fits0 w);
     }))
   where
-    whole : StaysSound (IsSmallTree body) (begun env symbols) (closed_off s)
-    whole = sound_next (IsSmallTree body) (begun env symbols) s (closed_off s) sound (sound_closed (IsSmallTree body) s)
+    whole : StaysSound (IsSmallTree body) (begun env parameters) (closed_off s)
+    whole = sound_next (IsSmallTree body) (begun env parameters) s (closed_off s) sound (sound_closed (IsSmallTree body) s)
 
     fits : HasSmallCounters (closed_off s)
-    fits = small_behind (begun env symbols) (closed_off s) more uses room
+    fits = small_behind (begun env parameters) (closed_off s) more uses room
 
-    fits0 : HasSmallCounters (begun env symbols)
-    fits0 = counters_before (begun env symbols) (closed_off s) whole.counters fits
+    fits0 : HasSmallCounters (begun env parameters)
+    fits0 = counters_before (begun env parameters) (closed_off s) whole.counters fits
 
     known : HasKnownParts (closed_off s)
-    known = whole.known (begun_known env symbols)
+    known = whole.known (begun_known env parameters)
 
     at_entry : s.entry.0 ≡ env.next_block
     at_entry = ap (λ (id : BlockId). id.0) entry
 
-    longer : length (env.identifiers ++ known_from env.next_type symbols) ≡ length env.identifiers + length symbols
+    longer : length (env.identifiers ++ known_from env.next_type parameters) ≡ length env.identifiers + length parameters
     longer =
-        length-append env.identifiers (known_from env.next_type symbols)
-        ∙ ap (λ (n : ℕ). length env.identifiers + n) (known_length env.next_type symbols)
+        length-append env.identifiers (known_from env.next_type parameters)
+        ∙ ap (λ (n : ℕ). length env.identifiers + n) (known_length env.next_type parameters)
 
 -- as `graph_sound`, from the states that the code goes through
-pub graph_sound_call : (symbols : List Symbol) (body : Syntax) (env new : Environment) (before s s1 s2 : State) (p : Place)
-    (built : Built) → before ≡ begun env symbols → LowersBody symbols body before s → StaysSound (IsSmallTree body) before s
-    → HasRoom (begun env symbols) (4 * (nodes body + 2)) → s1 ≡ with_undefined s → p ≡ temporary s None
+pub graph_sound_call : (names : Names) (parameters : List Parameter) (body : Syntax) (env new : Environment) (before s s1 s2 : State) (p : Place)
+    (built : Built) → before ≡ begun env parameters → LowersBody names body before s → StaysSound (IsSmallTree body) before s
+    → HasRoom (begun env parameters) (4 * (nodes body + 2)) → s1 ≡ with_undefined s → p ≡ temporary s None
     → s2 ≡ completed_by s1 (return_of None returns.Void p) placeholder → built ≡ built_of s2 → new ≡ s2.env
-    → IsSoundGraph symbols body env new built
-graph_sound_call symbols body env new before s s1 s2 p built is lowers sound room given placed ended graph after =
-    graph_sound symbols body env new s (4 * (nodes body + 1) + 2) built
+    → IsSoundGraph parameters body env new built
+graph_sound_call names parameters body env new before s s1 s2 p built is lowers sound room given placed ended graph after =
+    graph_sound parameters body env new s (4 * (nodes body + 1) + 2) built
     (subst (λ (o : State). StaysSound (IsSmallTree body) o s) is sound)
-    (keeps_then (begun env symbols) s (closed_off s) (4 * (nodes body + 1)) 2 lowered.keeps (keeps_closed s)).uses
-    (room_less (begun env symbols) (4 * (nodes body + 2)) (4 * (nodes body + 1) + 2) (omega arith) room)
+    (keeps_then (begun env parameters) s (closed_off s) (4 * (nodes body + 1)) 2 lowered.keeps (keeps_closed s)).uses
+    (room_less (begun env parameters) (4 * (nodes body + 2)) (4 * (nodes body + 1) + 2) (omega arith) room)
     lowered.reachable.entry
-    (orders_fit symbols (begun env symbols) body s
+    (orders_fit names (begun env parameters) body s
     (record { completed = refl; instructions = refl; table = refl; entry = refl; below = omega arith }) lowered room)
     (graph ∙ ap built_of (closed_is s s1 s2 p given placed ended))
     (after ∙ ap (λ (t : State). t.env) (closed_is s s1 s2 p given placed ended))
   where
-    lowered : LowersBody symbols body (begun env symbols) s
-    lowered = subst (λ (o : State). LowersBody symbols body o s) is lowers
+    lowered : LowersBody names body (begun env parameters) s
+    lowered = subst (λ (o : State). LowersBody names body o s) is lowers
 
 -- the function
 
-pub function_places : (symbols : List Symbol) (body : Syntax) (env mid new : Environment) (built : Built) (i : Identifier)
-    (f : HirFunction) → IsSoundGraph symbols body env mid built → new.identifiers ≡ mid.identifiers ++ i ∷ []
-    → f.body ≡ built.hir → f.instructions ≡ built.instructions → f.params ≡ places_from (length env.identifiers) symbols
+pub function_places : (parameters : List Parameter) (body : Syntax) (env mid new : Environment) (built : Built) (i : Identifier)
+    (f : HirFunction) → IsSoundGraph parameters body env mid built → new.identifiers ≡ mid.identifiers ++ i ∷ []
+    → f.body ≡ built.hir → f.instructions ≡ built.instructions → f.params ≡ places_from (length env.identifiers) parameters
     → f.context ≡ [] → f.returns ≡ record { identifier = record { 0 = length mid.identifiers }; span = None }
     → HasKnownPlaces (length new.identifiers) f
-function_places symbols body env mid new built i f g more body_is table_is params_are none returned = record {
+function_places parameters body env mid new built i f g more body_is table_is params_are none returned = record {
   table = subst (λ (t : List Instruction). All (λ i. AreKnown (length new.identifiers) (instruction_places i)) t) (sym table_is)
       (table_more (length mid.identifiers) (length new.identifiers) built.instructions below g.table);
   terminals = subst (λ (h : Hir). All (λ b. AreKnown (length new.identifiers) (terminal_places b.block.terminal)) h.blocks)
       (sym body_is) (terminals_more (length mid.identifiers) (length new.identifiers) built.hir.blocks below g.terminals);
   params = subst (λ (ps : List Param). AreKnown (length new.identifiers) (map param_place ps)) (sym params_are)
-      (params_known (length env.identifiers) (length new.identifiers) symbols (omega (arith, g.given, longer)));
+      (params_known (length env.identifiers) (length new.identifiers) parameters (omega (arith, g.given, longer)));
   context = All-same (λ (p : Place). p.identifier.0 < length new.identifiers) f.context [] none
       (none_known (length new.identifiers));
   returns = omega (arith, ap (λ (p : Place). p.identifier.0) returned, longer);
@@ -205,24 +206,24 @@ function_places symbols body env mid new built i f g more body_is table_is param
     below : length mid.identifiers ≤ length new.identifiers
     below = omega (arith, longer)
 
-pub function_listed : (fn tree : Syntax) (symbols : List Symbol) (env mid : Environment) (built : Built) (f : HirFunction)
-    → IsFunction fn tree → symbols ≡ symbols_of fn → IsSoundGraph symbols tree env mid built
-    → f.span ≡ Some (span_of fn) → f.name ≡ None
+pub function_listed : (names : Names) (fn tree : Syntax) (parameters : List Parameter) (env mid : Environment) (built : Built) (f : HirFunction)
+    → IsFunction fn tree → parameters ≡ parameters_of names fn → IsSoundGraph parameters tree env mid built
+    → f.span ≡ Some (span_of fn) → f.name ≡ name_in fn
     → (IsSmallTree tree → All IsUtf8 f.directives) → f.body ≡ built.hir
-    → f.instructions ≡ built.instructions → f.params ≡ places_from (length env.identifiers) symbols → f.context ≡ []
+    → f.instructions ≡ built.instructions → f.params ≡ places_from (length env.identifiers) parameters → f.context ≡ []
     → f.returns ≡ record { identifier = record { 0 = length mid.identifiers }; span = None } → IsSmallTree fn
     → IsWritable (listing.function f)
-function_listed fn tree symbols env mid built f w are g span_is no_name directives body_is table_is params_are none returned small =
-    let body : IsSmallTree tree = function_body fn tree w small in
+function_listed names fn tree parameters env mid built f w are g span_is name_is directives body_is table_is params_are none returned small =
+    let body : IsSmallTree tree = (w.small small).1 in
     let graph : IsWritableGraph built = g.graph body in
-    let named : All IsSmallSymbol symbols = subst (λ (l : List Symbol). All IsSmallSymbol l) (sym are)
-    (function_symbols fn tree w small) in
+    let named : All IsSmallParameter parameters = subst (λ (l : List Parameter). All IsSmallParameter l) (sym are)
+    (function_parameters names fn tree w small) in
     function_writable f
-    (subst (λ o. IsWritable (listing.optional listing.span o)) (sym span_is) (function_span fn tree w small))
-    (subst (λ o. IsWritable (listing.optional listing.said o)) (sym no_name) tt)
+    (subst (λ o. IsWritable (listing.optional listing.span o)) (sym span_is) (w.spanned small))
+    (subst (λ o. IsWritable (listing.optional listing.said o)) (sym name_is) (w.named small))
     (directives body)
     (subst (λ (ps : List Param). All (λ p. IsWritable (listing.param p)) ps) (sym params_are)
-    (params_writable (length env.identifiers) symbols named (omega (arith, g.given, g.count))))
+    (params_writable (length env.identifiers) parameters named (omega (arith, g.given, g.count))))
     (All-same (λ (p : Place). IsWritable (listing.place p)) f.context [] none
     (All-nil (λ (p : Place). IsWritable (listing.place p))))
     (subst (λ (p : Place). IsWritable (listing.place p)) (sym returned)
@@ -235,14 +236,14 @@ function_listed fn tree symbols env mid built f w are g span_is no_name directiv
 abbrev unnamed : Span → ℕ → Identifier
 unnamed span type = record { name = None; span = Some span; type_id = record { 0 = type } }
 
-pub function_identifiers : (fn body : Syntax) (span : Span) (symbols : List Symbol) (env mid new : Environment) (built : Built)
-    → IsFunction fn body → span ≡ span_of fn → symbols ≡ symbols_of fn → IsSoundGraph symbols body env mid built
+pub function_identifiers : (names : Names) (fn body : Syntax) (span : Span) (parameters : List Parameter) (env mid new : Environment) (built : Built)
+    → IsFunction fn body → span ≡ span_of fn → parameters ≡ parameters_of names fn → IsSoundGraph parameters body env mid built
     → new.identifiers ≡ mid.identifiers ++ unnamed span mid.next_type ∷ [] → IsSmallTree fn
     → AreWritableIdentifiers env.identifiers → AreWritableIdentifiers new.identifiers
-function_identifiers fn body span symbols env mid new built w span_is are g more small known =
-    let named : All IsSmallSymbol symbols = subst (λ (l : List Symbol). All IsSmallSymbol l) (sym are)
-    (function_symbols fn body w small) in
+function_identifiers names fn body span parameters env mid new built w span_is are g more small known =
+    let named : All IsSmallParameter parameters = subst (λ (l : List Parameter). All IsSmallParameter l) (sym are)
+    (function_parameters names fn body w small) in
     All-same IsWritableIdentifier new.identifiers _ more
-    (All-push IsWritableIdentifier mid.identifiers _ (g.identifiers named (function_body fn body w small) known)
+    (All-push IsWritableIdentifier mid.identifiers _ (g.identifiers named ((w.small small).1) known)
     (unnamed_writable (Some span) mid.next_type
-    (subst (λ (s : Span). IsWritable (listing.optional listing.span (Some s))) (sym span_is) (function_span fn body w small)) g.types))
+    (subst (λ (s : Span). IsWritable (listing.optional listing.span (Some s))) (sym span_is) (w.spanned small)) g.types))

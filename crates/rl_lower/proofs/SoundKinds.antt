@@ -74,18 +74,18 @@ leaf_sound tree at w parts v s new p is none value =
     (subst (AreKnown (length s.env.identifiers)) (sym none) (none_known (length s.env.identifiers))) (λ small fits. value small)
 
 -- a variable, whose identifier was made with the parameters
-pub local_sound : (at : At) (name : List ℕ) (found : ℕ) (declaration : Span) (i : IdentifierId) (s mid new : State) (p : Place)
+pub local_sound : (at : At) (text name : List ℕ) (found : ℕ) (declaration : Span) (i : IdentifierId) (s mid new : State) (p : Place)
     → HasIdentifier s found name → mid ≡ resolved s name found declaration → identifier_of mid.bindings found ≡ Some i.0
     → new ≡ with_value mid (values.LoadLocal (record { identifier = i; span = Some at.span })) (Some at.span)
-    → p ≡ temporary mid (Some at.span) → SoundExpression (Node at word.Id (Then (Said name) End)) s new p
-local_sound at name found declaration i s mid new p h moved bound ended placed =
-    noted_sound e at word.Id (Then (Said name) End) (values.LoadLocal variable) said s mid new p refl noted
+    → p ≡ temporary mid (Some at.span) → SoundExpression (Node at word.Id (Then (Said text) End)) s new p
+local_sound at text name found declaration i s mid new p h moved bound ended placed =
+    noted_sound e at word.Id (Then (Said text) End) (values.LoadLocal variable) said s mid new p refl noted
     (one_known (length s.env.identifiers) variable below)
     (λ small fits. local_writable variable
     (place_writable variable (omega (arith, below, fits.identifiers)) (span_writable at.span small.0.0))) ended placed
   where
     e : Syntax
-    e = Node at word.Id (Then (Said name) End)
+    e = Node at word.Id (Then (Said text) End)
 
     variable : Place
     variable = record { identifier = i; span = Some at.span }

@@ -9,7 +9,7 @@ use Rattle.rl_base.specs.Operators.{operator_text}
 use Rattle.rl_text.specs.Notation.{Tree, IsWritable, AreWritable}
 use Rattle.rl_text.specs.Number.{largest}
 use Rattle.rl_text.specs.Raw.{parts_of}
-use Rattle.rl_hir.specs.Instructions.{argument_shape}
+use Rattle.rl_hir.specs.Instructions.{argument_shape, binding_texts}
 use Rattle.rl_hir.specs.Listing as listing
 use Rattle.rl_hir.specs.Identifiers.{named_identifier}
 use Rattle.rl_hir.specs.Terminals.{with_order}
@@ -23,7 +23,7 @@ use Rattle.rl_hir.specs.declared.function.ReactFunctionType.{ReactFunctionType}
 use Rattle.rl_hir.specs.declared.function.ReactFunctionType.TheVariants as types
 use Rattle.rl_hir.specs.declared.instruction.Instruction.{Instruction}
 use Rattle.rl_hir.specs.declared.instruction.InstructionValue.TheVariants as values
-use Rattle.rl_hir.specs.declared.instruction.NonLocalBinding.TheVariants as bindings
+use Rattle.rl_hir.specs.declared.instruction.NonLocalBinding.{NonLocalBinding}
 use Rattle.rl_hir.specs.declared.instruction.PrimitiveValue.TheVariants as primitives
 use Rattle.rl_hir.specs.declared.instruction.Place.{Place}
 use Rattle.rl_hir.specs.declared.instruction.PlaceOrSpread.{PlaceOrSpread}
@@ -102,8 +102,8 @@ string_writable text utf8 = ((lit< tt, refl), (((lit< tt, refl), (utf8, tt)), tt
 pub local_writable : (p : Place) → IsWritable (listing.place p) → IsWritable (listing.value (values.LoadLocal p))
 local_writable p w = ((lit< tt, refl), (w, tt))
 
-pub global_writable : (name : List ℕ) → IsUtf8 name → IsWritable (listing.value (values.LoadGlobal (bindings.Global name)))
-global_writable name utf8 = ((lit< tt, refl), ((utf8, tt), (tt, tt)))
+pub outer_writable : (binding : NonLocalBinding) → All IsUtf8 (binding_texts binding) → IsWritable (listing.value (values.LoadGlobal binding))
+outer_writable binding utf8 = ((lit< tt, refl), (all_writable listing.said (binding_texts binding) utf8, (tt, tt)))
 
 pub binary_writable : (operator : BinaryOperator) (left right : Place) → IsUtf8 (operator_text operator)
     → IsWritable (listing.place left) → IsWritable (listing.place right)

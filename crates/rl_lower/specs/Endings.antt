@@ -17,7 +17,8 @@ use Rattle.rl_builder.specs.Build.{built_of}
 use Rattle.rl_builder.specs.declared.builder.Built.{Built}
 use Rattle.rl_syntax.specs.Syntax.{Syntax}
 use Rattle.rl_hir.specs.declared.function.Param.{Param}
-use Rattle.rl_scope.specs.declared.semantic.Symbol.{Symbol}
+use Rattle.rl_names.specs.Names.{Names}
+use Rattle.rl_names.specs.declared.parameters.Parameter.{Parameter}
 use Rattle.rl_lower.specs.Lowering.{LowersBody}
 use Rattle.rl_lower.specs.Parameters.{with_parameters}
 use Rattle.rl_model.specs.Fields.{places_from}
@@ -41,9 +42,9 @@ closed_off s = completed_by (with_undefined s) (return_of None returns.Void (tem
 
 -- `built` is the graph of a builder that gave the parameters their identifiers, lowered the body, and was closed off. `old`
 -- and `new` are the environment before and after it.
-pub record IsGraphOf (symbols : List Symbol) (body : Syntax) (old new : Environment) (params : List Param) (built : Built) : Type 0 where
+pub record IsGraphOf (names : Names) (parameters : List Parameter) (body : Syntax) (old new : Environment) (params : List Param) (built : Built) : Type 0 where
   pub state : State
-  pub places : params ≡ places_from (length old.identifiers) symbols
-  pub lowers : LowersBody symbols body (with_parameters (started old kinds.Block) symbols) state
+  pub places : params ≡ places_from (length old.identifiers) parameters
+  pub lowers : LowersBody names body (with_parameters (started old kinds.Block) parameters) state
   pub graph : built ≡ built_of (closed_off state)
   pub after : new ≡ (closed_off state).env

@@ -1,4 +1,3 @@
-pub mod Covered
 pub mod Endings
 pub mod Listed
 pub mod Lowering

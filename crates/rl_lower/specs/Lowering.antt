@@ -6,7 +6,7 @@ use Rattle.rl_hir.specs.declared.terminal.ReturnVariant.TheVariants as returns
 use Rattle.rl_builder.specs.Builder.{State}
 use Rattle.rl_syntax.specs.declared.word.Word.TheVariants as word
 use Rattle.rl_syntax.specs.Syntax.{Syntax, Node, Listed, Pieces, End, Then, nodes, nodes_of}
-use Rattle.rl_scope.specs.declared.semantic.Symbol.{Symbol}
+use Rattle.rl_names.specs.Names.{Names}
 use Rattle.rl_model.specs.Fields.{AddsUnnamed}
 use Rattle.rl_model.specs.Held.{can_complete, calls_in, calls_among, calls_of, live_calls, live_in_body}
 use Rattle.rl_hir.specs.declared.instruction.PlaceOrSpread.{PlaceOrSpread}
@@ -39,7 +39,7 @@ pub record CountersGrowBy (old new : State) (more : ℕ) : Type 0 where
 pub record Preserves (old new : State) (more : ℕ) : Type 0 where
   pub uses : CountersGrowBy old new more
   pub listed : IsListed old → IsListed new
-  pub named : (symbols : List Symbol) → IsNamed symbols old → IsNamed symbols new
+  pub named : (names : Names) → IsNamed names old → IsNamed names new
   pub identifiers : AddsUnnamed old.env.identifiers new.env.identifiers
   pub pairs : new.env.pairs ≡ old.env.pairs
   pub functions : new.env.functions ≡ old.env.functions
@@ -47,29 +47,29 @@ pub record Preserves (old new : State) (more : ℕ) : Type 0 where
 
 -- An expression was lowered: its refusals were recorded, its calls are in the table and, where reachable, in the entry block,
 -- and its value goes to `identifier`. Where it has no refusal, the graph has its traces.
-pub record LowersExpression (symbols : List Symbol) (e : Syntax) (old new : State) (identifier : ℕ) : Type 0 where
+pub record LowersExpression (names : Names) (e : Syntax) (old new : State) (identifier : ℕ) : Type 0 where
   pub keeps : Preserves old new (4 * nodes e)
   pub blocks : PreservesBlocks old new
   pub made : identifier < length new.env.identifiers
-  pub refused : new.env.diagnostics ≡ old.env.diagnostics ++ refusals symbols e
+  pub refused : new.env.diagnostics ≡ old.env.diagnostics ++ refusals names e
   pub calls : calls_of new.table ≡ calls_of old.table ++ calls_in e
   pub reachable : AddsCalls (calls_in e) true old new
-  pub runs : refusals symbols e ≡ [] → RunsExpression (eval_expr symbols e) old new identifier
+  pub runs : refusals names e ≡ [] → RunsExpression (eval_expr names e) old new identifier
 
 -- As `LowersExpression`, for expressions from left to right.
-pub record LowersExpressions (symbols : List Symbol) (es : Pieces) (old new : State) (identifiers : List ℕ) : Type 0 where
+pub record LowersExpressions (names : Names) (es : Pieces) (old new : State) (identifiers : List ℕ) : Type 0 where
   pub keeps : Preserves old new (4 * nodes_of es)
   pub blocks : PreservesBlocks old new
   pub made : All (λ identifier. identifier < length new.env.identifiers) identifiers
-  pub refused : new.env.diagnostics ≡ old.env.diagnostics ++ refusals_in symbols es
+  pub refused : new.env.diagnostics ≡ old.env.diagnostics ++ refusals_in names es
   pub calls : calls_of new.table ≡ calls_of old.table ++ calls_among es
   pub reachable : AddsCalls (calls_among es) true old new
-  pub runs : refusals_in symbols es ≡ [] → RunsAll (eval_exprs symbols es) old new identifiers
+  pub runs : refusals_in names es ≡ [] → RunsAll (eval_exprs names es) old new identifiers
 
 -- Arguments were lowered: each is a place, none a spread, and its value goes to the identifier of that place.
-pub record LowersArguments (symbols : List Symbol) (es : Pieces) (old new : State) (given : List PlaceOrSpread) : Type 0 where
+pub record LowersArguments (names : Names) (es : Pieces) (old new : State) (given : List PlaceOrSpread) : Type 0 where
   pub identifiers : List ℕ
-  pub lowers : LowersExpressions symbols es old new identifiers
+  pub lowers : LowersExpressions names es old new identifiers
   pub shape : map argument_shape given ≡ shape_of es
   pub places : map (λ a. (argument_place a).identifier.0) given ≡ identifiers
 
@@ -83,21 +83,21 @@ pub record Lowers (count : ℕ) (diagnostics : List Diagnostic) (called reached 
   pub reachable : AddsCalls reached completes old new
   pub runs : diagnostics ≡ [] → RunsStatement d old new
 
-abbrev pub LowersStatement : List Symbol → Syntax → State → State → Type 0
-LowersStatement symbols s old new =
-    Lowers (nodes s) (refusals symbols s) (calls_in s) (calls_in s) (can_complete s) (exec_stmt symbols s) old new
+abbrev pub LowersStatement : Names → Syntax → State → State → Type 0
+LowersStatement names s old new =
+    Lowers (nodes s) (refusals names s) (calls_in s) (calls_in s) (can_complete s) (exec_stmt names s) old new
 
-abbrev pub LowersStatements : List Symbol → Pieces → State → State → Type 0
-LowersStatements symbols ss old new =
-    Lowers (nodes_of ss) (refusals_in symbols ss) (calls_among ss) (live_calls ss) (can_all_complete ss) (exec_stmts symbols ss) old new
+abbrev pub LowersStatements : Names → Pieces → State → State → Type 0
+LowersStatements names ss old new =
+    Lowers (nodes_of ss) (refusals_in names ss) (calls_among ss) (live_calls ss) (can_all_complete ss) (exec_stmts names ss) old new
 
 -- The meaning of a body before its end, where the function returns undefined: an expression returns its value.
-abbrev pub exec_before_end : List Symbol → Syntax → StmtMeaning
-exec_before_end symbols (Node at word.Body (Then directives (Then (Listed statements) End))) store answers exits =
-    exec_stmts symbols statements store answers exits
-exec_before_end symbols body store answers exits =
-    eval_expr symbols body store answers (λ v after rest. returned returns.Implicit v) exits.throws
+abbrev pub exec_before_end : Names → Syntax → StmtMeaning
+exec_before_end names (Node at word.Body (Then directives (Then (Listed statements) End))) store answers exits =
+    exec_stmts names statements store answers exits
+exec_before_end names body store answers exits =
+    eval_expr names body store answers (λ v after rest. returned returns.Implicit v) exits.throws
 
-abbrev pub LowersBody : List Symbol → Syntax → State → State → Type 0
-LowersBody symbols b old new =
-    Lowers (nodes b + 1) (refusals symbols b) (calls_in b) (live_in_body b) (can_body_complete b) (exec_before_end symbols b) old new
+abbrev pub LowersBody : Names → Syntax → State → State → Type 0
+LowersBody names b old new =
+    Lowers (nodes b + 1) (refusals names b) (calls_in b) (live_in_body b) (can_body_complete b) (exec_before_end names b) old new

@@ -14,7 +14,7 @@ use Rattle.rl_hir.specs.declared.instruction.PlaceOrSpread.{PlaceOrSpread}
 use Rattle.rl_builder.specs.Builder.{State}
 use Rattle.rl_builder.specs.declared.builder.Built.{Built}
 use Rattle.rl_model.specs.WellFormed.{AreKnown, instruction_places, terminal_places}
-use Rattle.rl_scope.specs.declared.semantic.Symbol.{Symbol}
+use Rattle.rl_names.specs.declared.parameters.Parameter.{Parameter}
 
 -- The span starts and ends below 2^32.
 abbrev pub IsSmallSpan : Span → Type 0
@@ -43,9 +43,9 @@ IsSmallTree tree = HasSmallSpans tree × IsWritable (plain tree)
 abbrev pub AreSmallTrees : Pieces → Type 0
 AreSmallTrees trees = HaveSmallSpans trees × AreWritable (plain_parts trees)
 
--- The name of the symbol is UTF-8, and the span of its declaration is small.
-abbrev pub IsSmallSymbol : Symbol → Type 0
-IsSmallSymbol symbol = IsUtf8 symbol.name × IsSmallSpan symbol.declaration
+-- The name of the parameter is UTF-8, and the span of its declaration is small.
+abbrev pub IsSmallParameter : Parameter → Type 0
+IsSmallParameter p = IsUtf8 p.name × IsSmallSpan p.declaration
 
 -- The counters of the environment and the length of the instruction table are numbers of the notation, at most `largest`.
 pub record HasSmallCounters (s : State) : Type 0 where
@@ -107,14 +107,15 @@ pub record IsWritableGraph (built : Built) : Type 0 where
   pub blocks : All (λ b. IsWritable (listing.block b)) built.hir.blocks
   pub table : All (λ i. IsWritable (listing.instruction i)) built.instructions
 
--- The graph that was built from `body` over the environment `old` names identifiers of `new`, among which each of `symbols`
--- has one of its own. Where the body is small, the notation has the graph, and where the symbols are too, the identifiers.
-pub record IsSoundGraph (symbols : List Symbol) (body : Syntax) (old new : Environment) (built : Built) : Type 0 where
-  pub given : length old.identifiers + length symbols ≤ length new.identifiers
+-- The graph that was built from `body` over the environment `old` names identifiers of `new`, among which each of
+-- `parameters` has one of its own. Where the body is small, the notation has the graph, and where the parameters are too, the
+-- identifiers.
+pub record IsSoundGraph (parameters : List Parameter) (body : Syntax) (old new : Environment) (built : Built) : Type 0 where
+  pub given : length old.identifiers + length parameters ≤ length new.identifiers
   pub count : length new.identifiers ≤ largest
   pub types : new.next_type ≤ largest
   pub table : All (λ i. AreKnown (length new.identifiers) (instruction_places i)) built.instructions
   pub terminals : All (λ b. AreKnown (length new.identifiers) (terminal_places b.block.terminal)) built.hir.blocks
   pub graph : IsSmallTree body → IsWritableGraph built
-  pub identifiers : All IsSmallSymbol symbols → IsSmallTree body → AreWritableIdentifiers old.identifiers
+  pub identifiers : All IsSmallParameter parameters → IsSmallTree body → AreWritableIdentifiers old.identifiers
       → AreWritableIdentifiers new.identifiers

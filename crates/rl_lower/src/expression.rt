@@ -1,35 +1,38 @@
 //! Lowering of expressions: each leaves its value in a temporary.
 
-ghost use Rattle.std.specs.Prelude.{◌≡◌, ◌*◌, true, map, List, None, OnOk, IfOk};
+ghost use Rattle.std.specs.Prelude.{◌≡◌, ◌*◌, ℕ, All, map, List, OnOk, IfOk};
 ghost use Rattle.rl_syntax.specs.Syntax.{Node, Said, End, Then, nodes, nodes_of, pieces_of, syntax};
 ghost use Rattle.rl_builder.specs.Builder.{state_of, recorded};
 ghost use Rattle.rl_builder.specs.Temporaries.{temporary, with_value};
 ghost use Rattle.rl_lower.specs.Lowering.{HasRoom, LowersExpression, LowersArguments};
-ghost use Rattle.rl_lower.specs.Named.{IsNamed};
+ghost use Rattle.rl_lower.specs.Named.{HasIdentifier, IsNamed};
 ghost use Rattle.rl_lower.specs.Sound.{SoundArguments, SoundExpression};
 ghost use Rattle.rl_model.specs.Covered.{IsCovered, AreCovered};
-ghost use Rattle.rl_model.specs.Rows.{refusal};
-ghost use Rattle.rl_scope.specs.declared.semantic.Symbol.{Symbol};
-ghost use Rattle.rl_scope.specs.Symbols.{symbol_named};
+ghost use Rattle.rl_model.specs.Rows.{is_eval, refusal};
+ghost use Rattle.rl_names.specs.Names.{Names};
+ghost use Rattle.rl_names.specs.Seen.{seen};
+ghost use Rattle.rl_names.specs.declared.names.Meaning.TheVariants.{Local, Outer};
+ghost use Rattle.rl_hir.specs.Instructions.{binding_texts};
+ghost use Rattle.rl_ast.specs.BindingViews.{seen_identifier_reference};
+ghost use Rattle.std.specs.Str.{IsUtf8};
 
-use rl_ast::binding::identifier_reference_view;
+use rl_ast::binding::{IdentifierReference, identifier_reference_view};
 use rl_ast::expression::{Expression, expression_view};
 use rl_ast::expression_part::{Argument, argument_view};
 use rl_base::diagnostic::Diagnostic;
 use rl_base::error::OutOfMemory;
-use rl_base::ids::EvaluationOrder;
+use rl_base::ids::{EvaluationOrder, SymbolId};
 use rl_base::list::List;
 use rl_base::number::WholeNumber;
 use rl_base::row::Row;
 use rl_base::span::Span;
 use rl_base::stop::Stop;
-use rl_base::text::Text;
 use rl_builder::builder::HirBuilder;
 use rl_grammar::sort::{ArgumentTree, ArgumentTrees, ExpressionTree};
 use rl_hir::instruction::{
     Instruction, InstructionValue, NonLocalBinding, Place, PlaceOrSpread, PrimitiveValue,
 };
-use rl_scope::semantic::Semantic;
+use rl_names::names::{FunctionNames, Meaning};
 use rl_syntax::numbered::At;
 use rl_syntax::word::Word;
 use rl_text::number::parse_number;
@@ -64,47 +67,55 @@ fn refuse(alloc: Global, builder: &mut HirBuilder, row: Row, at: At) -> Result<(
     builder.record_diagnostic(Diagnostic::at(alloc, row, "", at.span)?)
 }
 
-/// Lowers a name that no symbol has: a load of a global. `eval` is refused.
-fn lower_global(
+/// True of the global `eval`.
+fn is_eval(binding: &NonLocalBinding) -> bool
+    ensures { result ≡ is_eval binding.now }
+{
+    match binding {
+        NonLocalBinding::Global { name } => name.as_str() == "eval",
+        NonLocalBinding::ModuleLocal { .. } => false,
+        NonLocalBinding::ImportDefault { .. } => false,
+        NonLocalBinding::ImportNamespace { .. } => false,
+        NonLocalBinding::ImportSpecifier { .. } => false,
+    }
+}
+
+/// Lowers a name that no local variable has: a load of what it is bound to. The global `eval` is refused.
+fn lower_outer(
     alloc: Global,
     builder: &mut HirBuilder,
     at: At,
-    name: &Text,
+    binding: NonLocalBinding,
 ) -> Result<Place, OutOfMemory>
     requires room { HasRoom (state_of builder.old.env.now builder.old.work) 1 }
     ensures same_reference { builder.new.env.ghost_name ≡ builder.old.env.ghost_name }
-    ensures lowered { IfOk result (λ place. (symbols : List Symbol) → symbol_named symbols name.now ≡ None → LowersExpression symbols (Node at Word.Id (Then (Said name.now) End)) (state_of builder.old.env.now builder.old.work) (state_of builder.new.env.now builder.new.work) place.identifier.0) }
-    ensures sound { IfOk result (λ place. SoundExpression (Node at Word.Id (Then (Said name.now) End)) (state_of builder.old.env.now builder.old.work) (state_of builder.new.env.now builder.new.work) place) }
+    ensures lowered { IfOk result (λ place. (names : Names) (name : List ℕ) → names.meaning at.reference.0 name ≡ Outer binding → LowersExpression names (Node at Word.Id (Then (Said name) End)) (state_of builder.old.env.now builder.old.work) (state_of builder.new.env.now builder.new.work) place.identifier.0) }
+    ensures sound { IfOk result (λ place. (name : List ℕ) → (IsUtf8 name → All IsUtf8 (binding_texts binding)) → SoundExpression (Node at Word.Id (Then (Said name) End)) (state_of builder.old.env.now builder.old.work) (state_of builder.new.env.now builder.new.work) place) }
 {
-    let binding = NonLocalBinding::Global {
-        name: name.copy(alloc)?,
-    };
+    let is_refused = is_eval(&binding);
     let value = InstructionValue::LoadGlobal(binding);
-    if name.as_str() == "eval" {
+    if is_refused {
         refuse(alloc, builder, Row::F2, at)?;
         return lower_value_to_temporary(builder, value, Some(at.span));
     }
     lower_value_to_temporary(builder, value, Some(at.span))
 }
 
-/// Lowers a name (`lowerIdentifier`): a load of a local, which has an identifier already, or of a global.
-fn lower_identifier(
-    alloc: Global,
+/// Lowers a local variable, which has an identifier already: a load.
+fn lower_local(
     builder: &mut HirBuilder,
-    semantic: &Semantic,
+    names: &FunctionNames<'_>,
     at: At,
-    name: &Text,
+    symbol: SymbolId,
 ) -> Result<Place, OutOfMemory>
-    requires names { IsNamed semantic.now.symbols (state_of builder.old.env.now builder.old.work) }
+    requires known { HasIdentifier (state_of builder.old.env.now builder.old.work) symbol.0 ((seen names.now).name symbol.0) }
     requires room { HasRoom (state_of builder.old.env.now builder.old.work) 1 }
     ensures same_reference { builder.new.env.ghost_name ≡ builder.old.env.ghost_name }
-    ensures lowered { IfOk result (λ place. LowersExpression semantic.now.symbols (Node at Word.Id (Then (Said name.now) End)) (state_of builder.old.env.now builder.old.work) (state_of builder.new.env.now builder.new.work) place.identifier.0) }
-    ensures sound { IfOk result (λ place. SoundExpression (Node at Word.Id (Then (Said name.now) End)) (state_of builder.old.env.now builder.old.work) (state_of builder.new.env.now builder.new.work) place) }
+    ensures lowered { IfOk result (λ place. (name : List ℕ) → (seen names.now).meaning at.reference.0 name ≡ Local symbol → LowersExpression (seen names.now) (Node at Word.Id (Then (Said name) End)) (state_of builder.old.env.now builder.old.work) (state_of builder.new.env.now builder.new.work) place.identifier.0) }
+    ensures sound { IfOk result (λ place. (name : List ℕ) → SoundExpression (Node at Word.Id (Then (Said name) End)) (state_of builder.old.env.now builder.old.work) (state_of builder.new.env.now builder.new.work) place) }
 {
-    let Some(symbol) = semantic.find_binding(name.as_str()) else {
-        return lower_global(alloc, builder, at, name);
-    };
-    let identifier = match builder.resolve_binding(name, symbol, semantic.declaration(symbol)) {
+    let resolved = builder.resolve_binding(names.name(symbol), symbol, names.declaration(symbol));
+    let identifier = match resolved {
         Ok(identifier) => identifier,
         Err(Stop::OutOfMemory) => return Err(OutOfMemory),
         Err(Stop::Diagnostic(_)) => unreachable!(),
@@ -118,6 +129,25 @@ fn lower_identifier(
         InstructionValue::LoadLocal(variable),
         Some(at.span),
     )
+}
+
+/// Lowers a name (`lowerIdentifier`).
+fn lower_identifier(
+    alloc: Global,
+    builder: &mut HirBuilder,
+    names: &FunctionNames<'_>,
+    identifier: &IdentifierReference<'_>,
+) -> Result<Place, OutOfMemory>
+    requires names { IsNamed (seen names.now) (state_of builder.old.env.now builder.old.work) }
+    requires room { HasRoom (state_of builder.old.env.now builder.old.work) 1 }
+    ensures same_reference { builder.new.env.ghost_name ≡ builder.old.env.ghost_name }
+    ensures lowered { IfOk result (λ place. LowersExpression (seen names.now) (seen_identifier_reference identifier.now) (state_of builder.old.env.now builder.old.work) (state_of builder.new.env.now builder.new.work) place.identifier.0) }
+    ensures sound { IfOk result (λ place. SoundExpression (seen_identifier_reference identifier.now) (state_of builder.old.env.now builder.old.work) (state_of builder.new.env.now builder.new.work) place) }
+{
+    match names.meaning(alloc, identifier)? {
+        Meaning::Local(symbol) => lower_local(builder, names, identifier.at, symbol),
+        Meaning::Outer(binding) => lower_outer(alloc, builder, identifier.at, binding),
+    }
 }
 
 /// The expression that an argument is; it is no spread.
@@ -136,20 +166,20 @@ fn expression_of(argument: ArgumentTree<'_>) -> ExpressionTree<'_>
 fn lower_arguments(
     alloc: Global,
     builder: &mut HirBuilder,
-    semantic: &Semantic,
+    names: &FunctionNames<'_>,
     arguments: ArgumentTrees<'_>,
 ) -> Result<List<PlaceOrSpread>, OutOfMemory>
-    requires names { IsNamed semantic.now.symbols (state_of builder.old.env.now builder.old.work) }
+    requires names { IsNamed (seen names.now) (state_of builder.old.env.now builder.old.work) }
     requires covered { AreCovered (pieces_of (map syntax arguments.trees.now)) }
     requires room { HasRoom (state_of builder.old.env.now builder.old.work) (4 * nodes_of (pieces_of (map syntax arguments.trees.now))) }
     ensures same_reference { builder.new.env.ghost_name ≡ builder.old.env.ghost_name }
-    ensures lowered { IfOk result (λ given. LowersArguments semantic.now.symbols (pieces_of (map syntax arguments.entry.trees.now)) (state_of builder.old.env.now builder.old.work) (state_of builder.new.env.now builder.new.work) given) }
+    ensures lowered { IfOk result (λ given. LowersArguments (seen names.now) (pieces_of (map syntax arguments.entry.trees.now)) (state_of builder.old.env.now builder.old.work) (state_of builder.new.env.now builder.new.work) given) }
     ensures sound { IfOk result (λ given. SoundArguments (pieces_of (map syntax arguments.entry.trees.now)) (state_of builder.old.env.now builder.old.work) (state_of builder.new.env.now builder.new.work) given) }
 {
     let mut given = List::with_capacity(alloc, arguments.trees.len())?;
     let mut left = arguments;
     'arguments: while let Some((argument, rest)) = left.split_first() {
-        let place = lower_expression(alloc, builder, semantic, expression_of(argument))?;
+        let place = lower_expression(alloc, builder, names, expression_of(argument))?;
         given.push(PlaceOrSpread::Place(place))?;
         left = rest;
     }
@@ -161,14 +191,14 @@ fn lower_arguments(
 pub(crate) fn lower_expression(
     alloc: Global,
     builder: &mut HirBuilder,
-    semantic: &Semantic,
+    names: &FunctionNames<'_>,
     expression: ExpressionTree<'_>,
 ) -> Result<Place, OutOfMemory>
-    requires names { IsNamed semantic.now.symbols (state_of builder.old.env.now builder.old.work) }
+    requires names { IsNamed (seen names.now) (state_of builder.old.env.now builder.old.work) }
     requires covered { IsCovered (syntax expression.tree.now) }
     requires room { HasRoom (state_of builder.old.env.now builder.old.work) (4 * nodes (syntax expression.tree.now)) }
     ensures same_reference { builder.new.env.ghost_name ≡ builder.old.env.ghost_name }
-    ensures lowered { IfOk result (λ place. LowersExpression semantic.now.symbols (syntax expression.entry.tree.now) (state_of builder.old.env.now builder.old.work) (state_of builder.new.env.now builder.new.work) place.identifier.0) }
+    ensures lowered { IfOk result (λ place. LowersExpression (seen names.now) (syntax expression.entry.tree.now) (state_of builder.old.env.now builder.old.work) (state_of builder.new.env.now builder.new.work) place.identifier.0) }
     ensures sound { IfOk result (λ place. SoundExpression (syntax expression.entry.tree.now) (state_of builder.old.env.now builder.old.work) (state_of builder.new.env.now builder.new.work) place) }
 {
     match expression_view(expression) {
@@ -197,11 +227,11 @@ pub(crate) fn lower_expression(
             lower_value_to_temporary(builder, value, Some(at.span))
         }
         Expression::Parenthesized { at: _, expression } => {
-            lower_expression(alloc, builder, semantic, expression)
+            lower_expression(alloc, builder, names, expression)
         }
         Expression::Identifier(identifier) => {
             let identifier = identifier_reference_view(identifier);
-            lower_identifier(alloc, builder, semantic, identifier.at, identifier.name)
+            lower_identifier(alloc, builder, names, &identifier)
         }
         Expression::Binary {
             at,
@@ -209,8 +239,8 @@ pub(crate) fn lower_expression(
             left,
             right,
         } => {
-            let left = lower_expression(alloc, builder, semantic, left)?;
-            let right = lower_expression(alloc, builder, semantic, right)?;
+            let left = lower_expression(alloc, builder, names, left)?;
+            let right = lower_expression(alloc, builder, names, right)?;
             let value = InstructionValue::Binary {
                 operator,
                 left,
@@ -224,8 +254,8 @@ pub(crate) fn lower_expression(
             callee,
             arguments,
         } => {
-            let callee = lower_expression(alloc, builder, semantic, callee)?;
-            let arguments = lower_arguments(alloc, builder, semantic, arguments)?;
+            let callee = lower_expression(alloc, builder, names, callee)?;
+            let arguments = lower_arguments(alloc, builder, names, arguments)?;
             let value = InstructionValue::Call { callee, arguments };
             lower_value_to_temporary(builder, value, Some(at.span))
         }

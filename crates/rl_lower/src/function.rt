@@ -1,50 +1,58 @@
 //! Lowering of functions: parameters, bodies and ends.
 
-ghost use Rattle.std.specs.Prelude.{◌≡◌, ◌+◌, ◌*◌, ◌≤◌, true, false, ◌++◌, map, OnOk, IfOk, IfErr, None, Some, [], All, codes, length};
+ghost use Rattle.std.specs.Prelude.{◌≡◌, ◌≢◌, ◌+◌, ◌*◌, ◌≤◌, ◌++◌, map, OnOk, IfOk, IfErr, None, Some, [], All, codes, length};
 ghost use Rattle.std.specs.Option.{option_copied};
 ghost use Rattle.std.specs.Str.{IsUtf8};
-ghost use Rattle.rl_syntax.specs.Syntax.{nodes, pieces_of, span_of, syntax};
-ghost use Rattle.rl_ast.specs.FunctionViews.{seen_arrow};
+ghost use Rattle.rl_ast.specs.FunctionNodes.{seen_function, seen_function_node};
+ghost use Rattle.rl_ast.specs.FunctionViews.{seen_arrow, seen_arrow_body};
 ghost use Rattle.rl_base.specs.Reserved.{is_reserved};
 ghost use Rattle.rl_base.specs.declared.diagnostic.Diagnostic.{Diagnostic as Said};
+ghost use Rattle.rl_base.specs.declared.row.Row.TheVariants as row;
 ghost use Rattle.rl_builder.specs.Builder.{state_of, started};
+ghost use Rattle.rl_grammar.specs.Fields.{maybe};
 ghost use Rattle.rl_hir.specs.Listing.{function as listed_function};
 ghost use Rattle.rl_hir.specs.Numbered.{IsNumbered};
-ghost use Rattle.rl_lower.specs.Covered.{HasCoveredParts};
 ghost use Rattle.rl_lower.specs.Endings.{IsGraphOf};
 ghost use Rattle.rl_lower.specs.Lowering.{HasRoom, LowersBody};
 ghost use Rattle.rl_lower.specs.Named.{IsNamed};
 ghost use Rattle.rl_lower.specs.Parameters.{with_parameters};
 ghost use Rattle.rl_lower.specs.Sound.{AreWritableIdentifiers, IsSmallTree, IsSoundGraph, StaysSound};
 ghost use Rattle.rl_model.specs.Closed.{IsClosed};
-ghost use Rattle.rl_model.specs.Covered.{IsCovered};
-ghost use Rattle.rl_model.specs.Fields.{AddsUnnamed, async_in, body_in, directives_in, known_from, pairs_from, places_from, texts_in};
+ghost use Rattle.rl_model.specs.Covered.{IsCovered, IsCoveredFunction};
+ghost use Rattle.rl_model.specs.Fields.{AddsUnnamed, directives_in, known_from, pairs_from, places_from, texts_in};
 ghost use Rattle.rl_model.specs.Headline.{NeverStuck, SameRuns};
 ghost use Rattle.rl_model.specs.Held.{HoldsCalls};
-ghost use Rattle.rl_base.specs.declared.row.Row.TheVariants as row;
 ghost use Rattle.rl_model.specs.Rows.{first_named, is_text, refusals_of, stop_at, stop_of};
 ghost use Rattle.rl_model.specs.Size.{function_size};
 ghost use Rattle.rl_model.specs.WellFormed.{HasKnownPlaces, IsLinked};
-ghost use Rattle.rl_scope.specs.Symbols.{are_distinct, symbols_of};
+ghost use Rattle.rl_names.specs.Functions.{async_in, body_in, generator_in, name_in, parameters_of, said_by};
+ghost use Rattle.rl_names.specs.Locals.{AreApart, AreLocals, HasTexts, LocalsAreParameters};
+ghost use Rattle.rl_names.specs.Names.{at_of};
+ghost use Rattle.rl_names.specs.Seen.{seen};
+ghost use Rattle.rl_syntax.specs.Syntax.{Absent, nodes, pieces_of, span_of, syntax};
 ghost use Rattle.rl_text.specs.Notation.{IsWritable};
 
 use crate::expression::{lower_expression, lower_value_to_temporary};
 use crate::statement::lower_statements;
+use rl_ast::binding::binding_identifier_view;
 use rl_ast::function::{Arrow, ArrowBody, arrow_body_view, function_body_view};
+use rl_ast::function_node::{Function, FunctionNode};
 use rl_base::diagnostic::Diagnostic;
 use rl_base::error::OutOfMemory;
-use rl_base::ids::{EvaluationOrder, SymbolId};
+use rl_base::ids::EvaluationOrder;
 use rl_base::list::List;
 use rl_base::row::Row;
 use rl_base::stop::Stop;
 use rl_base::text::Text;
 use rl_builder::builder::{Built, HirBuilder, create_temporary_place};
-use rl_grammar::sort::{ArrowBodyTree, TextTrees};
+use rl_grammar::sort::{BindingIdentifierTree, TextTrees};
 use rl_hir::environment::Environment;
 use rl_hir::function::{BlockKind, HirFunction, Param};
 use rl_hir::instruction::{InstructionValue, Place, PrimitiveValue};
 use rl_hir::terminal::{ReturnVariant, Terminal};
-use rl_scope::semantic::{Semantic, Symbol};
+use rl_names::names::FunctionNames;
+use rl_names::parameters::{Parameter, parameters};
+use rl_syntax::numbered::At;
 use rl_syntax::parts::text_of;
 use std::alloc::Global;
 
@@ -55,30 +63,104 @@ struct Graph {
     built: Built,
 }
 
+/// The parts of a function of any form that its graph shows.
+#[derive(Clone, Copy)]
+struct FunctionParts<'b> {
+    at: At,
+    name: Option<BindingIdentifierTree<'b>>,
+    generator: bool,
+    is_async: bool,
+    body: ArrowBody<'b>,
+}
+
+/// The parts of an arrow function.
+fn parts_of_arrow(arrow: Arrow<'_>) -> FunctionParts<'_>
+    ensures at { result.at ≡ at_of (seen_arrow arrow.entry) }
+    ensures name { said_by (maybe result.name (λ t. syntax t.tree.now)) ≡ name_in (seen_arrow arrow.entry) }
+    ensures generator { result.generator ≡ generator_in (seen_arrow arrow.entry) }
+    ensures is_async { result.is_async ≡ async_in (seen_arrow arrow.entry) }
+    ensures body { seen_arrow_body result.body ≡ body_in (seen_arrow arrow.entry) }
+{
+    FunctionParts {
+        at: arrow.at,
+        name: None,
+        generator: false,
+        is_async: arrow.is_async,
+        body: arrow_body_view(arrow.body),
+    }
+}
+
+/// The parts of a function that is no arrow function.
+fn parts_of_function(function: Function<'_>) -> FunctionParts<'_>
+    requires body { body_in (seen_function function) ≢ Absent }
+    ensures at { result.at ≡ at_of (seen_function function.entry) }
+    ensures name { said_by (maybe result.name (λ t. syntax t.tree.now)) ≡ name_in (seen_function function.entry) }
+    ensures generator { result.generator ≡ generator_in (seen_function function.entry) }
+    ensures is_async { result.is_async ≡ async_in (seen_function function.entry) }
+    ensures body { seen_arrow_body result.body ≡ body_in (seen_function function.entry) }
+{
+    let Some(body) = function.body else {
+        unreachable!();
+    };
+    FunctionParts {
+        at: function.at,
+        name: function.name,
+        generator: function.generator,
+        is_async: function.is_async,
+        body: ArrowBody::Body(body),
+    }
+}
+
+/// The parts of a function that has a body.
+fn parts_of(function: FunctionNode<'_>) -> FunctionParts<'_>
+    requires body { body_in (seen_function_node function) ≢ Absent }
+    ensures at { result.at ≡ at_of (seen_function_node function.entry) }
+    ensures name { said_by (maybe result.name (λ t. syntax t.tree.now)) ≡ name_in (seen_function_node function.entry) }
+    ensures generator { result.generator ≡ generator_in (seen_function_node function.entry) }
+    ensures is_async { result.is_async ≡ async_in (seen_function_node function.entry) }
+    ensures body { seen_arrow_body result.body ≡ body_in (seen_function_node function.entry) }
+{
+    match function {
+        FunctionNode::Function(function) => parts_of_function(function),
+        FunctionNode::Arrow(arrow) => parts_of_arrow(arrow),
+    }
+}
+
+/// A copy of a function's own name, if it has one. On `OutOfMemory`, an allocation failed.
+fn own_name(
+    alloc: Global,
+    name: Option<BindingIdentifierTree<'_>>,
+) -> Result<Option<Text>, OutOfMemory>
+    ensures { IfOk result (λ text. text ≡ said_by (maybe name.entry (λ t. syntax t.tree.now))) }
+{
+    match name {
+        Some(name) => Ok(Some(binding_identifier_view(name).name.copy(alloc)?)),
+        None => Ok(None),
+    }
+}
+
 /// Gives each parameter an identifier, in order. On `Stop::Diagnostic` a parameter's name is reserved.
 fn lower_parameters(
     alloc: Global,
     builder: &mut HirBuilder,
-    semantic: &Semantic,
+    parameters: &[Parameter],
 ) -> Result<List<Param>, Stop>
     requires nothing { (state_of builder.old.env.now builder.old.work).bindings ≡ [] }
-    requires room { HasRoom (state_of builder.old.env.now builder.old.work) (length semantic.now.symbols) }
+    requires apart { AreApart parameters.now }
+    requires room { HasRoom (state_of builder.old.env.now builder.old.work) (length parameters.now) }
     ensures same_reference { builder.new.env.ghost_name ≡ builder.old.env.ghost_name }
-    ensures state { OnOk result (state_of builder.new.env.now builder.new.work ≡ with_parameters (state_of builder.old.env.now builder.old.work) semantic.now.symbols) }
-    ensures places { IfOk result (λ params. params ≡ places_from (length builder.old.env.now.identifiers) semantic.now.symbols) }
-    ensures goes_on { OnOk result (first_named (λ name. is_reserved name) semantic.now.symbols ≡ None) }
-    ensures stopped { IfErr result (λ e. (d : Said) → e ≡ Stop.Diagnostic d → Some d ≡ stop_at row.S1 (first_named (λ name. is_reserved name) semantic.now.symbols) None) }
+    ensures state { OnOk result (state_of builder.new.env.now builder.new.work ≡ with_parameters (state_of builder.old.env.now builder.old.work) parameters.now) }
+    ensures places { IfOk result (λ params. params ≡ places_from (length builder.old.env.now.identifiers) parameters.now) }
+    ensures goes_on { OnOk result (first_named (λ name. is_reserved name) parameters.now ≡ None) }
+    ensures stopped { IfErr result (λ e. (d : Said) → e ≡ Stop.Diagnostic d → Some d ≡ stop_at row.S1 (first_named (λ name. is_reserved name) parameters.now) None) }
 {
-    let mut params = List::with_capacity(alloc, semantic.symbols.len())?;
-    'parameters: for (place, symbol) in semantic.symbols.as_slice().iter().enumerate() {
-        let identifier = builder.resolve_binding(
-            &symbol.name,
-            SymbolId(place as u32),
-            symbol.declaration,
-        )?;
+    let mut params = List::with_capacity(alloc, parameters.len())?;
+    for parameter in parameters {
+        let span = parameter.declaration;
+        let identifier = builder.resolve_binding(parameter.name.as_str(), parameter.symbol, span)?;
         params.push(Param::Place(Place {
             identifier,
-            span: Some(symbol.declaration),
+            span: Some(span),
         }))?;
     }
     Ok(params)
@@ -89,20 +171,20 @@ fn lower_parameters(
 fn lower_body(
     alloc: Global,
     builder: &mut HirBuilder,
-    semantic: &Semantic,
-    body: ArrowBodyTree<'_>,
+    names: &FunctionNames<'_>,
+    body: ArrowBody<'_>,
 ) -> Result<(), OutOfMemory>
-    requires names { IsNamed semantic.now.symbols (state_of builder.old.env.now builder.old.work) }
-    requires covered { IsCovered (syntax body.tree.now) }
-    requires room { HasRoom (state_of builder.old.env.now builder.old.work) (4 * (nodes (syntax body.tree.now) + 1)) }
+    requires names { IsNamed (seen names.now) (state_of builder.old.env.now builder.old.work) }
+    requires covered { IsCovered (seen_arrow_body body) }
+    requires room { HasRoom (state_of builder.old.env.now builder.old.work) (4 * (nodes (seen_arrow_body body) + 1)) }
     ensures same_reference { builder.new.env.ghost_name ≡ builder.old.env.ghost_name }
-    ensures lowered { OnOk result (LowersBody semantic.now.symbols (syntax body.entry.tree.now) (state_of builder.old.env.now builder.old.work) (state_of builder.new.env.now builder.new.work)) }
-    ensures sound { OnOk result (StaysSound (IsSmallTree (syntax body.entry.tree.now)) (state_of builder.old.env.now builder.old.work) (state_of builder.new.env.now builder.new.work)) }
+    ensures lowered { OnOk result (LowersBody (seen names.now) (seen_arrow_body body.entry) (state_of builder.old.env.now builder.old.work) (state_of builder.new.env.now builder.new.work)) }
+    ensures sound { OnOk result (StaysSound (IsSmallTree (seen_arrow_body body.entry)) (state_of builder.old.env.now builder.old.work) (state_of builder.new.env.now builder.new.work)) }
 {
-    match arrow_body_view(body) {
+    match body {
         ArrowBody::Expression(expression) => {
             let fallthrough = builder.reserve(BlockKind::Block);
-            let value = lower_expression(alloc, builder, semantic, expression)?;
+            let value = lower_expression(alloc, builder, names, expression)?;
             builder.terminate_with_continuation(
                 Terminal::Return {
                     order: EvaluationOrder(0),
@@ -115,7 +197,7 @@ fn lower_body(
         }
         ArrowBody::Body(body) => {
             let body = function_body_view(body);
-            lower_statements(alloc, builder, semantic, body.statements)
+            lower_statements(alloc, builder, names, body.statements)
         }
     }
 }
@@ -123,21 +205,24 @@ fn lower_body(
 /// The graph of a function. The end of its body returns undefined, even if it is unreachable.
 fn lower_graph(
     alloc: Global,
-    semantic: &Semantic,
-    body: ArrowBodyTree<'_>,
+    names: &FunctionNames<'_>,
+    parameters: &[Parameter],
+    body: ArrowBody<'_>,
     env: &mut Environment,
 ) -> Result<Graph, Stop>
-    requires distinct { are_distinct semantic.now.symbols ≡ true }
-    requires covered { IsCovered (syntax body.tree.now) }
-    requires room { HasRoom (started env.old BlockKind.Block) (4 * (nodes (syntax body.tree.now) + 2) + length semantic.now.symbols) }
-    ensures graph { IfOk result (λ graph. IsGraphOf semantic.now.symbols (syntax body.entry.tree.now) env.old env.new graph.params graph.built) }
-    ensures sound { IfOk result (λ graph. IsSoundGraph semantic.now.symbols (syntax body.entry.tree.now) env.old env.new graph.built) }
-    ensures goes_on { OnOk result (first_named (λ name. is_reserved name) semantic.now.symbols ≡ None) }
-    ensures stopped { IfErr result (λ e. (d : Said) → e ≡ Stop.Diagnostic d → Some d ≡ stop_at row.S1 (first_named (λ name. is_reserved name) semantic.now.symbols) None) }
+    requires texts { HasTexts (seen names.now) }
+    requires locals { AreLocals (seen names.now) parameters.now }
+    requires apart { AreApart parameters.now }
+    requires covered { IsCovered (seen_arrow_body body) }
+    requires room { HasRoom (started env.old BlockKind.Block) (4 * (nodes (seen_arrow_body body) + 2) + length parameters.now) }
+    ensures graph { IfOk result (λ graph. IsGraphOf (seen names.now) parameters.now (seen_arrow_body body.entry) env.old env.new graph.params graph.built) }
+    ensures sound { IfOk result (λ graph. IsSoundGraph parameters.now (seen_arrow_body body.entry) env.old env.new graph.built) }
+    ensures goes_on { OnOk result (first_named (λ name. is_reserved name) parameters.now ≡ None) }
+    ensures stopped { IfErr result (λ e. (d : Said) → e ≡ Stop.Diagnostic d → Some d ≡ stop_at row.S1 (first_named (λ name. is_reserved name) parameters.now) None) }
 {
     let mut builder = HirBuilder::new(alloc, &mut *env, BlockKind::Block);
-    let params = lower_parameters(alloc, &mut builder, semantic)?;
-    lower_body(alloc, &mut builder, semantic, body)?;
+    let params = lower_parameters(alloc, &mut builder, parameters)?;
+    lower_body(alloc, &mut builder, names, body)?;
     let undefined = InstructionValue::Primitive(PrimitiveValue::Undefined);
     let value = lower_value_to_temporary(&mut builder, undefined, None)?;
     builder.terminate(Terminal::Return {
@@ -165,89 +250,93 @@ fn copy_texts(alloc: Global, texts: TextTrees<'_>) -> Result<List<Text>, OutOfMe
 }
 
 /// The directives that begin a body.
-fn directives_of(alloc: Global, body: ArrowBodyTree<'_>) -> Result<List<Text>, OutOfMemory>
-    ensures copied { IfOk result (λ directives. directives ≡ directives_in (syntax body.entry.tree.now)) }
-    ensures texts { IfOk result (λ directives. IsSmallTree (syntax body.entry.tree.now) → All IsUtf8 directives) }
+fn directives_of(alloc: Global, body: ArrowBody<'_>) -> Result<List<Text>, OutOfMemory>
+    ensures copied { IfOk result (λ directives. directives ≡ directives_in (seen_arrow_body body.entry)) }
+    ensures texts { IfOk result (λ directives. IsSmallTree (seen_arrow_body body.entry) → All IsUtf8 directives) }
 {
-    match arrow_body_view(body) {
+    match body {
         ArrowBody::Expression(_) => Ok(List::new(alloc)),
         ArrowBody::Body(body) => copy_texts(alloc, function_body_view(body).directives),
     }
 }
 
 /// The first parameter whose name is `this`.
-fn find_this(symbols: &[Symbol]) -> Option<&Symbol>
-    ensures { option_copied result ≡ first_named (λ name. is_text (codes "this") name) symbols.now }
+fn find_this(parameters: &[Parameter]) -> Option<&Parameter>
+    ensures { option_copied result ≡ first_named (λ name. is_text (codes "this") name) parameters.now }
 {
-    for symbol in symbols {
-        if symbol.name.as_str() == "this" {
-            return Some(symbol);
+    for parameter in parameters {
+        if parameter.name.as_str() == "this" {
+            return Some(parameter);
         }
     }
     None
 }
 
-/// Lowers a function (`lower`) whose parameters and body are covered, each node of them. The diagnostics of refused nodes are
-/// appended to the environment's; if there is none, the graph has the function's traces. On `Stop::Diagnostic` a stop row
-/// applies to the function, and on `Stop::OutOfMemory` an allocation failed; of the environment nothing is promised then.
+/// Lowers a function (`lower`) that is covered, each node of it: an arrow function or a function declaration with a body, whose
+/// local variables are its parameters. The diagnostics of refused nodes are appended to the environment's; if there is none, the
+/// graph has the function's traces. On `Stop::Diagnostic` a stop row applies to the function, and on `Stop::OutOfMemory` an
+/// allocation failed; of the environment nothing is promised then.
 pub fn lower(
     alloc: Global,
-    function: Arrow<'_>,
-    semantic: &Semantic,
+    function: FunctionNode<'_>,
+    names: &FunctionNames<'_>,
     env: &mut Environment,
 ) -> Result<HirFunction, Stop>
-    requires symbols { semantic.now.symbols ≡ symbols_of (seen_arrow function) }
-    requires distinct { are_distinct semantic.now.symbols ≡ true }
-    requires covered { HasCoveredParts (seen_arrow function) }
+    requires locals { LocalsAreParameters (seen names.now) (seen_function_node function) }
+    requires texts { HasTexts (seen names.now) }
+    requires covered { IsCoveredFunction (seen_function_node function) }
+    requires body { body_in (seen_function_node function) ≢ Absent }
     requires fresh { env.old.pairs ≡ [] }
-    requires room { HasRoom (started env.old BlockKind.Block) (4 * nodes (seen_arrow function)) }
-    ensures goes_on { OnOk result (stop_of (seen_arrow function.entry) ≡ None) }
-    ensures stopped { IfErr result (λ e. (d : Said) → e ≡ Stop.Diagnostic d → stop_of (seen_arrow function.entry) ≡ Some d) }
-    ensures refused { OnOk result (env.new.diagnostics ≡ env.old.diagnostics ++ refusals_of (seen_arrow function.entry)) }
+    requires room { HasRoom (started env.old BlockKind.Block) (4 * nodes (seen_function_node function)) }
+    ensures goes_on { OnOk result (stop_of (seen names.now) (seen_function_node function.entry) ≡ None) }
+    ensures stopped { IfErr result (λ e. (d : Said) → e ≡ Stop.Diagnostic d → stop_of (seen names.now) (seen_function_node function.entry) ≡ Some d) }
+    ensures refused { OnOk result (env.new.diagnostics ≡ env.old.diagnostics ++ refusals_of (seen names.now) (seen_function_node function.entry)) }
     ensures closed { IfOk result (λ f. IsClosed f.body) }
-    ensures same_runs { IfOk result (λ f. refusals_of (seen_arrow function.entry) ≡ [] → SameRuns (seen_arrow function.entry) f env.new.pairs) }
-    ensures never_stuck { IfOk result (λ f. refusals_of (seen_arrow function.entry) ≡ [] → NeverStuck f env.new.pairs) }
-    ensures held { IfOk result (λ f. HoldsCalls (seen_arrow function.entry) f) }
+    ensures same_runs { IfOk result (λ f. refusals_of (seen names.now) (seen_function_node function.entry) ≡ [] → SameRuns (seen names.now) (seen_function_node function.entry) f env.new.pairs) }
+    ensures never_stuck { IfOk result (λ f. refusals_of (seen names.now) (seen_function_node function.entry) ≡ [] → NeverStuck f env.new.pairs) }
+    ensures held { IfOk result (λ f. HoldsCalls (seen_function_node function.entry) f) }
     ensures numbered { IfOk result (λ f. IsNumbered f.instructions f.body.blocks) }
     ensures linked { IfOk result (λ f. IsLinked f) }
     ensures functions { OnOk result (env.new.functions ≡ env.old.functions) }
-    ensures bounded { IfOk result (λ f. function_size f ≤ 64 * nodes (seen_arrow function.entry)) }
+    ensures bounded { IfOk result (λ f. function_size f ≤ 64 * nodes (seen_function_node function.entry)) }
 
     // The fields that traces do not read.
-    ensures span { IfOk result (λ f. f.span ≡ Some (span_of (seen_arrow function.entry))) }
-    ensures name { IfOk result (λ f. f.name ≡ None) }
+    ensures span { IfOk result (λ f. f.span ≡ Some (span_of (seen_function_node function.entry))) }
+    ensures name { IfOk result (λ f. f.name ≡ name_in (seen_function_node function.entry)) }
     ensures fn_type { IfOk result (λ f. f.fn_type ≡ env.old.fn_type) }
-    ensures is_async { IfOk result (λ f. f.is_async ≡ async_in (seen_arrow function.entry)) }
-    ensures generator { IfOk result (λ f. f.generator ≡ false) }
-    ensures directives { IfOk result (λ f. f.directives ≡ directives_in (body_in (seen_arrow function.entry))) }
-    ensures params { IfOk result (λ f. f.params ≡ places_from (length env.old.identifiers) semantic.now.symbols) }
+    ensures is_async { IfOk result (λ f. f.is_async ≡ async_in (seen_function_node function.entry)) }
+    ensures generator { IfOk result (λ f. f.generator ≡ generator_in (seen_function_node function.entry)) }
+    ensures directives { IfOk result (λ f. f.directives ≡ directives_in (body_in (seen_function_node function.entry))) }
+    ensures params { IfOk result (λ f. f.params ≡ places_from (length env.old.identifiers) (parameters_of (seen names.now) (seen_function_node function.entry))) }
     ensures context { IfOk result (λ f. f.context ≡ []) }
     ensures returns { IfOk result (λ f. (f.returns.span ≡ None) × (f.returns.identifier.0 + 1 ≡ length env.new.identifiers)) }
 
     // The parameters' identifiers come first, and no other that is made has a name.
-    ensures pairs { OnOk result (env.new.pairs ≡ env.old.pairs ++ pairs_from 0 (length env.old.identifiers) semantic.now.symbols) }
-    ensures identifiers { OnOk result (AddsUnnamed (env.old.identifiers ++ known_from env.old.next_type semantic.now.symbols) env.new.identifiers) }
+    ensures pairs { OnOk result (env.new.pairs ≡ env.old.pairs ++ pairs_from (length env.old.identifiers) (parameters_of (seen names.now) (seen_function_node function.entry))) }
+    ensures identifiers { OnOk result (AddsUnnamed (env.old.identifiers ++ known_from env.old.next_type (parameters_of (seen names.now) (seen_function_node function.entry))) env.new.identifiers) }
 
     // Places name identifiers that were made, and the notation has the listing of what a small function is lowered to.
     ensures places { IfOk result (λ f. HasKnownPlaces (length env.new.identifiers) f) }
-    ensures writable { IfOk result (λ f. IsSmallTree (seen_arrow function.entry) → IsWritable (listed_function f)) }
-    ensures known { OnOk result (IsSmallTree (seen_arrow function.entry) → AreWritableIdentifiers env.old.identifiers → AreWritableIdentifiers env.new.identifiers) }
+    ensures writable { IfOk result (λ f. IsSmallTree (seen_function_node function.entry) → IsWritable (listed_function f)) }
+    ensures known { OnOk result (IsSmallTree (seen_function_node function.entry) → AreWritableIdentifiers env.old.identifiers → AreWritableIdentifiers env.new.identifiers) }
 {
-    if let Some(symbol) = find_this(semantic.symbols.as_slice()) {
-        let word = symbol.name.as_str();
-        let diagnostic = Diagnostic::at(alloc, Row::S2, word, symbol.declaration)?;
+    let parameters = parameters(alloc, names, function)?;
+    if let Some(parameter) = find_this(parameters.as_slice()) {
+        let word = parameter.name.as_str();
+        let diagnostic = Diagnostic::at(alloc, Row::S2, word, parameter.declaration)?;
         return Err(Stop::Diagnostic(diagnostic));
     }
-    let span = Some(function.at.span);
-    let graph = lower_graph(alloc, semantic, function.body, env)?;
+    let parts = parts_of(function);
+    let span = Some(parts.at.span);
+    let graph = lower_graph(alloc, names, parameters.as_slice(), parts.body, env)?;
     let returns = create_temporary_place(env, span)?;
     Ok(HirFunction {
         span,
-        name: None,
+        name: own_name(alloc, parts.name)?,
         fn_type: env.fn_type,
-        generator: false,
-        is_async: function.is_async,
-        directives: directives_of(alloc, function.body)?,
+        generator: parts.generator,
+        is_async: parts.is_async,
+        directives: directives_of(alloc, parts.body)?,
         params: graph.params,
         context: List::new(alloc),
         returns,

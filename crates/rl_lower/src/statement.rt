@@ -7,6 +7,7 @@ ghost use Rattle.rl_lower.specs.Endings.{returned_from};
 ghost use Rattle.rl_lower.specs.Lowering.{HasRoom, LowersStatement, LowersStatements};
 ghost use Rattle.rl_lower.specs.Named.{IsNamed};
 ghost use Rattle.rl_model.specs.Covered.{AreCovered, IsCovered};
+ghost use Rattle.rl_names.specs.Seen.{seen};
 ghost use Rattle.rl_lower.specs.Sound.{AreSmallTrees, IsSmallTree, StaysSound};
 
 use crate::expression::{lower_expression, lower_value_to_temporary};
@@ -19,7 +20,7 @@ use rl_grammar::sort::{StatementTree, StatementTrees};
 use rl_hir::function::BlockKind;
 use rl_hir::instruction::{InstructionValue, Place, PrimitiveValue};
 use rl_hir::terminal::{ReturnVariant, Terminal};
-use rl_scope::semantic::Semantic;
+use rl_names::names::FunctionNames;
 use std::alloc::Global;
 
 /// Ends the block by a return of a value, and goes on in a fresh block, which is unreachable.
@@ -44,24 +45,24 @@ fn lower_return(builder: &mut HirBuilder, span: Span, value: Place) -> Result<()
 fn lower_statement(
     alloc: Global,
     builder: &mut HirBuilder,
-    semantic: &Semantic,
+    names: &FunctionNames<'_>,
     statement: StatementTree<'_>,
 ) -> Result<(), OutOfMemory>
-    requires names { IsNamed semantic.now.symbols (state_of builder.old.env.now builder.old.work) }
+    requires names { IsNamed (seen names.now) (state_of builder.old.env.now builder.old.work) }
     requires covered { IsCovered (syntax statement.tree.now) }
     requires room { HasRoom (state_of builder.old.env.now builder.old.work) (4 * nodes (syntax statement.tree.now)) }
     ensures same_reference { builder.new.env.ghost_name ≡ builder.old.env.ghost_name }
-    ensures lowered { OnOk result (LowersStatement semantic.now.symbols (syntax statement.entry.tree.now) (state_of builder.old.env.now builder.old.work) (state_of builder.new.env.now builder.new.work)) }
+    ensures lowered { OnOk result (LowersStatement (seen names.now) (syntax statement.entry.tree.now) (state_of builder.old.env.now builder.old.work) (state_of builder.new.env.now builder.new.work)) }
     ensures sound { OnOk result (StaysSound (IsSmallTree (syntax statement.entry.tree.now)) (state_of builder.old.env.now builder.old.work) (state_of builder.new.env.now builder.new.work)) }
 {
     match statement_view(statement) {
         Statement::Expression { at: _, expression } => {
-            lower_expression(alloc, builder, semantic, expression)?;
+            lower_expression(alloc, builder, names, expression)?;
             Ok(())
         }
         Statement::Return { at, argument } => match argument {
             Some(argument) => {
-                let value = lower_expression(alloc, builder, semantic, argument)?;
+                let value = lower_expression(alloc, builder, names, argument)?;
                 lower_return(builder, at.span, value)
             }
             None => {
@@ -78,19 +79,19 @@ fn lower_statement(
 pub(crate) fn lower_statements(
     alloc: Global,
     builder: &mut HirBuilder,
-    semantic: &Semantic,
+    names: &FunctionNames<'_>,
     statements: StatementTrees<'_>,
 ) -> Result<(), OutOfMemory>
-    requires names { IsNamed semantic.now.symbols (state_of builder.old.env.now builder.old.work) }
+    requires names { IsNamed (seen names.now) (state_of builder.old.env.now builder.old.work) }
     requires covered { AreCovered (pieces_of (map syntax statements.trees.now)) }
     requires room { HasRoom (state_of builder.old.env.now builder.old.work) (4 * nodes_of (pieces_of (map syntax statements.trees.now))) }
     ensures same_reference { builder.new.env.ghost_name ≡ builder.old.env.ghost_name }
-    ensures lowered { OnOk result (LowersStatements semantic.now.symbols (pieces_of (map syntax statements.entry.trees.now)) (state_of builder.old.env.now builder.old.work) (state_of builder.new.env.now builder.new.work)) }
+    ensures lowered { OnOk result (LowersStatements (seen names.now) (pieces_of (map syntax statements.entry.trees.now)) (state_of builder.old.env.now builder.old.work) (state_of builder.new.env.now builder.new.work)) }
     ensures sound { OnOk result (StaysSound (AreSmallTrees (pieces_of (map syntax statements.entry.trees.now))) (state_of builder.old.env.now builder.old.work) (state_of builder.new.env.now builder.new.work)) }
 {
     let mut left = statements;
     'statements: while let Some((statement, rest)) = left.split_first() {
-        lower_statement(alloc, builder, semantic, statement)?;
+        lower_statement(alloc, builder, names, statement)?;
         left = rest;
     }
     Ok(())

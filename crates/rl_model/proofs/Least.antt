@@ -3,12 +3,11 @@ use Rattle.std.proofs.Common.{◌≡◌, ℕ, ◌+◌, ◌≤◌, Bool, true, fa
 use Rattle.std.proofs.lemmas.List.Elements.{All-cons}
 use Rattle.std.specs.Option.{option_map}
 use Rattle.rl_base.specs.declared.ids.NodeId.{NodeId}
-use Rattle.rl_syntax.specs.Syntax.{Syntax, Node, Listed, Said, Count, Flag, Absent, Pieces, End, Then, IsPlaced, ArePlaced, behind, inside, next_byte, nodes, nodes_of, outset}
+use Rattle.rl_syntax.specs.Syntax.{Syntax, Node, Listed, Said, Count, Flag, Absent, Pieces, End, Then, IsPlaced, ArePlaced, behind, inside, next_byte, nodes, nodes_of}
 use Rattle.rl_syntax.specs.declared.numbered.Position.{Position}
 use Rattle.rl_ast.specs.Marked.{first}
-use Rattle.rl_model.specs.Covered.{covers, uncovered, uncovered_among}
-use Rattle.rl_model.specs.Source.{marked}
-use Rattle.rl_model.specs.Units.{id_of, pending}
+use Rattle.rl_model.specs.Covered.{covers, uncovered, uncovered_among, uncovered_in}
+use Rattle.rl_syntax.specs.declared.word.Word.TheVariants as word
 
 -- the numbers ascend, from `low` to before `high`
 abbrev Ascends : (low : ℕ) → List ℕ → (high : ℕ) → Type 0
@@ -31,21 +30,21 @@ ascends_to : (xs : List ℕ) (low high higher : ℕ) → high ≡ higher → Asc
 ascends_to xs low high higher same r = subst (λ n. Ascends low xs n) same r
 
 mutual
-  uncovered_ascend : (m : Option ℕ) (t : Syntax) (from : Position) → IsPlaced from t → Ascends from.node (uncovered m t) (from.node + nodes t)
-  uncovered_ascend m (Node at w parts) from placed =
-      node_ascends (covers m at w parts) at.id.0 (uncovered_among m parts) from.node (from.node + (nodes_of parts + 1)) placed.0.number
-      (ascends_to (uncovered_among m parts) (from.node + 1) (from.node + 1 + nodes_of parts) (from.node + (nodes_of parts + 1)) (omega arith) (uncovered_among_ascend m parts (inside from w) placed.1))
-  uncovered_ascend m (Listed parts) from placed = uncovered_among_ascend m parts from placed
-  uncovered_ascend m (Said text) from placed = omega arith
-  uncovered_ascend m (Count number) from placed = omega arith
-  uncovered_ascend m (Flag flag) from placed = omega arith
-  uncovered_ascend m Absent from placed = omega arith
+  uncovered_ascend : (t : Syntax) (from : Position) → IsPlaced from t → Ascends from.node (uncovered t) (from.node + nodes t)
+  uncovered_ascend (Node at w parts) from placed =
+      node_ascends (covers w parts) at.id.0 (uncovered_among parts) from.node (from.node + (nodes_of parts + 1)) placed.0.number
+      (ascends_to (uncovered_among parts) (from.node + 1) (from.node + 1 + nodes_of parts) (from.node + (nodes_of parts + 1)) (omega arith) (uncovered_among_ascend parts (inside from w) placed.1))
+  uncovered_ascend (Listed parts) from placed = uncovered_among_ascend parts from placed
+  uncovered_ascend (Said text) from placed = omega arith
+  uncovered_ascend (Count number) from placed = omega arith
+  uncovered_ascend (Flag flag) from placed = omega arith
+  uncovered_ascend Absent from placed = omega arith
 
-  uncovered_among_ascend : (m : Option ℕ) (ps : Pieces) (from : Position) → ArePlaced from ps → Ascends from.node (uncovered_among m ps) (from.node + nodes_of ps)
-  uncovered_among_ascend m End from placed = omega arith
-  uncovered_among_ascend m (Then p ps) from placed =
-      ascends_then (uncovered m p) (uncovered_among m ps) from.node (from.node + nodes p) (from.node + (nodes p + nodes_of ps)) (uncovered_ascend m p (next_byte from) placed.0)
-      (ascends_to (uncovered_among m ps) (from.node + nodes p) (from.node + nodes p + nodes_of ps) (from.node + (nodes p + nodes_of ps)) (omega arith) (uncovered_among_ascend m ps (behind (next_byte from) p) placed.1))
+  uncovered_among_ascend : (ps : Pieces) (from : Position) → ArePlaced from ps → Ascends from.node (uncovered_among ps) (from.node + nodes_of ps)
+  uncovered_among_ascend End from placed = omega arith
+  uncovered_among_ascend (Then p ps) from placed =
+      ascends_then (uncovered p) (uncovered_among ps) from.node (from.node + nodes p) (from.node + (nodes p + nodes_of ps)) (uncovered_ascend p (next_byte from) placed.0)
+      (ascends_to (uncovered_among ps) (from.node + nodes p) (from.node + nodes p + nodes_of ps) (from.node + (nodes p + nodes_of ps)) (omega arith) (uncovered_among_ascend ps (behind (next_byte from) p) placed.1))
 
 all_from : (xs : List ℕ) (low high : ℕ) → Ascends low xs high → All (λ x. low ≤ x) xs
 all_from [] low high r = λ k d within. absurd (omega (arith, within))
@@ -60,10 +59,16 @@ first_least (x ∷ xs) low high n r is =
     let rest : All (λ y. x + 1 ≤ y) xs = all_from xs (x + 1) high r.1 in
     All-cons (λ y. n ≤ y) x xs (omega (arith, same)) (λ k d within. omega (arith, same, rest k d within))
 
--- the node that a unit waits for is the least that is not covered
-pub least_waits : (u : Syntax) (n : ℕ) → IsPlaced outset u → pending u ≡ Some n → All (λ id. n ≤ id) (uncovered (id_of (marked u)) u)
-least_waits u n placed is = first_least (uncovered (id_of (marked u)) u) 0 (0 + nodes u) n (uncovered_ascend (id_of (marked u)) u outset placed) is
+in_ascend : (f : Syntax) (from : Position) → IsPlaced from f → Ascends from.node (uncovered_in f) (from.node + nodes f)
+in_ascend (Node at word.Arrow parts) from placed =
+    ascends_from (uncovered_among parts) from.node (from.node + 1) (from.node + (nodes_of parts + 1)) (omega arith)
+    (ascends_to (uncovered_among parts) (from.node + 1) (from.node + 1 + nodes_of parts) (from.node + (nodes_of parts + 1)) (omega arith) (uncovered_among_ascend parts (inside from word.Arrow) placed.1))
+in_ascend (Node at word.Fundecl parts) from placed =
+    ascends_from (uncovered_among parts) from.node (from.node + 1) (from.node + (nodes_of parts + 1)) (omega arith)
+    (ascends_to (uncovered_among parts) (from.node + 1) (from.node + 1 + nodes_of parts) (from.node + (nodes_of parts + 1)) (omega arith) (uncovered_among_ascend parts (inside from word.Fundecl) placed.1))
+in_ascend f from placed = uncovered_ascend f from placed
 
-pub least_of : (u : Syntax) (o : Option NodeId) → option_map (λ (n : NodeId). n.0) o ≡ pending u → IsPlaced outset u → IfSome o (λ n. All (λ id. n.0 ≤ id) (uncovered (id_of (marked u)) u))
-least_of u None is placed = tt
-least_of u (Some n) is placed = least_waits u n.0 placed (sym is)
+-- The node that a function waits for is the least that is not covered.
+pub least_of : (f : Syntax) (o : Option NodeId) → option_map (λ (n : NodeId). n.0) o ≡ first (uncovered_in f) → (from : Position) → IsPlaced from f → IfSome o (λ n. All (λ id. n.0 ≤ id) (uncovered_in f))
+least_of f None is from placed = tt
+least_of f (Some n) is from placed = first_least (uncovered_in f) from.node (from.node + nodes f) n.0 (in_ascend f from placed) (sym is)

@@ -1,4 +1,6 @@
 pub mod Apart
 pub mod Covering
+pub mod CoveredForms
 pub mod Examples
 pub mod Least
+pub mod PlainFunctions

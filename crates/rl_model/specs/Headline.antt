@@ -15,7 +15,8 @@ use Rattle.rl_model.specs.Machine.{function_trace, trace_by}
 use Rattle.rl_model.specs.Rows.{IsSupported}
 use Rattle.rl_model.specs.Size.{lowered_size}
 use Rattle.rl_model.specs.Source.{marked, source_trace}
-use Rattle.rl_model.specs.Units.{IsUnit, pending}
+use Rattle.rl_model.specs.Units.{IsUnit, names_of, pending}
+use Rattle.rl_names.specs.Names.{Names}
 use Rattle.rl_model.specs.WellFormed.{IsWellFormed}
 use Rattle.rl_model.specs.declared.trace.Answer.{Answer}
 use Rattle.rl_model.specs.declared.trace.Assignment.{Assignment}
@@ -23,8 +24,8 @@ use Rattle.rl_model.specs.declared.trace.Trace.{Trace}
 use Rattle.rl_model.specs.declared.trace.Value.{Value}
 
 -- The graph has the trace of its function, for every start store, arguments and answers.
-abbrev pub SameRuns : Syntax → HirFunction → List Pair → Type 0
-SameRuns function f pairs = (start : List Assignment) (arguments : List Value) (answers : List Answer) → function_trace f pairs start arguments answers ≡ source_trace function start arguments answers
+abbrev pub SameRuns : Names → Syntax → HirFunction → List Pair → Type 0
+SameRuns names function f pairs = (start : List Assignment) (arguments : List Value) (answers : List Answer) → function_trace f pairs start arguments answers ≡ source_trace names function start arguments answers
 
 -- A run ends because it returns, throws, or finds no answer left: whatever trace a run had that ends for another cause, the
 -- runs are the same.
@@ -32,22 +33,22 @@ abbrev pub NeverStuck : HirFunction → List Pair → Type 0
 NeverStuck f pairs = (stuck : Trace) (start : List Assignment) (arguments : List Value) (answers : List Answer) → trace_by stuck f pairs start arguments answers ≡ function_trace f pairs start arguments answers
 
 -- The graph of one function of a result.
-pub record IsGraph (function : Syntax) (l : Lowered) (f : HirFunction) : Type 0 where
+pub record IsGraph (names : Names) (function : Syntax) (l : Lowered) (f : HirFunction) : Type 0 where
   pub closed : IsClosed f.body
-  pub same_runs : SameRuns function f l.pairs
+  pub same_runs : SameRuns names function f l.pairs
   pub never_stuck : NeverStuck f l.pairs
   pub held : HoldsCalls function f
-  pub fields : HasFieldsOf function f
+  pub fields : HasFieldsOf names function f
   pub numbered : IsNumbered f.instructions f.body.blocks
   pub well_formed : IsWellFormed (length l.identifiers) f
 
--- The result of lowering a unit that the lowering covers, and to whose marked function no row applies.
+-- The result of lowering a unit whose marked function the lowering covers, and no row applies to.
 pub record IsLowered (u : Syntax) (l : Lowered) : Type 0 where
   pub covered : pending u ≡ None
-  pub supported : IsSupported (marked u)
-  pub main : IsGraph (marked u) l l.function
+  pub supported : IsSupported (names_of u) (marked u)
+  pub main : IsGraph (names_of u) (marked u) l l.function
   pub inner : l.inner ≡ []
-  pub identifiers : HasIdentifiersOf (marked u) l
+  pub identifiers : HasIdentifiersOf (names_of u) (marked u) l
   pub apart : AreDistinct (calls_in (marked u))
   pub bounded : lowered_size l ≤ 64 * nodes u
   pub writable : IsWritable (lowered l)

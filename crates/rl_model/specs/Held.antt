@@ -4,6 +4,7 @@ use Rattle.rl_base.specs.declared.span.Span.{Span}
 use Rattle.rl_base.specs.declared.ids.InstructionId.{InstructionId}
 use Rattle.rl_syntax.specs.declared.word.Word.TheVariants as word
 use Rattle.rl_syntax.specs.Syntax.{Syntax, Node, Listed, Pieces, End, Then}
+use Rattle.rl_names.specs.Functions.{body_in}
 use Rattle.rl_hir.specs.declared.function.HirFunction.{HirFunction}
 use Rattle.rl_hir.specs.declared.function.NumberedBlock.{NumberedBlock}
 use Rattle.rl_hir.specs.declared.instruction.Instruction.{Instruction}
@@ -36,9 +37,9 @@ abbrev pub live_in_body : Syntax → List (Option Span)
 live_in_body (Node at word.Body (Then directives (Then (Listed statements) End))) = live_calls statements
 live_in_body body = calls_in body
 
+-- The reachable calls of a function.
 abbrev pub live_calls_in : Syntax → List (Option Span)
-live_calls_in (Node at word.Arrow (Then marked (Then is_async (Then params (Then body End))))) = live_in_body body
-live_calls_in _ = []
+live_calls_in function = live_in_body (body_in function)
 
 -- The span of an instruction that is a call.
 abbrev pub call_at : Instruction → List (Option Span)

@@ -1,5 +1,5 @@
 -- The rows of refusals by node: the nodes of a tree that are refused or stop the lowering, and their diagnostics.
-use Rattle.std.specs.Prelude.{◌≡◌, ℕ, Bool, if◌then◌else◌, Option, Some, None, List, [], ◌∷◌, ◌++◌, codes}
+use Rattle.std.specs.Prelude.{◌≡◌, ℕ, Bool, false, if◌then◌else◌, Option, Some, None, List, [], ◌∷◌, ◌++◌, codes}
 use Rattle.std.specs.Str.{bytes_eq}
 use Rattle.rl_base.specs.Diagnostics.{diagnostic_at}
 use Rattle.rl_base.specs.Reserved.{is_reserved}
@@ -10,69 +10,82 @@ use Rattle.rl_base.specs.declared.span.Span.{Span}
 use Rattle.rl_text.specs.Numeral.{is_numeral}
 use Rattle.rl_syntax.specs.declared.word.Word.TheVariants as word
 use Rattle.rl_syntax.specs.Syntax.{Syntax, Node, Listed, Said, Pieces, End, Then}
-use Rattle.rl_scope.specs.declared.semantic.Symbol.{Symbol}
-use Rattle.rl_scope.specs.Symbols.{symbols_of}
+use Rattle.rl_hir.specs.declared.instruction.NonLocalBinding.{NonLocalBinding}
+use Rattle.rl_hir.specs.declared.instruction.NonLocalBinding.TheVariants as binding
+use Rattle.rl_names.specs.Functions.{body_in, params_in, parameters_of}
+use Rattle.rl_names.specs.Names.{Names}
+use Rattle.rl_names.specs.declared.parameters.Parameter.{Parameter}
+use Rattle.rl_names.specs.declared.names.Meaning.{Meaning}
+use Rattle.rl_names.specs.declared.names.Meaning.TheVariants.{Local, Outer}
 
 -- The text is the given word.
 abbrev pub is_text : List ℕ → List ℕ → Bool
 is_text word text = bytes_eq text word
 
--- The span of the declaration of a name, where it is a local's.
-abbrev pub declaration_in : List Symbol → List ℕ → Option Span
-declaration_in [] name = None
-declaration_in (s ∷ symbols) name = if bytes_eq s.name name then Some s.declaration else declaration_in symbols name
-
 -- The diagnostic of a row without a word.
 abbrev pub refusal : Row → Span → Diagnostic
 refusal r label = diagnostic_at r [] label
 
--- The diagnostic of a stop at the declaration of a name, which is its word.
-abbrev pub stop : Row → Symbol → Diagnostic
-stop r s = diagnostic_at r s.name s.declaration
+-- The diagnostic of a stop at a parameter, whose name is its word.
+abbrev pub stop : Row → Parameter → Diagnostic
+stop r p = diagnostic_at r p.name p.declaration
 
--- The diagnostics of a name that is read: F2 of the global `eval`, F40 of a local `fbt`, at its declaration.
-abbrev pub said_of_name : Option Span → List ℕ → Span → List Diagnostic
-said_of_name None name at = if is_text (codes "eval") name then refusal row.F2 at ∷ [] else []
-said_of_name (Some declaration) name at = if is_text (codes "fbt") name then refusal row.F40 declaration ∷ [] else []
+-- The diagnostics of a local variable that is read, by its name and declaration: F40 of `fbt`, at the declaration.
+abbrev pub said_of_local : (name : List ℕ) → (declaration : Span) → List Diagnostic
+said_of_local name declaration = if is_text (codes "fbt") name then refusal row.F40 declaration ∷ [] else []
+
+-- True of the global `eval`.
+abbrev pub is_eval : NonLocalBinding → Bool
+is_eval (binding.Global name) = is_text (codes "eval") name
+is_eval _ = false
+
+-- The diagnostics of a name that is read and is no local: F2 of the global `eval`.
+abbrev pub said_of_outer : NonLocalBinding → (label : Span) → List Diagnostic
+said_of_outer b label = if is_eval b then refusal row.F2 label ∷ [] else []
+
+-- The diagnostics of a name that is read.
+abbrev pub said_of_name : Names → Meaning → (label : Span) → List Diagnostic
+said_of_name names (Local symbol) label = said_of_local (names.name symbol.0) (names.declaration symbol.0)
+said_of_name names (Outer binding) label = said_of_outer binding label
 
 -- The diagnostics of a node by itself.
-abbrev pub said_of : List Symbol → Syntax → List Diagnostic
-said_of symbols (Node at word.Num (Then (Said text) End)) = if is_numeral text then [] else refusal row.F43 at.span ∷ []
-said_of symbols (Node at word.Id (Then (Said name) End)) = said_of_name (declaration_in symbols name) name at.span
-said_of symbols (Node at word.Bind (Then (Said name) type)) = if is_text (codes "fbt") name then refusal row.F40 at.span ∷ [] else []
-said_of symbols _ = []
+abbrev pub said_of : Names → Syntax → List Diagnostic
+said_of names (Node at word.Num (Then (Said text) End)) = if is_numeral text then [] else refusal row.F43 at.span ∷ []
+said_of names (Node at word.Id (Then (Said name) End)) = said_of_name names (names.meaning at.reference.0 name) at.span
+said_of names (Node at word.Bind (Then (Said name) type)) = if is_text (codes "fbt") name then refusal row.F40 at.span ∷ [] else []
+said_of names _ = []
 
 abbrev mutual
   -- The diagnostics of a tree, in the order in which the lowering meets the nodes; it meets each node of this grammar.
-  pub refusals : List Symbol → Syntax → List Diagnostic
-  refusals symbols (Node at word parts) = said_of symbols (Node at word parts) ++ refusals_in symbols parts
-  refusals symbols (Listed parts) = refusals_in symbols parts
-  refusals symbols _ = []
+  pub refusals : Names → Syntax → List Diagnostic
+  refusals names (Node at word parts) = said_of names (Node at word parts) ++ refusals_in names parts
+  refusals names (Listed parts) = refusals_in names parts
+  refusals names _ = []
 
-  pub refusals_in : List Symbol → Pieces → List Diagnostic
-  refusals_in symbols End = []
-  refusals_in symbols (Then piece pieces) = refusals symbols piece ++ refusals_in symbols pieces
+  pub refusals_in : Names → Pieces → List Diagnostic
+  refusals_in names End = []
+  refusals_in names (Then piece pieces) = refusals names piece ++ refusals_in names pieces
 
--- The refusals of a function.
-abbrev pub refusals_of : Syntax → List Diagnostic
-refusals_of function = refusals (symbols_of function) function
+-- The refusals of a function: those of its parameters and of its body.
+abbrev pub refusals_of : Names → Syntax → List Diagnostic
+refusals_of names function = refusals names (params_in function) ++ refusals names (body_in function)
 
--- The first symbol whose name passes a test.
-abbrev pub first_named : (List ℕ → Bool) → List Symbol → Option Symbol
+-- The first parameter whose name passes a test.
+abbrev pub first_named : (List ℕ → Bool) → List Parameter → Option Parameter
 first_named test [] = None
-first_named test (s ∷ symbols) = if test s.name then Some s else first_named test symbols
+first_named test (p ∷ parameters) = if test p.name then Some p else first_named test parameters
 
-abbrev pub stop_at : Row → Option Symbol → Option Diagnostic → Option Diagnostic
+abbrev pub stop_at : Row → Option Parameter → Option Diagnostic → Option Diagnostic
 stop_at r None other = other
-stop_at r (Some s) other = Some (stop r s)
+stop_at r (Some p) other = Some (stop r p)
 
 -- The stop of a function: S2 at a parameter `this`, else S1 at the first parameter with a reserved name.
-abbrev pub stop_of : Syntax → Option Diagnostic
-stop_of function =
-    stop_at row.S2 (first_named (λ name. is_text (codes "this") name) (symbols_of function))
-    (stop_at row.S1 (first_named (λ name. is_reserved name) (symbols_of function)) None)
+abbrev pub stop_of : Names → Syntax → Option Diagnostic
+stop_of names function =
+    stop_at row.S2 (first_named (λ name. is_text (codes "this") name) (parameters_of names function))
+    (stop_at row.S1 (first_named (λ name. is_reserved name) (parameters_of names function)) None)
 
 -- No row applies to a function.
-pub record IsSupported (function : Syntax) : Type 0 where
-  pub goes_on : stop_of function ≡ None
-  pub accepted : refusals_of function ≡ []
+pub record IsSupported (names : Names) (function : Syntax) : Type 0 where
+  pub goes_on : stop_of names function ≡ None
+  pub accepted : refusals_of names function ≡ []

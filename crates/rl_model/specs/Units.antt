@@ -1,27 +1,22 @@
--- Well-formed units, and the first node of a unit that the lowering does not cover.
-use Rattle.std.specs.Prelude.{◌≡◌, ℕ, true, Option, Some, None, List, [], ◌∷◌}
-use Rattle.rl_syntax.specs.Syntax.{Syntax, Node}
-use Rattle.rl_ast.specs.Marked.{first, marked_functions}
+-- Well-formed units, their names, and the first node of the marked function that the lowering does not cover.
+use Rattle.std.specs.Prelude.{◌≡◌, ℕ, Option, None, List}
+use Rattle.rl_ast.specs.Marked.{first}
 use Rattle.rl_ast.specs.Units.{Spells}
-use Rattle.rl_scope.specs.Symbols.{are_distinct, symbols_of}
-use Rattle.rl_model.specs.Covered.{uncovered}
+use Rattle.rl_model.specs.Covered.{uncovered_in}
+use Rattle.rl_names.specs.Names.{Names, function_names}
 use Rattle.rl_model.specs.Source.{marked}
+use Rattle.rl_semantic.specs.Rules.{least_broken}
+use Rattle.rl_syntax.specs.Syntax.{Syntax}
 
--- The unit has exactly one marked function (rule B1), whose parameters have distinct names (rule B4).
-pub record KeepsRules (u : Syntax) : Type 0 where
-  pub one_marked : marked_functions u ≡ marked u ∷ []
-  pub distinct : are_distinct (symbols_of (marked u)) ≡ true
-
--- The bytes, all of them, spell a unit that keeps the rules.
+-- The bytes, all of them, spell a unit that keeps the binding rules.
 pub record IsUnit (bytes : List ℕ) (u : Syntax) : Type 0 where
   pub spells : Spells bytes u
-  pub rules : KeepsRules u
+  pub rules : least_broken u ≡ None
 
--- The id of a node; None at a tree that is no node.
-abbrev pub id_of : Syntax → Option ℕ
-id_of (Node at w parts) = Some at.id.0
-id_of _ = None
+-- The names of a unit, in the lowering of its marked function.
+abbrev pub names_of : (u : Syntax) → Names
+names_of u = function_names u (marked u)
 
--- The least id of a node of the unit that the lowering does not cover; None if it covers the whole unit.
+-- The least id of a node of the marked function that the lowering does not cover; None if it covers the whole function.
 abbrev pub pending : (u : Syntax) → Option ℕ
-pending u = first (uncovered (id_of (marked u)) u)
+pending u = first (uncovered_in (marked u))

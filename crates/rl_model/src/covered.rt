@@ -1,31 +1,23 @@
-//! The nodes of a unit that the lowering covers.
+//! The nodes of a unit's marked function that the lowering covers.
 
-ghost use Rattle.std.specs.Prelude.{◌≡◌, ◌≤◌, ℕ, All, IfSome, Option as Maybe, Some, false, map, option_map, MatchOption};
-ghost use Rattle.rl_syntax.specs.Forms.{is_flag};
-ghost use Rattle.rl_syntax.specs.Syntax.{Flag, IsPlaced, outset, pieces_of, syntax};
-ghost use Rattle.rl_syntax.specs.declared.numbered.At.{At as Ids};
-ghost use Rattle.rl_ast.specs.FunctionNodes.{seen_function_node};
+ghost use Rattle.std.specs.Prelude.{◌≡◌, ◌≤◌, ◌++◌, ℕ, List, All, IfSome, false, map, option_map, MatchOption};
+ghost use Rattle.rl_ast.specs.FunctionNodes.{seen_function, seen_function_node};
+ghost use Rattle.rl_ast.specs.FunctionViews.{seen_arrow};
 ghost use Rattle.rl_ast.specs.Marked.{first};
+ghost use Rattle.rl_ast.specs.Marked.{first as first_item};
+ghost use Rattle.rl_grammar.specs.Fields.{maybe};
 ghost use Rattle.rl_model.specs.Covered as spec;
-ghost use Rattle.rl_model.specs.Source.{marked};
-ghost use Rattle.rl_model.specs.Units.{id_of, pending};
+ghost use Rattle.rl_syntax.specs.Forms.{is_flag};
+ghost use Rattle.rl_syntax.specs.Syntax.{Flag, IsPlaced, pieces_of, syntax};
+ghost use Rattle.rl_syntax.specs.declared.numbered.Position.{Position};
 
-use rl_ast::function_node::FunctionNode;
-use rl_ast::unit::Unit;
+use rl_ast::function::Arrow;
+use rl_ast::function_node::{Function, FunctionForm, FunctionNode};
 use rl_base::ids::NodeId;
-use rl_syntax::numbered::{At, Numbered};
+use rl_grammar::tree::{Sort, Tree};
+use rl_syntax::numbered::Numbered;
 use rl_syntax::parts::{is_absent, split_first};
 use rl_syntax::word::Word;
-
-/// True of the id of the marked function.
-fn is_the(marked: Option<NodeId>, id: NodeId) -> bool
-    ensures { result ≡ spec.is_the (option_map (λ n. n.0) marked) id.0 }
-{
-    match marked {
-        Some(marked) => id.0 == marked.0,
-        None => false,
-    }
-}
 
 /// The value of a flag. `None` at any other tree.
 #[tactic(auto, using(rl_syntax::proofs::Layers::by_layer))]
@@ -44,7 +36,7 @@ fn as_flag(tree: &Numbered) -> Option<bool>
 
 /// True of the parts of a parameter without a default.
 fn has_no_default(parts: &[Numbered]) -> bool
-    ensures { (marked : Maybe ℕ) (at : Ids) → result ≡ spec.covers marked at Word.Param (pieces_of (map syntax parts.now)) }
+    ensures { result ≡ spec.covers Word.Param (pieces_of (map syntax parts.now)) }
 {
     let Some((_pattern, more)) = split_first(parts) else {
         return false;
@@ -60,7 +52,7 @@ fn has_no_default(parts: &[Numbered]) -> bool
 
 /// True of the parts of a call that is not optional.
 fn is_plain_call(parts: &[Numbered]) -> bool
-    ensures { (marked : Maybe ℕ) (at : Ids) → result ≡ spec.covers marked at Word.Call (pieces_of (map syntax parts.now)) }
+    ensures { result ≡ spec.covers Word.Call (pieces_of (map syntax parts.now)) }
 {
     match split_first(parts) {
         Some((optional, _rest)) => match as_flag(optional) {
@@ -71,16 +63,13 @@ fn is_plain_call(parts: &[Numbered]) -> bool
     }
 }
 
-/// True of a node that the lowering covers, if the marked function has the id `marked`.
-fn covers(marked: Option<NodeId>, at: At, word: Word, parts: &[Numbered]) -> bool
-    ensures { result ≡ spec.covers (option_map (λ n. n.0) marked) at word (pieces_of (map syntax parts.now)) }
+/// True of a node inside a function that the lowering covers.
+fn covers(word: Word, parts: &[Numbered]) -> bool
+    ensures { result ≡ spec.covers word (pieces_of (map syntax parts.now)) }
 {
     match word {
-        Word::Unit => true,
-        Word::Program => true,
         Word::Expr => true,
         Word::Return => true,
-        Word::Arrow => is_the(marked, at.id),
         Word::Params => true,
         Word::Param => has_no_default(parts),
         Word::Bind => true,
@@ -97,22 +86,21 @@ fn covers(marked: Option<NodeId>, at: At, word: Word, parts: &[Numbered]) -> boo
     }
 }
 
-/// The least id of a node of the tree that the lowering does not cover, if the marked function has the id `marked`. `None` if
-/// it covers all of them.
+/// The least id of a node of the tree that the lowering does not cover. `None` if it covers all of them.
 #[cycle(covering)]
 #[tactic(auto, using(rl_syntax::proofs::Layers::by_layer, crate::proofs::Covering::covering))]
-fn least_in(marked: Option<NodeId>, tree: &Numbered) -> Option<NodeId>
-    ensures { option_map (λ n. n.0) result ≡ first (spec.uncovered (option_map (λ n. n.0) marked) (syntax tree.now)) }
+fn least_in(tree: &Numbered) -> Option<NodeId>
+    ensures { option_map (λ n. n.0) result ≡ first (spec.uncovered (syntax tree.now)) }
 {
     match tree {
         Numbered::Node(at, word, parts) => {
-            if covers(marked, *at, *word, parts.as_slice()) {
-                least_among(marked, parts.as_slice())
+            if covers(*word, parts.as_slice()) {
+                least_among(parts.as_slice())
             } else {
                 Some(at.id)
             }
         }
-        Numbered::List(parts) => least_among(marked, parts.as_slice()),
+        Numbered::List(parts) => least_among(parts.as_slice()),
         Numbered::Text(_) => None,
         Numbered::Number(_) => None,
         Numbered::Flag(_) => None,
@@ -123,41 +111,74 @@ fn least_in(marked: Option<NodeId>, tree: &Numbered) -> Option<NodeId>
 /// As `least_in`, for trees in a row.
 #[cycle(covering)]
 #[tactic(auto, using(crate::proofs::Covering::covering))]
-fn least_among(marked: Option<NodeId>, trees: &[Numbered]) -> Option<NodeId>
-    ensures { option_map (λ n. n.0) result ≡ first (spec.uncovered_among (option_map (λ n. n.0) marked) (pieces_of (map syntax trees.now))) }
+fn least_among(trees: &[Numbered]) -> Option<NodeId>
+    ensures { option_map (λ n. n.0) result ≡ first (spec.uncovered_among (pieces_of (map syntax trees.now))) }
 {
     'trees: for tree in trees {
-        if let Some(found) = least_in(marked, tree) {
+        if let Some(found) = least_in(tree) {
             return Some(found);
         }
     }
     None
 }
 
-/// The id of a function's node.
-fn id_of(function: FunctionNode<'_>) -> NodeId
-    ensures { Some result.0 ≡ id_of (seen_function_node function.entry) }
+/// As `least_in`, of a tree that may be absent.
+fn least_in_optional<K: Sort>(tree: Option<Tree<'_, K>>) -> Option<NodeId>
+    ensures { option_map (λ n. n.0) result ≡ first (spec.uncovered (maybe tree.entry (λ t. syntax t.tree.now))) }
 {
-    match function {
-        FunctionNode::Function(function) => function.at.id,
-        FunctionNode::Arrow(arrow) => arrow.at.id,
-    }
-}
-
-/// The id of the marked function of a unit. `None` if no function is marked.
-fn marked_id(unit: &Unit) -> Option<NodeId>
-    ensures { option_map (λ n. n.0) result ≡ id_of (marked (syntax unit.now.tree)) }
-{
-    match unit.marked_function() {
-        Some(function) => Some(id_of(function)),
+    match tree {
+        Some(tree) => least_in(tree.tree),
         None => None,
     }
 }
 
-/// The least id of a node of the unit that the lowering does not cover. `None` if it covers the whole unit.
-pub fn least_uncovered(unit: &Unit) -> Option<NodeId>
-    ensures first { option_map (λ n. n.0) result ≡ pending (syntax unit.now.tree) }
-    ensures least { IsPlaced outset (syntax unit.now.tree) → IfSome result (λ n. All (λ id. n.0 ≤ id) (spec.uncovered (id_of (marked (syntax unit.now.tree))) (syntax unit.now.tree))) }
+/// The first id, if there is one, or else the second.
+#[tactic(auto, using(crate::proofs::Covering::first_of))]
+fn first_of(first: Option<NodeId>, second: Option<NodeId>) -> Option<NodeId>
+    ensures { (xs ys : List ℕ) → option_map (λ n. n.0) first ≡ first_item xs → option_map (λ n. n.0) second ≡ first_item ys → option_map (λ n. n.0) result ≡ first_item (xs ++ ys) }
 {
-    least_in(marked_id(unit), &unit.tree)
+    match first {
+        Some(id) => Some(id),
+        None => second,
+    }
+}
+
+/// The first node of an arrow function that the lowering does not cover, in the order of the nodes. `None` if it covers all.
+fn first_in_arrow(arrow: Arrow<'_>) -> Option<NodeId>
+    ensures { option_map (λ n. n.0) result ≡ first (spec.uncovered_in (seen_arrow arrow.entry)) }
+{
+    let params = least_in(arrow.params.tree);
+    first_of(params, least_in(arrow.body.tree))
+}
+
+/// As `first_in_arrow`, for a function declaration.
+fn first_in_declaration(function: Function<'_>) -> Option<NodeId>
+    requires { function.form ≡ FunctionForm.Declaration }
+    ensures { option_map (λ n. n.0) result ≡ first (spec.uncovered_in (seen_function function.entry)) }
+{
+    let name = least_in_optional(function.name);
+    let params = least_in(function.params.tree);
+    first_of(name, first_of(params, least_in_optional(function.body)))
+}
+
+/// The first node of the marked function that the lowering does not cover, in the order of the nodes.
+fn first_uncovered(function: FunctionNode<'_>) -> Option<NodeId>
+    ensures { option_map (λ n. n.0) result ≡ first (spec.uncovered_in (seen_function_node function.entry)) }
+{
+    match function {
+        FunctionNode::Arrow(arrow) => first_in_arrow(arrow),
+        FunctionNode::Function(function) => match function.form {
+            FunctionForm::Declaration => first_in_declaration(function),
+            FunctionForm::Expression => Some(function.at.id),
+        },
+    }
+}
+
+/// The least id of a node of the marked function that the lowering does not cover: its own, if it is a function expression. `None`
+/// if it covers the whole function.
+pub fn least_uncovered(function: FunctionNode<'_>) -> Option<NodeId>
+    ensures first { option_map (λ n. n.0) result ≡ first (spec.uncovered_in (seen_function_node function.entry)) }
+    ensures least { (from : Position) → IsPlaced from (seen_function_node function.entry) → IfSome result (λ n. All (λ id. n.0 ≤ id) (spec.uncovered_in (seen_function_node function.entry))) }
+{
+    first_uncovered(function)
 }

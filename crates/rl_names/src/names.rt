@@ -11,6 +11,7 @@ ghost use Rattle.rl_semantic.specs.Imports.{data_of, seen as seen_import};
 
 use rl_ast::binding::{BindingIdentifier, IdentifierReference};
 use rl_ast::function_node::FunctionNode;
+use rl_base::boxed::Boxed;
 use rl_base::error::OutOfMemory;
 use rl_base::ids::{NodeId, ScopeId, SymbolId};
 use rl_base::span::Span;
@@ -77,14 +78,14 @@ fn import_binding(
 ) -> Result<NonLocalBinding, OutOfMemory>
     ensures { IfOk result (λ b. b ≡ spec.import_binding name (data_of import.entry)) }
 {
-    let module = import.source.copy(alloc)?;
+    let module = Boxed::new(alloc, import.source.copy(alloc)?)?;
     match import.kind {
         ImportBindingKind::Default => Ok(NonLocalBinding::ImportDefault { name, module }),
         ImportBindingKind::Namespace => Ok(NonLocalBinding::ImportNamespace { name, module }),
         ImportBindingKind::Named => Ok(NonLocalBinding::ImportSpecifier {
             name,
             module,
-            imported: copy_or_empty(alloc, import.imported)?,
+            imported: Boxed::new(alloc, copy_or_empty(alloc, import.imported)?)?,
         }),
     }
 }

@@ -13,6 +13,7 @@ use Rattle.rl_hir.specs.declared.function.Lowered.{Lowered}
 use Rattle.rl_model.specs.Headline.{LowersTo}
 use Rattle.rl_model.specs.Rows.{refusals_of, stop_of}
 use Rattle.rl_model.specs.Source.{marked}
+use Rattle.rl_model.specs.Units.{names_of}
 use Rattle.rl_unit.specs.Answers.{AnswersSteadily, Explains, IsAnswer, IsOutput, IsComplete, IsMalformed, IsPending, IsRefused, IsReportOf, IsStopped, Writes, WritesKnown, ReadsWhole, Refuses, RefusesKnown, lines, output, pending_line, report_of}
 use Rattle.rl_unit.specs.declared.run.Status.{Status}
 use Rattle.rl_unit.specs.declared.run.Status.TheVariants.{Done, Reported, Malformed, TooLarge, ReadFault, WriteFault, OutOfMemory, Usage}
@@ -50,8 +51,8 @@ writes_result bytes l text lowers written = record { source = lowers.0; spelled 
 pub writes_pending : (bytes : List ℕ) (node : ℕ) (text : List ℕ) → IsPending bytes node → text ≡ pending_line node → Writes bytes Reported text
 writes_pending bytes node text waits written = record {
   source = waits.source;
-  spelled = waits.spelled;
-  is_output = inl (record { uncovered = record { node = node; waits = waits.waits }; written = written });
+  spelled = waits.spelled.spells;
+  is_output = inl (record { uncovered = record { rules = waits.spelled.rules; node = node; waits = waits.waits }; written = written });
 }
 
 pub writes_stop : (bytes : List ℕ) (said : Diagnostic) (text : List ℕ) → IsStopped bytes said → text ≡ line_of said → Writes bytes Reported text
@@ -62,9 +63,9 @@ writes_stop bytes said text stopped written = record {
     row = record {
       covered = stopped.covered;
       rules = stopped.spelled.rules;
-      unsupported = λ supported. never_both (stop_of (marked stopped.source)) said stopped.stops supported.goes_on;
+      unsupported = λ supported. never_both (stop_of (names_of stopped.source) (marked stopped.source)) said stopped.stops supported.goes_on;
     };
-    written = written ∙ ap (λ (o : Option Diagnostic). report_of o (refusals_of (marked stopped.source))) (sym stopped.stops);
+    written = written ∙ ap (λ (o : Option Diagnostic). report_of o (refusals_of (names_of stopped.source) (marked stopped.source))) (sym stopped.stops);
   });
 }
 
@@ -78,7 +79,7 @@ writes_report bytes said text refused written = record {
       rules = refused.spelled.rules;
       unsupported = λ supported. refused.some (refused.names ∙ supported.accepted);
     };
-    written = written ∙ ap lines refused.names ∙ ap (λ (o : Option Diagnostic). report_of o (refusals_of (marked refused.source))) (sym refused.goes_on);
+    written = written ∙ ap lines refused.names ∙ ap (λ (o : Option Diagnostic). report_of o (refusals_of (names_of refused.source) (marked refused.source))) (sym refused.goes_on);
   });
 }
 

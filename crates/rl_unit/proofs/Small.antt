@@ -14,14 +14,16 @@ use Rattle.rl_hir.specs.declared.function.InnerFunction.{InnerFunction}
 use Rattle.rl_hir.specs.declared.function.Lowered.{Lowered}
 use Rattle.rl_lower.specs.Sound.{AreSmallTrees, HasSmallSpans, HaveSmallSpans, IsSmallTree}
 use Rattle.rl_model.specs.Fields.{pairs_from}
-use Rattle.rl_scope.specs.declared.semantic.Symbol.{Symbol}
+use Rattle.rl_names.proofs.SymbolRange.{IsInRange}
+use Rattle.rl_names.specs.declared.parameters.Parameter.{Parameter}
+use Rattle.std.proofs.lemmas.List.Elements.{All-head, All-tail}
 
 some_left : (close : ℕ) (parts : Pieces) → 0 < length (spelled_on close (plain_parts parts))
 some_left close End = omega arith
 some_left close (Then piece pieces) = omega arith
 
 mutual
-  -- a tree that stands in a short text
+  -- A tree that stands in a short text is small.
   placed_small : (s : Syntax) (from : Position) → IsPlaced from s → from.byte + width s < 2 ^ 32 → HasSmallSpans s
   placed_small (Node at w parts) from placed short =
       let long : length (word_text w ++ spelled_on 41 (plain_parts parts)) ≡ length (word_text w) + length (spelled_on 41 (plain_parts parts)) = length-append (word_text w) (spelled_on 41 (plain_parts parts)) in
@@ -43,7 +45,7 @@ mutual
       (placed_small piece (next_byte from) placed.0 (omega (arith, both, last, short)), placed_small_parts close pieces (behind (next_byte from) piece) placed.1 (omega (arith, both, short)))
 
 mutual
-  -- a tree inside a small one is small
+  -- A tree inside a small one is small.
   inside_small : (t f : Syntax) → IsSmallTree t → Inside f t → IsSmallTree f
   inside_small (Node at w parts) f small (inl same) = subst IsSmallTree (sym same) small
   inside_small (Node at w parts) f small (inr more) = inside_small_of parts f (small.0.1, small.1.1) more
@@ -58,13 +60,13 @@ mutual
   inside_small_of (Then p ps) f small (inl here) = inside_small p f (small.0.0, small.1.0) here
   inside_small_of (Then p ps) f small (inr there) = inside_small_of ps f (small.0.1, small.1.1) there
 
--- the marked function of a unit within the limits
+-- The marked function of a unit within the limits is small.
 pub unit_small : (bytes : List ℕ) (u f : Syntax) → Spells bytes u → length bytes ≤ 2 ^ 24 → first (marked_functions u) ≡ Some f → IsSmallTree f
 unit_small bytes u f spells short found =
     let long : length bytes ≡ width u = ap length spells.spelled.spelled in
     inside_small u f (placed_small u outset spells.numbers (omega (arith, long, short)), spells.spelled.writable) (first_found u f found).0
 
--- a list whose items have writable trees
+-- A list whose items have writable trees has one.
 pub all_writable : {X : Type 0} (tree : X → notation.Tree) (items : List X) → All (λ x. IsWritable (tree x)) items → AreWritable (parts_of (map tree items))
 all_writable tree [] all = tt
 all_writable tree (x ∷ items) all = (all 0 x (omega arith), all_writable tree items (λ i d within. all (suc i) d (omega (arith, within))))
@@ -72,13 +74,14 @@ all_writable tree (x ∷ items) all = (all 0 x (omega arith), all_writable tree 
 none_writable : (items : List InnerFunction) → items ≡ [] → AreWritable (parts_of (map inner items))
 none_writable items none = subst (λ (l : List InnerFunction). AreWritable (parts_of (map inner l))) (sym none) tt
 
--- the pairs of symbols that get identifiers one after the other
-pub pairs_writable : (number identifier : ℕ) (symbols : List Symbol) → number + length symbols ≤ 2 ^ 53 → identifier + length symbols ≤ 2 ^ 53 → AreWritable (parts_of (map pair (pairs_from number identifier symbols)))
-pairs_writable number identifier [] few also = tt
-pairs_writable number identifier (symbol ∷ symbols) few also =
-    (((lit< tt, refl), (omega (arith, few), (omega (arith, also), tt))), pairs_writable (number + 1) (identifier + 1) symbols (omega (arith, few)) (omega (arith, also)))
+-- The pairs of parameters that get identifiers one after the other.
+pub pairs_writable : (identifier : ℕ) (parameters : List Parameter) → All (λ p. IsInRange p.symbol) parameters → identifier + length parameters ≤ 2 ^ 53 → AreWritable (parts_of (map pair (pairs_from identifier parameters)))
+pairs_writable identifier [] range few = tt
+pairs_writable identifier (p ∷ parameters) range few =
+    let small : p.symbol.0 ≤ 4294967295 = All-head (λ (q : Parameter). IsInRange q.symbol) p parameters range in
+    (((lit< tt, refl), (omega (arith, small), (omega (arith, few), tt))), pairs_writable (identifier + 1) parameters (All-tail (λ (q : Parameter). IsInRange q.symbol) p parameters range) (omega (arith, few)))
 
--- a result whose parts are writable
+-- A result whose parts are writable.
 pub result_writable : (l : Lowered) → IsWritable (function l.function) → l.inner ≡ [] → All (λ i. IsWritable (identifier i)) l.identifiers → AreWritable (parts_of (map pair l.pairs)) → IsWritable (lowered l)
 unfolding lowered
 result_writable l graph none identifiers pairs = ((lit< tt, refl), (graph, (none_writable l.inner none, (all_writable identifier l.identifiers identifiers, (pairs, tt)))))

@@ -14,30 +14,31 @@ use Rattle.rl_base.specs.declared.diagnostic.Diagnostic.{Diagnostic}
 use Rattle.rl_model.specs.Rows.{IsSupported, refusals_of, stop_of}
 use Rattle.rl_model.specs.Source.{marked}
 use Rattle.rl_model.specs.Headline.{IsLowered}
-use Rattle.rl_model.specs.Units.{IsUnit, KeepsRules, pending}
+use Rattle.rl_model.specs.Units.{IsUnit, names_of, pending}
+use Rattle.rl_semantic.specs.Rules.{least_broken}
 use Rattle.rl_unit.specs.declared.run.Status.{Status}
 use Rattle.rl_unit.specs.declared.run.Status.TheVariants.{Done, Reported, Malformed, TooLarge, ReadFault, WriteFault, OutOfMemory, Usage}
 use Rattle.rl_hir.specs.declared.function.Lowered.{Lowered}
 
--- The unit is covered and keeps the rules, and no row applies to its marked function.
+-- The unit keeps the rules, its marked function is covered, and no row applies to that.
 pub record IsAccepted (u : Syntax) : Type 0 where
+  pub rules : least_broken u ≡ None
   pub covered : pending u ≡ None
-  pub rules : KeepsRules u
-  pub supported : IsSupported (marked u)
+  pub supported : IsSupported (names_of u) (marked u)
 
--- The unit is covered and keeps the rules, and a row applies to its marked function.
+-- The unit keeps the rules, its marked function is covered, and a row applies to that.
 pub record MeetsRow (u : Syntax) : Type 0 where
+  pub rules : least_broken u ≡ None
   pub covered : pending u ≡ None
-  pub rules : KeepsRules u
-  pub unsupported : IsSupported (marked u) → ⊥
+  pub unsupported : IsSupported (names_of u) (marked u) → ⊥
 
--- The unit is covered, and breaks a rule.
+-- The unit breaks a rule.
 pub record BreaksRules (u : Syntax) : Type 0 where
-  pub covered : pending u ≡ None
-  pub broken : KeepsRules u → ⊥
+  pub broken : least_broken u ≢ None
 
--- A node of the unit is not covered; the least has the id `node`.
+-- The unit keeps the rules, and a node of its marked function is not covered; the least has the id `node`.
 pub record IsUncovered (u : Syntax) : Type 0 where
+  pub rules : least_broken u ≡ None
   pub node : ℕ
   pub waits : pending u ≡ Some node
 
@@ -52,36 +53,37 @@ IsAnswer u OutOfMemory = Unit {0}
 IsAnswer u TooLarge = ⊥
 IsAnswer u Usage = ⊥
 
--- The bytes are within the limits, and each unit that they spell is covered and breaks a rule.
+-- The bytes are within the limits, and each unit that they spell breaks a rule.
 pub record IsMalformed (bytes : List ℕ) : Type 0 where
   pub within : IsTooLarge bytes → ⊥
   pub no_unit : (u : Syntax) → Spells bytes u → BreaksRules u
 
--- The bytes are within the limits, and spell a unit whose least uncovered node has the id `node`.
+-- The bytes are within the limits, and spell a unit that keeps the rules and whose marked function has the node `node` as the least
+-- that is not covered.
 pub record IsPending (bytes : List ℕ) (node : ℕ) : Type 0 where
   pub within : IsTooLarge bytes → ⊥
   pub source : Syntax
-  pub spelled : Spells bytes source
+  pub spelled : IsUnit bytes source
   pub waits : pending source ≡ Some node
 
 -- The output for a result: its text, and a line feed.
 abbrev pub output : Lowered → List ℕ
 output l = spelling (lowered l) ++ 10 ∷ []
 
--- The bytes spell a covered unit that is stopped, by the diagnostic `said`.
+-- The bytes spell a unit whose marked function is covered and is stopped, by the diagnostic `said`.
 pub record IsStopped (bytes : List ℕ) (said : Diagnostic) : Type 0 where
   pub source : Syntax
   pub spelled : IsUnit bytes source
   pub covered : pending source ≡ None
-  pub stops : stop_of (marked source) ≡ Some said
+  pub stops : stop_of (names_of source) (marked source) ≡ Some said
 
--- The bytes spell a covered unit that is not stopped and is refused, by the diagnostics `said`, at least one.
+-- The bytes spell a unit whose marked function is covered, not stopped, and refused, by the diagnostics `said`, at least one.
 pub record IsRefused (bytes : List ℕ) (said : List Diagnostic) : Type 0 where
   pub source : Syntax
   pub spelled : IsUnit bytes source
   pub covered : pending source ≡ None
-  pub goes_on : stop_of (marked source) ≡ None
-  pub names : said ≡ refusals_of (marked source)
+  pub goes_on : stop_of (names_of source) (marked source) ≡ None
+  pub names : said ≡ refusals_of (names_of source) (marked source)
   pub some : said ≢ []
 
 -- The lines of diagnostics, in order.
@@ -94,18 +96,18 @@ abbrev pub report_of : Option Diagnostic → List Diagnostic → List ℕ
 report_of (Some stop) refusals = line_of stop
 report_of None refusals = lines refusals
 
--- The report on a unit that is not covered, by the id of its least uncovered node: `Pending N`, and a line feed.
+-- The report on a unit whose marked function is not covered, by the id of the least uncovered node: `Pending N`, and a line feed.
 abbrev pub pending_line : (node : ℕ) → List ℕ
 pending_line node = codes "Pending " ++ decimal node ++ codes "\n"
 
 -- The text is the output for a result of the unit, which keeps the rules.
 pub record IsResultOf (u : Syntax) (text : List ℕ) : Type 0 where
-  pub rules : KeepsRules u
+  pub rules : least_broken u ≡ None
   pub result : Lowered
   pub is_lowered : IsLowered u result
   pub written : text ≡ output result
 
--- A node of the unit is not covered, and the text is the report of the least.
+-- A node of the marked function is not covered, and the text is the report of the least.
 pub record IsPendingReport (u : Syntax) (text : List ℕ) : Type 0 where
   pub uncovered : IsUncovered u
   pub written : text ≡ pending_line uncovered.node
@@ -113,7 +115,7 @@ pub record IsPendingReport (u : Syntax) (text : List ℕ) : Type 0 where
 -- A row applies to the unit, and the text is its report.
 pub record IsRowReport (u : Syntax) (text : List ℕ) : Type 0 where
   pub row : MeetsRow u
-  pub written : text ≡ report_of (stop_of (marked u)) (refusals_of (marked u))
+  pub written : text ≡ report_of (stop_of (names_of u) (marked u)) (refusals_of (names_of u) (marked u))
 
 -- The text is the report on the unit.
 abbrev pub IsReportOf : Syntax → List ℕ → Type 0

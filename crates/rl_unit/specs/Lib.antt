@@ -1,2 +1,4 @@
 pub mod Answers
+pub mod Functions
 pub mod Outcomes
+pub mod Rules

@@ -1,10 +1,10 @@
 -- Outcomes of units that were read, and the program's output for them.
-use Rattle.std.specs.Prelude.{ℕ, List, Option, IfSome}
+use Rattle.std.specs.Prelude.{◌≡◌, ℕ, List, Option, None, IfSome}
 use Rattle.rl_syntax.specs.Limits.{IsTooLarge}
 use Rattle.rl_syntax.specs.Syntax.{Syntax}
 use Rattle.rl_ast.specs.Units.{Spells}
 use Rattle.rl_model.specs.Headline.{IsLowered}
-use Rattle.rl_model.specs.Units.{KeepsRules}
+use Rattle.rl_semantic.specs.Rules.{least_broken}
 use Rattle.rl_unit.specs.Answers.{IsReportOf, output}
 use Rattle.rl_unit.specs.declared.run.Outcome.{Outcome}
 use Rattle.rl_unit.specs.declared.run.Outcome.TheVariants as outcomes
@@ -13,7 +13,7 @@ use Rattle.rl_unit.specs.declared.run.Status.TheVariants.{Done, Reported}
 
 -- The result of a unit, or the report on it.
 abbrev pub IsOutcome : Outcome → Syntax → Type 0
-IsOutcome (outcomes.Lowered l) u = KeepsRules u × IsLowered u l
+IsOutcome (outcomes.Lowered l) u = (least_broken u ≡ None) × IsLowered u l
 IsOutcome (outcomes.Reported text) u = IsReportOf u text.items
 
 -- The bytes spell a unit with this outcome.

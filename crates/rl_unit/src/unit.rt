@@ -1,17 +1,19 @@
 //! Units, from their bytes to their results.
 
-ghost use Rattle.std.specs.Prelude.{◌≡◌, ◌↔◌, Some, None, List, [], IfErr, IfOk, IsErrOf, MatchOption};
-ghost use Rattle.rl_syntax.specs.Syntax.{IsPlaced, outset, syntax};
-ghost use Rattle.rl_ast.specs.FunctionViews.{seen_arrow};
+ghost use Rattle.std.specs.Prelude.{◌≡◌, ◌↔◌, Some, None, List, IfErr, IfOk, IsErrOf};
+ghost use Rattle.rl_ast.specs.FunctionNodes.{seen_function_node};
 ghost use Rattle.rl_ast.specs.Marked.{first, marked_functions};
-ghost use Rattle.rl_model.specs.Headline.{LowersTo};
-ghost use Rattle.rl_model.specs.Units.{pending};
-ghost use Rattle.rl_unit.specs.Answers.{IsMalformed, IsPending, IsRefused, IsStopped};
-ghost use Rattle.rl_syntax.specs.Limits.{IsTooLarge};
-ghost use Rattle.rl_base.specs.declared.ids.NodeId.{NodeId as Id};
 ghost use Rattle.rl_base.specs.declared.diagnostic.Diagnostic.{Diagnostic};
+ghost use Rattle.rl_base.specs.declared.ids.NodeId.{NodeId as Id};
+ghost use Rattle.rl_model.specs.Headline.{LowersTo};
+ghost use Rattle.rl_semantic.specs.Rules.{least_broken};
+ghost use Rattle.rl_syntax.specs.Limits.{IsTooLarge};
+ghost use Rattle.rl_syntax.specs.Syntax.{syntax};
+ghost use Rattle.rl_unit.specs.Answers.{IsMalformed, IsPending, IsRefused, IsStopped};
+ghost use Rattle.rl_unit.specs.Functions.{IsFunctionError, IsRead, IsResultOf, IsUnitError, IsUnitResult, MayLower};
+ghost use Rattle.rl_names.specs.Names.{at_of};
+ghost use Rattle.rl_names.specs.Seen.{seen, shown};
 
-use rl_ast::function::Arrow;
 use rl_ast::function_node::FunctionNode;
 use rl_ast::read::{TreeError, read_tree};
 use rl_ast::unit::Unit;
@@ -24,23 +26,23 @@ use rl_hir::environment::Environment;
 use rl_hir::function::{Lowered, ReactFunctionType};
 use rl_lower::function::lower;
 use rl_model::covered::least_uncovered;
-use rl_scope::semantic::{RuleError, Semantic};
+use rl_names::names::FunctionNames;
+use rl_resolver::resolver::ScopeResolver;
+use rl_semantic::semantic::{RuleError, Semantic};
 use std::alloc::Global;
 use thiserror::Error;
 
-/// The cause for which bytes have no result. The first that applies is given, in this order, but for `OutOfMemory`, and for the
-/// rules: whether a unit breaks one is asked only if all of it is covered.
+/// The cause for which bytes have no result. The first that applies is given, in this order, but for `OutOfMemory`.
 #[derive(Debug, Drop, Error)]
 pub enum LowerError {
     /// The bytes pass a limit: more than 2^24 bytes, 65,536 nodes, or 256 nodes open at once. Nothing is allocated before this
     /// is decided.
     #[error("TooLarge")]
     TooLarge,
-    /// The bytes spell no unit, or one that the lowering covers and that breaks a rule: no function is marked (rule B1), or two
-    /// parameters of the marked function have one name (rule B4).
+    /// The bytes spell no unit, or one that breaks a binding rule, B1 to B9.
     #[error("Malformed")]
     Malformed,
-    /// The lowering does not cover a node of the unit: the least id of such a node.
+    /// The lowering does not cover a node of the marked function: the least id of such a node.
     #[error("Pending({})", .0.0)]
     Pending(NodeId),
     /// A stop row applies to the unit: its diagnostic. Refusals that were recorded before it are dropped.
@@ -65,18 +67,80 @@ impl From<OutOfMemory> for LowerError {
     }
 }
 
-/// The marked function of a unit that the lowering covers: an arrow function. `None` if no function is marked.
-#[tactic(auto, using(crate::proofs::Arrows::no_other_form))]
-fn marked_arrow(unit: &Unit) -> Option<Arrow<'_>>
-    requires placed { IsPlaced outset (syntax unit.now.tree) }
-    requires covered { pending (syntax unit.now.tree) ≡ None }
-    ensures { MatchOption result (marked_functions (syntax unit.now.tree) ≡ []) (λ arrow. first (marked_functions (syntax unit.now.tree)) ≡ Some (seen_arrow arrow)) }
+impl From<RuleError> for LowerError {
+    ghost use Rattle.rl_unit.specs.Rules.{IsOfRule};
+
+    ghost from_gives = { IsOfRule };
+
+    fn from(e: RuleError) -> LowerError {
+        match e {
+            RuleError::Malformed(_) => LowerError::Malformed,
+            RuleError::OutOfMemory => LowerError::OutOfMemory,
+        }
+    }
+}
+
+/// The marked function of a unit that keeps the binding rules.
+#[tactic(auto, using(crate::proofs::Marked::none_breaks))]
+fn function_of(unit: &Unit) -> FunctionNode<'_>
+    requires rules { least_broken (syntax unit.now.tree) ≡ None }
+    ensures { first (marked_functions (syntax unit.now.tree)) ≡ Some (seen_function_node result) }
 {
     match unit.marked_function() {
-        Some(FunctionNode::Arrow(arrow)) => Some(arrow),
-        Some(FunctionNode::Function(_)) => unreachable!(),
-        None => None,
+        Some(function) => function,
+        None => unreachable!(),
     }
+}
+
+/// Lowers a function under the names of its unit.
+fn lower_function(
+    alloc: Global,
+    names: &FunctionNames<'_>,
+    function: FunctionNode<'_>,
+) -> Result<Lowered, LowerError>
+    requires may { MayLower (seen names.now) (seen_function_node function) }
+    ensures lowered { IfOk result (λ l. IsResultOf (seen names.now) (seen_function_node function.entry) l) }
+    ensures error { IfErr result (λ e. IsFunctionError (seen names.now) (seen_function_node function.entry) e) }
+{
+    let mut env = Environment::new(alloc, ReactFunctionType::Other);
+    let lowered = match lower(alloc, function, names, &mut env) {
+        Ok(lowered) => lowered,
+        Err(Stop::Diagnostic(diagnostic)) => return Err(LowerError::Stopped(diagnostic)),
+        Err(Stop::OutOfMemory) => return Err(LowerError::OutOfMemory),
+    };
+    if !env.diagnostics.is_empty() {
+        return Err(LowerError::Refused(env.diagnostics));
+    }
+    Ok(env.into_lowered(lowered))
+}
+
+/// Lowers a function under the names that semantic tables show.
+fn lower_in(
+    alloc: Global,
+    semantic: &Semantic<'_>,
+    function: FunctionNode<'_>,
+) -> Result<Lowered, LowerError>
+    requires may { MayLower (shown semantic.now (at_of (seen_function_node function))) (seen_function_node function) }
+    ensures lowered { IfOk result (λ l. IsResultOf (shown semantic.now (at_of (seen_function_node function.entry))) (seen_function_node function.entry) l) }
+    ensures error { IfErr result (λ e. IsFunctionError (shown semantic.now (at_of (seen_function_node function.entry))) (seen_function_node function.entry) e) }
+{
+    let resolver = ScopeResolver::new(alloc, semantic)?;
+    let names = FunctionNames::of(&resolver, function);
+    lower_function(alloc, &names, function)
+}
+
+/// Lowers the marked function of a unit that was read.
+fn lower_tree(alloc: Global, unit: &Unit) -> Result<Lowered, LowerError>
+    requires read { IsRead (syntax unit.now.tree) }
+    ensures lowered { IfOk result (λ l. IsUnitResult (syntax unit.now.tree) l) }
+    ensures error { IfErr result (λ e. IsUnitError (syntax unit.now.tree) e) }
+{
+    let semantic = Semantic::of(alloc, unit)?;
+    let function = function_of(unit);
+    if let Some(node) = least_uncovered(function) {
+        return Err(LowerError::Pending(node));
+    }
+    lower_in(alloc, &semantic, function)
 }
 
 /// Lowers the marked function of the unit that `bytes`, all of them, spell (`lower` of the original, with its parser and its
@@ -89,31 +153,10 @@ pub fn lower_unit(alloc: Global, bytes: &[u8]) -> Result<Lowered, LowerError>
     ensures too_large { IsErrOf result LowerError.TooLarge ↔ IsTooLarge bytes.now }
     ensures malformed { IsErrOf result LowerError.Malformed → IsMalformed bytes.now }
 {
-    let unit = match read_tree(alloc, bytes) {
-        Ok(unit) => unit,
-        Err(TreeError::TooLarge) => return Err(LowerError::TooLarge),
-        Err(TreeError::Malformed) => return Err(LowerError::Malformed),
-        Err(TreeError::OutOfMemory) => return Err(LowerError::OutOfMemory),
-    };
-    if let Some(node) = least_uncovered(&unit) {
-        return Err(LowerError::Pending(node));
+    match read_tree(alloc, bytes) {
+        Ok(unit) => lower_tree(alloc, &unit),
+        Err(TreeError::TooLarge) => Err(LowerError::TooLarge),
+        Err(TreeError::Malformed) => Err(LowerError::Malformed),
+        Err(TreeError::OutOfMemory) => Err(LowerError::OutOfMemory),
     }
-    let Some(arrow) = marked_arrow(&unit) else {
-        return Err(LowerError::Malformed);
-    };
-    let semantic = match Semantic::of(alloc, arrow) {
-        Ok(semantic) => semantic,
-        Err(RuleError::Malformed(_)) => return Err(LowerError::Malformed),
-        Err(RuleError::OutOfMemory) => return Err(LowerError::OutOfMemory),
-    };
-    let mut env = Environment::new(alloc, ReactFunctionType::Other);
-    let function = match lower(alloc, arrow, &semantic, &mut env) {
-        Ok(function) => function,
-        Err(Stop::Diagnostic(diagnostic)) => return Err(LowerError::Stopped(diagnostic)),
-        Err(Stop::OutOfMemory) => return Err(LowerError::OutOfMemory),
-    };
-    if !env.diagnostics.is_empty() {
-        return Err(LowerError::Refused(env.diagnostics));
-    }
-    Ok(env.into_lowered(function))
 }

@@ -1,4 +1,4 @@
-//! Bytes that spell no unit.
+//! Bytes that spell no unit, and units that break a binding rule.
 
 use super::{UNIT, check, check_body, check_function};
 use rl_unit::run::Status;
@@ -68,6 +68,20 @@ fn refuses_two_parameters_of_one_name(rt: HostRuntime) -> Result<(), Fail> {
     let statements = "(return (num \"1.5\"))";
     for names in rows {
         check_function(&rt, alloc, names, statements, Status::Malformed, "")?;
+    }
+    Ok(())
+}
+
+#[test]
+fn refuses_what_breaks_a_rule_before_what_waits(rt: HostRuntime) -> Result<(), Fail> {
+    let alloc = rt.alloc();
+    for unit in [
+        "(unit [] (program [(expr (arrow y n (params [] -) (this))) (expr (arrow y n (params [] -) (this)))]))",
+        "(unit [] (program [(fundecl y n n (bind \"f\" -) (params [] -) -)]))",
+        "(unit [] (program [(classdecl (bind \"a\" -) - []) (classdecl (bind \"a\" -) - []) (expr (arrow y n (params [] -) (this)))]))",
+        "(unit [] (program [(expr (call y (id \"f\") [])) (expr (arrow y n (params [] -) (this)))]))",
+    ] {
+        check(&rt, alloc, unit.as_bytes(), Status::Malformed, "")?;
     }
     Ok(())
 }

@@ -5,6 +5,7 @@ use Rattle.rl_hir.specs.Instructions.{argument_shape}
 use Rattle.rl_builder.specs.Builder.{State, state_of}
 use Rattle.rl_model.specs.Covered.{AreCovered}
 use Rattle.rl_model.specs.Source.{shape_of}
+use Rattle.rl_names.specs.Seen.{seen}
 use Rattle.rl_lower.specs.Lowering.{LowersExpressions}
 use Rattle.rl_lower.proofs.Answering.{ok_given, ok_so, parsed_some, parsed_none}
 use Rattle.rl_lower.proofs.Arguments.{identifier_in, identifiers_more, shape_more, values_in}
@@ -163,7 +164,7 @@ lower_arguments-arguments-preserved t c =
       lowers = λ new more l.
           subst (LowersExpressions _ _ _ new) (identifiers_more c.arguments.given _ place more c.in_ok-push.ensures.ok)
           (loop.lowers new (place.identifier.0 ∷ more)
-          (subst (λ (es : Pieces). LowersExpressions c.args.semantic.now.symbols es now new (place.identifier.0 ∷ more))
+          (subst (λ (es : Pieces). LowersExpressions (seen c.args.names.now) es now new (place.identifier.0 ∷ more))
           (sym split) (next_given _ _ rest _ _ new _ more lowered l)));
       sound = arguments_more _ _ _ _ _ c.arguments.given _ place (λ small. (first_small _ _ _ split (loop.small small)).0)
           c.in_ok-push.ensures.ok loop.sound c.in_ok-place.ensures.sound;
@@ -179,7 +180,7 @@ lower_arguments-returns-clause-lowered t c =
       identifiers = map identifier_in given;
       lowers = subst (LowersExpressions _ _ _ now) (append-nil (map identifier_in given))
           (loop.lowers now []
-          (subst (λ (es : Pieces). LowersExpressions c.args.semantic.now.symbols es now now []) (sym done) (none_given _ now)));
+          (subst (λ (es : Pieces). LowersExpressions (seen c.args.names.now) es now now []) (sym done) (none_given _ now)));
       shape = sym (append-nil (map argument_shape given))
           ∙ ap (λ (es : Pieces). map argument_shape given ++ shape_of es) (sym done) ∙ loop.shape;
       places = refl;

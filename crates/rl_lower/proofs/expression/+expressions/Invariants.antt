@@ -6,6 +6,7 @@ use Rattle.rl_hir.specs.Instructions.{argument_shape}
 use Rattle.rl_builder.specs.Builder.{State, state_of}
 use Rattle.rl_model.specs.Covered.{AreCovered}
 use Rattle.rl_model.specs.Source.{shape_of}
+use Rattle.rl_names.specs.Seen.{seen}
 use Rattle.rl_lower.specs.Lowering.{HasRoom, LowersExpressions}
 use Rattle.rl_lower.specs.Named.{IsNamed}
 use Rattle.rl_lower.specs.Sound.{AreSmallTrees, SoundArguments}
@@ -30,15 +31,15 @@ decreases-lower_arguments-arguments l = size_of (shown l.left.trees.now)
 abbrev pub invariant-lower_arguments-arguments : goal.invariant-lower_arguments-arguments
 invariant-lower_arguments-arguments l = record {
   same_reference : l.builder.env.ghost_name ≡ l.initial.builder.env.ghost_name;
-  names : IsNamed l.semantic.symbols (state_of l.builder.env.now l.builder.work);
+  names : IsNamed (seen l.names) (state_of l.builder.env.now l.builder.work);
   covered : AreCovered (shown l.left.trees.now);
   room : HasRoom (state_of l.builder.env.now l.builder.work) (4 * nodes_of (shown l.left.trees.now));
   fewer : nodes_of (shown l.left.trees.now) ≤ nodes_of (shown l.arguments.trees.now);
   small : AreSmallTrees (shown l.arguments.trees.now) → AreSmallTrees (shown l.left.trees.now);
   shape : map argument_shape l.given ++ shape_of (shown l.left.trees.now) ≡ shape_of (shown l.arguments.trees.now);
   lowers : (new : State) (more : List ℕ)
-      → LowersExpressions l.semantic.symbols (shown l.left.trees.now) (state_of l.builder.env.now l.builder.work) new more
-      → LowersExpressions l.semantic.symbols (shown l.arguments.trees.now)
+      → LowersExpressions (seen l.names) (shown l.left.trees.now) (state_of l.builder.env.now l.builder.work) new more
+      → LowersExpressions (seen l.names) (shown l.arguments.trees.now)
       (state_of l.initial.builder.env.now l.initial.builder.work) new (map identifier_in l.given ++ more);
   sound : SoundArguments (shown l.arguments.trees.now) (state_of l.initial.builder.env.now l.initial.builder.work)
       (state_of l.builder.env.now l.builder.work) l.given;

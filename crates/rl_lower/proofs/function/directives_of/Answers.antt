@@ -1,4 +1,5 @@
-use Rattle.std.proofs.Common.{All, map, subst, sym, ◌∙◌}
+use Rattle.std.proofs.Common.{All, map, ap, subst, sym, ◌∙◌}
+use Rattle.rl_ast.specs.FunctionViews.{seen_arrow_body}
 use Rattle.std.specs.Str.{IsUtf8}
 use Rattle.std.proofs.lemmas.List.Elements.{All-nil, All-cons, All-same}
 use Rattle.rl_syntax.specs.Syntax.{Said, Pieces, Then, pieces_of, syntax}
@@ -16,5 +17,5 @@ returns-in-Body-clause-texts c =
     let texts : Pieces = pieces_of (map syntax c.function_body_view.result.directives.trees.now) in
     ok_so c.copy_texts.result c.copy_texts.ensures.copied
     (λ directives is small.
-    let opened = subst IsSmallTree (sym (c.function_body_view.ensures ∙ c.in-Body.ensures)) small in
+    let opened = subst IsSmallTree (ap seen_arrow_body c.in-Body.is ∙ sym c.function_body_view.ensures) small in
     All-same IsUtf8 directives (texts_in texts) is (texts_utf8 texts (opened.0.1.0, opened.1.1.0)))

@@ -2,6 +2,6 @@ use Rattle.std.proofs.Common.{◌≡◌, codes, drop}
 use Rattle.rl_model.specs.Rows.{first_named, is_text}
 use Rattle.rl_lower.proofs.function.find_this.Given as goal
 
--- the rest is searched
-abbrev pub invariant-loop-symbol : goal.invariant-loop-symbol
-invariant-loop-symbol l = first_named (λ name. is_text (codes "this") name) l.symbols ≡ first_named (λ name. is_text (codes "this") name) (drop l.symbol-index l.symbols)
+-- The rest is searched.
+abbrev pub invariant-loop-parameter : goal.invariant-loop-parameter
+invariant-loop-parameter l = first_named (λ name. is_text (codes "this") name) l.parameters ≡ first_named (λ name. is_text (codes "this") name) (drop l.parameter-index l.parameters)

@@ -1,20 +1,34 @@
-use Rattle.std.proofs.Common.{None, Some, false, ap, ◌∙◌, refl}
+use Rattle.std.proofs.Common.{◌≡◌, ◌++◌, Some, List, ap, sym, ◌∙◌, refl, subst, length}
+use Rattle.rl_ast.specs.FunctionNodes.{seen_function_node}
+use Rattle.rl_ast.specs.declared.function_node.FunctionNode.{FunctionNode}
+use Rattle.rl_ast.specs.declared.function_node.FunctionNode.TheVariants as function_node
+use Rattle.rl_base.specs.declared.span.Span.{Span}
 use Rattle.rl_hir.specs.declared.environment.Environment.{Environment}
 use Rattle.rl_hir.specs.declared.function.HirFunction.{HirFunction}
 use Rattle.rl_lower.proofs.FunctionGraphs.{graph_closed, identifiers_fit, types_fit, lower_bounded, lower_never_stuck, lower_fn_type, lower_functions, lower_held, lower_identifiers, lower_pairs, lower_refused, lower_room, lower_same_runs}
-use Rattle.rl_lower.proofs.FunctionTrees.{function_form}
+use Rattle.rl_lower.proofs.FunctionTrees.{IsFunction, function_form}
 use Rattle.rl_lower.proofs.WellFormed.{graph_linked, graph_numbered}
 use Rattle.rl_lower.proofs.SoundGraphs.{function_identifiers, function_listed, function_places}
+use Rattle.rl_model.specs.Covered.{IsCoveredFunction}
+use Rattle.rl_model.specs.Fields.{AddsUnnamed, known_from, pairs_from}
+use Rattle.rl_names.specs.Functions.{body_in}
+use Rattle.rl_names.specs.Locals.{AreApart}
+use Rattle.rl_names.specs.Names.{at_of}
+use Rattle.rl_names.specs.Seen.{seen}
+use Rattle.rl_names.specs.declared.parameters.Parameter.{Parameter}
+use Rattle.rl_syntax.specs.Syntax.{Syntax, span_of}
+use Rattle.rl_syntax.specs.declared.numbered.At.{At}
+use Rattle.rl_lower.proofs.function.lower.Goals.{After-drop-parameters-inside-2}
 use Rattle.rl_lower.proofs.function.lower.Goals as goal
 
 -- The function that is returned.
-abbrev lowered : (c : goal.After-new) → HirFunction
+abbrev lowered : (c : After-drop-parameters-inside-2) → HirFunction
 lowered c = record {
-  span = Some c.args.function.at.span;
-  name = None;
+  span = Some c.parts_of-parts.result.at.span;
+  name = c.in_ok-own_name.field-0;
   fn_type = c.create_temporary_place.new.env.fn_type;
-  generator = false;
-  is_async = c.args.function.is_async;
+  generator = c.parts_of-parts.result.generator;
+  is_async = c.parts_of-parts.result.is_async;
   directives = c.in_ok-directives_of.field-0;
   params = c.in_ok-graph.graph.params;
   context = c.new.result;
@@ -23,74 +37,88 @@ lowered c = record {
   instructions = c.in_ok-graph.graph.built.instructions;
 }
 
+whole_form : (f : FunctionNode) (body : Syntax) → IsCoveredFunction (seen_function_node f) → body ≡ body_in (seen_function_node f) → IsFunction (seen_function_node f) body
+whole_form f body covered is = subst (IsFunction (seen_function_node f)) (sym is) (function_form f covered)
+
+are_apart : (ps qs : List Parameter) → ps ≡ qs → AreApart qs → AreApart ps
+are_apart ps qs is apart = subst AreApart (sym is) apart
+
+span_shown : (f : FunctionNode) → (at_of (seen_function_node f)).span ≡ span_of (seen_function_node f)
+span_shown (function_node.Function f) = refl
+span_shown (function_node.Arrow f) = refl
+
+span_is : (f : FunctionNode) (at : At) → at ≡ at_of (seen_function_node f) → at.span ≡ span_of (seen_function_node f)
+span_is f at is = ap (λ (a : At). a.span) is ∙ span_shown f
+
 pub lower_graph-requires-clause-room : goal.lower_graph-requires-clause-room
 lower_graph-requires-clause-room c =
-    lower_room _ _ _ _ (function_form c.args.function c.requires.covered) c.requires.symbols c.requires.room
+    lower_room _ _ (seen c.args.names.now) _ _ (whole_form c.args.function _ c.requires.covered c.parts_of-parts.ensures.body) (c.as_slice-2.ensures ∙ c.in_ok-parameters.ensures) c.requires.room
 
 pub create_temporary_place-requires-clause-identifiers : goal.create_temporary_place-requires-clause-identifiers
 create_temporary_place-requires-clause-identifiers c =
-    identifiers_fit _ _ _ _ _ _ c.in_ok-graph.ensures.graph c.requires.distinct
-    (lower_room _ _ _ _ (function_form c.args.function c.requires.covered) c.requires.symbols c.requires.room)
+    identifiers_fit _ _ _ _ _ _ _ c.in_ok-graph.ensures.graph (are_apart _ _ (c.as_slice-2.ensures ∙ c.in_ok-parameters.ensures) c.requires.locals.apart)
+    (lower_room _ _ (seen c.args.names.now) _ _ (whole_form c.args.function _ c.requires.covered c.parts_of-parts.ensures.body) (c.as_slice-2.ensures ∙ c.in_ok-parameters.ensures) c.requires.room)
 
 pub create_temporary_place-requires-clause-types : goal.create_temporary_place-requires-clause-types
 create_temporary_place-requires-clause-types c =
-    types_fit _ _ _ _ _ _ c.in_ok-graph.ensures.graph c.requires.distinct
-    (lower_room _ _ _ _ (function_form c.args.function c.requires.covered) c.requires.symbols c.requires.room)
+    types_fit _ _ _ _ _ _ _ c.in_ok-graph.ensures.graph (are_apart _ _ (c.as_slice-2.ensures ∙ c.in_ok-parameters.ensures) c.requires.locals.apart)
+    (lower_room _ _ (seen c.args.names.now) _ _ (whole_form c.args.function _ c.requires.covered c.parts_of-parts.ensures.body) (c.as_slice-2.ensures ∙ c.in_ok-parameters.ensures) c.requires.room)
 
 pub returns-clause-refused : goal.returns-clause-refused
 returns-clause-refused c =
     ap (λ (e : Environment). e.diagnostics) c.in_ok-returns.ensures.ok
-    ∙ lower_refused _ _ _ _ _ _ _ (function_form c.args.function c.requires.covered) c.requires.symbols c.requires.distinct
-    c.in_ok-graph.ensures.graph
+    ∙ lower_refused _ _ _ _ _ _ _ _ (whole_form c.args.function _ c.requires.covered c.parts_of-parts.ensures.body) c.requires.locals.declared (c.as_slice-2.ensures ∙ c.in_ok-parameters.ensures) (are_apart _ _ (c.as_slice-2.ensures ∙ c.in_ok-parameters.ensures) c.requires.locals.apart) c.in_ok-graph.ensures.graph
 
 pub returns-clause-closed : goal.returns-clause-closed
-returns-clause-closed c = graph_closed _ _ _ _ _ _ c.in_ok-graph.ensures.graph c.requires.distinct
+returns-clause-closed c = graph_closed _ _ _ _ _ _ _ c.in_ok-graph.ensures.graph (are_apart _ _ (c.as_slice-2.ensures ∙ c.in_ok-parameters.ensures) c.requires.locals.apart)
 
 pub returns-clause-same_runs : goal.returns-clause-same_runs
 returns-clause-same_runs c supported =
-    lower_same_runs _ _ _ _ _ _ _ (function_form c.args.function c.requires.covered) c.requires.symbols c.requires.distinct c.in_ok-graph.ensures.graph
+    lower_same_runs _ _ _ _ _ _ _ _ (whole_form c.args.function _ c.requires.covered c.parts_of-parts.ensures.body) c.requires.locals.declared (c.as_slice-2.ensures ∙ c.in_ok-parameters.ensures) (are_apart _ _ (c.as_slice-2.ensures ∙ c.in_ok-parameters.ensures) c.requires.locals.apart) c.in_ok-graph.ensures.graph
     supported (lowered c) _ refl refl refl
 
 pub returns-clause-never_stuck : goal.returns-clause-never_stuck
 returns-clause-never_stuck c supported =
-    lower_never_stuck _ _ _ _ _ _ _ (function_form c.args.function c.requires.covered) c.requires.symbols c.requires.distinct c.in_ok-graph.ensures.graph
+    lower_never_stuck _ _ _ _ _ _ _ _ (whole_form c.args.function _ c.requires.covered c.parts_of-parts.ensures.body) c.requires.locals.declared (c.as_slice-2.ensures ∙ c.in_ok-parameters.ensures) (are_apart _ _ (c.as_slice-2.ensures ∙ c.in_ok-parameters.ensures) c.requires.locals.apart) c.in_ok-graph.ensures.graph
     supported (lowered c) _ refl refl refl
 
 pub returns-clause-bounded : goal.returns-clause-bounded
 returns-clause-bounded c =
-    lower_bounded _ _ _ _ _ _ _ (function_form c.args.function c.requires.covered) c.requires.distinct c.in_ok-graph.ensures.graph
+    lower_bounded _ _ _ _ _ _ _ _ (whole_form c.args.function _ c.requires.covered c.parts_of-parts.ensures.body) (are_apart _ _ (c.as_slice-2.ensures ∙ c.in_ok-parameters.ensures) c.requires.locals.apart) c.in_ok-graph.ensures.graph
     (lowered c) refl refl
 
 pub returns-clause-functions : goal.returns-clause-functions
 returns-clause-functions c =
     ap (λ (e : Environment). e.functions) c.in_ok-returns.ensures.ok
-    ∙ lower_functions _ _ _ _ _ _ c.requires.distinct c.in_ok-graph.ensures.graph
+    ∙ lower_functions _ _ _ _ _ _ _ (are_apart _ _ (c.as_slice-2.ensures ∙ c.in_ok-parameters.ensures) c.requires.locals.apart) c.in_ok-graph.ensures.graph
 
 pub returns-clause-fn_type : goal.returns-clause-fn_type
 returns-clause-fn_type c =
     ap (λ (e : Environment). e.fn_type) c.in_ok-returns.ensures.ok
-    ∙ lower_fn_type _ _ _ _ _ _ c.requires.distinct c.in_ok-graph.ensures.graph
+    ∙ lower_fn_type _ _ _ _ _ _ _ (are_apart _ _ (c.as_slice-2.ensures ∙ c.in_ok-parameters.ensures) c.requires.locals.apart) c.in_ok-graph.ensures.graph
 
 pub returns-clause-pairs : goal.returns-clause-pairs
 returns-clause-pairs c =
     ap (λ (e : Environment). e.pairs) c.in_ok-returns.ensures.ok
-    ∙ lower_pairs _ _ _ _ _ _ c.requires.distinct c.in_ok-graph.ensures.graph
+    ∙ lower_pairs _ _ _ _ _ _ _ (are_apart _ _ (c.as_slice-2.ensures ∙ c.in_ok-parameters.ensures) c.requires.locals.apart) c.in_ok-graph.ensures.graph
+    ∙ ap (λ (l : List Parameter). c.args.env.now.pairs ++ pairs_from (length c.args.env.now.identifiers) l) (c.as_slice-2.ensures ∙ c.in_ok-parameters.ensures)
 
 pub returns-clause-identifiers : goal.returns-clause-identifiers
 returns-clause-identifiers c =
-    lower_identifiers _ _ _ _ c.create_temporary_place.new.env _ _ _ c.requires.distinct c.in_ok-graph.ensures.graph
-    (ap (λ (e : Environment). e.identifiers) c.in_ok-returns.ensures.ok) refl
+    subst (λ (l : List Parameter). AddsUnnamed (c.args.env.now.identifiers ++ known_from c.args.env.now.next_type l) c.create_temporary_place.new.env.identifiers) (c.as_slice-2.ensures ∙ c.in_ok-parameters.ensures)
+    (lower_identifiers _ _ _ _ _ c.create_temporary_place.new.env _ _ _ (are_apart _ _ (c.as_slice-2.ensures ∙ c.in_ok-parameters.ensures) c.requires.locals.apart) c.in_ok-graph.ensures.graph
+    (ap (λ (e : Environment). e.identifiers) c.in_ok-returns.ensures.ok) refl)
 
 pub returns-clause-held : goal.returns-clause-held
 returns-clause-held c =
-    lower_held _ _ _ _ _ _ _ (function_form c.args.function c.requires.covered) c.requires.distinct c.in_ok-graph.ensures.graph
+    lower_held _ _ _ _ _ _ _ _ (whole_form c.args.function _ c.requires.covered c.parts_of-parts.ensures.body) (are_apart _ _ (c.as_slice-2.ensures ∙ c.in_ok-parameters.ensures) c.requires.locals.apart) c.in_ok-graph.ensures.graph
     (lowered c) refl refl
 
 pub returns-clause-numbered : goal.returns-clause-numbered
-returns-clause-numbered c = graph_numbered _ _ _ _ _ _ c.in_ok-graph.ensures.graph c.requires.distinct
+returns-clause-numbered c = graph_numbered _ _ _ _ _ _ _ c.in_ok-graph.ensures.graph (are_apart _ _ (c.as_slice-2.ensures ∙ c.in_ok-parameters.ensures) c.requires.locals.apart)
 
 pub returns-clause-linked : goal.returns-clause-linked
-returns-clause-linked c = graph_linked _ _ _ _ _ _ c.in_ok-graph.ensures.graph c.requires.distinct _ refl refl
+returns-clause-linked c = graph_linked _ _ _ _ _ _ _ c.in_ok-graph.ensures.graph (are_apart _ _ (c.as_slice-2.ensures ∙ c.in_ok-parameters.ensures) c.requires.locals.apart) _ refl refl
 
 pub returns-clause-places : goal.returns-clause-places
 returns-clause-places c =
@@ -100,13 +128,13 @@ returns-clause-places c =
 
 pub returns-clause-writable : goal.returns-clause-writable
 returns-clause-writable c =
-    function_listed _ _ _ _ _ _ (lowered c)
-    (function_form c.args.function c.requires.covered) c.requires.symbols c.in_ok-graph.ensures.sound
-    refl refl c.in_ok-directives_of.ensures.texts refl refl
+    function_listed (seen c.args.names.now) _ _ _ _ _ _ (lowered c) (whole_form c.args.function _ c.requires.covered c.parts_of-parts.ensures.body) (c.as_slice-2.ensures ∙ c.in_ok-parameters.ensures) c.in_ok-graph.ensures.sound
+    (ap (λ (s : Span). Some s) (span_is c.args.function _ c.parts_of-parts.ensures.at)) (c.in_ok-own_name.ensures ∙ c.parts_of-parts.ensures.name)
+    c.in_ok-directives_of.ensures.texts refl refl
     c.in_ok-graph.ensures.graph.places c.new.ensures c.in_ok-returns.ensures.place
 
 pub returns-clause-known : goal.returns-clause-known
 returns-clause-known c =
-    function_identifiers _ _ c.args.function.at.span _ _ _ c.create_temporary_place.new.env _
-    (function_form c.args.function c.requires.covered) refl
-    c.requires.symbols c.in_ok-graph.ensures.sound (ap (λ (e : Environment). e.identifiers) c.in_ok-returns.ensures.ok)
+    function_identifiers (seen c.args.names.now) _ _ c.parts_of-parts.result.at.span _ _ _ c.create_temporary_place.new.env _ (whole_form c.args.function _ c.requires.covered c.parts_of-parts.ensures.body)
+    (span_is c.args.function _ c.parts_of-parts.ensures.at)
+    (c.as_slice-2.ensures ∙ c.in_ok-parameters.ensures) c.in_ok-graph.ensures.sound (ap (λ (e : Environment). e.identifiers) c.in_ok-returns.ensures.ok)

@@ -1,7 +1,9 @@
-use Rattle.std.proofs.Common.{None, map, sym, subst, ◌∙◌}
+use Rattle.std.proofs.Common.{None, map, ap, sym, subst, ◌∙◌}
+use Rattle.rl_ast.specs.FunctionViews.{seen_arrow_body}
 use Rattle.rl_syntax.specs.Syntax.{Listed, Pieces, pieces_of, syntax}
 use Rattle.rl_hir.specs.declared.function.BlockKind.TheVariants as kinds
 use Rattle.rl_builder.specs.Builder.{State}
+use Rattle.rl_names.specs.Seen.{seen}
 use Rattle.rl_lower.specs.Named.{IsNamed}
 use Rattle.rl_lower.proofs.Answering.{done_so}
 use Rattle.rl_lower.proofs.Bodies.{expression_body_call, statements_body_call}
@@ -11,14 +13,14 @@ use Rattle.rl_lower.proofs.function.lower_body.Goals as goal
 
 pub lower_expression-requires-clause-names : goal.lower_expression-requires-clause-names
 lower_expression-requires-clause-names c =
-    subst (λ (o : State). IsNamed c.args.semantic.now.symbols o) (sym c.reserve-fallthrough.ensures.state)
-    ((keeps_reserved _).named c.args.semantic.now.symbols c.requires.names)
+    subst (λ (o : State). IsNamed (seen c.args.names.now) o) (sym c.reserve-fallthrough.ensures.state)
+    ((keeps_reserved _).named (seen c.args.names.now) c.requires.names)
 
 pub returns-in_ok-value-in-Expression-clause-lowered : goal.returns-in_ok-value-in-Expression-clause-lowered
 returns-in_ok-value-in-Expression-clause-lowered c =
     done_so c.terminate_with_continuation.result c.terminate_with_continuation.ensures.state
     (λ moved. expression_body_call _ _ _ _ _ _ _ c.in_ok-value-in-Expression.value _ kinds.Block None
-    (sym c.in-Expression.ensures) c.in-Expression.expression.fit
+    (ap seen_arrow_body c.in-Expression.is) c.in-Expression.expression.fit
     c.reserve-fallthrough.ensures.state c.reserve-fallthrough.ensures.block c.in_ok-value-in-Expression.ensures.lowered moved)
 
 pub returns-in-Body-clause-lowered : goal.returns-in-Body-clause-lowered
@@ -27,13 +29,13 @@ returns-in-Body-clause-lowered c =
     let statements : Pieces = pieces_of (map syntax c.function_body_view-body.result.statements.trees.now) in
     done_so c.lower_statements.result c.lower_statements.ensures.lowered
     (λ l. statements_body_call _ _ c.function_body_view-body.result.at directives statements _ _
-    c.function_body_view-body.result.directives.fit (sym (c.function_body_view-body.ensures ∙ c.in-Body.ensures)) l)
+    c.function_body_view-body.result.directives.fit (ap seen_arrow_body c.in-Body.is ∙ sym c.function_body_view-body.ensures) l)
 
 pub returns-in_ok-value-in-Expression-clause-sound : goal.returns-in_ok-value-in-Expression-clause-sound
 returns-in_ok-value-in-Expression-clause-sound c =
     done_so c.terminate_with_continuation.result c.terminate_with_continuation.ensures.state
     (λ moved. expression_body_sound _ _ _ _ _ _ c.in_ok-value-in-Expression.value _ kinds.Block
-    (sym c.in-Expression.ensures) c.reserve-fallthrough.ensures.state
+    (ap seen_arrow_body c.in-Expression.is) c.reserve-fallthrough.ensures.state
     c.reserve-fallthrough.ensures.block c.in_ok-value-in-Expression.ensures.sound moved)
 
 pub returns-in-Body-clause-sound : goal.returns-in-Body-clause-sound
@@ -41,4 +43,4 @@ returns-in-Body-clause-sound c =
     let directives : Pieces = pieces_of (map syntax c.function_body_view-body.result.directives.trees.now) in
     let statements : Pieces = pieces_of (map syntax c.function_body_view-body.result.statements.trees.now) in
     done_so c.lower_statements.result c.lower_statements.ensures.sound
-    (λ sound. statements_body_sound _ (Listed directives) c.function_body_view-body.result.at statements _ _ (sym (c.function_body_view-body.ensures ∙ c.in-Body.ensures)) sound)
+    (λ sound. statements_body_sound _ (Listed directives) c.function_body_view-body.result.at statements _ _ (ap seen_arrow_body c.in-Body.is ∙ sym c.function_body_view-body.ensures) sound)

@@ -1,5 +1,7 @@
 use Rattle.std.proofs.Common.{rules, ◌+◌, ◌*◌, length, ap, sym, ◌∙◌, subst, arith}
-use Rattle.rl_syntax.specs.Syntax.{nodes, syntax}
+use Rattle.rl_syntax.specs.Syntax.{nodes}
+use Rattle.rl_ast.specs.FunctionViews.{seen_arrow_body}
+use Rattle.rl_names.specs.Seen.{seen}
 use Rattle.rl_hir.specs.declared.function.BlockKind.TheVariants as kinds
 use Rattle.rl_builder.specs.Builder.{State, started}
 use Rattle.rl_lower.specs.Named.{IsNamed}
@@ -18,57 +20,57 @@ pub lower_parameters-requires-clause-nothing : goal.lower_parameters-requires-cl
 lower_parameters-requires-clause-nothing c = ap (λ (s : State). s.bindings) c.new-builder.ensures.state
 
 pub lower_parameters-requires-clause-room : goal.lower_parameters-requires-clause-room
-lower_parameters-requires-clause-room c = subst (λ (s : State). HasRoom s (length c.args.semantic.now.symbols)) (sym c.new-builder.ensures.state) (room_less _ _ (length c.args.semantic.now.symbols) (omega arith) c.requires.room)
+lower_parameters-requires-clause-room c = subst (λ (s : State). HasRoom s (length c.args.parameters.now)) (sym c.new-builder.ensures.state) (room_less _ _ (length c.args.parameters.now) (omega arith) c.requires.room)
 
 pub lower_body-requires-clause-names : goal.lower_body-requires-clause-names
 lower_body-requires-clause-names c =
-    let begun = begun_call _ _ _ _ c.requires.distinct c.new-builder.ensures.state c.in_ok-params.ensures.state in
-    subst (λ (s : State). IsNamed c.args.semantic.now.symbols s) (sym begun)
-    (parameters_named (started c.args.env.now kinds.Block) c.args.semantic.now.symbols (omega (arith, c.requires.room.types)))
+    let begun = begun_call _ _ _ _ c.requires.apart c.new-builder.ensures.state c.in_ok-params.ensures.state in
+    subst (λ (s : State). IsNamed (seen c.args.names.now) s) (sym begun)
+    (parameters_named (started c.args.env.now kinds.Block) (seen c.args.names.now) c.args.parameters.now c.requires.texts c.requires.apart c.requires.locals)
 
 pub lower_body-requires-clause-room : goal.lower_body-requires-clause-room
 lower_body-requires-clause-room c =
-    let begun = begun_call _ _ _ _ c.requires.distinct c.new-builder.ensures.state c.in_ok-params.ensures.state in
-    let count = nodes (syntax c.args.body.tree.now) in
+    let begun = begun_call _ _ _ _ c.requires.apart c.new-builder.ensures.state c.in_ok-params.ensures.state in
+    let count = nodes (seen_arrow_body c.args.body) in
     subst (λ (s : State). HasRoom s (4 * (count + 1))) (sym begun)
     (room_less _ (4 * (count + 2)) (4 * (count + 1)) (omega arith) (begun_room _ _ (4 * (count + 2)) c.requires.room))
 
 pub lower_value_to_temporary-requires : goal.lower_value_to_temporary-requires
 lower_value_to_temporary-requires c =
-    let begun = begun_call _ _ _ _ c.requires.distinct c.new-builder.ensures.state c.in_ok-params.ensures.state in
-    let count = nodes (syntax c.args.body.tree.now) in
+    let begun = begun_call _ _ _ _ c.requires.apart c.new-builder.ensures.state c.in_ok-params.ensures.state in
+    let count = nodes (seen_arrow_body c.args.body) in
     room_behind _ _ (4 * (count + 1)) 1 (4 * (count + 2)) (omega arith) c.in_ok-lower_body.ensures.lowered.keeps.uses
     (subst (λ (s : State). HasRoom s (4 * (count + 2))) (sym begun) (begun_room _ _ (4 * (count + 2)) c.requires.room))
 
 pub build-requires-clause-listed : goal.build-requires-clause-listed
 build-requires-clause-listed c =
-    let begun = begun_call _ _ _ _ c.requires.distinct c.new-builder.ensures.state c.in_ok-params.ensures.state in
-    listed_call c.args.semantic.now.symbols _ (syntax c.args.body.tree.now) _ _ _ _
-    (subst IsFresh (sym begun) (begun_fresh c.args.env.now c.args.semantic.now.symbols))
+    let begun = begun_call _ _ _ _ c.requires.apart c.new-builder.ensures.state c.in_ok-params.ensures.state in
+    listed_call (seen c.args.names.now) _ (seen_arrow_body c.args.body) _ _ _ _
+    (subst IsFresh (sym begun) (begun_fresh c.args.env.now c.args.parameters.now))
     c.in_ok-lower_body.ensures.lowered c.in_ok-value.ensures.state c.in_ok-value.ensures.place c.in_ok-terminate.ensures.state
 
 pub build-requires-clause-room : goal.build-requires-clause-room
 build-requires-clause-room c =
-    let begun = begun_call _ _ _ _ c.requires.distinct c.new-builder.ensures.state c.in_ok-params.ensures.state in
-    let count = nodes (syntax c.args.body.tree.now) in
-    orders_call c.args.semantic.now.symbols _ (syntax c.args.body.tree.now) _ _ _ _
-    (subst IsFresh (sym begun) (begun_fresh c.args.env.now c.args.semantic.now.symbols))
+    let begun = begun_call _ _ _ _ c.requires.apart c.new-builder.ensures.state c.in_ok-params.ensures.state in
+    let count = nodes (seen_arrow_body c.args.body) in
+    orders_call (seen c.args.names.now) _ (seen_arrow_body c.args.body) _ _ _ _
+    (subst IsFresh (sym begun) (begun_fresh c.args.env.now c.args.parameters.now))
     c.in_ok-lower_body.ensures.lowered c.in_ok-value.ensures.state c.in_ok-value.ensures.place c.in_ok-terminate.ensures.state
     (subst (λ (s : State). HasRoom s (4 * (count + 2))) (sym begun) (begun_room _ _ (4 * (count + 2)) c.requires.room))
 
 pub returns-clause-graph : goal.returns-clause-graph
 returns-clause-graph c =
-    graph_call c.args.semantic.now.symbols c.args.env.now _ (syntax c.args.body.tree.now) _ _ _ _ _ c.in_ok-params.params c.in_ok-built.built
-    (c.in_ok-params.ensures.state ∙ ap (λ (s : State). with_parameters s c.args.semantic.now.symbols) c.new-builder.ensures.state)
-    (c.in_ok-params.ensures.places ∙ ap (λ (s : State). places_from (length s.env.identifiers) c.args.semantic.now.symbols) c.new-builder.ensures.state)
+    graph_call (seen c.args.names.now) c.args.parameters.now c.args.env.now _ (seen_arrow_body c.args.body) _ _ _ _ _ c.in_ok-params.params c.in_ok-built.built
+    (c.in_ok-params.ensures.state ∙ ap (λ (s : State). with_parameters s c.args.parameters.now) c.new-builder.ensures.state)
+    (c.in_ok-params.ensures.places ∙ ap (λ (s : State). places_from (length s.env.identifiers) c.args.parameters.now) c.new-builder.ensures.state)
     c.in_ok-lower_body.ensures.lowered c.in_ok-value.ensures.state c.in_ok-value.ensures.place c.in_ok-terminate.ensures.state
     c.in_ok-built.ensures.built (search rules)
 
 pub returns-clause-sound : goal.returns-clause-sound
 returns-clause-sound c =
-    graph_sound_call c.args.semantic.now.symbols (syntax c.args.body.tree.now) c.args.env.now _ _ _ _ _ _ c.in_ok-built.built
-    (begun_call _ _ _ _ c.requires.distinct c.new-builder.ensures.state c.in_ok-params.ensures.state)
+    graph_sound_call (seen c.args.names.now) c.args.parameters.now (seen_arrow_body c.args.body) c.args.env.now _ _ _ _ _ _ c.in_ok-built.built
+    (begun_call _ _ _ _ c.requires.apart c.new-builder.ensures.state c.in_ok-params.ensures.state)
     c.in_ok-lower_body.ensures.lowered c.in_ok-lower_body.ensures.sound
-    (begun_room _ _ (4 * (nodes (syntax c.args.body.tree.now) + 2)) c.requires.room)
+    (begun_room _ _ (4 * (nodes (seen_arrow_body c.args.body) + 2)) c.requires.room)
     c.in_ok-value.ensures.state c.in_ok-value.ensures.place c.in_ok-terminate.ensures.state c.in_ok-built.ensures.built
     (search rules)

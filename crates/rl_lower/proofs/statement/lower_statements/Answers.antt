@@ -2,6 +2,7 @@ use Rattle.std.proofs.Common.{◌≡◌, ◌+◌, ◌*◌, map, ap, sym, ◌∙�
 use Rattle.rl_syntax.specs.Syntax.{Syntax, Pieces, Then, pieces_of, nodes, nodes_of, syntax}
 use Rattle.rl_builder.specs.Builder.{State, state_of}
 use Rattle.rl_model.specs.Covered.{AreCovered}
+use Rattle.rl_names.specs.Seen.{seen}
 use Rattle.rl_lower.specs.Lowering.{LowersStatements}
 use Rattle.rl_lower.specs.Sound.{AreSmallTrees, IsSmallTree}
 use Rattle.rl_lower.proofs.Keeping.{room_behind}
@@ -19,13 +20,13 @@ statements-preserved c =
     let counted : nodes_of left ≡ nodes first + nodes_of rest = ap nodes_of split in
     record {
       same_reference = c.in_ok-lower_statement.ensures.same_reference ∙ c.statements.invariant.same_reference;
-      names = c.in_ok-lower_statement.ensures.lowered.keeps.named c.args.semantic.now.symbols c.statements.invariant.names;
+      names = c.in_ok-lower_statement.ensures.lowered.keeps.named (seen c.args.names.now) c.statements.invariant.names;
       covered = (subst AreCovered split c.statements.invariant.covered).1;
       room = room_behind _ _ (4 * nodes first) (4 * nodes_of rest) (4 * nodes_of left) (omega (arith, counted))
           c.in_ok-lower_statement.ensures.lowered.keeps.uses c.statements.invariant.room;
       lowers = λ new l. c.statements.invariant.lowers new
-          (subst (λ (ss : Pieces). LowersStatements c.args.semantic.now.symbols ss here new) (sym split)
-          (next_lowered c.args.semantic.now.symbols first rest _ _ new c.in_ok-lower_statement.ensures.lowered l));
+          (subst (λ (ss : Pieces). LowersStatements (seen c.args.names.now) ss here new) (sym split)
+          (next_lowered (seen c.args.names.now) first rest _ _ new c.in_ok-lower_statement.ensures.lowered l));
       small = λ all. (let these = subst AreSmallTrees split (c.statements.invariant.small all) in (these.0.1, these.1.1));
       sound = sound_then _ (IsSmallTree first) _ _ _ _ (λ all. all)
           (λ all. (let these = subst AreSmallTrees split (c.statements.invariant.small all) in (these.0.0, these.1.0)))
@@ -36,5 +37,5 @@ pub returns-clause-lowered : goal.returns-clause-lowered
 returns-clause-lowered c =
     let here : State = state_of c.statements.builder.env.now c.statements.builder.work in
     c.statements.invariant.lowers here
-    (subst (λ (ss : Pieces). LowersStatements c.args.semantic.now.symbols ss here here) (sym c.in_default.ensures)
-    (none_lowered c.args.semantic.now.symbols here))
+    (subst (λ (ss : Pieces). LowersStatements (seen c.args.names.now) ss here here) (sym c.in_default.ensures)
+    (none_lowered (seen c.args.names.now) here))

@@ -3,6 +3,7 @@ use Rattle.rl_syntax.specs.Sizes.{size_of}
 use Rattle.rl_syntax.specs.Syntax.{nodes_of, pieces_of, syntax}
 use Rattle.rl_builder.specs.Builder.{State, state_of}
 use Rattle.rl_model.specs.Covered.{AreCovered}
+use Rattle.rl_names.specs.Seen.{seen}
 use Rattle.rl_lower.specs.Lowering.{HasRoom, LowersStatements}
 use Rattle.rl_lower.specs.Named.{IsNamed}
 use Rattle.rl_lower.specs.Sound.{AreSmallTrees, StaysSound}
@@ -15,10 +16,10 @@ decreases-statements l = size_of (pieces_of (map syntax l.left.trees.now))
 abbrev pub invariant-statements : goal.invariant-statements
 invariant-statements l = record {
   same_reference : l.builder.env.ghost_name ≡ l.initial.builder.env.ghost_name;
-  names : IsNamed l.semantic.symbols (state_of l.builder.env.now l.builder.work);
+  names : IsNamed (seen l.names) (state_of l.builder.env.now l.builder.work);
   covered : AreCovered (pieces_of (map syntax l.left.trees.now));
   room : HasRoom (state_of l.builder.env.now l.builder.work) (4 * nodes_of (pieces_of (map syntax l.left.trees.now)));
-  lowers : (new : State) → LowersStatements l.semantic.symbols (pieces_of (map syntax l.left.trees.now)) (state_of l.builder.env.now l.builder.work) new → LowersStatements l.semantic.symbols (pieces_of (map syntax l.statements.trees.now)) (state_of l.initial.builder.env.now l.initial.builder.work) new;
+  lowers : (new : State) → LowersStatements (seen l.names) (pieces_of (map syntax l.left.trees.now)) (state_of l.builder.env.now l.builder.work) new → LowersStatements (seen l.names) (pieces_of (map syntax l.statements.trees.now)) (state_of l.initial.builder.env.now l.initial.builder.work) new;
   small : AreSmallTrees (pieces_of (map syntax l.statements.trees.now)) → AreSmallTrees (pieces_of (map syntax l.left.trees.now));
   sound : StaysSound (AreSmallTrees (pieces_of (map syntax l.statements.trees.now))) (state_of l.initial.builder.env.now l.initial.builder.work) (state_of l.builder.env.now l.builder.work);
 }

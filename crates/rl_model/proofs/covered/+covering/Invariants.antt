@@ -1,4 +1,4 @@
-use Rattle.std.proofs.Common.{◌≡◌, ◌≤◌, map, option_map, drop}
+use Rattle.std.proofs.Common.{◌≡◌, ◌≤◌, map, drop}
 use Rattle.rl_syntax.specs.Sizes.{size, size_of}
 use Rattle.rl_syntax.specs.Syntax.{pieces_of, syntax}
 use Rattle.rl_ast.specs.Marked.{first}
@@ -13,6 +13,6 @@ decreases-least_among l = size_of (pieces_of (map syntax l.trees.now))
 
 abbrev pub invariant-least_among-trees : goal.invariant-least_among-trees
 invariant-least_among-trees l = record {
-  same : first (uncovered_among (option_map (λ n. n.0) l.marked) (pieces_of (map syntax (drop l.tree-index l.trees)))) ≡ first (uncovered_among (option_map (λ n. n.0) l.marked) (pieces_of (map syntax l.trees)));
+  same : first (uncovered_among (pieces_of (map syntax (drop l.tree-index l.trees)))) ≡ first (uncovered_among (pieces_of (map syntax l.trees)));
   fewer : size_of (pieces_of (map syntax (drop l.tree-index l.trees))) ≤ size_of (pieces_of (map syntax l.trees));
 }

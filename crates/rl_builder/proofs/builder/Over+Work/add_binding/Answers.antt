@@ -13,7 +13,7 @@ returns-clause-state c =
     let symbol = c.args.symbol in
     let identifier = c.in_ok-identifier.identifier in
     let free = chosen work.used_names symbol.0 c.args.name.now in
-    let text : c.in_ok-free.free ≡ free = c.in_ok-free.ensures.chosen ∙ ap (chosen work.used_names symbol.0) c.as_str.ensures in
+    let text : c.in_ok-free.free ≡ free = c.in_ok-free.ensures.chosen in
     let env : c.set_name.new.self ≡ env_resolved None old free symbol.0 c.args.declaration =
     env_resolved-fresh old c.new_temporary.new.env c.add_pair.new.self c.set_name.new.self symbol identifier c.in_ok-free.free c.args.declaration c.in_ok-identifier.ensures.ok c.in_ok-identifier.ensures.id c.in_ok-add_pair.ensures.ok c.set_name.ensures
     ∙ ap (λ name. env_resolved None old name symbol.0 c.args.declaration) text in
@@ -33,5 +33,5 @@ pub returns-clause-names : goal.returns-clause-names
 returns-clause-names c agree =
     let s = state_of c.args.self.now.env.now c.args.self.now.work in
     let symbol = c.args.symbol.0 in
-    let text : c.in_ok-free.free ≡ chosen s.used_names symbol c.args.name.now = c.in_ok-free.ensures.chosen ∙ ap (chosen s.used_names symbol) c.as_str.ensures in
+    let text : c.in_ok-free.free ≡ chosen s.used_names symbol c.args.name.now = c.in_ok-free.ensures.chosen in
     subst NamesAgree (sym (returns-clause-state c)) (NamesAgree-with_binding s c.args.name.now symbol c.args.declaration (subst (IsFree s.used_names symbol) text c.in_ok-free.ensures.free) agree)

@@ -1,0 +1,74 @@
+-- The result of the marked function is that of its unit.
+use Rattle.std.proofs.Common.{◌≡◌, None, Some, ap, sym, subst, ◌∙◌}
+use Rattle.rl_ast.proofs.MarkedFunctions.{marked_fits}
+use Rattle.rl_ast.specs.FunctionNodes.{seen_function_node}
+use Rattle.rl_ast.specs.Marked.{first, marked_functions}
+use Rattle.rl_ast.specs.declared.function_node.FunctionNode.{FunctionNode}
+use Rattle.rl_base.specs.Distinct.{AreDistinct}
+use Rattle.rl_hir.specs.declared.function.Lowered.{Lowered}
+use Rattle.rl_model.proofs.Apart.{calls_apart}
+use Rattle.rl_model.proofs.PlainFunctions.{covered_plain}
+use Rattle.rl_model.specs.Covered.{IsCoveredFunction, uncovered_in}
+use Rattle.rl_model.specs.Held.{calls_in}
+use Rattle.rl_model.specs.Source.{marked}
+use Rattle.rl_names.proofs.LocalParameters.{locals_are_parameters}
+use Rattle.rl_names.proofs.UnitTexts.{unit_texts}
+use Rattle.rl_names.specs.Locals.{HasTexts, LocalsAreParameters}
+use Rattle.rl_names.specs.Names.{Names, function_names}
+use Rattle.rl_semantic.specs.Rules.{least_broken}
+use Rattle.rl_syntax.specs.Syntax.{Syntax}
+use Rattle.rl_unit.proofs.Answering.{within_bytes}
+use Rattle.rl_unit.proofs.Marked.{body_there, has_body, is_covered, marked_is}
+use Rattle.rl_unit.proofs.Room.{alone_bounded, few_nodes, unit_nodes}
+use Rattle.rl_unit.proofs.Small.{unit_small}
+use Rattle.rl_unit.specs.Functions.{IsFunctionError, IsFunctionErrorOf, IsRead, IsResultOf, IsUnitResult, MayLower}
+use Rattle.rl_unit.specs.declared.unit.LowerError.{LowerError}
+
+-- The marked function of a unit that was read may be lowered, if it has no uncovered node.
+pub may_lower : (u : Syntax) (f : FunctionNode) (names : Names) → IsRead u → least_broken u ≡ None → first (marked_functions u) ≡ Some (seen_function_node f)
+    → first (uncovered_in (seen_function_node f)) ≡ None → names ≡ function_names u (seen_function_node f) → MayLower names (seen_function_node f)
+may_lower u f names r rules found none same =
+    let tree : Syntax = seen_function_node f in
+    let covered : IsCoveredFunction tree = is_covered u tree found none in
+    let has = has_body u tree rules found in
+    let plain = covered_plain tree (marked_fits u tree found r.spells.grammar) covered in
+    record {
+      covered = covered;
+      body = body_there f covered has;
+      locals = subst (λ (n : Names). LocalsAreParameters n tree) (sym same)
+          (locals_are_parameters u tree r.spells.grammar r.spells.numbers found plain rules (unit_nodes r.bytes u r.spells r.within));
+      texts = subst HasTexts (sym same) (unit_texts u tree r.spells.spelled.writable);
+      few = few_nodes r.bytes u tree r.spells r.within found;
+      small = unit_small r.bytes u tree r.spells (within_bytes r.bytes r.within) found;
+    }
+
+-- Its result is the unit's.
+pub unit_result : (u f : Syntax) (names : Names) (l : Lowered) → IsRead u → least_broken u ≡ None → first (marked_functions u) ≡ Some f
+    → first (uncovered_in f) ≡ None → names ≡ function_names u f → IsResultOf names f l → IsUnitResult u l
+unit_result u f names l r rules found none same result =
+    let is : f ≡ marked u = marked_is u f found in
+    let whole : IsResultOf (function_names u (marked u)) (marked u) l = subst (λ (t : Syntax). IsResultOf (function_names u t) t l) is (subst (λ (n : Names). IsResultOf n f l) same result) in
+    record {
+      rules = rules;
+      lowers = record {
+        covered = ap (λ (t : Syntax). first (uncovered_in t)) (sym is) ∙ none;
+        supported = whole.supported;
+        main = whole.main;
+        inner = whole.inner;
+        identifiers = whole.identifiers;
+        apart = subst (λ (t : Syntax). AreDistinct (calls_in t)) is (calls_apart r.bytes u f r.spells found);
+        bounded = alone_bounded u f l.function found result.bounded l.inner result.inner;
+        writable = whole.writable;
+      };
+    }
+
+-- And so is the cause of its error.
+pub unit_error : (u f : Syntax) (names : Names) (e : LowerError) → least_broken u ≡ None → first (marked_functions u) ≡ Some f
+    → first (uncovered_in f) ≡ None → names ≡ function_names u f → IsFunctionError names f e → IsFunctionErrorOf u e
+unit_error u f names e rules found none same cause =
+    let is : f ≡ marked u = marked_is u f found in
+    record {
+      rules = rules;
+      covered = ap (λ (t : Syntax). first (uncovered_in t)) (sym is) ∙ none;
+      cause = subst (λ (t : Syntax). IsFunctionError (function_names u t) t e) is (subst (λ (n : Names). IsFunctionError n f e) same cause);
+    }
