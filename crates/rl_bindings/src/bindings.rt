@@ -49,8 +49,8 @@ fn any_var(events: &[Event]) -> bool
     false
 }
 
-/// True if B3 is broken by the declarations among events. Names are resolved by the lexical symbols alone, and only if a `var`
-/// declaration is among the events. On `OutOfMemory`, an allocation failed.
+/// True if B3 is broken by the declarations among events. Names are resolved by the lexical symbols alone, and only if there are
+/// such symbols and a `var` declaration. On `OutOfMemory`, an allocation failed.
 #[tactic(auto, using(crate::proofs::Passing::none_passes))]
 fn passes(alloc: Global, events: &[Event]) -> Result<bool, OutOfMemory>
     ensures { IfOk result (λ b. b ≡ list_any (is_passing (check.lexical_steps [] events.now)) (machine.resolved (check.lexical_steps [] events.now) events.now)) }
@@ -59,6 +59,9 @@ fn passes(alloc: Global, events: &[Event]) -> Result<bool, OutOfMemory>
         return Ok(false);
     }
     let lexical = lexical_of(alloc, events)?;
+    if lexical.as_slice().is_empty() {
+        return Ok(false);
+    }
     let resolved = resolve_all(alloc, &lexical, events)?;
     Ok(resolved.passing)
 }
