@@ -174,8 +174,8 @@ fn first_uncovered(function: FunctionNode<'_>) -> Option<NodeId>
     }
 }
 
-/// The least id of a node of the marked function that the lowering does not cover: its own, if it is a function expression. `None`
-/// if it covers the whole function.
+/// The least id of a node of the marked function that the lowering does not cover: its own, if it is a function expression.
+/// `None` if it covers the whole function.
 pub fn least_uncovered(function: FunctionNode<'_>) -> Option<NodeId>
     ensures first { option_map (λ n. n.0) result ≡ first (spec.uncovered_in (seen_function_node function.entry)) }
     ensures least { (from : Position) → IsPlaced from (seen_function_node function.entry) → IfSome result (λ n. All (λ id. n.0 ≤ id) (spec.uncovered_in (seen_function_node function.entry))) }

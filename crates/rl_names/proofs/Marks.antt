@@ -1,4 +1,5 @@
--- A unit that keeps rule B1 has one marked function, and that one has a body. A unit that keeps all rules keeps B1, and those on names.
+-- A unit that keeps rule B1 has one marked function, and that one has a body. A unit that keeps all rules keeps B1, and those
+-- on names.
 use Rattle.std.proofs.Common.{◌≡◌, ℕ, Bool, true, false, if◌then◌else◌, Option, Some, None, List, [], ◌∷◌, ◌++◌, map, refl, sym, ap, ◌∙◌}
 use Rattle.std.proofs.lemmas.List.{map-append}
 use Rattle.rl_ast.specs.Marked.{is_marked, marked_functions, marked_among}

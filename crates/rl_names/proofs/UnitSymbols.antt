@@ -1,4 +1,5 @@
--- The symbols of a unit that the declarations of a function's parameters have, and those that are local variables of the function.
+-- The symbols of a unit that the declarations of a function's parameters have, and those that are local variables of the
+-- function.
 use Rattle.std.proofs.Common.{◌≡◌, ◌≢◌, ℕ, ◌+◌, ◌≤◌, ◌<◌, Bool, true, false, ◌&&◌, if◌then◌else◌, nat_le, nat_lt, le-leb, lt-ltb, true≢false, inl, inr, Option, Some, None, is_some, List, [], ◌++◌, length, map, slice_get, refl, sym, ap, subst, ◌∙◌, arith}
 use Rattle.std.proofs.lemmas.List.Elements.{recursion_from_All}
 use Rattle.std.proofs.lemmas.Option.{slice_get_within}

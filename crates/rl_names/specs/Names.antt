@@ -1,5 +1,5 @@
--- What the names of a unit stand for in the lowering of its marked function: local variables by their symbols, and any other name by
--- the binding that the module gives to it.
+-- What the names of a unit stand for in the lowering of its marked function: local variables by their symbols, and any other
+-- name by the binding that the module gives to it.
 use Rattle.std.specs.Prelude.{ℕ, Bool, true, false, ◌&&◌, nat_eq, nat_le, nat_lt, if◌then◌else◌, unwrap_or, Option, Some, None, slice_get, List, [], ◌∷◌, ◌++◌}
 use Rattle.rl_base.specs.declared.ids.NodeId.{NodeId}
 use Rattle.rl_base.specs.declared.ids.ScopeId.{ScopeId}
@@ -75,8 +75,8 @@ binding_of_kind import.Named name source imported = binding.ImportSpecifier name
 abbrev pub import_binding : (name : List ℕ) → ImportBindingData → NonLocalBinding
 import_binding name d = binding_of_kind d.kind name d.source (unwrap_or d.imported [])
 
--- The binding of a name of the module: that of its import, or else of another declaration. Only a symbol of the program's scope counts
--- as imported.
+-- The binding of a name of the module: that of its import, or else of another declaration. Only a symbol of the program's scope
+-- counts as imported.
 abbrev pub module_binding : (import_data : Option ImportBindingData) → (scope : ScopeId) → (name : List ℕ) → NonLocalBinding
 module_binding import_data scope name = if is_program_scope scope then of_item (binding.ModuleLocal name) (import_binding name) import_data else binding.ModuleLocal name
 

@@ -445,8 +445,8 @@ impl<'s> ScopeResolver<'s> {
         }
     }
 
-    /// The entry of the import specifier that is a symbol's first declaration. `None` of any other symbol, and for a number that is
-    /// no symbol's.
+    /// The entry of the import specifier that is a symbol's first declaration. `None` of any other symbol, and for a number
+    /// that is no symbol's.
     fn imported(&self, symbol: SymbolId) -> Option<ImportEntry<'s>>
         ensures { result ≡ import_entry self.now.semantic.now.nodes.now self.now.semantic.now.imports self.now.semantic.now.bindings.symbols symbol.0 }
     {

@@ -58,8 +58,8 @@ pub record IsMalformed (bytes : List ℕ) : Type 0 where
   pub within : IsTooLarge bytes → ⊥
   pub no_unit : (u : Syntax) → Spells bytes u → BreaksRules u
 
--- The bytes are within the limits, and spell a unit that keeps the rules and whose marked function has the node `node` as the least
--- that is not covered.
+-- The bytes are within the limits, and spell a unit that keeps the rules and whose marked function has the node `node` as the
+-- least that is not covered.
 pub record IsPending (bytes : List ℕ) (node : ℕ) : Type 0 where
   pub within : IsTooLarge bytes → ⊥
   pub source : Syntax
