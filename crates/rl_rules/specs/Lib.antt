@@ -1,3 +1,4 @@
+pub mod Both
 pub mod Chains
 pub mod Declarations
 pub mod Finding

@@ -84,7 +84,7 @@ fn first_has_optional(parts: &[Numbered]) -> bool
 }
 
 /// Rule B6. The context of a node is true on the spine of a chain.
-struct Chains;
+pub(crate) struct Chains;
 
 impl Rule for Chains {
     type Above = bool;

@@ -14,7 +14,7 @@ use rl_syntax::word::Word;
 
 /// The place of a node, by what may be declared there.
 #[derive(Clone, Copy)]
-enum Place {
+pub(crate) enum Place {
     /// The list of a program.
     Program,
     /// The list of a block, a body, a case or a static block, or the head of a `for`, `forin` or `forof`.
@@ -179,7 +179,7 @@ fn other_stands(at: Place, word: Word) -> bool
 }
 
 /// Rule B8. The context of a node is its place.
-struct Declarations;
+pub(crate) struct Declarations;
 
 impl Rule for Declarations {
     type Above = Place;

@@ -117,7 +117,7 @@ fn defaults(cases: &[Numbered]) -> usize
 }
 
 /// Rule B9. It asks for no context.
-struct Forms;
+pub(crate) struct Forms;
 
 impl Rule for Forms {
     type Above = ();

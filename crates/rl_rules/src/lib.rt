@@ -1,6 +1,8 @@
 //! Rules of units that do not speak of names. Most are a test of every node, in the context that the nodes above it make.
 #![tactic(auto)]
 
+pub mod all_forms;
+mod both;
 pub mod chains;
 pub mod declarations;
 pub mod forms;

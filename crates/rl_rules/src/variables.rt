@@ -98,7 +98,7 @@ fn is_one_bare(declarators: &[Numbered]) -> bool
 }
 
 /// Rule B7. The context of a node is true in the head of a `forin` or `forof`.
-struct Variables;
+pub(crate) struct Variables;
 
 impl Rule for Variables {
     type Above = bool;

@@ -13,6 +13,7 @@ use rl_ast::unit::Unit;
 use rl_base::error::OutOfMemory;
 use rl_base::list::List;
 use rl_bindings::bindings::Bindings;
+use rl_rules::all_forms::keeps_all_forms;
 use rl_rules::chains::keeps_chains;
 use rl_rules::declarations::keeps_declarations;
 use rl_rules::forms::keeps_forms;
@@ -45,11 +46,13 @@ impl From<OutOfMemory> for RuleError {
     }
 }
 
-/// The least of the rules B6 to B9 that a tree breaks. `None` if it keeps them all.
+/// The least of the rules B6 to B9 that a tree breaks. `None` if it keeps them all, which takes one walk to tell.
 fn least_broken_form(tree: &Numbered) -> Option<u8>
     ensures { result ≡ spec.least_broken_form (syntax tree.now) }
 {
-    if !keeps_chains(tree) {
+    if keeps_all_forms(tree) {
+        None
+    } else if !keeps_chains(tree) {
         Some(6)
     } else if !keeps_variables(tree) {
         Some(7)
