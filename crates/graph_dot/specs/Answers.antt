@@ -1,5 +1,5 @@
 -- Statuses of the program, by what was read and written.
-use Rattle.std.specs.Prelude.{◌≡◌, ℕ, List, [], ◌∷◌, ◌++◌, Option, IfSome}
+use Rattle.std.specs.Prelude.{◌≡◌, ℕ, List, [], ◌∷◌, ◌++◌, Option, None, IfSome}
 use Rattle.std.specs.Io.KnownBytes.{Keeps, Appends}
 use Rattle.rl_syntax.specs.Limits.{IsTooLarge}
 use Rattle.rl_syntax.specs.Syntax.{Syntax}
@@ -7,7 +7,7 @@ use Rattle.rl_ast.specs.Units.{Spells}
 use Rattle.rl_base.specs.Pieces.{AppendsPrefix}
 use Rattle.rl_hir.specs.declared.function.Lowered.{Lowered}
 use Rattle.rl_model.specs.Headline.{IsLowered}
-use Rattle.rl_model.specs.Units.{KeepsRules}
+use Rattle.rl_semantic.specs.Rules.{least_broken}
 use Rattle.rl_unit.specs.Answers.{RefusesKnown, WritesKnown}
 use Rattle.rl_unit.specs.declared.run.Status.{Status}
 use Rattle.rl_unit.specs.declared.run.Status.TheVariants.{Done, Reported, Malformed, TooLarge, ReadFault, WriteFault, OutOfMemory, Usage}
@@ -17,7 +17,7 @@ pub record HasResult (bytes : Option (List ℕ)) : Type 0 where
   pub source : Syntax
   pub spelled : IfSome bytes (λ known. Spells known source)
   pub within : IfSome bytes (λ known. IsTooLarge known → ⊥)
-  pub rules : KeepsRules source
+  pub rules : least_broken source ≡ None
   pub result : Lowered
   pub is_lowered : IsLowered source result
 
