@@ -1,3 +1,4 @@
 mod Counts
 mod Found
+mod Leaves
 mod Together

@@ -20,10 +20,12 @@ impl<R: Rule, S: Rule> Rule for Both<R, S> {
 
     ghost below = { both_below R.below S.below };
 
+    #[inline(always)]
     fn test(above: Self::Above, word: Word, parts: &[Numbered]) -> bool {
         R::test(above.0, word, parts) && S::test(above.1, word, parts)
     }
 
+    #[inline(always)]
     fn below(above: Self::Above, word: Word, index: usize) -> Self::Above {
         (
             R::below(above.0, word, index),

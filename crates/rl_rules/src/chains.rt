@@ -23,6 +23,7 @@ enum Role {
 }
 
 /// The role of the nodes of a word.
+#[inline(always)]
 fn role_of(word: Word) -> Role
     ensures { result ≡ spec.role_of word }
 {
@@ -93,6 +94,7 @@ impl Rule for Chains {
 
     ghost below = { spec.spine_below };
 
+    #[inline(always)]
     fn test(spine: bool, word: Word, parts: &[Numbered]) -> bool {
         match role_of(word) {
             Role::Chain => first_has_optional(parts),
@@ -102,6 +104,7 @@ impl Rule for Chains {
         }
     }
 
+    #[inline(always)]
     fn below(spine: bool, word: Word, index: usize) -> bool {
         match role_of(word) {
             Role::Chain => true,

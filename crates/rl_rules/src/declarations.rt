@@ -47,6 +47,7 @@ enum Declared {
 }
 
 /// The declaration that the nodes of a word make.
+#[inline(always)]
 fn declared_by(word: Word) -> Declared
     ensures { result ≡ spec.declared_by word }
 {
@@ -63,6 +64,7 @@ fn declared_by(word: Word) -> Declared
 }
 
 /// The place `at` for the part at the index `wanted` of a node, `Elsewhere` at any other index.
+#[inline(always)]
 fn only_at(at: Place, wanted: usize, index: usize) -> Place
     ensures { result ≡ spec.only_at at wanted index }
 {
@@ -165,6 +167,7 @@ fn is_expression(word: Word) -> bool
 }
 
 /// True if a node that declares nothing may stand at the place.
+#[inline(always)]
 fn other_stands(at: Place, word: Word) -> bool
     ensures { result ≡ spec.other_stands at word }
 {
@@ -188,6 +191,7 @@ impl Rule for Declarations {
 
     ghost below = { spec.place_below };
 
+    #[inline(always)]
     fn test(at: Place, word: Word, parts: &[Numbered]) -> bool {
         match declared_by(word) {
             Declared::Variables => variables_stand(at, parts),
@@ -199,6 +203,7 @@ impl Rule for Declarations {
         }
     }
 
+    #[inline(always)]
     fn below(_above: Place, word: Word, index: usize) -> Place {
         match word {
             Word::Program => only_at(Place::Program, 0, index),

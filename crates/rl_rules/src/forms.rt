@@ -31,6 +31,7 @@ enum Form {
 }
 
 /// The form that the rule asks of the nodes of a word.
+#[inline(always)]
 fn form_of(word: Word) -> Form
     ensures { result ≡ spec.form_of word }
 {
@@ -126,6 +127,7 @@ impl Rule for Forms {
 
     ghost below = { spec.nothing_below };
 
+    #[inline(always)]
     #[tactic(auto, using(crate::proofs::Counts::part_count_length))]
     fn test(_above: (), word: Word, parts: &[Numbered]) -> bool {
         match form_of(word) {
@@ -139,6 +141,7 @@ impl Rule for Forms {
         }
     }
 
+    #[inline(always)]
     fn below(_above: (), _word: Word, _index: usize) {}
 }
 

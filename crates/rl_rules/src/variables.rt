@@ -13,6 +13,7 @@ use rl_syntax::numbered::Numbered;
 use rl_syntax::word::Word;
 
 /// True of `var`, the word of variable declarations of any kind.
+#[inline(always)]
 fn is_var(word: Word) -> bool
     ensures { result ≡ spec.is_var word }
 {
@@ -107,6 +108,7 @@ impl Rule for Variables {
 
     ghost below = { spec.head_below };
 
+    #[inline(always)]
     fn test(head: bool, word: Word, parts: &[Numbered]) -> bool {
         if !is_var(word) {
             return true;
@@ -119,6 +121,7 @@ impl Rule for Variables {
         }
     }
 
+    #[inline(always)]
     fn below(_head: bool, word: Word, index: usize) -> bool {
         match word {
             Word::Forin => index == 0,
