@@ -31,12 +31,10 @@ fn lowers_a_declaration(rt: HostRuntime) -> Result<(), Fail> {
 
 #[test]
 fn loads_names_of_the_module(rt: HostRuntime) -> Result<(), Fail> {
-    let rows = [
-        (
-            "(unit [] (program [(import \"m\" [(default (bind \"a\" -)) (namespace (bind \"b\" -))]) (import \"n\" [(named \"c\" (bind \"d\" -))]) (expr (arrow y n (params [] -) (body [] [(expr (id \"a\")) (expr (id \"b\")) (expr (id \"d\"))])))]))",
-            "(lowered (fn (at 128 213) - \"other\" n n [] [] [] (p 4 -) 0 [(block 0 \"block\" [0 1 2 3] (return 5 - \"void\" (p 3 -)) [])] [(i 1 (p 0 (at 169 177)) (at 169 177) (loadglobal [\"a\" \"default\" \"m\"] [])) (i 2 (p 1 (at 185 193)) (at 185 193) (loadglobal [\"b\" \"namespace\" \"m\"] [])) (i 3 (p 2 (at 201 209)) (at 201 209) (loadglobal [\"d\" \"named\" \"n\" \"c\"] [])) (i 4 (p 3 -) - (primitive (undefined)))]) [] [(ident - (at 169 177) 0) (ident - (at 185 193) 1) (ident - (at 201 209) 2) (ident - - 3) (ident - (at 128 213) 4)] [])\n",
-        ),
-    ];
+    let rows = [(
+        "(unit [] (program [(import \"m\" [(default (bind \"a\" -)) (namespace (bind \"b\" -))]) (import \"n\" [(named \"c\" (bind \"d\" -))]) (expr (arrow y n (params [] -) (body [] [(expr (id \"a\")) (expr (id \"b\")) (expr (id \"d\"))])))]))",
+        "(lowered (fn (at 128 213) - \"other\" n n [] [] [] (p 4 -) 0 [(block 0 \"block\" [0 1 2 3] (return 5 - \"void\" (p 3 -)) [])] [(i 1 (p 0 (at 169 177)) (at 169 177) (loadglobal [\"a\" \"default\" \"m\"] [])) (i 2 (p 1 (at 185 193)) (at 185 193) (loadglobal [\"b\" \"namespace\" \"m\"] [])) (i 3 (p 2 (at 201 209)) (at 201 209) (loadglobal [\"d\" \"named\" \"n\" \"c\"] [])) (i 4 (p 3 -) - (primitive (undefined)))]) [] [(ident - (at 169 177) 0) (ident - (at 185 193) 1) (ident - (at 201 209) 2) (ident - - 3) (ident - (at 128 213) 4)] [])\n",
+    )];
     check_units(&rt, rt.alloc(), &rows)
 }
 
@@ -57,11 +55,9 @@ fn loads_names_around_the_function(rt: HostRuntime) -> Result<(), Fail> {
 
 #[test]
 fn lowers_the_marked_function_anywhere(rt: HostRuntime) -> Result<(), Fail> {
-    let rows = [
-        (
-            "(unit [] (program [(expr (id \"a\")) (return (call n (null) [(paren (arrow y n (params [(param (bind \"p\" -) -)] -) (id \"p\")))])) (expr (str \"x\"))]))",
-            "(lowered (fn (at 66 122) - \"other\" n n [] [(p 0 (at 93 105))] [] (p 3 -) 0 [(block 0 \"block\" [0] (return 2 - \"implicit\" (p 1 (at 113 121))) [])] [(i 1 (p 1 (at 113 121)) (at 113 121) (loadlocal (p 0 (at 113 121)))) (i 0 (p 2 -) - (primitive (undefined)))]) [] [(ident (named \"p\") (at 93 105) 0) (ident - (at 113 121) 1) (ident - - 2) (ident - (at 66 122) 3)] [(pair 0 0)])\n",
-        ),
-    ];
+    let rows = [(
+        "(unit [] (program [(expr (id \"a\")) (return (call n (null) [(paren (arrow y n (params [(param (bind \"p\" -) -)] -) (id \"p\")))])) (expr (str \"x\"))]))",
+        "(lowered (fn (at 66 122) - \"other\" n n [] [(p 0 (at 93 105))] [] (p 3 -) 0 [(block 0 \"block\" [0] (return 2 - \"implicit\" (p 1 (at 113 121))) [])] [(i 1 (p 1 (at 113 121)) (at 113 121) (loadlocal (p 0 (at 113 121)))) (i 0 (p 2 -) - (primitive (undefined)))]) [] [(ident (named \"p\") (at 93 105) 0) (ident - (at 113 121) 1) (ident - - 2) (ident - (at 66 122) 3)] [(pair 0 0)])\n",
+    )];
     check_units(&rt, rt.alloc(), &rows)
 }
