@@ -29,7 +29,7 @@ module _ (parts : List Numbered) (index : ℕ) (part : Numbered) (within : index
   next_part = rw (add-one, drop-cons parts index part) (ap (λ p. p ∷ drop (suc index) parts) (sym is))
 
   -- The parts from `index` on are the part there and those behind it.
-  first_part : pieces_of (map syntax (drop index parts)) ≡ Then (syntax part) (pieces_of (map syntax (drop (index + 1) parts)))
+  pub first_part : pieces_of (map syntax (drop index parts)) ≡ Then (syntax part) (pieces_of (map syntax (drop (index + 1) parts)))
   first_part = ap (λ ps. pieces_of (map syntax ps)) next_part
 
   pub smaller_behind : size_of (pieces_of (map syntax (drop (index + 1) parts))) ≤ size_of (pieces_of (map syntax (drop index parts)))

@@ -1,4 +1,5 @@
+mod AllForms
 mod Counts
 mod Found
-mod Leaves
+mod FoundIf
 mod Together

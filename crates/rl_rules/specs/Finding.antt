@@ -8,3 +8,8 @@ found_behind found [] = Some found
 found_behind false (true ∷ bodies) = found_behind true bodies
 found_behind false (false ∷ bodies) = None
 found_behind true (body ∷ bodies) = None
+
+-- The result `search`, if `passed` says that all nodes of the search passed a test; None if not.
+abbrev pub found_if : (passed : Bool) → (search : Option Bool) → Option Bool
+found_if true search = search
+found_if false search = None

@@ -10,6 +10,7 @@ use rl_syntax::numbered::Numbered;
 use rl_syntax::word::Word;
 
 /// True of the words of functions.
+#[inline(always)]
 fn is_function(word: Word) -> bool
     ensures { result ≡ spec.is_function word }
 {
@@ -22,6 +23,7 @@ fn is_function(word: Word) -> bool
 }
 
 /// True of a function that is marked, by its word and its parts.
+#[inline(always)]
 fn is_marked(word: Word, parts: &[Numbered]) -> bool
     ensures { result ≡ spec.is_marked word (pieces_of (map syntax parts.now)) }
 {
@@ -40,7 +42,8 @@ fn has_body(word: Word, parts: &[Numbered]) -> bool
 
 /// Looks for the marked function at one node, if `found` says that one was found before. Gives true if one is found by then.
 /// `None` if the node is a second one, or lacks a body.
-fn find_at(found: bool, word: Word, parts: &[Numbered]) -> Option<bool>
+#[inline(always)]
+pub(crate) fn find_at(found: bool, word: Word, parts: &[Numbered]) -> Option<bool>
     ensures { result ≡ found_behind found (spec.body_of word (pieces_of (map syntax parts.now))) }
 {
     if !is_marked(word, parts) {

@@ -1,8 +1,7 @@
 //! The walk over a tree that tests every node.
 
-ghost use Rattle.std.specs.Prelude.{◌≡◌, ◌||◌, ℕ, Bool, map};
+ghost use Rattle.std.specs.Prelude.{◌≡◌, ℕ, Bool, map};
 ghost use Rattle.rl_rules.specs.Walks.{passes, parts_pass, items_pass};
-ghost use Rattle.rl_syntax.specs.Forms.{is_list, is_node};
 ghost use Rattle.rl_syntax.specs.Syntax.{Pieces, pieces_of, syntax};
 ghost use Rattle.rl_syntax.specs.declared.word.Word as words;
 
@@ -29,22 +28,6 @@ pub(crate) trait Rule {
         ensures { result ≡ below above word index };
 }
 
-/// True of a node and of a list: the trees that nodes stand in.
-#[inline(always)]
-#[tactic(auto, using(rl_syntax::proofs::Layers::by_layer))]
-fn has_nodes(tree: &Numbered) -> bool
-    ensures { result ≡ (is_node (syntax tree.now) || is_list (syntax tree.now)) }
-{
-    match tree {
-        Numbered::Node(_, _, _) => true,
-        Numbered::List(_) => true,
-        Numbered::Text(_) => false,
-        Numbered::Number(_) => false,
-        Numbered::Flag(_) => false,
-        Numbered::Absent => false,
-    }
-}
-
 /// True if every node of the tree passes the test of the rule `R`. The items of a list have the context of the list.
 #[cycle(walking)]
 #[tactic(auto, using(rl_syntax::proofs::Layers::by_layer))]
@@ -66,12 +49,11 @@ pub(crate) fn passes<R: Rule>(above: R::Above, tree: &Numbered) -> bool
 
 /// As `passes`, for the parts of a node of the word `word`.
 #[cycle(walking)]
-#[tactic(auto, using(crate::proofs::Leaves::leaf_passes))]
 fn parts_pass<R: Rule>(above: R::Above, word: Word, parts: &[Numbered]) -> bool
     ensures { result ≡ parts_pass R.test R.below above word 0 (pieces_of (map syntax parts.now)) }
 {
     'parts: for (index, part) in parts.iter().enumerate() {
-        if has_nodes(part) && !passes::<R>(R::below(above, word, index), part) {
+        if !passes::<R>(R::below(above, word, index), part) {
             return false;
         }
     }

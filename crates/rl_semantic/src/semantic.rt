@@ -3,6 +3,7 @@
 ghost use Rattle.std.specs.Prelude.{◌≡◌, ℕ, None, Some, map, IfOk, IfErr};
 ghost use Rattle.rl_bindings.specs.Names.{names_in};
 ghost use Rattle.rl_bindings.specs.Tables.{declarations_in, references_in, scopes_in, symbols_in};
+ghost use Rattle.rl_rules.specs.Marks as marks;
 ghost use Rattle.rl_semantic.specs.Imports.{imports_in, seen};
 ghost use Rattle.rl_semantic.specs.Rules as spec;
 ghost use Rattle.rl_syntax.specs.Nodes.{entries};
@@ -13,7 +14,7 @@ use rl_ast::unit::Unit;
 use rl_base::error::OutOfMemory;
 use rl_base::list::List;
 use rl_bindings::bindings::Bindings;
-use rl_rules::all_forms::keeps_all_forms;
+use rl_rules::all::keeps_all;
 use rl_rules::chains::keeps_chains;
 use rl_rules::declarations::keeps_declarations;
 use rl_rules::forms::keeps_forms;
@@ -46,13 +47,11 @@ impl From<OutOfMemory> for RuleError {
     }
 }
 
-/// The least of the rules B6 to B9 that a tree breaks. `None` if it keeps them all, which takes one walk to tell.
+/// The least of the rules B6 to B9 that a tree breaks. `None` if it keeps them all.
 fn least_broken_form(tree: &Numbered) -> Option<u8>
     ensures { result ≡ spec.least_broken_form (syntax tree.now) }
 {
-    if keeps_all_forms(tree) {
-        None
-    } else if !keeps_chains(tree) {
+    if !keeps_chains(tree) {
         Some(6)
     } else if !keeps_variables(tree) {
         Some(7)
@@ -76,6 +75,18 @@ fn least(marked: bool, named: Option<u8>, formed: Option<u8>) -> Option<u8>
         Some(rule) => Some(rule),
         None => formed,
     }
+}
+
+/// The least of the rules B1 to B9 that a tree breaks, if `named` is the least rule on names that it breaks. One walk tells if B1
+/// and B6 to B9 are kept; a walk for each finds the least only if one is not.
+#[tactic(auto, using(crate::proofs::Kept::all_kept))]
+fn least_broken(tree: &Numbered, named: Option<u8>) -> Option<u8>
+    ensures { result ≡ spec.least (marks.keeps_mark (syntax tree.now)) named (spec.least_broken_form (syntax tree.now)) }
+{
+    if keeps_all(tree) {
+        return named;
+    }
+    least(keeps_mark(tree), named, least_broken_form(tree))
 }
 
 /// Semantic tables of a unit that keeps the binding rules: `Semantic` of the original.
@@ -106,7 +117,7 @@ impl<'u> Semantic<'u> {
     {
         let bindings = Bindings::of(alloc, unit)?;
         let named = bindings.least_broken_name_rule;
-        if let Some(rule) = least(keeps_mark(&unit.tree), named, least_broken_form(&unit.tree)) {
+        if let Some(rule) = least_broken(&unit.tree, named) {
             return Err(RuleError::Malformed(rule));
         }
         let imports = imports_of(alloc, &unit.tree)?;
