@@ -119,7 +119,7 @@ impl Bindings {
             names: &names,
             guesses: &guesses,
         };
-        let events = events_of(alloc, &numbering, &unit.tree)?;
+        let events = events_of(alloc, unit.nodes.len(), &numbering, &unit.tree)?;
         let found = check_all(alloc, &events)?;
         let passing = passes(alloc, &events)?;
         let broken = least(found.clashed, passing, found.repeated, found.shared);

@@ -62,23 +62,17 @@ impl Guesses {
     fn new(alloc: Global, nodes: usize) -> Result<Guesses, OutOfMemory> {
         let mut slots = Vec::new(alloc);
         slots.resize(nodes.saturating_mul(2), u32::MAX)?;
-        Ok(Guesses {
-            slots,
-            numbers: Vec::new(alloc),
-        })
+        let numbers = Vec::with_capacity(alloc, nodes)?;
+        Ok(Guesses { slots, numbers })
     }
 
-    /// The slot of a text.
-    fn slot_of(&self, text: &str) -> usize {
+    /// The slot of a text, with the number that it has, or one past all numbers.
+    fn guess(&self, text: &str) -> (usize, usize) {
         let place = u64::from(hash_of(text)).wrapping_mul(self.slots.len() as u64);
-        (place >> 32) as usize
-    }
-
-    /// The number that a slot has, or one past all numbers.
-    fn guess(&self, slot: usize) -> usize {
+        let slot = (place >> 32) as usize;
         match self.slots.get(slot) {
-            Some(number) => *number as usize,
-            None => u32::MAX as usize,
+            Some(number) => (slot, *number as usize),
+            None => (slot, u32::MAX as usize),
         }
     }
 
@@ -140,8 +134,8 @@ fn add_name(
 ) -> Result<(), OutOfMemory>
     ensures { OnOk result (names.new ≡ add_name names.old text.now) }
 {
-    let slot = guesses.slot_of(text.as_str());
-    let number = find_or_add(alloc, names, guesses.guess(slot), text)?;
+    let (slot, guess) = guesses.guess(text.as_str());
+    let number = find_or_add(alloc, names, guess, text)?;
     guesses.keep(slot, number)?;
     Ok(())
 }
@@ -228,6 +222,7 @@ fn add_own(
 
 /// Adds the names of a tree's `bind` and `id` nodes. On `OutOfMemory`, an allocation failed.
 #[cycle(collecting)]
+#[inline(always)]
 #[tactic(auto, using(crate::proofs::Naming::by_form, rl_syntax::proofs::Layers::by_layer))]
 fn collect(
     alloc: Global,

@@ -142,6 +142,17 @@ pub struct Resolved {
     pub passing: bool,
 }
 
+/// Number of the uses among events: the room for their references.
+fn count_uses(events: &[Event]) -> usize {
+    let mut count: usize = 0;
+    for event in events {
+        if let Event::Use(_, _) = event {
+            count = count.saturating_add(1);
+        }
+    }
+    count
+}
+
 /// The names that events use and declare, each by the symbol that it stands for, if `scopes` has the entries of each scope of
 /// `symbols`, and `env` the symbols that names stand for around the events. On `OutOfMemory`, an allocation failed.
 #[tactic(auto, using(crate::proofs::Passing::or_regroup))]
@@ -155,7 +166,7 @@ fn run(
     ensures references { IfOk result (λ r. r.references ≡ references (machine.run scopes.now env.old [] events.now)) }
     ensures passing { IfOk result (λ r. r.passing ≡ list_any (rules.is_passing symbols.now) (machine.run scopes.now env.old [] events.now)) }
 {
-    let mut found = List::new(alloc);
+    let mut found = List::with_capacity(alloc, count_uses(events))?;
     let mut passing = false;
     let mut frames: Vec<List<Entry>> = Vec::new(alloc);
     let mut done: Vec<List<Entry>> = Vec::new(alloc);

@@ -102,6 +102,7 @@ fn push_back(out: &mut Vec<Event>, role: Role) -> Result<(), OutOfMemory>
 
 /// Appends the events of a tree, by what stands above it. On `OutOfMemory`, an allocation failed.
 #[cycle(walking)]
+#[inline(always)]
 #[tactic(auto, using(crate::proofs::Walking::by_form, rl_syntax::proofs::Layers::by_layer))]
 fn push_events(
     out: &mut Vec<Event>,
@@ -222,9 +223,10 @@ fn push_all(
     Ok(())
 }
 
-/// The events of a unit's tree. On `OutOfMemory`, an allocation failed.
+/// The events of a unit's tree, which has about `nodes` nodes. On `OutOfMemory`, an allocation failed.
 pub fn events_of(
     alloc: Global,
+    nodes: usize,
     numbering: &Numbering<'_>,
     tree: &Numbered,
 ) -> Result<Vec<Event>, OutOfMemory>
@@ -236,7 +238,7 @@ pub fn events_of(
         kind: BindKind::Var,
         place: Place::Inner,
     };
-    let mut out = Vec::new(alloc);
+    let mut out = Vec::with_capacity(alloc, nodes)?;
     let mut next = 0;
     push_events(&mut out, numbering, &mut next, above, tree)?;
     Ok(out)

@@ -225,6 +225,7 @@ fn push_import<'u>(
 
 /// Appends the bindings that the imports in a tree make. On `OutOfMemory`, an allocation failed.
 #[cycle(collecting)]
+#[inline(always)]
 #[tactic(auto, using(crate::proofs::Importing::as_tree, rl_syntax::proofs::Layers::by_layer))]
 fn push_imports<'u>(
     found: &mut List<ImportEntry<'u>>,
