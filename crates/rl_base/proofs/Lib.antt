@@ -3,4 +3,5 @@ pub mod KnownBytes
 pub mod Lines
 pub mod NameTables
 pub mod Operators
+pub mod Slotted
 pub mod Templates

@@ -1,18 +1,20 @@
 -- The index of a table of names, as items are appended.
-use Rattle.std.proofs.Common.{◌≡◌, ◌<◌, ◌≤◌, ℕ, zero, suc, ◌+◌, Bool, true, false, not, if◌then◌else◌, Option, Some, None, is_some, IfSome, true≢false, List, [], ◌∷◌, ◌++◌, length, slice_get, string_bytes, refl, sym, ap, subst, ◌∙◌, arith}
+use Rattle.std.proofs.Common.{◌≡◌, ◌<◌, ◌≤◌, ℕ, zero, suc, ◌+◌, Bool, true, false, not, if◌then◌else◌, Option, Some, None, is_some, IfSome, true≢false, List, [], ◌∷◌, ◌++◌, length, map, replicate, slice_get, slice_set, option_map, length-set, get_or, Result, Ok, Err, IfOk, OnErr, string_bytes, refl, sym, ap, subst, ◌∙◌, arith}
 use Rattle.std.proofs.lemmas.Map.Text.{btree_map_updates_text}
 use Rattle.std.proofs.lemmas.Slice.Eq.{bytes_eq-Decides}
-use Rattle.std.specs.BTreeMap.{BTreeMap, Updates, get_by_text}
-use Rattle.std.specs.Map.{update}
+use Rattle.std.specs.BTreeMap.{BTreeMap, IsEmpty, IsUnchanged, Updates, get_by_text}
+use Rattle.std.specs.Map.{update, lookup}
 use Rattle.std.specs.Str.{bytes_eq}
 use Rattle.std.specs.String.{string_cmp}
 use Rattle.std.specs.declared.alloc.Global.{Global}
 use Rattle.std.specs.declared.string.String.{String}
+use Rattle.std.proofs.lemmas.Option.{slice_get-get_or, slice_get-map, slice_get_read}
+use Rattle.rl_base.specs.declared.error.OutOfMemory.{OutOfMemory}
 use Rattle.rl_base.specs.NameTables.{index_from, index_named, item_named, IsIndex}
-
-by_test : {P : Type 0} → (b : Bool) → (b ≡ true → P) → (b ≡ false → P) → P
-by_test true on_true on_false = on_true refl
-by_test false on_true on_false = on_false refl
+use Rattle.rl_base.specs.Slots.{slot_at, is_key, numbered, place_of, IsSlotted}
+use Rattle.rl_base.specs.declared.slots.Slot.{Slot}
+use Rattle.rl_base.specs.declared.slots.Slot.TheVariants as slot
+use Rattle.rl_base.proofs.Slotted.{by_test, slot_set_same, push_empty, push_many, crowd, many_same, no_keys, no_slots, empty_slots}
 
 same_name : (a b : List ℕ) → bytes_eq a b ≡ true → a ≡ b
 same_name a b = (bytes_eq-Decides a b).0
@@ -101,15 +103,101 @@ module _ {X : Type 0} (name_of : X → List ℕ) where
       swapped false true is item_is other = refl
       swapped false false is item_is other = refl
 
-  -- One more item, whose name the index does not have, and the index with its name.
-  pub index-push : (before after : BTreeMap (String Global) ℕ) (items kept added : List X) (item : X) (key : String Global) (count : ℕ) → IsIndex name_of before items → string_bytes key ≡ name_of item
-      → not (is_some (get_by_text before (string_bytes key))) ≡ true → count ≡ length items → Updates string_cmp before after key (Some count) → kept ≡ items → added ≡ kept ++ item ∷ [] → IsIndex name_of after added
-  index-push before after items kept added item key count index same unknown counted updated stays is = record {
-    found = λ name.
-        let new = sym (index.found (name_of item)) ∙ sym (ap (get_by_text before) same) ∙ none_known (get_by_text before (string_bytes key)) unknown in
-        btree_map_updates_text (string_bytes key) before after (Some count) updated name
-        ∙ ap (λ (k : List ℕ). update bytes_eq (get_by_text before) k (Some count) name) same
-        ∙ ap (λ (o : Option ℕ). if bytes_eq (name_of item) name then Some count else o) (index.found name)
-        ∙ sym (index_from-push 0 count items item name (omega (arith, counted)) new)
-        ∙ ap (λ (l : List X). index_named name_of l name) (sym (is ∙ ap (λ (l : List X). l ++ item ∷ []) stays));
-  }
+  map_push : (items : List X) (item : X) → map name_of (items ++ item ∷ []) ≡ map name_of items ++ name_of item ∷ []
+  map_push [] item = refl
+  map_push (x ∷ items) item = ap (λ l. name_of x ∷ l) (map_push items item)
+
+  length_map : (items : List X) → length (map name_of items) ≡ length items
+  length_map [] = refl
+  length_map (x ∷ items) = ap suc (length_map items)
+
+  place_same : (count : ℕ) (a b : List ℕ) → bytes_eq a b ≡ true → place_of count a ≡ place_of count b
+  place_same count a b is = ap (place_of count) (same_name a b is)
+
+  -- The index of a name is that by its slot.
+  pub by_slot : (slots : List Slot) (indices : BTreeMap (String Global) ℕ) (items : List X) (name : List ℕ) (s : Slot) → IsIndex name_of slots indices items → slot_at slots (place_of (length slots) name) ≡ s
+      → index_named name_of items name ≡ numbered bytes_eq (map name_of items) (get_by_text indices name) s name
+  by_slot slots indices items name s index is = index.found name ∙ ap (λ t. numbered bytes_eq (map name_of items) (get_by_text indices name) t name) is
+
+  pushed : (items : List X) (item : X) → index_named name_of items (name_of item) ≡ None → (name : List ℕ) → index_named name_of (items ++ item ∷ []) name ≡ (if bytes_eq (name_of item) name then Some (length items) else index_named name_of items name)
+  pushed items item new name = index_from-push 0 (length items) items item name (omega arith) new
+
+  -- One more item, whose name has an empty slot.
+  pub pushed_empty : (slots after : List Slot) (indices : BTreeMap (String Global) ℕ) (items added : List X) (item : X) (place last : ℕ) → IsIndex name_of slots indices items → place ≡ place_of (length slots) (name_of item) → slot_at slots place ≡ slot.Empty
+      → place < length slots → last ≡ length items → after ≡ slice_set slots place (slot.One last) → added ≡ items ++ item ∷ [] → IsIndex name_of after indices added
+  pushed_empty slots after indices items added item place last index at is within counted set grown =
+      let empty : slot_at slots (place_of (length slots) (name_of item)) ≡ slot.Empty = ap (slot_at slots) (sym at) ∙ is in
+      let new : index_named name_of items (name_of item) ≡ None = by_slot slots indices items (name_of item) slot.Empty index empty in
+      let count : length after ≡ length slots = ap length set ∙ length-set slots place (slot.One last) in
+      subst (λ (l : List X). IsIndex name_of after indices l) (sym grown)
+      (subst (λ n. IsSlotted bytes_eq (place_of n) after (map name_of (items ++ item ∷ [])) (get_by_text indices) (index_named name_of (items ++ item ∷ []))) (sym count)
+      (subst (λ ks. IsSlotted bytes_eq (place_of (length slots)) after ks (get_by_text indices) (index_named name_of (items ++ item ∷ []))) (sym (map_push items item))
+      (push_empty bytes_eq (place_of (length slots)) (place_same (length slots)) slots after (map name_of items) (get_by_text indices) (index_named name_of items) (index_named name_of (items ++ item ∷ [])) (name_of item) last index empty
+      (subst (λ p. p < length slots) at within)
+      (counted ∙ sym (length_map items))
+      (set ∙ ap (λ p. slice_set slots p (slot.One last)) at)
+      (λ name. pushed items item new name ∙ ap (λ l. if bytes_eq (name_of item) name then Some l else index_named name_of items name) (sym counted)))))
+
+  -- The slot of one name becomes one of many.
+  pub crowded : (slots after : List Slot) (before more : BTreeMap (String Global) ℕ) (items : List X) (place other : ℕ) → IsIndex name_of slots before items → slot_at slots place ≡ slot.One other → place < length slots → after ≡ slice_set slots place slot.Many
+      → ((name : List ℕ) → get_by_text more name ≡ (if is_key bytes_eq (slice_get (map name_of items) other) name then Some other else get_by_text before name)) → IsIndex name_of after more items
+  crowded slots after before more items place other index one within set added =
+      let count : length after ≡ length slots = ap length set ∙ length-set slots place slot.Many in
+      let got : slice_get (map name_of items) other ≡ Some (get_or (map name_of items) other []) = slice_get-get_or (map name_of items) other [] (index.within place other one) in
+      subst (λ n. IsSlotted bytes_eq (place_of n) after (map name_of items) (get_by_text more) (index_named name_of items)) (sym count)
+      (crowd bytes_eq (place_of (length slots)) (place_same (length slots)) slots after (map name_of items) (get_by_text before) (get_by_text more) (index_named name_of items) place other (get_or (map name_of items) other []) index one within got set
+      (λ name. added name ∙ ap (λ o. if is_key bytes_eq o name then Some other else get_by_text before name) got))
+
+  -- An item that is added among those that share a place, or is not.
+  pub among : (slots : List Slot) (before after : BTreeMap (String Global) ℕ) (items added : List X) (item : X) (r : Result Bool OutOfMemory) → IsIndex name_of slots before items → slot_at slots (place_of (length slots) (name_of item)) ≡ slot.Many
+      → IfOk r (λ is_new. is_new ≡ not (is_some (get_by_text before (name_of item))))
+      → IfOk r (λ is_new. added ≡ (if is_new then items ++ item ∷ [] else items))
+      → IfOk r (λ is_new. is_new ≡ true → (name : List ℕ) → get_by_text after name ≡ (if bytes_eq (name_of item) name then Some (length items) else get_by_text before name))
+      → IfOk r (λ is_new. is_new ≡ false → IsUnchanged before after)
+      → OnErr r (added ≡ items) → OnErr r (IsUnchanged before after) → IsIndex name_of slots after added
+  among slots before after items added item (Ok true) index many is_new grown more stays same unchanged =
+      let new : index_named name_of items (name_of item) ≡ None = by_slot slots before items (name_of item) slot.Many index many ∙ none_known (get_by_text before (name_of item)) (sym is_new) in
+      subst (λ (l : List X). IsIndex name_of slots after l) (sym grown)
+      (subst (λ ks. IsSlotted bytes_eq (place_of (length slots)) slots ks (get_by_text after) (index_named name_of (items ++ item ∷ []))) (sym (map_push items item))
+      (push_many bytes_eq (place_of (length slots)) (place_same (length slots)) slots (map name_of items) (get_by_text before) (get_by_text after) (index_named name_of items) (index_named name_of (items ++ item ∷ [])) (name_of item) (length items) index many (more refl) (pushed items item new)))
+  among slots before after items added item (Ok false) index many is_new grown more stays same unchanged =
+      subst (λ (l : List X). IsIndex name_of slots after l) (sym grown)
+      (many_same bytes_eq (place_of (length slots)) slots (map name_of items) (get_by_text before) (get_by_text after) (index_named name_of items) index (λ name. ap (lookup _) (stays refl)))
+  among slots before after items added item (Err e) index many is_new grown more stays same unchanged =
+      subst (λ (l : List X). IsIndex name_of slots after l) (sym same)
+      (many_same bytes_eq (place_of (length slots)) slots (map name_of items) (get_by_text before) (get_by_text after) (index_named name_of items) index (λ name. ap (lookup _) unchanged))
+
+  -- The slot that is read is that of the name.
+  pub slot_known : (count place : ℕ) (slots seen : List Slot) (name : List ℕ) (s : Slot) → s ≡ slot_at seen place → seen ≡ slots → place ≡ place_of count name → count ≡ length slots → slot_at slots (place_of (length slots) name) ≡ s
+  slot_known count place slots seen name s is same at counted = sym (is ∙ ap (λ (ss : List Slot). slot_at ss place) same ∙ ap (slot_at slots) (at ∙ ap (λ n. place_of n name) counted))
+
+  pub slot_crowded : (slots : List Slot) (name : List ℕ) (place : ℕ) → place ≡ place_of (length slots) name → place < length slots → slot_at (slice_set slots place slot.Many) (place_of (length (slice_set slots place slot.Many)) name) ≡ slot.Many
+  slot_crowded slots name place at within =
+      ap (slot_at (slice_set slots place slot.Many)) (ap (λ n. place_of n name) (length-set slots place slot.Many) ∙ sym at)
+      ∙ slot_set_same slots place slot.Many within
+
+  -- An entry of the map by the item's name.
+  pub added_item : (before after : BTreeMap (String Global) ℕ) (key : String Global) (k last : ℕ) (item : X) → string_bytes key ≡ name_of item → Updates string_cmp before after key (Some k) → k ≡ last
+      → (name : List ℕ) → get_by_text after name ≡ (if bytes_eq (name_of item) name then Some last else get_by_text before name)
+  added_item before after key k last item named updated same name =
+      btree_map_updates_text (string_bytes key) before after (Some k) updated name
+      ∙ ap (λ (b : List ℕ). update bytes_eq (get_by_text before) b (Some k) name) named
+      ∙ ap (λ (l : ℕ). if bytes_eq (name_of item) name then Some l else get_by_text before name) same
+
+  pub added_other : (before after : BTreeMap (String Global) ℕ) (key : String Global) (k : ℕ) (items : List X) (item : X) → k < length items → item ≡ get_or items k item → string_bytes key ≡ name_of item → Updates string_cmp before after key (Some k)
+      → (name : List ℕ) → get_by_text after name ≡ (if is_key bytes_eq (slice_get (map name_of items) k) name then Some k else get_by_text before name)
+  added_other before after key k items item within at named updated name =
+      added_item before after key k k item named updated refl name
+      ∙ sym (ap (λ (o : Option (List ℕ)). if is_key bytes_eq o name then Some k else get_by_text before name) (slice_get-map name_of items k ∙ ap (option_map name_of) (slice_get_read items (length items) k item refl within at)))
+
+  -- Without items.
+  empty_by : (slots : List Slot) (indices : BTreeMap (String Global) ℕ) (items : List X) → ((p k : ℕ) → slot_at slots p ≡ slot.One k → false ≡ true) → IsEmpty indices → items ≡ [] → IsIndex name_of slots indices items
+  empty_by slots indices items none unknown no_items =
+      subst (λ (l : List X). IsIndex name_of slots indices l) (sym no_items)
+      (no_keys bytes_eq (place_of (length slots)) slots (get_by_text indices) (index_named name_of []) none (λ name. ap (lookup _) unknown) (λ name. refl))
+
+  pub none_slotted : (slots : List Slot) (indices : BTreeMap (String Global) ℕ) (items : List X) → slots ≡ [] → IsEmpty indices → items ≡ [] → IsIndex name_of slots indices items
+  none_slotted slots indices items is = empty_by slots indices items (subst (λ ss. (p k : ℕ) → slot_at ss p ≡ slot.One k → false ≡ true) (sym is) no_slots)
+
+  pub empty_slotted : (count : ℕ) (slots : List Slot) (indices : BTreeMap (String Global) ℕ) (items : List X) → slots ≡ replicate count slot.Empty → IsEmpty indices → items ≡ [] → IsIndex name_of slots indices items
+  empty_slotted count slots indices items is = empty_by slots indices items (subst (λ ss. (p k : ℕ) → slot_at ss p ≡ slot.One k → false ≡ true) (sym is) (empty_slots count))

@@ -9,6 +9,7 @@ pub mod Pieces
 pub mod Reserved
 pub mod Rows
 pub mod Scalars
+pub mod Slots
 pub mod Templates
 pub mod TypeKinds
 pub mod VariableKinds

@@ -18,6 +18,7 @@ pub mod number;
 pub mod operator;
 pub mod row;
 pub mod scalar;
+pub mod slots;
 pub mod span;
 pub mod stop;
 pub mod streams;

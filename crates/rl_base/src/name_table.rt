@@ -1,12 +1,15 @@
 //! Lists of items with names, and look-up by name.
 
-ghost use Rattle.std.specs.Prelude.{◌≡◌, ◌<◌, ◌++◌, ◌∷◌, [], ℕ, List, true, false, not, if◌then◌else◌, Some, is_some, length, IfSome, IfOk, OnErr};
+ghost use Rattle.std.specs.Prelude.{◌≡◌, ◌<◌, ◌++◌, ◌∷◌, [], ℕ, List, true, false, not, if◌then◌else◌, Some, is_some, length, map, slice_get, IfSome, IfOk, OnOk, OnErr};
 ghost use Rattle.std.specs.BTreeMap.{Updates, IsUnchanged, get_by_text};
 ghost use Rattle.std.specs.Option.{option_copied};
 ghost use Rattle.std.specs.String.{string_cmp, string_bytes};
+ghost use Rattle.std.specs.Str.{bytes_eq};
 ghost use Rattle.rl_base.specs.NameTables.{index_named, item_named};
+ghost use Rattle.rl_base.specs.Slots.{is_key};
 
 use crate::error::OutOfMemory;
+use crate::slots::{Slot, empty_slots, place_of, slot_at};
 use std::alloc::Global;
 use std::collections::BTreeMap;
 use std::collections::btree_map::Entry;
@@ -22,11 +25,15 @@ pub trait Named: Drop {
         ensures { result.now ≡ name self.now };
 }
 
-/// Items with an index by name: a look-up compares names in the order of their bytes, and takes a number of comparisons that is
-/// logarithmic in the number of items. Contracts see the items, in the order in which their names came. No two have one name.
+/// Items with an index by name. A look-up takes a number of comparisons that is at most logarithmic in the number of items, and one
+/// comparison for most names in a table with slots. Contracts see the items, in the order in which their names came. No two have
+/// one name.
 #[derive(Drop)]
 pub struct NameTable<T: Named> {
     items: Vec<T>,
+    /// For each place, the names that have it: none, one by its index, or many.
+    slots: Vec<Slot>,
+    /// The indices of the names that share a place.
     indices: BTreeMap<String, usize>,
 }
 
@@ -41,18 +48,33 @@ impl<T: Named> Model for NameTable<T> {
 
     ghost view = { λ table. table.items.items };
 
-    ghost invariant = { λ table. IsIndex T.name table.indices table.items.items };
+    ghost invariant = { λ table. IsIndex T.name table.slots.items table.indices table.items.items };
 }
 
 impl<T: Named> NameTable<T> {
-    /// The empty table. Allocates nothing.
+    /// The empty table, without slots. Allocates nothing.
+    #[tactic(auto, using(crate::proofs::NameTables::none_slotted))]
     pub fn new(alloc: Global) -> NameTable<T>
         ensures { result ≡ [] }
     {
         NameTable {
             items: Vec::new(alloc),
+            slots: Vec::new(alloc),
             indices: BTreeMap::new(alloc),
         }
+    }
+
+    /// The empty table, with `count` slots: for about half as many names. On `OutOfMemory`, an allocation failed.
+    #[tactic(auto, using(crate::proofs::NameTables::empty_slotted))]
+    pub fn with_slots(alloc: Global, count: usize) -> Result<NameTable<T>, OutOfMemory>
+        ensures { IfOk result (λ table. table ≡ []) }
+    {
+        let slots = empty_slots(alloc, count)?;
+        Ok(NameTable {
+            items: Vec::new(alloc),
+            slots,
+            indices: BTreeMap::new(alloc),
+        })
     }
 
     /// The items, in the order in which their names came.
@@ -74,7 +96,17 @@ impl<T: Named> NameTable<T> {
         ensures found { result ≡ index_named T.name self.now name.now }
         ensures within { IfSome result (λ index. index < length self.now) }
     {
-        self.indices.get(name).copied()
+        match slot_at(self.slots.as_slice(), place_of(self.slots.len(), name)) {
+            Slot::Empty => None,
+            Slot::One(index) => {
+                if is_named(self.items.as_slice(), index, name) {
+                    Some(index)
+                } else {
+                    None
+                }
+            }
+            Slot::Many => self.indices.get(name).copied(),
+        }
     }
 
     /// The item named `name`. `None` if there is none.
@@ -94,16 +126,78 @@ impl<T: Named> NameTable<T> {
         ensures items { IfOk result (λ is_new. self.new ≡ (if is_new then self.old ++ item ∷ [] else self.old)) }
         ensures err { OnErr result (self.new ≡ self.old) }
     {
-        let name = String::from_str(alloc, item.name())?;
-        let index = self.items.len();
-        // With room for the item, nothing fails once its name is in the index.
-        self.items.reserve(1)?;
-        if !insert_if_new(&mut self.indices, name, index)? {
-            return Ok(false);
+        let place = place_of(self.slots.len(), item.name());
+        match slot_at(self.slots.as_slice(), place) {
+            Slot::Empty => {
+                let index = self.items.len();
+                self.items.push(item)?;
+                self.slots[place] = Slot::One(index);
+                Ok(true)
+            }
+            Slot::One(other) => {
+                if is_named(self.items.as_slice(), other, item.name()) {
+                    return Ok(false);
+                }
+                add_other(alloc, self.items.as_slice(), &mut self.indices, other)?;
+                self.slots[place] = Slot::Many;
+                insert_among(alloc, &mut self.items, &mut self.indices, item)
+            }
+            Slot::Many => insert_among(alloc, &mut self.items, &mut self.indices, item),
         }
-        self.items.push(item)?;
-        Ok(true)
     }
+}
+
+/// True if the item at an index has this name.
+fn is_named<T: Named>(items: &[T], index: usize, name: &str) -> bool
+    ensures { result ≡ is_key bytes_eq (slice_get (map T.name items.now) index) name.now }
+{
+    match items.get(index) {
+        Some(item) => item.name() == name,
+        None => false,
+    }
+}
+
+/// Gives the map the index of the item there, whose name it does not have. On `OutOfMemory`, an allocation failed, and nothing has
+/// changed.
+fn add_other<T: Named>(
+    alloc: Global,
+    items: &[T],
+    indices: &mut BTreeMap<String, usize>,
+    index: usize,
+) -> Result<(), OutOfMemory>
+    requires within { index < length items.now }
+    ensures added { OnOk result ((name : List ℕ) → get_by_text indices.new name ≡ (if is_key bytes_eq (slice_get (map T.name items.now) index) name then Some index else get_by_text indices.old name)) }
+    ensures err { OnErr result (IsUnchanged indices.old indices.new) }
+{
+    let name = String::from_str(alloc, items[index].name())?;
+    indices.insert(name, index)?;
+    Ok(())
+}
+
+/// Appends an item and gives its index to the map, unless the map has its name, and returns true if it does. On `OutOfMemory`, an
+/// allocation failed, and nothing has changed.
+fn insert_among<T: Named>(
+    alloc: Global,
+    items: &mut Vec<T>,
+    indices: &mut BTreeMap<String, usize>,
+    item: T,
+) -> Result<bool, OutOfMemory>
+    ensures is_new { IfOk result (λ is_new. is_new ≡ not (is_some (get_by_text indices.old (T.name item)))) }
+    ensures items { IfOk result (λ is_new. items.new.items ≡ (if is_new then items.old.items ++ item ∷ [] else items.old.items)) }
+    ensures added { IfOk result (λ is_new. is_new ≡ true → (name : List ℕ) → get_by_text indices.new name ≡ (if bytes_eq (T.name item) name then Some (length items.old.items) else get_by_text indices.old name)) }
+    ensures stays { IfOk result (λ is_new. is_new ≡ false → IsUnchanged indices.old indices.new) }
+    ensures err_items { OnErr result (items.new.items ≡ items.old.items) }
+    ensures err { OnErr result (IsUnchanged indices.old indices.new) }
+{
+    let name = String::from_str(alloc, item.name())?;
+    let index = items.len();
+    // With room for the item, nothing fails once its name is in the index.
+    items.reserve(1)?;
+    if !insert_if_new(indices, name, index)? {
+        return Ok(false);
+    }
+    items.push(item)?;
+    Ok(true)
 }
 
 /// Gives `index` to a name that has no index yet and returns true, or returns false if it has one, and changes nothing. On

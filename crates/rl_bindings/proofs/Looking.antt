@@ -1,23 +1,9 @@
 -- Look-ups of names after entries are written.
-use Rattle.std.proofs.Common.{◌≡◌, ◌≢◌, ◌<◌, ℕ, zero, suc, Bool, true, false, ◌||◌, true≢false, nat_eq, eqb-true, Option, Some, List, [], ◌∷◌, length, length-set, get_or-set_same, slice_get, slice_set, refl, sym, ap, subst, ◌∙◌}
+use Rattle.std.proofs.Common.{◌≡◌, ◌<◌, ℕ, Bool, true, false, ◌||◌, true≢false, nat_eq, eqb-true, Option, List, [], ◌∷◌, length, length-set, slice_set, refl, sym, ap, subst, ◌∙◌}
 use Rattle.std.proofs.lemmas.Bool.{eqb-false}
-use Rattle.std.proofs.lemmas.Option.{slice_get-get_or}
+pub use Rattle.rl_base.proofs.Slotted.{get_set_same, get_set_other, by_test}
 use Rattle.rl_bindings.specs.Machines.{joined, look, write_all, kept}
 use Rattle.rl_bindings.specs.declared.resolve.Entry.{Entry}
-
-pub get_set_same : {X : Type 0} (xs : List X) (i : ℕ) (x : X) → i < length xs → slice_get (slice_set xs i x) i ≡ Some x
-get_set_same xs i x within = slice_get-get_or (slice_set xs i x) i x (subst (λ n. i < n) (sym (length-set xs i x)) within) ∙ ap Some (get_or-set_same xs i x x within)
-
-pub get_set_other : {X : Type 0} (xs : List X) (i j : ℕ) (x : X) → (i ≢ j) → slice_get (slice_set xs i x) j ≡ slice_get xs j
-get_set_other [] i j x other = refl
-get_set_other (y ∷ ys) zero zero x other = absurd (other refl)
-get_set_other (y ∷ ys) zero (suc j) x other = refl
-get_set_other (y ∷ ys) (suc i) zero x other = refl
-get_set_other (y ∷ ys) (suc i) (suc j) x other = get_set_other ys i j x (λ is. other (ap suc is))
-
-pub by_test : {P : Type 0} (b : Bool) → (b ≡ true → P) → (b ≡ false → P) → P
-by_test true on_true on_false = on_true refl
-by_test false on_true on_false = on_false refl
 
 -- True if an entry has the name.
 abbrev pub has : List Entry → (name : ℕ) → Bool

@@ -38,54 +38,6 @@ pub struct Numbering<'n> {
     ghost distinct: { AreDistinct names.now },
 }
 
-/// Guesses at the numbers of names, while names are collected.
-#[derive(Drop)]
-pub struct Guesses {
-    /// For each hash of a name, the number of the last name with that hash; past all numbers where there is none. Names with one
-    /// hash are looked up in the ordered table, so that names that are made to collide take no more than that.
-    slots: Vec<u32>,
-    /// The numbers of the names of the `bind` and `id` nodes so far, in order.
-    numbers: Vec<usize>,
-}
-
-/// A hash of a text (FNV-1a).
-fn hash_of(text: &str) -> u32 {
-    let mut hash: u32 = 2_166_136_261;
-    for byte in text.as_bytes() {
-        hash = (hash ^ u32::from(*byte)).wrapping_mul(16_777_619);
-    }
-    hash
-}
-
-impl Guesses {
-    /// No guesses, with room for those of a unit with `nodes` nodes. On `OutOfMemory`, an allocation failed.
-    fn new(alloc: Global, nodes: usize) -> Result<Guesses, OutOfMemory> {
-        let mut slots = Vec::new(alloc);
-        slots.resize(nodes.saturating_mul(2), u32::MAX)?;
-        let numbers = Vec::with_capacity(alloc, nodes)?;
-        Ok(Guesses { slots, numbers })
-    }
-
-    /// The slot of a text, with the number that it has, or one past all numbers.
-    fn guess(&self, text: &str) -> (usize, usize) {
-        let place = u64::from(hash_of(text)).wrapping_mul(self.slots.len() as u64);
-        let slot = (place >> 32) as usize;
-        match self.slots.get(slot) {
-            Some(number) => (slot, *number as usize),
-            None => (slot, u32::MAX as usize),
-        }
-    }
-
-    /// Keeps the number of the next name, whose slot this is. On `OutOfMemory`, an allocation failed.
-    fn keep(&mut self, slot: usize, number: usize) -> Result<(), OutOfMemory> {
-        if slot < self.slots.len() {
-            self.slots[slot] = u32::try_from(number).unwrap_or(u32::MAX);
-        }
-        self.numbers.push(number)?;
-        Ok(())
-    }
-}
-
 /// True if the name with this number is `text`.
 fn is_named(names: &NameTable<Name>, number: usize, text: &str) -> bool
     ensures { result ≡ is_named names.now number text.now }
@@ -96,47 +48,36 @@ fn is_named(names: &NameTable<Name>, number: usize, text: &str) -> bool
     }
 }
 
-/// Adds a name, if it is new, and returns its number. The name with the number `guess` takes no look-up, and a new one takes one
-/// if no name has that number. On `OutOfMemory`, an allocation failed.
-#[tactic(auto, using(crate::proofs::Guessing::named_kept))]
+/// Adds a name, if it is new, and returns its number. On `OutOfMemory`, an allocation failed.
 fn find_or_add(
     alloc: Global,
     names: &mut NameTable<Name>,
-    guess: usize,
     text: &Text,
 ) -> Result<usize, OutOfMemory>
     ensures { OnOk result (names.new ≡ add_name names.old text.now) }
 {
-    if is_named(names, guess, text.as_str()) {
-        return Ok(guess);
-    }
-    if guess < names.len() {
-        if let Some(number) = names.find(text.as_str()) {
-            return Ok(number);
-        }
+    if let Some(number) = names.find(text.as_str()) {
+        return Ok(number);
     }
     let number = names.len();
     let name = Name {
         text: text.copy(alloc)?,
     };
-    if names.insert_new(alloc, name)? {
-        return Ok(number);
-    }
-    Ok(names.find(text.as_str()).unwrap_or(number))
+    names.insert_new(alloc, name)?;
+    Ok(number)
 }
 
-/// Adds a name, if it is new, and keeps its number. On `OutOfMemory`, an allocation failed.
+/// Adds a name, if it is new, and appends its number. On `OutOfMemory`, an allocation failed.
 fn add_name(
     alloc: Global,
     names: &mut NameTable<Name>,
-    guesses: &mut Guesses,
+    guesses: &mut Vec<usize>,
     text: &Text,
 ) -> Result<(), OutOfMemory>
     ensures { OnOk result (names.new ≡ add_name names.old text.now) }
 {
-    let (slot, guess) = guesses.guess(text.as_str());
-    let number = find_or_add(alloc, names, guess, text)?;
-    guesses.keep(slot, number)?;
+    let number = find_or_add(alloc, names, text)?;
+    guesses.push(number)?;
     Ok(())
 }
 
@@ -205,7 +146,7 @@ fn named_by(word: Word, parts: &[Numbered]) -> Option<&Text>
 fn add_own(
     alloc: Global,
     names: &mut NameTable<Name>,
-    guesses: &mut Guesses,
+    guesses: &mut Vec<usize>,
     word: Word,
     parts: &[Numbered],
 ) -> Result<(), OutOfMemory>
@@ -227,7 +168,7 @@ fn add_own(
 fn collect(
     alloc: Global,
     names: &mut NameTable<Name>,
-    guesses: &mut Guesses,
+    guesses: &mut Vec<usize>,
     tree: &Numbered,
 ) -> Result<(), OutOfMemory>
     ensures { OnOk result (names.new ≡ add_names names.old (texts (syntax tree.now))) }
@@ -251,7 +192,7 @@ fn collect(
 fn collect_all(
     alloc: Global,
     names: &mut NameTable<Name>,
-    guesses: &mut Guesses,
+    guesses: &mut Vec<usize>,
     trees: &[Numbered],
 ) -> Result<(), OutOfMemory>
     ensures { OnOk result (names.new ≡ add_names names.old (texts_of (pieces_of (map syntax trees.now)))) }
@@ -271,8 +212,8 @@ pub fn names_of(
 ) -> Result<(NameTable<Name>, Vec<usize>), OutOfMemory>
     ensures { IfOk result (λ found. found.0 ≡ names_in (syntax tree.now)) }
 {
-    let mut names = NameTable::new(alloc);
-    let mut guesses = Guesses::new(alloc, nodes)?;
+    let mut names = NameTable::with_slots(alloc, nodes)?;
+    let mut guesses = Vec::with_capacity(alloc, nodes)?;
     collect(alloc, &mut names, &mut guesses, tree)?;
-    Ok((names, guesses.numbers))
+    Ok((names, guesses))
 }

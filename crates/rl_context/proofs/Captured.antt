@@ -5,7 +5,7 @@ use Rattle.rl_bindings.specs.declared.bindings.Bindings.{Bindings}
 use Rattle.rl_context.specs.Context.{assigns, captures, is_context}
 use Rattle.rl_context.specs.declared.site.Site.{Site}
 
--- Where something passes two tests, something passes each.
+-- If some item passes two tests, some item passes each.
 any_both : (p q : Site → Bool) (ss : List Site) → list_any (λ s. p s && q s) ss ≡ true → (list_any p ss && list_any q ss) ≡ true
 any_both p q [] some = some
 any_both p q (s ∷ ss) some = step (p s) (q s) (list_any p ss) (list_any q ss) (list_any (λ t. p t && q t) ss) (any_both p q ss) some

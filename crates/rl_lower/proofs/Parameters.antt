@@ -154,7 +154,7 @@ pair_found identifier (q ∷ parameters) (suc place) p apart there =
 
 -- Stores: each parameter takes the argument at its place, on both sides.
 
--- What is set later is another symbol's.
+-- Later parameters set other symbols, so a parameter's value stays.
 taken_later : (parameters : List Parameter) (arguments : List Value) (store : Store) (p : Parameter) → All (IsApart p) parameters → take parameters arguments store p.symbol.0 ≡ store p.symbol.0
 taken_later [] arguments store p apart = refl
 taken_later (q ∷ parameters) [] store p apart =

@@ -232,7 +232,7 @@ local_fbt = refl
 covered : pending (unit_of source) ≡ None
 covered = refl
 
--- what stands outside the marked function is free; inside it an empty statement is not covered, nor is a function
+-- nodes outside the marked function are free; inside it an empty statement is not covered, nor is a function
 outside : pending (unit (node 2 word.Empty [] ∷ node 3 word.Expr (source ∷ []) ∷ [])) ≡ None
 outside = refl
 

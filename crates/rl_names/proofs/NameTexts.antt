@@ -86,7 +86,7 @@ pub texts_known : (t : Syntax) → AllByRecursion (IsKnown (names_in t)) (texts 
 texts_known t = known_each (texts t) []
 
 mutual
-  -- What is true of all texts of a tree is true of those of a tree inside it.
+  -- A property of all texts of a tree is one of the texts of a tree inside it.
   pub texts_inside : (P : List ℕ → Type 0) (t f : Syntax) → Inside f t → AllByRecursion P (texts t) → AllByRecursion P (texts f)
   texts_inside P (Node at w ps) f (inl same) all = subst (λ s. AllByRecursion P (texts s)) (sym same) all
   texts_inside P (Node at w ps) f (inr more) all = texts_inside_of P ps f more (each_right P (named_by w ps) (texts_of ps) all)

@@ -26,7 +26,7 @@ use Rattle.rl_names.proofs.Items.{each_left, each_right}
 use Rattle.rl_names.proofs.PlainTrees.{plain_elsewhere, plain_elsewhere_among, plain_none_among, plain_scopes, plain_scopes_of}
 use Rattle.rl_names.proofs.DeclarationNames.{Heads, declaration_heads}
 
--- What stands above the names of the parameters of the function with these ids.
+-- The context of the names of the parameters of the function with these ids.
 abbrev pub param_above : At → Above
 param_above at = record { scope = at.scope; function = at.scope; kind = kind.Param; place = place.Inner }
 
@@ -55,7 +55,7 @@ params_scopes (Then (Node pat word.Param (Then (Node bind word.Bind (Then (Said 
     omega (arith, types, defaults, more)
 params_scopes (Then _ ps) plain = absurd plain.0
 
--- What stands above the parts of the function with these ids, its parameters and its body.
+-- The context of the parts of the function with these ids, its parameters and its body.
 abbrev inner : At → BindKind → Place → Above
 inner at declares_as stands_in = record { scope = at.scope; function = at.scope; kind = declares_as; place = stands_in }
 

@@ -51,7 +51,7 @@ mutual
       (from_wider from.node (nodes p) from.node (nodes_of (Then p ps)) (entries_under parent p) (omega arith) (omega arith) (in_range parent p (next_byte from) placed.0))
       (from_wider (from.node + nodes p) (nodes_of ps) from.node (nodes_of (Then p ps)) (entries_among parent ps) (omega arith) (omega arith) (in_range_among parent ps (behind (next_byte from) p) placed.1))
 
--- What the ids of a function are in a range of ids.
+-- The ids of a function in a range of ids.
 record Ranged (at : At) (low count : ℕ) : Type 0 where
   first : low ≤ at.id.0
   last : at.end.0 ≤ low + count

@@ -53,7 +53,7 @@ found_at test first place (x ∷ xs) found = by_test (test x)
     (λ fails. let more = found_at test (first + 1) place xs (sym (ap (λ b. cond b (Some first) (position_from test (first + 1) xs)) fails) ∙ found) in
     record { index = suc more.index; item = more.item; is = (let e = more.is in omega (arith, e)); there = more.there; passes = more.passes })
 
--- What a declaration binds is what another does that stands at its place: own name or not, scope and name are the same.
+-- A declaration at a place: one with this scope and name, which is an own name or none.
 pub record IsPlaceOf (own : Bool) (scope name : ℕ) (b : Bound) : Type 0 where
   pub own_is : is_own b.kind ≡ own
   pub scope_is : b.scope.0 ≡ scope

@@ -218,7 +218,7 @@ module _ (name : List ℕ) (utf8 : IsUtf8 name) where
       by_local true = tt
       by_local false = symbol_texts import_data all symbols symbol.0
 
--- What a name that is no local is bound to has UTF-8 texts if the name is UTF-8, in the lowering of any function of a unit of the
+-- The binding of a name that is no local has UTF-8 texts if the name is UTF-8, in the lowering of any function of a unit of the
 -- notation.
 pub unit_texts : (u f : Syntax) → IsWritable (plain u) → HasTexts (function_names u f)
 unit_texts u f writable = record {

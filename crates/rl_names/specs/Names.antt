@@ -1,5 +1,5 @@
--- What the names of a unit stand for in the lowering of its marked function: local variables by their symbols, and any other
--- name by the binding that the module gives to it.
+-- The meanings of the names of a unit in the lowering of its marked function: of a local variable its symbol, and of any other
+-- name the binding that the module gives to it.
 use Rattle.std.specs.Prelude.{ℕ, Bool, true, false, ◌&&◌, nat_eq, nat_le, nat_lt, if◌then◌else◌, unwrap_or, Option, Some, None, slice_get, List, [], ◌∷◌, ◌++◌}
 use Rattle.rl_base.specs.declared.ids.NodeId.{NodeId}
 use Rattle.rl_base.specs.declared.ids.ScopeId.{ScopeId}
@@ -35,7 +35,7 @@ use Rattle.rl_syntax.specs.declared.word.Word.TheVariants as word
 
 -- The names of a unit, in the lowering of its marked function.
 pub record Names : Type 0 where
-  -- What the `id` node with this reference number and this name stands for.
+  -- The meaning of the `id` node with this reference number and this name.
   pub meaning : (reference : ℕ) (name : List ℕ) → Meaning
   -- The symbol that a `bind` node declares, by the node's id. None at any other node.
   pub declared : (node : ℕ) → Option SymbolId

@@ -1,0 +1,66 @@
+//! Slots of keys. Each key has a place among them, and the slot there says if it is the only one. Most look-ups are one comparison
+//! then; keys that share a place, also those that are made to, are left to an ordered map.
+
+ghost use Rattle.std.specs.Prelude.{◌≡◌, ◌<◌, false, length, replicate, IfOk};
+ghost use Rattle.rl_base.specs.declared.slots.Slot.TheVariants as Slot;
+ghost use Rattle.rl_base.specs.Slots.{hash_from, place_of, is_many, slot_at};
+
+use crate::error::OutOfMemory;
+use std::alloc::Global;
+
+/// The keys with one place: none, one, or many.
+#[derive(Clone, Copy)]
+pub enum Slot {
+    /// There is no key.
+    Empty,
+    /// There is one key, with this number.
+    One(usize),
+    /// There may be many keys.
+    Many,
+}
+
+/// Number above all hashes.
+const HASHES: u64 = 4_294_967_296;
+
+/// A hash of a text.
+fn hash_of(text: &str) -> u64
+    ensures value { result ≡ hash_from 0 text.now }
+    ensures small { result < 4294967296 }
+{
+    let mut hash = 0;
+    let bytes = text.as_bytes();
+    for byte in bytes {
+        hash = (hash * 16_777_619 + u64::from(*byte)) % HASHES;
+    }
+    hash
+}
+
+/// The place of a text among `count` slots. 0 if there are none.
+pub fn place_of(count: usize, text: &str) -> usize
+    ensures { result ≡ place_of count text.now }
+{
+    if count == 0 {
+        return 0;
+    }
+    (hash_of(text) % count as u64) as usize
+}
+
+/// The slot at a place. A place past the end is one of many keys.
+pub fn slot_at(slots: &[Slot], place: usize) -> Slot
+    ensures slot { result ≡ slot_at slots.now place }
+    ensures within { is_many result ≡ false → place < length slots.now }
+{
+    match slots.get(place) {
+        Some(slot) => *slot,
+        None => Slot::Many,
+    }
+}
+
+/// `count` empty slots. On `OutOfMemory`, an allocation failed.
+pub fn empty_slots(alloc: Global, count: usize) -> Result<Vec<Slot>, OutOfMemory>
+    ensures { IfOk result (λ slots. slots.items ≡ replicate count Slot.Empty) }
+{
+    let mut slots = Vec::new(alloc);
+    slots.resize(count, Slot::Empty)?;
+    Ok(slots)
+}
