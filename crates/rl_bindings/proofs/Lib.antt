@@ -1,4 +1,3 @@
-pub mod Naming
 pub mod Steps
 pub mod Walking
 pub mod SymbolTables
@@ -13,4 +12,4 @@ pub mod Examples
 pub mod Passing
 pub mod Numbering
 pub mod Within
-pub mod Guessing
+pub mod Adding

@@ -1,7 +1,7 @@
 pub mod Names
-pub mod Guesses
 pub mod Roles
 pub mod Events
+pub mod Walks
 pub mod Symbols
 pub mod Standing
 pub mod NameRules

@@ -1,5 +1,5 @@
 -- The names that a unit declares or uses, each once, and their numbers.
-use Rattle.std.specs.Prelude.{ℕ, not, if◌then◌else◌, Option, is_some, List, [], ◌∷◌, ◌++◌, length}
+use Rattle.std.specs.Prelude.{ℕ, not, if◌then◌else◌, Option, is_some, List, [], ◌∷◌, ◌++◌}
 use Rattle.std.specs.Option.{unwrap_or}
 use Rattle.rl_base.specs.NameTables.{index_named}
 use Rattle.rl_bindings.specs.declared.names.Name.{Name}
@@ -46,11 +46,11 @@ abbrev mutual
 abbrev pub names_in : Syntax → List Name
 names_in tree = add_names [] (texts tree)
 
--- The number of the name of a node that says it; the number of all names where none is said.
+-- The number of the name of a node that says it; 0 where none is said.
 abbrev pub numbered : List Name → (said : List (List ℕ)) → ℕ
-numbered names [] = length names
-numbered names (text ∷ texts) = unwrap_or (number_of names text) (length names)
+numbered names [] = 0
+numbered names (text ∷ texts) = unwrap_or (number_of names text) 0
 
--- The number of the name that a `bind` or `id` node with these parts says.
+-- The number of the name that a `bind` or `id` node with these parts says; 0 at parts that say none, which no unit has.
 abbrev pub name_of : List Name → Pieces → ℕ
 name_of names parts = numbered names (said parts)

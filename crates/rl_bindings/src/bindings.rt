@@ -11,7 +11,7 @@ ghost use Rattle.rl_syntax.specs.Syntax.{syntax};
 ghost use Rattle.std.specs.List.{list_any};
 
 use crate::event::{Event, ScopeEntry};
-use crate::names::{Name, Numbering, names_of};
+use crate::names::Name;
 use crate::resolve::{Declaration, Reference, resolve_all};
 use crate::rules::{check_all, is_var, lexical_of};
 use crate::symbol_table::SymbolTable;
@@ -114,12 +114,7 @@ impl Bindings {
         ensures references_within { IfOk result (λ b. All (λ r. IfSome r.symbol (λ k. k < length b.symbols)) b.references) }
         ensures least_broken { IfOk result (λ b. b.least_broken_name_rule ≡ tables.least_broken (syntax unit.now.tree)) }
     {
-        let (names, guesses) = names_of(alloc, unit.nodes.len(), &unit.tree)?;
-        let numbering = Numbering {
-            names: &names,
-            guesses: &guesses,
-        };
-        let events = events_of(alloc, unit.nodes.len(), &numbering, &unit.tree)?;
+        let (names, events) = events_of(alloc, unit.nodes.len(), &unit.tree)?;
         let found = check_all(alloc, &events)?;
         let passing = passes(alloc, &events)?;
         let broken = least(found.clashed, passing, found.repeated, found.shared);

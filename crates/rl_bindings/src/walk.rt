@@ -1,26 +1,22 @@
-//! The events of a tree's nodes, in the order of the text.
+//! Events of a tree's nodes, in the order of the text, and the names that they declare and use.
 
 ghost use Rattle.std.specs.Prelude.{◌≡◌, ◌++◌, map, IfOk, OnOk};
 ghost use Rattle.rl_bindings.specs.Events.{events, lead, trail, sign, front, back, top};
+ghost use Rattle.rl_bindings.specs.Names.{names_in, texts};
+ghost use Rattle.rl_bindings.specs.Walks.{Walked, said_by, texts_ahead, texts_behind};
 ghost use Rattle.rl_syntax.specs.Syntax.{pieces_of, syntax};
 
 use crate::event::{BindKind, Bound, Event, Place, ScopeEntry};
-use crate::names::{Numbering, name_of};
+use crate::names::{Name, add_said};
 use crate::role::{
     Above, Role, below, outside, parent_of, parts_ahead, role_of, scope_kind, scope_of,
 };
 use rl_base::error::OutOfMemory;
 use rl_base::ids::ScopeId;
+use rl_base::name_table::NameTable;
 use rl_syntax::numbered::{At, Numbered};
 use rl_syntax::word::Word;
 use std::alloc::Global;
-
-/// The guess at the number of the name of the next `bind` or `id` node, which `next` counts.
-fn next_guess(numbering: &Numbering<'_>, next: &mut usize) -> usize {
-    let guess = numbering.guesses.get(*next).copied().unwrap_or(0);
-    *next = next.wrapping_add(1);
-    guess
-}
 
 /// Appends the scope that a node makes, if it makes one. On `OutOfMemory`, an allocation failed.
 fn push_sign(
@@ -47,17 +43,18 @@ fn push_sign(
     }
 }
 
-/// Appends the event of a node before the parts that stand in its scope. On `OutOfMemory`, an allocation failed.
+/// Appends the event of a node before the parts that stand in its scope, and adds its name. On `OutOfMemory`, an allocation failed.
+#[tactic(auto, using(crate::proofs::Walking::by_role))]
 fn push_front(
+    alloc: Global,
     out: &mut Vec<Event>,
-    numbering: &Numbering<'_>,
-    next: &mut usize,
+    names: &mut NameTable<Name>,
     role: Role,
     above: Above,
     at: At,
     parts: &[Numbered],
 ) -> Result<(), OutOfMemory>
-    ensures { OnOk result (out.new.items ≡ out.old.items ++ front numbering.now.names.now role above at (pieces_of (map syntax parts.now))) }
+    ensures { OnOk result (Walked names.old names.new (said_by role (pieces_of (map syntax parts.now))) out.old.items out.new.items (λ later. front later role above at (pieces_of (map syntax parts.now)))) }
 {
     match role {
         Role::Maker => {
@@ -65,11 +62,11 @@ fn push_front(
             Ok(())
         }
         Role::Binder => {
-            let guess = next_guess(numbering, next);
+            let name = add_said(alloc, names, parts)?;
             out.push(Event::Bind(Bound {
                 node: at.id,
                 span: at.span,
-                name: name_of(numbering, guess, parts),
+                name,
                 scope: scope_of(above),
                 kind: above.kind,
                 place: above.place,
@@ -77,8 +74,8 @@ fn push_front(
             Ok(())
         }
         Role::User => {
-            let guess = next_guess(numbering, next);
-            out.push(Event::Use(at.id, name_of(numbering, guess, parts)))?;
+            let name = add_said(alloc, names, parts)?;
+            out.push(Event::Use(at.id, name))?;
             Ok(())
         }
         Role::Plain => Ok(()),
@@ -100,18 +97,18 @@ fn push_back(out: &mut Vec<Event>, role: Role) -> Result<(), OutOfMemory>
     }
 }
 
-/// Appends the events of a tree, by what stands above it. On `OutOfMemory`, an allocation failed.
+/// Appends the events of a tree, by what stands above it, and adds its names. On `OutOfMemory`, an allocation failed.
 #[cycle(walking)]
 #[inline(always)]
-#[tactic(auto, using(crate::proofs::Walking::by_form, rl_syntax::proofs::Layers::by_layer))]
+#[tactic(auto, using(rl_syntax::proofs::Layers::by_layer))]
 fn push_events(
+    alloc: Global,
     out: &mut Vec<Event>,
-    numbering: &Numbering<'_>,
-    next: &mut usize,
+    names: &mut NameTable<Name>,
     above: Above,
     tree: &Numbered,
 ) -> Result<(), OutOfMemory>
-    ensures { OnOk result (out.new.items ≡ out.old.items ++ events numbering.now.names.now above (syntax tree.now)) }
+    ensures { OnOk result (Walked names.old names.new (texts (syntax tree.now)) out.old.items out.new.items (λ later. events later above (syntax tree.now))) }
 {
     match tree {
         Numbered::Node(at, word, parts) => {
@@ -122,30 +119,30 @@ fn push_events(
                 Role::Maker => {
                     let count = parts_ahead(*word);
                     push_sign(out, role, above, *at, *word)?;
-                    push_lead(out, numbering, next, count, outside(above, *word), parts)?;
-                    push_front(out, numbering, next, role, above, *at, parts)?;
-                    push_trail(out, numbering, next, count, inner, parts)?;
+                    push_lead(alloc, out, names, count, outside(above, *word), parts)?;
+                    push_front(alloc, out, names, role, above, *at, parts)?;
+                    push_trail(alloc, out, names, count, inner, parts)?;
                     push_back(out, role)?;
                     Ok(())
                 }
                 Role::Binder => {
-                    push_front(out, numbering, next, role, above, *at, parts)?;
-                    push_all(out, numbering, next, inner, parts)?;
+                    push_front(alloc, out, names, role, above, *at, parts)?;
+                    push_all(alloc, out, names, inner, parts)?;
                     Ok(())
                 }
                 Role::User => {
-                    push_front(out, numbering, next, role, above, *at, parts)?;
-                    push_all(out, numbering, next, inner, parts)?;
+                    push_front(alloc, out, names, role, above, *at, parts)?;
+                    push_all(alloc, out, names, inner, parts)?;
                     Ok(())
                 }
                 Role::Plain => {
-                    push_all(out, numbering, next, inner, parts)?;
+                    push_all(alloc, out, names, inner, parts)?;
                     Ok(())
                 }
             }
         }
         Numbered::List(parts) => {
-            push_all(out, numbering, next, above, parts.as_slice())?;
+            push_all(alloc, out, names, above, parts.as_slice())?;
             Ok(())
         }
         Numbered::Text(_) => Ok(()),
@@ -155,25 +152,25 @@ fn push_events(
     }
 }
 
-/// Appends the events of the first `count` of parts in a row. On `OutOfMemory`, an allocation failed.
+/// Appends the events of the first `count` of parts in a row, and adds their names. On `OutOfMemory`, an allocation failed.
 #[cycle(walking)]
 fn push_lead(
+    alloc: Global,
     out: &mut Vec<Event>,
-    numbering: &Numbering<'_>,
-    next: &mut usize,
+    names: &mut NameTable<Name>,
     count: usize,
     above: Above,
     parts: &[Numbered],
 ) -> Result<(), OutOfMemory>
-    ensures { OnOk result (out.new.items ≡ out.old.items ++ lead numbering.now.names.now count above (pieces_of (map syntax parts.now))) }
+    ensures { OnOk result (Walked names.old names.new (texts_ahead count (pieces_of (map syntax parts.now))) out.old.items out.new.items (λ later. lead later count above (pieces_of (map syntax parts.now)))) }
 {
     match parts {
         [first, rest @ ..] => {
             if count == 0 {
                 Ok(())
             } else {
-                push_events(out, numbering, next, above, first)?;
-                push_lead(out, numbering, next, count - 1, above, rest)?;
+                push_events(alloc, out, names, above, first)?;
+                push_lead(alloc, out, names, count - 1, above, rest)?;
                 Ok(())
             }
         }
@@ -181,56 +178,58 @@ fn push_lead(
     }
 }
 
-/// Appends the events of parts in a row, the first `count` aside. On `OutOfMemory`, an allocation failed.
+/// Appends the events of parts in a row, the first `count` aside, and adds their names. On `OutOfMemory`, an allocation failed.
 #[cycle(walking)]
 fn push_trail(
+    alloc: Global,
     out: &mut Vec<Event>,
-    numbering: &Numbering<'_>,
-    next: &mut usize,
+    names: &mut NameTable<Name>,
     count: usize,
     above: Above,
     parts: &[Numbered],
 ) -> Result<(), OutOfMemory>
-    ensures { OnOk result (out.new.items ≡ out.old.items ++ trail numbering.now.names.now count above (pieces_of (map syntax parts.now))) }
+    ensures { OnOk result (Walked names.old names.new (texts_behind count (pieces_of (map syntax parts.now))) out.old.items out.new.items (λ later. trail later count above (pieces_of (map syntax parts.now)))) }
 {
     if count == 0 {
-        push_all(out, numbering, next, above, parts)?;
+        push_all(alloc, out, names, above, parts)?;
         return Ok(());
     }
     match parts {
         [_, rest @ ..] => {
-            push_trail(out, numbering, next, count - 1, above, rest)?;
+            push_trail(alloc, out, names, count - 1, above, rest)?;
             Ok(())
         }
         [] => Ok(()),
     }
 }
 
-/// Appends the events of trees in a row. On `OutOfMemory`, an allocation failed.
+/// Appends the events of trees in a row, and adds their names. On `OutOfMemory`, an allocation failed.
 #[cycle(walking)]
 fn push_all(
+    alloc: Global,
     out: &mut Vec<Event>,
-    numbering: &Numbering<'_>,
-    next: &mut usize,
+    names: &mut NameTable<Name>,
     above: Above,
     trees: &[Numbered],
 ) -> Result<(), OutOfMemory>
-    ensures { OnOk result (out.new.items ≡ out.old.items ++ trail numbering.now.names.now 0 above (pieces_of (map syntax trees.now))) }
+    ensures { OnOk result (Walked names.old names.new (texts_behind 0 (pieces_of (map syntax trees.now))) out.old.items out.new.items (λ later. trail later 0 above (pieces_of (map syntax trees.now)))) }
 {
     'trees: for tree in trees {
-        push_events(out, numbering, next, above, tree)?;
+        push_events(alloc, out, names, above, tree)?;
     }
     Ok(())
 }
 
-/// The events of a unit's tree, which has about `nodes` nodes. On `OutOfMemory`, an allocation failed.
+/// The names of a unit's tree, each once, in the order in which they come first, and its events. `nodes` is about the number of
+/// nodes of the tree. On `OutOfMemory`, an allocation failed.
+#[tactic(auto, using(crate::proofs::Walking::all_named, crate::proofs::Walking::all_walked))]
 pub fn events_of(
     alloc: Global,
     nodes: usize,
-    numbering: &Numbering<'_>,
     tree: &Numbered,
-) -> Result<Vec<Event>, OutOfMemory>
-    ensures { IfOk result (λ found. found.items ≡ events numbering.now.names.now top (syntax tree.now)) }
+) -> Result<(NameTable<Name>, Vec<Event>), OutOfMemory>
+    ensures names { IfOk result (λ found. found.0 ≡ names_in (syntax tree.now)) }
+    ensures events { IfOk result (λ found. found.1.items ≡ events found.0 top (syntax tree.now)) }
 {
     let above = Above {
         scope: ScopeId(0),
@@ -238,8 +237,8 @@ pub fn events_of(
         kind: BindKind::Var,
         place: Place::Inner,
     };
+    let mut names = NameTable::with_slots(alloc, nodes)?;
     let mut out = Vec::with_capacity(alloc, nodes)?;
-    let mut next = 0;
-    push_events(&mut out, numbering, &mut next, above, tree)?;
-    Ok(out)
+    push_events(alloc, &mut out, &mut names, above, tree)?;
+    Ok((names, out))
 }

@@ -1,5 +1,5 @@
-use Rattle.std.proofs.Common.{◌≡◌, ◌+◌, ◌*◌, ◌≤◌, ◌++◌, map, drop}
-use Rattle.rl_bindings.specs.Events.{trail}
+use Rattle.std.proofs.Common.{◌+◌, ◌*◌, ◌≤◌, map, drop}
+use Rattle.rl_bindings.proofs.Walking.{IsLeft}
 use Rattle.rl_syntax.specs.Sizes.{size, size_of}
 use Rattle.rl_syntax.specs.Syntax.{pieces_of, syntax}
 use Rattle.rl_bindings.proofs.walk.+walking.Given as goal
@@ -18,6 +18,6 @@ decreases-push_all l = 2 * size_of (pieces_of (map syntax l.trees.now))
 
 abbrev pub invariant-push_all-trees : goal.invariant-push_all-trees
 invariant-push_all-trees l = record {
-  walked : l.out.items ++ trail l.numbering.names.now 0 l.above (pieces_of (map syntax (drop l.tree-index l.trees))) ≡ l.initial.out.items ++ trail l.numbering.names.now 0 l.above (pieces_of (map syntax l.trees));
+  walked : IsLeft l.above l.initial.names l.initial.out.items l.trees l.names l.out.items (drop l.tree-index l.trees);
   fewer : size_of (pieces_of (map syntax (drop l.tree-index l.trees))) ≤ size_of (pieces_of (map syntax l.trees));
 }
