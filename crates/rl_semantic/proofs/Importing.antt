@@ -1,13 +1,17 @@
 -- The bindings that a tree's imports make, by the tree's form, behind those that were found before.
-use Rattle.std.proofs.Common.{◌≡◌, ℕ, Bool, None, List, [], ◌++◌, map, append-nil, append_assoc, ap, sym, ◌∙◌}
-use Rattle.rl_semantic.specs.Imports.{binding_of, kind_of, specifier, import_of, imports_in, imports_among}
+use Rattle.std.proofs.Common.{◌≡◌, ℕ, Bool, true, false, ◌||◌, true≢false, Option, Some, None, List, [], ◌∷◌, ◌++◌, map, append-nil, append_assoc, ap, refl, sym, ◌∙◌}
+use Rattle.rl_base.specs.declared.ids.NodeId.{NodeId}
+use Rattle.rl_semantic.specs.Imports.{binding_of, kind_of, specifier, import_of, imports_in, imports_among, is_import, has_import}
 use Rattle.rl_semantic.specs.Items.{of_item}
 use Rattle.rl_semantic.specs.declared.imports.ImportBindingData.{ImportBindingData}
-use Rattle.rl_syntax.specs.Syntax.{Syntax, Said, Count, Flag, Absent, pieces_of, syntax}
+use Rattle.rl_syntax.specs.Nodes.{entries_under, entries_among, entries}
+use Rattle.rl_syntax.specs.Syntax.{Syntax, Node, Listed, Said, Count, Flag, Absent, Pieces, End, Then, pieces_of, syntax}
+use Rattle.rl_syntax.specs.declared.nodes.NodeEntry.{NodeEntry}
 use Rattle.rl_syntax.specs.declared.numbered.At.{At}
 use Rattle.rl_syntax.specs.declared.numbered.Numbered.{Numbered}
 use Rattle.rl_syntax.specs.declared.numbered.Numbered.TheVariants as numbered
 use Rattle.rl_syntax.specs.declared.word.Word.{Word}
+use Rattle.rl_syntax.specs.declared.word.Word.TheVariants as word
 use Rattle.rl_syntax.proofs.Layers.{syntax_node, syntax_list, syntax_text, syntax_number, syntax_flag, syntax_absent}
 
 module _ (source : List ℕ) (found : List (ℕ × ImportBindingData)) where
@@ -62,3 +66,41 @@ module _ (found : List (ℕ × ImportBindingData)) where
   absent_imported = sym (append-nil found) ∙ imported numbered.Absent Absent syntax_absent
 
 pub ruleset as_tree = (node_imported, text_imported, number_imported, flag_imported, absent_imported)
+
+-- A node makes no bindings if it is no import.
+none_made : (w : Word) (parts : Pieces) → is_import w ≡ false → import_of w parts ≡ []
+none_made word.Import parts none = absurd (true≢false none)
+none_made _ parts none = refl
+
+or_none : (a b : Bool) → (a || b) ≡ false → (a ≡ false) × (b ≡ false)
+or_none false b none = (refl, none)
+or_none true b none = absurd (true≢false none)
+
+import-append : (es fs : List NodeEntry) → has_import (es ++ fs) ≡ has_import es || has_import fs
+import-append [] fs = refl
+import-append (e ∷ es) fs = ap (λ b. is_import e.word || b) (import-append es fs) ∙ assoc (is_import e.word) (has_import es) (has_import fs)
+  where
+    assoc : (a b c : Bool) → (a || (b || c)) ≡ ((a || b) || c)
+    assoc true b c = refl
+    assoc false b c = refl
+
+mutual
+  none_in : (tree : Syntax) (parent : Option NodeId) → has_import (entries_under parent tree) ≡ false → imports_in tree ≡ []
+  none_in (Node at w parts) parent none =
+      let both = or_none (is_import w) (has_import (entries_among (Some at.id) parts)) none in
+      λ i. none_made w parts both.0 i ++ none_among parts (Some at.id) both.1 i
+  none_in (Listed parts) parent none = none_among parts parent none
+  none_in (Said text) parent none = refl
+  none_in (Count number) parent none = refl
+  none_in (Flag flag) parent none = refl
+  none_in Absent parent none = refl
+
+  none_among : (parts : Pieces) (parent : Option NodeId) → has_import (entries_among parent parts) ≡ false → imports_among parts ≡ []
+  none_among End parent none = refl
+  none_among (Then piece pieces) parent none =
+      let both = or_none (has_import (entries_under parent piece)) (has_import (entries_among parent pieces)) (sym (import-append (entries_under parent piece) (entries_among parent pieces)) ∙ none) in
+      λ i. none_in piece parent both.0 i ++ none_among pieces parent both.1 i
+
+-- A tree makes no bindings if no import is among its nodes.
+pub none_imported : (tree : Syntax) (nodes : List NodeEntry) → nodes ≡ entries tree → has_import nodes ≡ false → [] ≡ imports_in tree
+none_imported tree nodes are none = sym (none_in tree None (sym (ap has_import are) ∙ none))

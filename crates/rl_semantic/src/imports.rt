@@ -4,11 +4,13 @@ ghost use Rattle.std.specs.Prelude.{◌≡◌, ◌++◌, map, option_map, IfOk, 
 ghost use Rattle.rl_semantic.specs.Imports as spec;
 ghost use Rattle.rl_syntax.specs.Syntax.{pieces_of, syntax};
 
+use rl_ast::unit::Unit;
 use rl_base::error::OutOfMemory;
 use rl_base::ids::NodeId;
 use rl_base::list::List;
 use rl_base::text::Text;
 use rl_rules::pieces::{behind, first_items};
+use rl_syntax::nodes::NodeEntry;
 use rl_syntax::numbered::Numbered;
 use rl_syntax::word::Word;
 use std::alloc::Global;
@@ -264,14 +266,38 @@ fn push_among<'u>(
     Ok(())
 }
 
-/// The bindings that the imports in a tree make, in the order of the nodes. On `OutOfMemory`, an allocation failed.
-pub(crate) fn imports_of(
-    alloc: Global,
-    tree: &Numbered,
-) -> Result<List<ImportEntry<'_>>, OutOfMemory>
-    ensures { IfOk result (λ found. map spec.seen found ≡ spec.imports_in (syntax tree.now)) }
+/// True of the word of imports.
+fn is_import(word: Word) -> bool
+    ensures { result ≡ spec.is_import word }
+{
+    match word {
+        Word::Import => true,
+        _ => false,
+    }
+}
+
+/// True if an import is among nodes.
+fn has_import(nodes: &[NodeEntry]) -> bool
+    ensures { result ≡ spec.has_import nodes.now }
+{
+    for entry in nodes {
+        if is_import(entry.word) {
+            return true;
+        }
+    }
+    false
+}
+
+/// The bindings that the imports of a unit make, in the order of the nodes. The tree is walked only if an import is among the
+/// unit's nodes. On `OutOfMemory`, an allocation failed.
+#[tactic(auto, using(crate::proofs::Importing::none_imported))]
+pub(crate) fn imports_of(alloc: Global, unit: &Unit) -> Result<List<ImportEntry<'_>>, OutOfMemory>
+    ensures { IfOk result (λ found. map spec.seen found ≡ spec.imports_in (syntax unit.now.tree)) }
 {
     let mut found = List::new(alloc);
-    push_imports(&mut found, tree)?;
+    if !has_import(unit.nodes.as_slice()) {
+        return Ok(found);
+    }
+    push_imports(&mut found, &unit.tree)?;
     Ok(found)
 }

@@ -120,7 +120,7 @@ impl<'u> Semantic<'u> {
         if let Some(rule) = least_broken(&unit.tree, named) {
             return Err(RuleError::Malformed(rule));
         }
-        let imports = imports_of(alloc, &unit.tree)?;
+        let imports = imports_of(alloc, unit)?;
         Ok(Semantic {
             bindings,
             imports,
