@@ -1,20 +1,20 @@
 -- The index of a table of symbols, as symbols are added.
-use Rattle.std.proofs.Common.{◌≡◌, ℕ, ◌+◌, Bool, true, false, cond, ◌&&◌, nat_eq, is_eq, true≢false, Option, Some, None, List, [], ◌∷◌, ◌++◌, length, BTreeMap, nat_cmp, Less, Equal, Greater, nat_lt, ◌<◌, ltb-true, eqb-true, eq-eqb, refl, sym, ap, ◌∙◌, arith, slice_get}
-use Rattle.std.specs.BTreeMap.{IsEmpty, IsUnchanged, Updates}
+use Rattle.std.proofs.Common.{◌≡◌, ℕ, suc, ◌+◌, ◌*◌, ◌%◌, if◌then◌else◌, map, replicate, subst, length-set, get_or, slice_set, Result, Ok, Err, IfOk, OnErr, MatchOption, is_some, Bool, true, false, cond, ◌&&◌, nat_eq, is_eq, true≢false, Option, Some, None, List, [], ◌∷◌, ◌++◌, length, BTreeMap, nat_cmp, Less, Equal, Greater, nat_lt, ◌<◌, ltb-true, eqb-true, eq-eqb, refl, sym, ap, ◌∙◌, arith, slice_get}
+use Rattle.std.specs.BTreeMap.{IsEmpty, IsUnchanged, Updates, get}
 use Rattle.std.specs.Cmp.{tied_then}
 use Rattle.std.specs.List.{position_from}
 use Rattle.std.specs.Map.{lookup}
 use Rattle.std.specs.Ordering.{bool_cmp, ordering_then}
 use Rattle.rl_bindings.specs.Symbols.{is_own, same, is_at, number_at, option_or, binding}
-use Rattle.rl_bindings.specs.SymbolTables.{key_cmp, found_at, IsTable}
+use Rattle.rl_bindings.specs.SymbolTables.{key_cmp, key_of, same_key, key_place, number_by, IsTable}
+use Rattle.rl_base.specs.Slots.{slot_at, is_key, numbered, IsSlotted}
+use Rattle.rl_base.specs.declared.slots.Slot.{Slot}
+use Rattle.rl_base.specs.declared.slots.Slot.TheVariants as slot
+use Rattle.rl_base.proofs.Slotted.{slot_set_same, push_empty, push_many, crowd, many_same, no_keys, empty_slots}
 use Rattle.rl_bindings.specs.declared.event.Bound.{Bound}
+use Rattle.rl_base.specs.declared.error.OutOfMemory.{OutOfMemory}
+use Rattle.std.proofs.lemmas.Option.{slice_get-get_or}
 use Rattle.rl_bindings.proofs.Steps.{get_pushed}
-
-pub table_empty : (numbers : BTreeMap (ℕ × ℕ × Bool) ℕ) (symbols : List Bound) → IsEmpty numbers → symbols ≡ [] → IsTable numbers symbols
-table_empty numbers symbols empty none = record {
-  found = λ own scope name. ap (λ es. lookup (λ k. is_eq (key_cmp (name, scope, own) k)) es) empty ∙ sym (ap (number_at own scope name) none);
-  unique = λ k b got. absurd (let e : None ≡ Some b = sym (ap (λ l. slice_get l k) none) ∙ got in cc);
-}
 
 pub position_push : (p : Bound → Bool) (i last : ℕ) (xs : List Bound) (x : Bound) → i + length xs ≡ last → (p x ≡ true → position_from p i xs ≡ None) → position_from p i (xs ++ x ∷ []) ≡ cond (p x) (Some last) (position_from p i xs)
 position_push p i last [] x same none = let e : i ≡ last = omega (arith, same) in ap (λ n. cond (p x) (Some n) None) e
@@ -123,35 +123,128 @@ position-kept p i k (x ∷ xs) ys found = kept (p x) (position_from p (i + 1) xs
     kept true before after more is = is
     kept false before after more is = more is
 
-pub table_push : (before after : BTreeMap (ℕ × ℕ × Bool) ℕ) (kept added : List Bound) (b : Bound) (mine : Bool) (count : ℕ) → IsTable before kept → mine ≡ is_own b.kind → number_at (is_own b.kind) b.scope.0 b.name kept ≡ None → count ≡ length kept → Updates key_cmp before after (b.name, b.scope.0, mine) (Some count) → added ≡ kept ++ b ∷ [] → IsTable after added
-table_push before after kept added b mine count table is new counted updated grown = record {
-  found = λ own scope name.
-      updated.0 (name, scope, own)
-      ∙ ap (λ x. cond x (Some count) (found_at before own scope name)) (key_tied own b mine scope name is)
-      ∙ ap (λ o. cond (is_at own scope name b) (Some count) o) (table.found own scope name)
-      ∙ ap (λ c. cond (is_at own scope name b) (Some c) (number_at own scope name kept)) counted
-      ∙ sym (number-push kept b own scope name new)
-      ∙ sym (ap (number_at own scope name) grown);
-  unique = λ k x got.
-      ap (number_at (is_own x.kind) x.scope.0 x.name) grown
-      ∙ get_pushed kept b x k (sym (ap (λ l. slice_get l k) grown) ∙ got)
-      (λ before. position-kept (is_at (is_own x.kind) x.scope.0 x.name) 0 k kept (b ∷ []) (table.unique k x before))
-      (λ last is. sym (λ i. number_at (is_own (is i).kind) (is i).scope.0 (is i).name (kept ++ b ∷ []))
-      ∙ number-push kept b (is_own b.kind) b.scope.0 b.name new
-      ∙ ap (λ c. cond c (Some (length kept)) (number_at (is_own b.kind) b.scope.0 b.name kept)) (at_self b)
-      ∙ ap Some (sym last));
-}
+-- The index of a declaration's key.
+by_key : (b : Bound) (key : ℕ × ℕ × Bool) → same_key (key_of b) key ≡ is_at key.2 key.1 key.0 b
+by_key b key = key_tied key.2 b (is_own b.kind) key.1 key.0 refl
+
+-- Keys that are one have one place.
+same_parts : (x y : ℕ × ℕ × Bool) → same_key x y ≡ true → (x.0 ≡ y.0) × (x.1 ≡ y.1)
+same_parts x y is = (eqb-true x.0 y.0 (sym (nat_tied x.0 y.0) ∙ both_left _ (is_eq (nat_cmp x.1 y.1)) two), eqb-true x.1 y.1 (sym (nat_tied x.1 y.1) ∙ both_right (is_eq (nat_cmp x.0 y.0)) _ two))
+  where
+    one : (is_eq (ordering_then (nat_cmp x.0 y.0) (nat_cmp x.1 y.1)) && is_eq (bool_cmp x.2 y.2)) ≡ true
+    one = tied_then (ordering_then (nat_cmp x.0 y.0) (nat_cmp x.1 y.1)) (bool_cmp x.2 y.2) ∙ is
+
+    two : (is_eq (nat_cmp x.0 y.0) && is_eq (nat_cmp x.1 y.1)) ≡ true
+    two = tied_then (nat_cmp x.0 y.0) (nat_cmp x.1 y.1) ∙ both_left _ (is_eq (bool_cmp x.2 y.2)) one
+
+place_same : (count : ℕ) (x y : ℕ × ℕ × Bool) → same_key x y ≡ true → key_place count x ≡ key_place count y
+place_same count x y is = let parts = same_parts x y is in λ i. if nat_eq count 0 then 0 else (parts.0 i % 4294967296 + parts.1 i * 40503) % count
 
 -- A symbol that is no own name is what its scope binds its name to.
-pub binding_first : (numbers : BTreeMap (ℕ × ℕ × Bool) ℕ) (symbols : List Bound) (k : ℕ) (b : Bound) → IsTable numbers symbols → slice_get symbols k ≡ Some b → is_own b.kind ≡ false → Some k ≡ binding symbols b.scope.0 b.name
-binding_first numbers symbols k b table got other =
+pub binding_first : (slots : List Slot) (numbers : BTreeMap (ℕ × ℕ × Bool) ℕ) (symbols : List Bound) (k : ℕ) (b : Bound) → IsTable slots numbers symbols → slice_get symbols k ≡ Some b → is_own b.kind ≡ false → Some k ≡ binding symbols b.scope.0 b.name
+binding_first slots numbers symbols k b table got other =
     sym (ap (λ o. option_or o (number_at true b.scope.0 b.name symbols)) (sym (ap (λ own. number_at own b.scope.0 b.name symbols) other) ∙ table.unique k b got))
 
-pub table_same : (before after : BTreeMap (ℕ × ℕ × Bool) ℕ) (symbols kept : List Bound) → IsTable before symbols → IsUnchanged before after → kept ≡ symbols → IsTable after kept
-table_same before after symbols kept table unchanged same = record {
-  found = λ own scope name.
-      ap (λ es. lookup (λ k. is_eq (key_cmp (name, scope, own) k)) es) unchanged
-      ∙ table.found own scope name
-      ∙ sym (ap (number_at own scope name) same);
-  unique = λ k x got. ap (number_at (is_own x.kind) x.scope.0 x.name) same ∙ table.unique k x (sym (ap (λ l. slice_get l k) same) ∙ got);
+pub table_empty : (count : ℕ) (slots : List Slot) (numbers : BTreeMap (ℕ × ℕ × Bool) ℕ) (symbols : List Bound) → slots ≡ replicate count slot.Empty → IsEmpty numbers → symbols ≡ [] → IsTable slots numbers symbols
+table_empty count slots numbers symbols is unknown none = record {
+  slotted = subst (λ (l : List Bound). IsSlotted same_key (key_place (length slots)) slots (map key_of l) (get key_cmp numbers) (number_by l)) (sym none)
+      (no_keys same_key (key_place (length slots)) slots (get key_cmp numbers) (number_by []) (subst (λ ss. (p k : ℕ) → slot_at ss p ≡ slot.One k → false ≡ true) (sym is) (empty_slots count)) (λ key. ap (lookup _) unknown) (λ key. refl));
+  unique = λ k b got. absurd (let e : None ≡ Some b = sym (ap (λ l. slice_get l k) none) ∙ got in cc);
 }
+
+number_pushed : (symbols : List Bound) (b : Bound) → number_at (is_own b.kind) b.scope.0 b.name symbols ≡ None → (key : ℕ × ℕ × Bool)
+    → number_by (symbols ++ b ∷ []) key ≡ (if same_key (key_of b) key then Some (length symbols) else number_by symbols key)
+number_pushed symbols b new key =
+    number-push symbols b key.2 key.1 key.0 new
+    ∙ ap (λ (c : Bool). if c then Some (length symbols) else number_by symbols key) (sym (by_key b key))
+
+keys_push : (symbols : List Bound) (b : Bound) → map key_of (symbols ++ b ∷ []) ≡ map key_of symbols ++ key_of b ∷ []
+keys_push [] b = refl
+keys_push (x ∷ symbols) b = ap (λ l. key_of x ∷ l) (keys_push symbols b)
+
+keys_length : (symbols : List Bound) → length (map key_of symbols) ≡ length symbols
+keys_length [] = refl
+keys_length (x ∷ symbols) = ap suc (keys_length symbols)
+
+-- Each symbol's number is its index, also with one more symbol.
+unique_push : (symbols : List Bound) (b : Bound) → ((k : ℕ) (x : Bound) → slice_get symbols k ≡ Some x → number_at (is_own x.kind) x.scope.0 x.name symbols ≡ Some k) → number_at (is_own b.kind) b.scope.0 b.name symbols ≡ None
+    → (k : ℕ) (x : Bound) → slice_get (symbols ++ b ∷ []) k ≡ Some x → number_at (is_own x.kind) x.scope.0 x.name (symbols ++ b ∷ []) ≡ Some k
+unique_push symbols b unique new k x got =
+    get_pushed symbols b x k got
+    (λ before. position-kept (is_at (is_own x.kind) x.scope.0 x.name) 0 k symbols (b ∷ []) (unique k x before))
+    (λ last is. sym (λ i. number_at (is_own (is i).kind) (is i).scope.0 (is i).name (symbols ++ b ∷ []))
+    ∙ number-push symbols b (is_own b.kind) b.scope.0 b.name new
+    ∙ ap (λ c. cond c (Some (length symbols)) (number_at (is_own b.kind) b.scope.0 b.name symbols)) (at_self b)
+    ∙ ap Some (sym last))
+
+-- The number of a key is that by its slot.
+pub by_slot : (slots : List Slot) (numbers : BTreeMap (ℕ × ℕ × Bool) ℕ) (symbols : List Bound) (key : ℕ × ℕ × Bool) (s : Slot) → IsTable slots numbers symbols → slot_at slots (key_place (length slots) key) ≡ s
+    → number_by symbols key ≡ numbered same_key (map key_of symbols) (get key_cmp numbers key) s key
+by_slot slots numbers symbols key s table is = table.slotted.found key ∙ ap (λ t. numbered same_key (map key_of symbols) (get key_cmp numbers key) t key) is
+
+-- The slot that is read is that of the key.
+pub slot_known : (count place : ℕ) (slots seen : List Slot) (key : ℕ × ℕ × Bool) (s : Slot) → s ≡ slot_at seen place → seen ≡ slots → place ≡ key_place count key → count ≡ length slots → slot_at slots (key_place (length slots) key) ≡ s
+slot_known count place slots seen key s is same at counted = sym (is ∙ ap (λ (ss : List Slot). slot_at ss place) same ∙ ap (slot_at slots) (at ∙ ap (λ n. key_place n key) counted))
+
+pub slot_crowded : (slots : List Slot) (key : ℕ × ℕ × Bool) (place : ℕ) → place ≡ key_place (length slots) key → place < length slots → slot_at (slice_set slots place slot.Many) (key_place (length (slice_set slots place slot.Many)) key) ≡ slot.Many
+slot_crowded slots key place at within =
+    ap (slot_at (slice_set slots place slot.Many)) (ap (λ n. key_place n key) (length-set slots place slot.Many) ∙ sym at)
+    ∙ slot_set_same slots place slot.Many within
+
+-- One more symbol, whose key has an empty slot.
+pub pushed_empty : (slots after : List Slot) (numbers : BTreeMap (ℕ × ℕ × Bool) ℕ) (symbols added : List Bound) (b : Bound) (place last : ℕ) → IsTable slots numbers symbols → place ≡ key_place (length slots) (key_of b) → slot_at slots place ≡ slot.Empty
+    → place < length slots → last ≡ length symbols → after ≡ slice_set slots place (slot.One last) → added ≡ symbols ++ b ∷ [] → IsTable after numbers added
+pushed_empty slots after numbers symbols added b place last table at is within counted set grown =
+    let empty : slot_at slots (key_place (length slots) (key_of b)) ≡ slot.Empty = ap (slot_at slots) (sym at) ∙ is in
+    let new : number_by symbols (key_of b) ≡ None = by_slot slots numbers symbols (key_of b) slot.Empty table empty in
+    let count : length after ≡ length slots = ap length set ∙ length-set slots place (slot.One last) in
+    subst (λ (l : List Bound). IsTable after numbers l) (sym grown)
+    record {
+      slotted = subst (λ n. IsSlotted same_key (key_place n) after (map key_of (symbols ++ b ∷ [])) (get key_cmp numbers) (number_by (symbols ++ b ∷ []))) (sym count)
+          (subst (λ ks. IsSlotted same_key (key_place (length slots)) after ks (get key_cmp numbers) (number_by (symbols ++ b ∷ []))) (sym (keys_push symbols b))
+          (push_empty same_key (key_place (length slots)) (place_same (length slots)) slots after (map key_of symbols) (get key_cmp numbers) (number_by symbols) (number_by (symbols ++ b ∷ [])) (key_of b) last table.slotted empty
+          (subst (λ p. p < length slots) at within)
+          (counted ∙ sym (keys_length symbols))
+          (set ∙ ap (λ p. slice_set slots p (slot.One last)) at)
+          (λ key. number_pushed symbols b new key ∙ ap (λ l. if same_key (key_of b) key then Some l else number_by symbols key) (sym counted))));
+      unique = unique_push symbols b table.unique new;
+    }
+
+-- The slot of one key becomes one of many.
+pub crowded : (slots after : List Slot) (before more : BTreeMap (ℕ × ℕ × Bool) ℕ) (symbols : List Bound) (place other : ℕ) (y : Bound) → IsTable slots before symbols → slot_at slots place ≡ slot.One other → place < length slots → after ≡ slice_set slots place slot.Many
+    → ((key : ℕ × ℕ × Bool) → get key_cmp more key ≡ (if is_key same_key (slice_get (map key_of symbols) other) key then Some other else get key_cmp before key)) → IsTable after more symbols
+crowded slots after before more symbols place other y table one within set added =
+    let count : length after ≡ length slots = ap length set ∙ length-set slots place slot.Many in
+    let got : slice_get (map key_of symbols) other ≡ Some (get_or (map key_of symbols) other (key_of y)) = slice_get-get_or (map key_of symbols) other (key_of y) (table.slotted.within place other one) in
+    record {
+      slotted = subst (λ n. IsSlotted same_key (key_place n) after (map key_of symbols) (get key_cmp more) (number_by symbols)) (sym count)
+          (crowd same_key (key_place (length slots)) (place_same (length slots)) slots after (map key_of symbols) (get key_cmp before) (get key_cmp more) (number_by symbols) place other (get_or (map key_of symbols) other (key_of y)) table.slotted one within got set
+          (λ key. added key ∙ ap (λ o. if is_key same_key o key then Some other else get key_cmp before key) got));
+      unique = table.unique;
+    }
+
+-- The same symbols with the same map.
+pub table_same : (slots : List Slot) (before after : BTreeMap (ℕ × ℕ × Bool) ℕ) (symbols kept : List Bound) → IsTable slots before symbols → IsUnchanged before after → kept ≡ symbols → IsTable slots after kept
+table_same slots before after symbols kept table unchanged same =
+    subst (λ (l : List Bound). IsTable slots after l) (sym same)
+    record {
+      slotted = many_same same_key (key_place (length slots)) slots (map key_of symbols) (get key_cmp before) (get key_cmp after) (number_by symbols) table.slotted (λ key. ap (lookup _) unchanged);
+      unique = table.unique;
+    }
+
+-- A symbol that is added among those that share a place, or is not.
+pub among : (slots : List Slot) (before after : BTreeMap (ℕ × ℕ × Bool) ℕ) (symbols added : List Bound) (b : Bound) (r : Result (Option ℕ) OutOfMemory) → IsTable slots before symbols → slot_at slots (key_place (length slots) (key_of b)) ≡ slot.Many
+    → IfOk r (λ known. known ≡ get key_cmp before (key_of b))
+    → IfOk r (λ known. added ≡ (if is_some known then symbols else symbols ++ b ∷ []))
+    → IfOk r (λ known. MatchOption known (Updates key_cmp before after (key_of b) (Some (length symbols))) (λ _. IsUnchanged before after))
+    → OnErr r (added ≡ symbols) → OnErr r (IsUnchanged before after) → IsTable slots after added
+among slots before after symbols added b (Ok None) table many known grown changed same unchanged =
+    let new : number_by symbols (key_of b) ≡ None = by_slot slots before symbols (key_of b) slot.Many table many ∙ sym known in
+    subst (λ (l : List Bound). IsTable slots after l) (sym grown)
+    record {
+      slotted = subst (λ ks. IsSlotted same_key (key_place (length slots)) slots ks (get key_cmp after) (number_by (symbols ++ b ∷ []))) (sym (keys_push symbols b))
+          (push_many same_key (key_place (length slots)) (place_same (length slots)) slots (map key_of symbols) (get key_cmp before) (get key_cmp after) (number_by symbols) (number_by (symbols ++ b ∷ [])) (key_of b) (length symbols) table.slotted many (λ key. changed.0 key) (number_pushed symbols b new));
+      unique = unique_push symbols b table.unique new;
+    }
+among slots before after symbols added b (Ok (Some k)) table many known grown changed same unchanged = table_same slots before after symbols added table changed grown
+among slots before after symbols added b (Err e) table many known grown changed same unchanged = table_same slots before after symbols added table unchanged same

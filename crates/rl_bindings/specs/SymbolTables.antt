@@ -1,7 +1,9 @@
 -- A list of symbols with an index by name and scope.
-use Rattle.std.specs.Prelude.{◌≡◌, ℕ, Bool, Option, Some, is_some, slice_get, List}
+use Rattle.std.specs.Prelude.{◌≡◌, ℕ, ◌+◌, ◌*◌, ◌%◌, Bool, nat_eq, if◌then◌else◌, Option, Some, is_some, slice_get, List, length, map}
 use Rattle.std.specs.BTreeMap.{BTreeMap, get}
-use Rattle.std.specs.Ordering.{bool_cmp, nat_cmp, ordering_then}
+use Rattle.std.specs.Ordering.{bool_cmp, is_eq, nat_cmp, ordering_then}
+use Rattle.rl_base.specs.Slots.{IsSlotted}
+use Rattle.rl_base.specs.declared.slots.Slot.{Slot}
 use Rattle.std.specs.declared.cmp.Ordering.{Ordering}
 use Rattle.rl_bindings.specs.Symbols.{is_own, number_at}
 use Rattle.rl_bindings.specs.declared.event.Bound.{Bound}
@@ -10,13 +12,25 @@ use Rattle.rl_bindings.specs.declared.event.Bound.{Bound}
 abbrev pub key_cmp : ℕ × ℕ × Bool → ℕ × ℕ × Bool → Ordering
 key_cmp x y = ordering_then (ordering_then (nat_cmp x.0 y.0) (nat_cmp x.1 y.1)) (bool_cmp x.2 y.2)
 
--- The number that the index has for a name in a scope, as an own name or otherwise.
-abbrev pub found_at : (numbers : BTreeMap (ℕ × ℕ × Bool) ℕ) → (own : Bool) → (scope name : ℕ) → Option ℕ
-found_at numbers own scope name = get key_cmp numbers (name, scope, own)
+-- The key of a declaration: its name, its scope, and whether it is an own name.
+abbrev pub key_of : Bound → ℕ × ℕ × Bool
+key_of b = (b.name, b.scope.0, is_own b.kind)
 
--- The map is the index of `symbols`, no two of which have one place.
-pub record IsTable (numbers : BTreeMap (ℕ × ℕ × Bool) ℕ) (symbols : List Bound) : Type 0 where
-  pub found : (own : Bool) (scope name : ℕ) → found_at numbers own scope name ≡ number_at own scope name symbols
+abbrev pub same_key : ℕ × ℕ × Bool → ℕ × ℕ × Bool → Bool
+same_key x y = is_eq (key_cmp x y)
+
+-- The place of a key among `count` slots: names in a row have places in a row, and so have scopes, some way apart. 0 if there are none.
+abbrev pub key_place : (count : ℕ) → ℕ × ℕ × Bool → ℕ
+key_place count key = if nat_eq count 0 then 0 else (key.0 % 4294967296 + key.1 * 40503) % count
+
+-- The number of the symbol with a key: its index among `symbols`.
+abbrev pub number_by : (symbols : List Bound) → ℕ × ℕ × Bool → Option ℕ
+number_by symbols key = number_at key.2 key.1 key.0 symbols
+
+-- The slots and the map are the index of `symbols`, no two of which have one key. The map has the keys that share their place with
+-- others.
+pub record IsTable (slots : List Slot) (numbers : BTreeMap (ℕ × ℕ × Bool) ℕ) (symbols : List Bound) : Type 0 where
+  pub slotted : IsSlotted same_key (key_place (length slots)) slots (map key_of symbols) (get key_cmp numbers) (number_by symbols)
   pub unique : (k : ℕ) (b : Bound) → slice_get symbols k ≡ Some b → number_at (is_own b.kind) b.scope.0 b.name symbols ≡ Some k
 
 -- True if a scope has a symbol of the name, as an own name or otherwise.

@@ -252,7 +252,7 @@ pub fn check_all(alloc: Global, events: &[Event]) -> Result<Found, OutOfMemory>
     ensures { IfOk result (λ found. found ≡ check.steps check.start events.now) }
 {
     let mut found = Found {
-        symbols: SymbolTable::new(alloc),
+        symbols: SymbolTable::with_slots(alloc, events.len())?,
         marks: List::new(alloc),
         declarations: List::new(alloc),
         clashed: false,
@@ -271,7 +271,7 @@ pub fn check_all(alloc: Global, events: &[Event]) -> Result<Found, OutOfMemory>
 pub fn lexical_of(alloc: Global, events: &[Event]) -> Result<SymbolTable, OutOfMemory>
     ensures { IfOk result (λ symbols. symbols ≡ check.lexical_steps [] events.now) }
 {
-    let mut symbols = SymbolTable::new(alloc);
+    let mut symbols = SymbolTable::with_slots(alloc, events.len())?;
     for event in events {
         if let Event::Bind(bound) = event {
             if is_lexical(bound.kind, bound.place) {

@@ -1,26 +1,33 @@
 //! Lists of symbols with an index by scope and name.
 
-ghost use Rattle.std.specs.Prelude.{◌≡◌, [], Some, slice_get, MatchOption, IfOk, OnOk, OnErr};
+ghost use Rattle.std.specs.Prelude.{◌≡◌, ◌<◌, ◌++◌, ◌∷◌, [], ℕ, Bool, if◌then◌else◌, Some, is_some, length, map, slice_get, MatchOption, IfOk, OnOk, OnErr};
 ghost use Rattle.std.specs.BTreeMap.{Updates, IsUnchanged, get};
 ghost use Rattle.rl_bindings.specs.Symbols.{add, binding, number_at};
 ghost use Rattle.rl_bindings.specs.Symbols as names;
-ghost use Rattle.rl_bindings.specs.SymbolTables.{key_cmp};
+ghost use Rattle.rl_bindings.specs.SymbolTables.{key_cmp, key_of, key_place, same_key};
+ghost use Rattle.rl_base.specs.Slots.{is_key};
 
 use crate::event::{BindKind, Bound};
 use rl_base::error::OutOfMemory;
 use rl_base::ids::ScopeId;
+use rl_base::slots::{Slot, empty_slots, slot_at};
 use std::alloc::Global;
 use std::collections::BTreeMap;
 use std::collections::btree_map::Entry;
 use std::marker::Model;
 
-/// Symbols with an index by scope and name: a look-up takes a number of comparisons that is logarithmic in the number of symbols.
-/// Contracts see the symbols, each by its first declaration.
+/// A name, a scope, and whether the symbol is an own name.
+type SymbolKey = (usize, u32, bool);
+
+/// Symbols with an index by scope and name. A look-up takes a number of comparisons that is at most logarithmic in the number of
+/// symbols, and one comparison for most. Contracts see the symbols, each by its first declaration.
 #[derive(Drop)]
 pub struct SymbolTable {
     symbols: Vec<Bound>,
-    /// The number of each symbol, by its name, its scope, and whether it is an own name.
-    numbers: BTreeMap<(usize, u32, bool), usize>,
+    /// What is known of the keys with one place.
+    slots: Vec<Slot>,
+    /// The numbers of the keys that share a place.
+    numbers: BTreeMap<SymbolKey, usize>,
 }
 
 impl Model for SymbolTable {
@@ -32,7 +39,7 @@ impl Model for SymbolTable {
 
     ghost view = { λ table. table.symbols.items };
 
-    ghost invariant = { λ table. IsTable table.numbers table.symbols.items };
+    ghost invariant = { λ table. IsTable table.slots.items table.numbers table.symbols.items };
 }
 
 /// True of the own name of a function expression or a class expression.
@@ -47,15 +54,17 @@ pub fn is_own(kind: BindKind) -> bool
 }
 
 impl SymbolTable {
-    /// No symbols. Allocates nothing.
+    /// No symbols, with `count` slots: for about as many. On `OutOfMemory`, an allocation failed.
     #[tactic(auto, using(crate::proofs::SymbolTables::table_empty))]
-    pub fn new(alloc: Global) -> SymbolTable
-        ensures { result ≡ [] }
+    pub fn with_slots(alloc: Global, count: usize) -> Result<SymbolTable, OutOfMemory>
+        ensures { IfOk result (λ table. table ≡ []) }
     {
-        SymbolTable {
+        let slots = empty_slots(alloc, count)?;
+        Ok(SymbolTable {
             symbols: Vec::new(alloc),
+            slots,
             numbers: BTreeMap::new(alloc),
-        }
+        })
     }
 
     /// The symbols, by number.
@@ -69,7 +78,18 @@ impl SymbolTable {
     pub fn find(&self, own: bool, scope: ScopeId, name: usize) -> Option<usize>
         ensures { result ≡ number_at own scope.0 name self.now }
     {
-        self.numbers.get(&(name, scope.0, own)).copied()
+        let key = (name, scope.0, own);
+        match slot_at(self.slots.as_slice(), key_place(self.slots.len(), key)) {
+            Slot::Empty => None,
+            Slot::One(number) => {
+                if has_key(self.symbols.as_slice(), number, key) {
+                    Some(number)
+                } else {
+                    None
+                }
+            }
+            Slot::Many => self.numbers.get(&key).copied(),
+        }
     }
 
     /// The symbol that a scope binds a name to: one that is no own name, if there is one, else the own name.
@@ -103,16 +123,98 @@ impl SymbolTable {
         ensures added { OnOk result (self.new ≡ add self.old bound) }
         ensures err { OnErr result (self.new ≡ self.old) }
     {
-        let key = (bound.name, bound.scope.0, is_own(bound.kind));
-        let number = self.symbols.len();
-        // With room for the symbol, nothing fails once its number is in the index.
-        self.symbols.reserve(1)?;
-        match find_or_insert(&mut self.numbers, key, number)? {
-            Some(known) => Ok(Some(known)),
-            None => {
+        let key = key_of(&bound);
+        let place = key_place(self.slots.len(), key);
+        match slot_at(self.slots.as_slice(), place) {
+            Slot::Empty => {
+                let number = self.symbols.len();
                 self.symbols.push(bound)?;
+                self.slots[place] = Slot::One(number);
                 Ok(None)
             }
+            Slot::One(other) => {
+                if has_key(self.symbols.as_slice(), other, key) {
+                    return Ok(Some(other));
+                }
+                add_other(self.symbols.as_slice(), &mut self.numbers, other)?;
+                self.slots[place] = Slot::Many;
+                add_among(&mut self.symbols, &mut self.numbers, bound)
+            }
+            Slot::Many => add_among(&mut self.symbols, &mut self.numbers, bound),
+        }
+    }
+}
+
+/// The key of a declaration.
+fn key_of(bound: &Bound) -> SymbolKey
+    ensures { result ≡ key_of bound.now }
+{
+    (bound.name, bound.scope.0, is_own(bound.kind))
+}
+
+/// The place of a key among `count` slots. 0 if there are none.
+fn key_place(count: usize, key: SymbolKey) -> usize
+    ensures { result ≡ key_place count key }
+{
+    if count == 0 {
+        return 0;
+    }
+    (key.0 % 4_294_967_296 + key.1 as usize * 40_503) % count
+}
+
+/// True of two keys that are one.
+fn is_same_key(first: SymbolKey, second: SymbolKey) -> bool
+    ensures { result ≡ same_key first second }
+{
+    first.0 == second.0 && first.1 == second.1 && first.2 == second.2
+}
+
+/// True if the symbol at an index has this key.
+fn has_key(symbols: &[Bound], index: usize, key: SymbolKey) -> bool
+    ensures { result ≡ is_key same_key (slice_get (map key_of symbols.now) index) key }
+{
+    match symbols.get(index) {
+        Some(symbol) => is_same_key(key_of(symbol), key),
+        None => false,
+    }
+}
+
+/// Gives the map the index of the symbol there, whose key it does not have. On `OutOfMemory`, an allocation failed, and nothing has
+/// changed.
+fn add_other(
+    symbols: &[Bound],
+    numbers: &mut BTreeMap<SymbolKey, usize>,
+    index: usize,
+) -> Result<(), OutOfMemory>
+    requires within { index < length symbols.now }
+    ensures added { OnOk result ((key : ℕ × ℕ × Bool) → get key_cmp numbers.new key ≡ (if is_key same_key (slice_get (map key_of symbols.now) index) key then Some index else get key_cmp numbers.old key)) }
+    ensures err { OnErr result (IsUnchanged numbers.old numbers.new) }
+{
+    numbers.insert(key_of(&symbols[index]), index)?;
+    Ok(())
+}
+
+/// Appends the symbol of a declaration and gives its index to the map, unless the map has its key. Otherwise returns the number that
+/// the map has. On `OutOfMemory`, an allocation failed, and nothing has changed.
+fn add_among(
+    symbols: &mut Vec<Bound>,
+    numbers: &mut BTreeMap<SymbolKey, usize>,
+    bound: Bound,
+) -> Result<Option<usize>, OutOfMemory>
+    ensures known { IfOk result (λ known. known ≡ get key_cmp numbers.old (key_of bound)) }
+    ensures symbols { IfOk result (λ known. symbols.new.items ≡ (if is_some known then symbols.old.items else symbols.old.items ++ bound ∷ [])) }
+    ensures changed { IfOk result (λ known. MatchOption known (Updates key_cmp numbers.old numbers.new (key_of bound) (Some (length symbols.old.items))) (λ _. IsUnchanged numbers.old numbers.new)) }
+    ensures err_symbols { OnErr result (symbols.new.items ≡ symbols.old.items) }
+    ensures err { OnErr result (IsUnchanged numbers.old numbers.new) }
+{
+    let number = symbols.len();
+    // With room for the symbol, nothing fails once its number is in the index.
+    symbols.reserve(1)?;
+    match find_or_insert(numbers, key_of(&bound), number)? {
+        Some(known) => Ok(Some(known)),
+        None => {
+            symbols.push(bound)?;
+            Ok(None)
         }
     }
 }
@@ -120,8 +222,8 @@ impl SymbolTable {
 /// The number of a key. A key without one gets `number`, and the result is `None`. On `OutOfMemory`, an allocation failed, and
 /// nothing has changed.
 fn find_or_insert(
-    numbers: &mut BTreeMap<(usize, u32, bool), usize>,
-    key: (usize, u32, bool),
+    numbers: &mut BTreeMap<SymbolKey, usize>,
+    key: SymbolKey,
     number: usize,
 ) -> Result<Option<usize>, OutOfMemory>
     ensures known { IfOk result (λ known. known ≡ get key_cmp numbers.old key) }
