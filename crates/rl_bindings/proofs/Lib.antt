@@ -2,6 +2,7 @@ pub mod Steps
 pub mod Walking
 pub mod SymbolTables
 pub mod Looking
+pub mod Linking
 pub mod Entering
 pub mod Running
 pub mod Checking

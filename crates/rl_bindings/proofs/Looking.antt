@@ -1,8 +1,8 @@
 -- Look-ups of names after entries are written.
-use Rattle.std.proofs.Common.{◌≡◌, ◌<◌, ℕ, Bool, true, false, ◌||◌, true≢false, nat_eq, eqb-true, Option, List, [], ◌∷◌, length, length-set, slice_set, refl, sym, ap, subst, ◌∙◌}
+use Rattle.std.proofs.Common.{◌≡◌, ◌<◌, ℕ, zero, suc, Bool, true, false, ◌||◌, true≢false, nat_eq, eqb-true, Option, None, List, [], ◌∷◌, length, length-set, slice_set, replicate, refl, sym, ap, subst, ◌∙◌}
 use Rattle.std.proofs.lemmas.Bool.{eqb-false}
 pub use Rattle.rl_base.proofs.Slotted.{get_set_same, get_set_other, by_test}
-use Rattle.rl_bindings.specs.Machines.{joined, look, write_all, kept}
+use Rattle.rl_bindings.specs.Machines.{joined, look, write_all, overwritten, undo}
 use Rattle.rl_bindings.specs.declared.resolve.Entry.{Entry}
 
 -- True if an entry has the name.
@@ -50,10 +50,17 @@ look-write_has f (e ∷ es) env n within says some =
     ∙ says.0
     ∙ ap f here)
 
-pub has-kept : (env : List (Option ℕ)) (es : List Entry) (n : ℕ) → has (kept env es) n ≡ has es n
-has-kept env [] n = refl
-has-kept env (e ∷ es) n = ap (λ b. nat_eq e.name n || b) (has-kept env es n)
+set_set : (env : List (Option ℕ)) (n : ℕ) (o : Option ℕ) → slice_set (slice_set env n o) n (look env n) ≡ env
+set_set [] n o = refl
+set_set (x ∷ env) zero o = refl
+set_set (x ∷ env) (suc n) o = ap (λ l. x ∷ l) (set_set env n o)
 
-pub says-kept : (env : List (Option ℕ)) (es : List Entry) → Says (look env) (kept env es)
-says-kept env [] = tt
-says-kept env (e ∷ es) = (refl, says-kept env es)
+-- What was overwritten, written back.
+pub undone : (es : List Entry) (env : List (Option ℕ)) → undo (overwritten es env) (write_all es env) ≡ env
+undone [] env = refl
+undone (e ∷ es) env = ap (λ l. slice_set l e.name (look env e.name)) (undone es (slice_set env e.name e.symbol)) ∙ set_set env e.name e.symbol
+
+pub look-blank : (n k : ℕ) → look (replicate n None) k ≡ None
+look-blank zero k = refl
+look-blank (suc n) zero = refl
+look-blank (suc n) (suc k) = look-blank n k

@@ -1,7 +1,7 @@
 -- No `var` passes a lexical name if none is declared.
 use Rattle.std.proofs.Common.{◌≡◌, ℕ, Bool, true, false, ◌&&◌, ◌||◌, true≢false, Option, Some, None, List, [], ◌∷◌, replicate, refl, sym, ap, ◌∙◌}
 use Rattle.std.specs.List.{list_any}
-use Rattle.rl_bindings.specs.Machines.{look, write_all, kept, entries_at, run, put_all, count_names, count_scopes, resolved, any_var}
+use Rattle.rl_bindings.specs.Machines.{look, write_all, overwritten, undo, entries_at, run, count_names, resolved, any_var}
 use Rattle.rl_bindings.specs.NameRules.{is_passing, is_inside, is_var}
 use Rattle.rl_bindings.specs.declared.event.Bound.{Bound}
 use Rattle.rl_bindings.specs.declared.event.Event.{Event}
@@ -21,19 +21,19 @@ pub or_regroup : (a b c : Bool) → ((a || b) || c) ≡ (a || (b || c))
 or_regroup true b c = refl
 or_regroup false b c = refl
 
-passes-none : (lexical : List Bound) (m : List (List Entry)) (es : List Event) (env : List (Option ℕ)) (fs : List (List Entry)) → any_var es ≡ false → list_any (is_passing lexical) (run m env fs es) ≡ false
+passes-none : (lexical : List Bound) (m : ℕ → List Entry) (es : List Event) (env : List (Option ℕ)) (fs : List (List Entry)) → any_var es ≡ false → list_any (is_passing lexical) (run m env fs es) ≡ false
 passes-none lexical m [] env fs none = refl
 passes-none lexical m (event.Scope s ∷ es) env fs none = passes-none lexical m es env fs none
-passes-none lexical m (event.Open s ∷ es) env fs none = passes-none lexical m es (write_all (entries_at m s.0) env) (kept env (entries_at m s.0) ∷ fs) none
+passes-none lexical m (event.Open s ∷ es) env fs none = passes-none lexical m es (write_all (m s.0) env) (overwritten (m s.0) env ∷ fs) none
 passes-none lexical m (event.Close ∷ es) env [] none = passes-none lexical m es env [] none
-passes-none lexical m (event.Close ∷ es) env (f ∷ fs) none = passes-none lexical m es (write_all f env) fs none
+passes-none lexical m (event.Close ∷ es) env (f ∷ fs) none = passes-none lexical m es (undo f env) fs none
 passes-none lexical m (event.Bind b ∷ es) env fs none =
     ap (λ v. (v && is_inside lexical b.scope.0 (look env b.name)) || list_any (is_passing lexical) (run m env fs es)) (neither_left (is_var b.kind) (any_var es) none)
     ∙ passes-none lexical m es env fs (neither_right (is_var b.kind) (any_var es) none)
 passes-none lexical m (event.Use node name ∷ es) env fs none = passes-none lexical m es env fs none
 
 pub none_passes : (lexical : List Bound) (es : List Event) → any_var es ≡ false → false ≡ list_any (is_passing lexical) (resolved lexical es)
-none_passes lexical es none = sym (passes-none lexical (put_all lexical (replicate (count_scopes 0 lexical) []) lexical) es (replicate (count_names 0 lexical) None) [] none)
+none_passes lexical es none = sym (passes-none lexical (entries_at lexical) es (replicate (count_names 0 lexical) None) [] none)
 
 inside_none : (scope : ℕ) (o : Option ℕ) → is_inside [] scope o ≡ false
 inside_none scope None = refl

@@ -2,7 +2,7 @@
 use Rattle.std.proofs.Common.{◌≡◌, ◌<◌, ℕ, zero, suc, true, false, true≢false, Option, Some, None, is_some, List, [], ◌∷◌, ◌++◌, length, append-nil, append_assoc, refl, sym, ap, subst, ◌∙◌}
 use Rattle.rl_base.specs.declared.ids.ScopeId.{ScopeId}
 use Rattle.rl_bindings.specs.Events.{bound_of, events, lead, trail, sign, front, back}
-use Rattle.rl_bindings.specs.Machines.{look, write_all, kept, entries_at, run}
+use Rattle.rl_bindings.specs.Machines.{look, write_all, overwritten, entries_at, run}
 use Rattle.rl_bindings.specs.Names.{name_of}
 use Rattle.rl_bindings.specs.Roles.{role_of, parts_ahead, outside, below}
 use Rattle.rl_bindings.specs.Standing.{inside, answers, standing, stands_ahead, stands_within}
@@ -16,15 +16,11 @@ use Rattle.rl_bindings.specs.declared.resolve.Entry.{Entry}
 use Rattle.rl_bindings.specs.declared.role.Above.{Above}
 use Rattle.rl_bindings.specs.declared.role.Role.{Role}
 use Rattle.rl_bindings.specs.declared.role.Role.TheVariants as role
-use Rattle.rl_bindings.proofs.Entering.{entries_in, AreNamed, says-in, has-below, has-binding}
-use Rattle.rl_bindings.proofs.Looking.{by_test, has, Says, length-write, look-write_not, look-write_has, has-kept, says-kept}
+use Rattle.rl_bindings.proofs.Entering.{AreNamed, says-at, has-below, has-binding}
+use Rattle.rl_bindings.proofs.Looking.{by_test, has, length-write, look-write_not, look-write_has, undone}
 use Rattle.rl_syntax.specs.Syntax.{Syntax, Node, Listed, Said, Count, Flag, Absent, Pieces, End, Then}
 use Rattle.rl_syntax.specs.declared.numbered.At.{At}
 use Rattle.rl_syntax.specs.declared.word.Word.{Word}
-
--- Each scope has the entries of its symbols.
-pub record AreEntries (scopes : List (List Entry)) (symbols : List Bound) : Type 0 where
-  pub at : (s : ℕ) → entries_at scopes s ≡ entries_in symbols s symbols
 
 -- The list has for each name the symbol that it stands for under `ss`.
 pub record Stands (most : ℕ) (symbols : List Bound) (ss : List ScopeId) (env : List (Option ℕ)) : Type 0 where
@@ -39,70 +35,47 @@ or_none : (a b : Option ℕ) → is_some a ≡ false → option_or a b ≡ b
 or_none None b none = refl
 or_none (Some x) b none = absurd (true≢false none)
 
-module _ (scopes : List (List Entry)) (most : ℕ) (symbols : List Bound) (entries : AreEntries scopes symbols) (named : AreNamed most symbols) where
-  has_is : (s : ScopeId) (n : ℕ) → has (entries_at scopes s.0) n ≡ is_some (binding symbols s.0 n)
-  has_is s n = ap (λ es. has es n) (entries.at s.0) ∙ has-binding symbols s.0 n
-
-  below-most : (s : ScopeId) (n : ℕ) → has (entries_at scopes s.0) n ≡ true → n < most
-  below-most s n some = has-below most symbols s.0 n symbols named (sym (ap (λ es. has es n) (entries.at s.0)) ∙ some)
-
-  begins : (s : ScopeId) (ss : List ScopeId) (env : List (Option ℕ)) → Stands most symbols ss env → Stands most symbols (s ∷ ss) (write_all (entries_at scopes s.0) env)
+module _ (most : ℕ) (symbols : List Bound) (named : AreNamed most symbols) where
+  begins : (s : ScopeId) (ss : List ScopeId) (env : List (Option ℕ)) → Stands most symbols ss env → Stands most symbols (s ∷ ss) (write_all (entries_at symbols s.0) env)
   begins s ss env stands = record {
-    size = length-write (entries_at scopes s.0) env ∙ stands.size;
-    at = λ n. by_test (has (entries_at scopes s.0) n)
-        (λ some. look-write_has (binding symbols s.0) (entries_at scopes s.0) env n
-        (subst (λ m. n < m) (sym stands.size) (below-most s n some))
-        (subst (λ es. Says (binding symbols s.0) es) (sym (entries.at s.0)) (says-in symbols s.0 symbols)) some
-        ∙ sym (or_some (binding symbols s.0 n) (resolve symbols ss n) (sym (has_is s n) ∙ some)))
-        (λ none. look-write_not (entries_at scopes s.0) env n none
+    size = length-write (entries_at symbols s.0) env ∙ stands.size;
+    at = λ n. by_test (has (entries_at symbols s.0) n)
+        (λ some. look-write_has (binding symbols s.0) (entries_at symbols s.0) env n
+        (subst (λ m. n < m) (sym stands.size) (has-below most symbols s.0 n named some))
+        (says-at symbols s.0) some
+        ∙ sym (or_some (binding symbols s.0 n) (resolve symbols ss n) (sym (has-binding symbols s.0 n) ∙ some)))
+        (λ none. look-write_not (entries_at symbols s.0) env n none
         ∙ stands.at n
-        ∙ sym (or_none (binding symbols s.0 n) (resolve symbols ss n) (sym (has_is s n) ∙ none)));
+        ∙ sym (or_none (binding symbols s.0 n) (resolve symbols ss n) (sym (has-binding symbols s.0 n) ∙ none)));
   }
 
-  ends : (s : ScopeId) (ss : List ScopeId) (before env : List (Option ℕ)) → Stands most symbols ss before → Stands most symbols (s ∷ ss) env → Stands most symbols ss (write_all (kept before (entries_at scopes s.0)) env)
-  ends s ss before env outer stands = record {
-    size = length-write (kept before (entries_at scopes s.0)) env ∙ stands.size;
-    at = λ n. by_test (has (entries_at scopes s.0) n)
-        (λ some. look-write_has (look before) (kept before (entries_at scopes s.0)) env n
-        (subst (λ m. n < m) (sym stands.size) (below-most s n some))
-        (says-kept before (entries_at scopes s.0))
-        (has-kept before (entries_at scopes s.0) n ∙ some)
-        ∙ outer.at n)
-        (λ none. look-write_not (kept before (entries_at scopes s.0)) env n (has-kept before (entries_at scopes s.0) n ∙ none)
-        ∙ stands.at n
-        ∙ or_none (binding symbols s.0 n) (resolve symbols ss n) (sym (has_is s n) ∙ none));
-  }
-
-  -- Events under these scopes give these answers, and leave names standing for what they stood for and frames as they were.
+  -- Events under these scopes give these answers, and leave the list of symbols and the frames as they were.
   abbrev pub Runs : List ScopeId → List Event → List Answer → Type 0
   Runs ss es found = (env : List (Option ℕ)) (frames : List (List Entry)) (rest : List Event) → Stands most symbols ss env
-      → (after : List (Option ℕ)) × Stands most symbols ss after × (run scopes env frames (es ++ rest) ≡ found ++ run scopes after frames rest)
+      → run (entries_at symbols) env frames (es ++ rest) ≡ found ++ run (entries_at symbols) env frames rest
 
   runs-none : (ss : List ScopeId) → Runs ss [] []
-  runs-none ss env frames rest stands = (env, stands, refl)
+  runs-none ss env frames rest stands = refl
 
   runs-append : (ss : List ScopeId) (es fs : List Event) (xs ys : List Answer) → Runs ss es xs → Runs ss fs ys → Runs ss (es ++ fs) (xs ++ ys)
   runs-append ss es fs xs ys first second env frames rest stands =
-      let one = first env frames (fs ++ rest) stands in
-      let two = second one.0 frames rest one.1 in (
-        two.0,
-        two.1,
-        ap (run scopes env frames) (append_assoc es fs rest) ∙ one.2 ∙ ap (λ l. xs ++ l) two.2 ∙ sym (append_assoc xs ys (run scopes two.0 frames rest)),
-      )
+      ap (run (entries_at symbols) env frames) (append_assoc es fs rest)
+      ∙ first env frames (fs ++ rest) stands
+      ∙ ap (λ l. xs ++ l) (second env frames rest stands)
+      ∙ sym (append_assoc xs ys (run (entries_at symbols) env frames rest))
 
   runs-scope : (s : ScopeId) (ss : List ScopeId) (es : List Event) (xs : List Answer) → Runs (s ∷ ss) es xs → Runs ss (event.Open s ∷ (es ++ event.Close ∷ [])) xs
   runs-scope s ss es xs inner env frames rest stands =
-      let one = inner (write_all (entries_at scopes s.0) env) (kept env (entries_at scopes s.0) ∷ frames) (event.Close ∷ rest) (begins s ss env stands) in (
-        write_all (kept env (entries_at scopes s.0)) one.0,
-        ends s ss env one.0 stands one.1,
-        ap (run scopes (write_all (entries_at scopes s.0) env) (kept env (entries_at scopes s.0) ∷ frames)) (append_assoc es (event.Close ∷ []) rest) ∙ one.2,
-      )
+      let entries = entries_at symbols s.0 in
+      ap (run (entries_at symbols) (write_all entries env) (overwritten entries env ∷ frames)) (append_assoc es (event.Close ∷ []) rest)
+      ∙ inner (write_all entries env) (overwritten entries env ∷ frames) (event.Close ∷ rest) (begins s ss env stands)
+      ∙ ap (λ l. xs ++ run (entries_at symbols) l frames rest) (undone entries env)
 
   runs-bind : (b : Bound) (ss : List ScopeId) → Runs ss (event.Bind b ∷ []) (answers symbols ss (event.Bind b ∷ []))
-  runs-bind b ss env frames rest stands = (env, stands, ap (λ o. record { event = event.Bind b; symbol = o } ∷ run scopes env frames rest) (stands.at b.name))
+  runs-bind b ss env frames rest stands = ap (λ o. record { event = event.Bind b; symbol = o } ∷ run (entries_at symbols) env frames rest) (stands.at b.name)
 
   runs-sign : (r : Role) (a : Above) (at : At) (word : Word) (ss : List ScopeId) → Runs ss (sign r a at word) []
-  runs-sign role.Maker a at word ss = λ env frames rest stands. (env, stands, refl)
+  runs-sign role.Maker a at word ss = λ env frames rest stands. refl
   runs-sign role.Binder a at word ss = runs-none ss
   runs-sign role.User a at word ss = runs-none ss
   runs-sign role.Plain a at word ss = runs-none ss
@@ -116,7 +89,7 @@ module _ (scopes : List (List Entry)) (most : ℕ) (symbols : List Bound) (entri
     runs-front role.User a at ps ss es xs inner =
         subst (λ fs. Runs ss (front names role.User a at ps ++ fs) (answers symbols ss (front names role.User a at ps) ++ xs)) (sym (append-nil es))
         (runs-append ss (front names role.User a at ps) es (answers symbols ss (front names role.User a at ps)) xs
-        (λ env frames rest stands. (env, stands, ap (λ o. record { event = event.Use at.id (name_of names ps); symbol = o } ∷ run scopes env frames rest) (stands.at (name_of names ps)))) inner)
+        (λ env frames rest stands. ap (λ o. record { event = event.Use at.id (name_of names ps); symbol = o } ∷ run (entries_at symbols) env frames rest) (stands.at (name_of names ps))) inner)
     runs-front role.Plain a at ps ss es xs inner = subst (λ fs. Runs ss fs xs) (sym (append-nil es)) inner
 
     runs-node : (r : Role) (a : Above) (at : At) (word : Word) (ps : Pieces) (ss : List ScopeId) (ls es : List Event) (xs ys : List Answer) → Runs ss ls xs → Runs (inside r at ss) es ys

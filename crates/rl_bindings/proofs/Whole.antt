@@ -7,7 +7,7 @@ use Rattle.rl_bindings.specs.NameRules.{clashes, is_lexical_clash, is_repeat, is
 use Rattle.rl_bindings.specs.Names.{names_in}
 use Rattle.rl_bindings.specs.Symbols.{bounds, symbols_of}
 use Rattle.rl_bindings.specs.Tables.{events_in, scopes_of, scopes_in, symbols_in, declarations_of, declarations_in, references_in, least_broken}
-use Rattle.rl_bindings.specs.Machines.{look, put_all, count_names, count_scopes, run, resolved}
+use Rattle.rl_bindings.specs.Machines.{look, entries_at, count_names, run, resolved}
 use Rattle.rl_bindings.specs.Standing.{standing, references}
 use Rattle.rl_bindings.specs.declared.event.Bound.{Bound}
 use Rattle.rl_bindings.specs.declared.event.Event.{Event}
@@ -17,24 +17,19 @@ use Rattle.rl_bindings.specs.declared.resolve.Answer.{Answer}
 use Rattle.rl_bindings.specs.declared.resolve.Reference.{Reference}
 use Rattle.rl_bindings.specs.declared.resolve.Reference.{Reference}
 use Rattle.rl_bindings.specs.declared.rules.Found.{Found}
-use Rattle.rl_bindings.proofs.Entering.{named, entered, length-blank}
+use Rattle.rl_bindings.proofs.Entering.{named, length-blank}
+use Rattle.rl_bindings.proofs.Looking.{look-blank}
 use Rattle.rl_bindings.proofs.Running.{runs-tree}
 use Rattle.rl_bindings.proofs.Checking.{checked, lexical_found}
 use Rattle.rl_bindings.proofs.Within.{declarations_within}
 use Rattle.rl_syntax.specs.Syntax.{Syntax}
 
-look-blank : (n k : ℕ) → look (replicate n None) k ≡ None
-look-blank zero k = refl
-look-blank (suc n) zero = refl
-look-blank (suc n) (suc k) = look-blank n k
-
 pub resolved_is : (names : List Name) (symbols : List Bound) (tree : Syntax) → resolved symbols (events names top tree) ≡ standing names symbols top [] tree
 resolved_is names symbols tree =
-    let scopes = put_all symbols (replicate (count_scopes 0 symbols) []) symbols in
     let env = replicate (count_names 0 symbols) None in
-    let found = runs-tree scopes (count_names 0 symbols) symbols (record { at = entered symbols }) (named 0 symbols) names tree top [] env [] []
-    (record { size = length-blank None (count_names 0 symbols); at = look-blank (count_names 0 symbols) }) in
-    ap (run scopes env []) (sym (append-nil (events names top tree))) ∙ found.2 ∙ append-nil (standing names symbols top [] tree)
+    ap (run (entries_at symbols) env []) (sym (append-nil (events names top tree)))
+    ∙ runs-tree (count_names 0 symbols) symbols (named 0 symbols) names tree top [] env [] [] (record { size = length-blank None (count_names 0 symbols); at = look-blank (count_names 0 symbols) })
+    ∙ append-nil (standing names symbols top [] tree)
 
 module _ (tree : Syntax) (names : List Name) (es : List Event) (found : Found) (are_names : names ≡ names_in tree) (are_events : es ≡ events names top tree) (is_found : found ≡ steps start es) where
   events_are : es ≡ events_in tree

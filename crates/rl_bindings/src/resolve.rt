@@ -1,6 +1,6 @@
 //! Resolution of names: the symbol that each name stands for where it is declared or used.
 
-ghost use Rattle.std.specs.Prelude.{◌≡◌, ◌&&◌, ◌++◌, ◌∷◌, [], List, IfOk, OnOk, replicate, None};
+ghost use Rattle.std.specs.Prelude.{◌≡◌, ◌&&◌, ◌++◌, ◌∷◌, [], IfOk, OnOk, drop, take, replicate, slice_set, None};
 ghost use Rattle.std.specs.List.{list_any};
 ghost use Rattle.rl_bindings.specs.Machines as machine;
 ghost use Rattle.rl_bindings.specs.NameRules.{is_inside, is_var};
@@ -63,52 +63,74 @@ fn look(env: &[Option<usize>], name: usize) -> Option<usize>
     }
 }
 
-/// Writes entries into the list, each at its name. An entry past the end of the list is left out.
-fn write_all(env: &mut [Option<usize>], entries: &[Entry])
-    ensures { env.new ≡ machine.write_all entries.now env.old }
+/// Writes a symbol, or none, at an index. Past the end of the list nothing is written.
+fn write(list: &mut [Option<usize>], index: usize, symbol: Option<usize>)
+    ensures { list.new ≡ slice_set list.old index symbol }
 {
-    for entry in entries {
-        if entry.name < env.len() {
-            env[entry.name] = entry.symbol;
-        }
+    if index < list.len() {
+        list[index] = symbol;
     }
 }
 
-/// Entries with the symbols that the list has at the names of `entries`, in the memory of `room`. On `OutOfMemory`, an allocation
-/// failed.
-fn kept(
-    room: List<Entry>,
-    env: &[Option<usize>],
-    entries: &[Entry],
-) -> Result<List<Entry>, OutOfMemory>
-    ensures { IfOk result (λ k. k ≡ machine.kept env.now entries.now) }
+/// The symbols of each scope, linked from the last to the first.
+#[derive(Drop)]
+struct Links {
+    /// The last symbol of each scope, by the scope's number. `None` for a scope without symbols.
+    last: Vec<Option<usize>>,
+    /// For each symbol the one before it in its scope.
+    earlier: Vec<Option<usize>>,
+}
+
+/// The symbols of each scope, linked. On `OutOfMemory`, an allocation failed.
+fn links_of(alloc: Global, symbols: &[Bound]) -> Result<Links, OutOfMemory>
+    ensures { IfOk result (λ links. machine.AreLinks symbols.now links.last.items links.earlier.items) }
 {
-    let mut found = room.into_vec();
-    found.clear();
-    for entry in entries {
-        found.push(Entry {
-            name: entry.name,
-            symbol: look(env, entry.name),
+    let mut last = blank_symbols(alloc, count_scopes(symbols))?;
+    let mut earlier = Vec::with_capacity(alloc, symbols.len())?;
+    'symbols: for (number, symbol) in symbols.iter().enumerate() {
+        let scope = symbol.scope.0 as usize;
+        earlier.push(look(&last, scope))?;
+        write(&mut last, scope, Some(number));
+    }
+    Ok(Links { last, earlier })
+}
+
+/// Begins a scope: writes its entries into the list of symbols by the names' numbers, and appends what they overwrite to `saved`.
+/// On `OutOfMemory`, an allocation failed.
+fn enter(
+    table: &SymbolTable,
+    links: &Links,
+    scope: usize,
+    env: &mut [Option<usize>],
+    saved: &mut Vec<Entry>,
+) -> Result<(), OutOfMemory>
+    requires links { machine.AreLinks table.now links.now.last.items links.now.earlier.items }
+    ensures saved { OnOk result (saved.new.items ≡ saved.old.items ++ machine.overwritten (machine.entries_at table.now scope) env.old) }
+    ensures env { OnOk result (env.new ≡ machine.write_all (machine.entries_at table.now scope) env.old) }
+{
+    let symbols = table.as_slice();
+    let mut next = look(&links.last, scope);
+    'links: while let Some(number) = next {
+        let symbol = &symbols[number];
+        saved.push(Entry {
+            name: symbol.name,
+            symbol: look(env, symbol.name),
         })?;
+        write(env, symbol.name, table.binding_of(number, symbol));
+        next = look(&links.earlier, number);
     }
-    Ok(List::from_vec(found))
+    Ok(())
 }
 
-/// Memory for a list of entries: that of a list that is done with, if there is one.
-fn take_room(alloc: Global, done: &mut Vec<List<Entry>>) -> List<Entry> {
-    match done.pop() {
-        Some(list) => list,
-        None => List::new(alloc),
-    }
-}
-
-/// The entries of a scope, by its number. None past the end of the list.
-fn entries_at(scopes: &[List<Entry>], scope: usize) -> &[Entry]
-    ensures { result.now ≡ machine.entries_at scopes.now scope }
+/// Ends a scope: writes the entries of `saved` from `start` on into the list, the last first, and takes them off.
+fn leave(env: &mut [Option<usize>], saved: &mut Vec<Entry>, start: usize)
+    ensures env { env.new ≡ machine.undo (drop start saved.old.items) env.old }
+    ensures saved { saved.new.items ≡ take start saved.old.items }
 {
-    match scopes.get(scope) {
-        Some(entries) => entries.as_slice(),
-        None => &[],
+    'saved: while start < saved.len() {
+        if let Some(entry) = saved.pop() {
+            write(env, entry.name, entry.symbol);
+        }
     }
 }
 
@@ -153,35 +175,36 @@ fn count_uses(events: &[Event]) -> usize {
     count
 }
 
-/// The names that events use and declare, each by the symbol that it stands for, if `scopes` has the entries of each scope of
-/// `symbols`, and `env` the symbols that names stand for around the events. On `OutOfMemory`, an allocation failed.
+/// The names that events use and declare, each by the symbol that it stands for, if `env` has the symbols that names stand for
+/// around the events. On `OutOfMemory`, an allocation failed.
 #[tactic(auto, using(crate::proofs::Passing::or_regroup))]
 fn run(
     alloc: Global,
-    symbols: &[Bound],
-    scopes: &[List<Entry>],
+    table: &SymbolTable,
+    links: &Links,
     env: &mut [Option<usize>],
     events: &[Event],
 ) -> Result<Resolved, OutOfMemory>
-    ensures references { IfOk result (λ r. r.references ≡ references (machine.run scopes.now env.old [] events.now)) }
-    ensures passing { IfOk result (λ r. r.passing ≡ list_any (rules.is_passing symbols.now) (machine.run scopes.now env.old [] events.now)) }
+    requires links { machine.AreLinks table.now links.now.last.items links.now.earlier.items }
+    ensures references { IfOk result (λ r. r.references ≡ references (machine.run (machine.entries_at table.now) env.old [] events.now)) }
+    ensures passing { IfOk result (λ r. r.passing ≡ list_any (rules.is_passing table.now) (machine.run (machine.entries_at table.now) env.old [] events.now)) }
 {
+    let symbols = table.as_slice();
     let mut found = List::with_capacity(alloc, count_uses(events))?;
     let mut passing = false;
-    let mut frames: Vec<List<Entry>> = Vec::new(alloc);
-    let mut done: Vec<List<Entry>> = Vec::new(alloc);
+    // What the entries of the open scopes overwrite, and where those of each begin.
+    let mut saved: Vec<Entry> = Vec::new(alloc);
+    let mut starts: Vec<usize> = Vec::new(alloc);
     for event in events {
         match event {
             Event::Scope(_) => {}
             Event::Open(scope) => {
-                let entries = entries_at(scopes, scope.0 as usize);
-                frames.push(kept(take_room(alloc, &mut done), env, entries)?)?;
-                write_all(env, entries);
+                starts.push(saved.len())?;
+                enter(table, links, scope.0 as usize, env, &mut saved)?;
             }
             Event::Close => {
-                if let Some(frame) = frames.pop() {
-                    write_all(env, frame.as_slice());
-                    done.push(frame)?;
+                if let Some(start) = starts.pop() {
+                    leave(env, &mut saved, start);
                 }
             }
             Event::Bind(bound) => {
@@ -235,52 +258,15 @@ fn count_scopes(symbols: &[Bound]) -> usize
     most
 }
 
-/// `count` names that stand for no symbol. On `OutOfMemory`, an allocation failed.
-fn blank_names(alloc: Global, count: usize) -> Result<Vec<Option<usize>>, OutOfMemory>
+/// `count` names or scopes without a symbol. On `OutOfMemory`, an allocation failed.
+fn blank_symbols(alloc: Global, count: usize) -> Result<Vec<Option<usize>>, OutOfMemory>
     ensures { IfOk result (λ v. v.items ≡ replicate count None) }
 {
     let mut blank = Vec::with_capacity(alloc, count)?;
-    for _name in 0..count {
+    for _index in 0..count {
         blank.push(None)?;
     }
     Ok(blank)
-}
-
-/// `count` scopes without entries. On `OutOfMemory`, an allocation failed.
-fn blank_scopes(alloc: Global, count: usize) -> Result<Vec<List<Entry>>, OutOfMemory>
-    ensures { IfOk result (λ v. v.items ≡ replicate count []) }
-{
-    let mut blank = Vec::with_capacity(alloc, count)?;
-    for _scope in 0..count {
-        blank.push(List::new(alloc))?;
-    }
-    Ok(blank)
-}
-
-/// Puts an entry to those of a scope. An entry past the end of the list is left out. On `OutOfMemory`, an allocation failed.
-fn put(scopes: &mut [List<Entry>], scope: usize, entry: Entry) -> Result<(), OutOfMemory>
-    ensures { OnOk result (scopes.new ≡ machine.put scopes.old scope entry) }
-{
-    if scope < scopes.len() {
-        scopes[scope].push(entry)?;
-    }
-    Ok(())
-}
-
-/// The entries of each scope, by its number. On `OutOfMemory`, an allocation failed.
-fn entries_of(alloc: Global, table: &SymbolTable) -> Result<Vec<List<Entry>>, OutOfMemory>
-    ensures { IfOk result (λ v. v.items ≡ machine.put_all table.now (replicate (machine.count_scopes 0 table.now) []) table.now) }
-{
-    let mut scopes = blank_scopes(alloc, count_scopes(table.as_slice()))?;
-    let symbols = table.as_slice();
-    'symbols: for (number, symbol) in symbols.iter().enumerate() {
-        let entry = Entry {
-            name: symbol.name,
-            symbol: table.binding_of(number, symbol),
-        };
-        put(&mut scopes, symbol.scope.0 as usize, entry)?;
-    }
-    Ok(scopes)
 }
 
 /// The names that events use and declare, each by the symbol of the table that it stands for. On `OutOfMemory`, an allocation
@@ -293,7 +279,7 @@ pub fn resolve_all(
     ensures references { IfOk result (λ r. r.references ≡ references (machine.resolved table.now events.now)) }
     ensures passing { IfOk result (λ r. r.passing ≡ list_any (rules.is_passing table.now) (machine.resolved table.now events.now)) }
 {
-    let scopes = entries_of(alloc, table)?;
-    let mut env = blank_names(alloc, count_names(table.as_slice())?)?;
-    run(alloc, table.as_slice(), &scopes, &mut env, events)
+    let links = links_of(alloc, table.as_slice())?;
+    let mut env = blank_symbols(alloc, count_names(table.as_slice())?)?;
+    run(alloc, table, &links, &mut env, events)
 }

@@ -7,6 +7,6 @@ use Rattle.rl_bindings.proofs.resolve.run.Given as goal
 
 abbrev pub invariant-loop-event : goal.invariant-loop-event
 invariant-loop-event l = record {
-  references : l.found ++ references (machine.run l.scopes l.env (reverse l.frames.items) (drop l.event-index l.events)) ≡ references (machine.run l.scopes l.initial.env [] l.events);
-  passing : (l.passing || list_any (is_passing l.symbols) (machine.run l.scopes l.env (reverse l.frames.items) (drop l.event-index l.events))) ≡ list_any (is_passing l.symbols) (machine.run l.scopes l.initial.env [] l.events);
+  references : l.found ++ references (machine.run (machine.entries_at l.table) l.env (machine.frames_at (reverse l.starts.items) l.saved.items) (drop l.event-index l.events)) ≡ references (machine.run (machine.entries_at l.table) l.initial.env [] l.events);
+  passing : (l.passing || list_any (is_passing l.table) (machine.run (machine.entries_at l.table) l.env (machine.frames_at (reverse l.starts.items) l.saved.items) (drop l.event-index l.events))) ≡ list_any (is_passing l.table) (machine.run (machine.entries_at l.table) l.initial.env [] l.events);
 }
