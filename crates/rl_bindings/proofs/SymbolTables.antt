@@ -138,7 +138,7 @@ same_parts x y is = (eqb-true x.0 y.0 (sym (nat_tied x.0 y.0) ∙ both_left _ (i
     two = tied_then (nat_cmp x.0 y.0) (nat_cmp x.1 y.1) ∙ both_left _ (is_eq (bool_cmp x.2 y.2)) one
 
 place_same : (count : ℕ) (x y : ℕ × ℕ × Bool) → same_key x y ≡ true → key_place count x ≡ key_place count y
-place_same count x y is = let parts = same_parts x y is in λ i. if nat_eq count 0 then 0 else (parts.0 i % 4294967296 + parts.1 i * 40503) % count
+place_same count x y is = let parts = same_parts x y is in λ i. if nat_eq count 0 then 0 else (parts.0 i % 4294967296 + parts.1 i * 2654435761) % count
 
 -- A symbol that is no own name is what its scope binds its name to.
 pub binding_first : (slots : List Slot) (numbers : BTreeMap (ℕ × ℕ × Bool) ℕ) (symbols : List Bound) (k : ℕ) (b : Bound) → IsTable slots numbers symbols → slice_get symbols k ≡ Some b → is_own b.kind ≡ false → Some k ≡ binding symbols b.scope.0 b.name

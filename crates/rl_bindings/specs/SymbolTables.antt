@@ -19,9 +19,10 @@ key_of b = (b.name, b.scope.0, is_own b.kind)
 abbrev pub same_key : ℕ × ℕ × Bool → ℕ × ℕ × Bool → Bool
 same_key x y = is_eq (key_cmp x y)
 
--- The place of a key among `count` slots: names in a row have places in a row, and so have scopes, some way apart. 0 if there are none.
+-- The place of a key among `count` slots, 0 if there are none. Names in a row have places in a row. The factor of the scope is a
+-- prime: for one name, `count` scopes in a row have different places, if `count` is smaller than the factor.
 abbrev pub key_place : (count : ℕ) → ℕ × ℕ × Bool → ℕ
-key_place count key = if nat_eq count 0 then 0 else (key.0 % 4294967296 + key.1 * 40503) % count
+key_place count key = if nat_eq count 0 then 0 else (key.0 % 4294967296 + key.1 * 2654435761) % count
 
 -- The number of the symbol with a key: its index among `symbols`.
 abbrev pub number_by : (symbols : List Bound) → ℕ × ℕ × Bool → Option ℕ

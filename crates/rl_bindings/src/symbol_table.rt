@@ -159,7 +159,7 @@ fn key_place(count: usize, key: SymbolKey) -> usize
     if count == 0 {
         return 0;
     }
-    (key.0 % 4_294_967_296 + key.1 as usize * 40_503) % count
+    (key.0 % 4_294_967_296 + key.1 as usize * 2_654_435_761) % count
 }
 
 /// True of two keys that are one.
