@@ -1,5 +1,5 @@
 -- The parameters of a plain function, by what their declarations have in the tables of names.
-use Rattle.std.proofs.Common.{◌≡◌, ◌≢◌, ℕ, Bool, true, false, ◌&&◌, eq-eqb, true≢false, inl, inr, Option, Some, None, is_some, unwrap_or, List, [], ◌∷◌, ◌++◌, length, map, slice_get, append_assoc, append-nil, refl, sym, ap, subst, ◌∙◌}
+use Rattle.std.proofs.Common.{◌≡◌, ◌≢◌, ℕ, Bool, true, false, ◌&&◌, eq-eqb, true≢false, inl, inr, Option, Some, None, is_some, unwrap_or, List, [], ◌∷◌, ◌++◌, map, slice_get, append_assoc, append-nil, refl, sym, ap, subst, ◌∙◌}
 use Rattle.std.proofs.lemmas.Bool.{or_parts}
 use Rattle.std.proofs.lemmas.List.Elements.{All-from_recursion}
 use Rattle.std.proofs.lemmas.Slice.Eq.{bytes_eq-Decides}
@@ -102,7 +102,7 @@ module _ (table : List Name) (symbols : List Bound) (names : Names) (at : At) wh
   text_of_number : (name : List ℕ) → IsKnown table name → name_text table (numbered table (name ∷ [])) ≡ name
   text_of_number name known = told_by (number_of table name) refl known
     where
-      told_by : (o : Option ℕ) → number_of table name ≡ o → is_some o ≡ true → name_text table (unwrap_or o (length table)) ≡ name
+      told_by : (o : Option ℕ) → number_of table name ≡ o → is_some o ≡ true → name_text table (unwrap_or o 0) ≡ name
       told_by None is some = absurd (true≢false (sym some))
       told_by (Some n) is some = numbered_text table name n is
 
