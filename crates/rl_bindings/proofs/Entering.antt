@@ -1,6 +1,5 @@
 -- The entries of each scope, and what a scope binds.
-use Rattle.std.proofs.Common.{◌≡◌, ◌<◌, ◌≤◌, ℕ, zero, suc, ◌+◌, Bool, true, false, ◌&&◌, ◌||◌, if◌then◌else◌, cond, true≢false, nat_eq, nat_lt, eqb-true, ltb-true, ltb-false, Option, Some, None, is_some, List, [], ◌∷◌, ◌++◌, length, slice_get, replicate, refl, sym, ap, subst, ◌∙◌, arith}
-use Rattle.std.proofs.lemmas.Bool.{eqb-false}
+use Rattle.std.proofs.Common.{◌≡◌, ◌<◌, ◌≤◌, ℕ, zero, suc, ◌+◌, Bool, true, false, ◌&&◌, ◌||◌, if◌then◌else◌, cond, true≢false, nat_eq, nat_lt, eqb-true, ltb-true, ltb-false, Option, Some, None, is_some, List, [], ◌∷◌, length, slice_get, replicate, refl, sym, ap, subst, ◌∙◌, arith}
 use Rattle.std.specs.List.{list_any, position_from}
 use Rattle.rl_bindings.specs.Machines.{entries_at, entries_before, entry_before, entry_of, larger, count_names, count_scopes}
 use Rattle.rl_bindings.specs.Symbols.{same, is_own, is_at, number_at, option_or, binding}

@@ -1,5 +1,5 @@
 -- The links of symbols, as they are made and followed.
-use Rattle.std.proofs.Common.{◌≡◌, ◌<◌, ◌≤◌, ℕ, zero, suc, ◌+◌, Bool, true, false, if◌then◌else◌, true≢false, nat_eq, nat_lt, eqb-true, ltb-true, ltb-false, eq-eqb, Option, Some, None, List, [], ◌∷◌, ◌++◌, length, length-set, get_or, drop, take, slice_get, slice_set, replicate, append-nil, append_assoc, refl, sym, ap, subst, ◌∙◌, arith}
+use Rattle.std.proofs.Common.{◌≡◌, ◌<◌, ◌≤◌, ℕ, zero, suc, ◌+◌, Bool, true, false, if◌then◌else◌, nat_eq, nat_lt, eqb-true, ltb-true, ltb-false, Option, Some, None, List, [], ◌∷◌, ◌++◌, length, length-set, get_or, drop, take, slice_get, slice_set, replicate, append-nil, append_assoc, refl, sym, ap, subst, ◌∙◌, arith}
 use Rattle.std.proofs.lemmas.Bool.{eqb-false}
 use Rattle.std.proofs.lemmas.List.{drop-append-le, take-append-le}
 use Rattle.std.proofs.lemmas.Option.{slice_get-get_or}

@@ -1,5 +1,5 @@
 -- The loops give what the definitions say of a tree.
-use Rattle.std.proofs.Common.{◌≡◌, ◌<◌, ℕ, zero, suc, Bool, ◌||◌, Option, None, IfSome, List, [], length, All, replicate, append-nil, refl, sym, ap, subst, ◌∙◌}
+use Rattle.std.proofs.Common.{◌≡◌, ◌<◌, ℕ, Bool, ◌||◌, Option, None, IfSome, List, [], length, All, replicate, append-nil, refl, sym, ap, subst, ◌∙◌}
 use Rattle.std.specs.List.{list_any}
 use Rattle.rl_bindings.specs.Checks.{steps, start, lexical_steps}
 use Rattle.rl_bindings.specs.Events.{events, top}
@@ -7,7 +7,7 @@ use Rattle.rl_bindings.specs.NameRules.{clashes, is_lexical_clash, is_repeat, is
 use Rattle.rl_bindings.specs.Names.{names_in}
 use Rattle.rl_bindings.specs.Symbols.{bounds, symbols_of}
 use Rattle.rl_bindings.specs.Tables.{events_in, scopes_of, scopes_in, symbols_in, declarations_of, declarations_in, references_in, least_broken}
-use Rattle.rl_bindings.specs.Machines.{look, entries_at, count_names, run, resolved}
+use Rattle.rl_bindings.specs.Machines.{entries_at, count_names, run, resolved}
 use Rattle.rl_bindings.specs.Standing.{standing, references}
 use Rattle.rl_bindings.specs.declared.event.Bound.{Bound}
 use Rattle.rl_bindings.specs.declared.event.Event.{Event}

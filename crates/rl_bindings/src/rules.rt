@@ -247,18 +247,36 @@ fn step(found: &mut Found, bound: Bound) -> Result<(), OutOfMemory>
     Ok(())
 }
 
+/// Number of the declarations among events: the room for them and for their symbols.
+fn count_binds(events: &[Event]) -> usize {
+    let mut count: usize = 0;
+    for event in events {
+        if let Event::Bind(_) = event {
+            count = count.saturating_add(1);
+        }
+    }
+    count
+}
+
+/// Result of no declarations, with room for `binds`. On `OutOfMemory`, an allocation failed.
+fn nothing_found(alloc: Global, binds: usize) -> Result<Found, OutOfMemory>
+    ensures { IfOk result (λ found. found ≡ check.start) }
+{
+    Ok(Found {
+        symbols: SymbolTable::with_slots(alloc, binds)?,
+        marks: List::with_capacity(alloc, binds)?,
+        declarations: List::with_capacity(alloc, binds)?,
+        clashed: false,
+        repeated: false,
+        shared: false,
+    })
+}
+
 /// Result of the declarations among events. On `OutOfMemory`, an allocation failed.
 pub fn check_all(alloc: Global, events: &[Event]) -> Result<Found, OutOfMemory>
     ensures { IfOk result (λ found. found ≡ check.steps check.start events.now) }
 {
-    let mut found = Found {
-        symbols: SymbolTable::with_slots(alloc, events.len())?,
-        marks: List::new(alloc),
-        declarations: List::new(alloc),
-        clashed: false,
-        repeated: false,
-        shared: false,
-    };
+    let mut found = nothing_found(alloc, count_binds(events))?;
     for event in events {
         if let Event::Bind(bound) = event {
             step(&mut found, *bound)?;
@@ -271,7 +289,7 @@ pub fn check_all(alloc: Global, events: &[Event]) -> Result<Found, OutOfMemory>
 pub fn lexical_of(alloc: Global, events: &[Event]) -> Result<SymbolTable, OutOfMemory>
     ensures { IfOk result (λ symbols. symbols ≡ check.lexical_steps [] events.now) }
 {
-    let mut symbols = SymbolTable::with_slots(alloc, events.len())?;
+    let mut symbols = SymbolTable::with_slots(alloc, count_binds(events))?;
     for event in events {
         if let Event::Bind(bound) = event {
             if is_lexical(bound.kind, bound.place) {

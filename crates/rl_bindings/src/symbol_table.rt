@@ -54,14 +54,15 @@ pub fn is_own(kind: BindKind) -> bool
 }
 
 impl SymbolTable {
-    /// No symbols, with `count` slots: for about as many. On `OutOfMemory`, an allocation failed.
+    /// No symbols, with room and slots for about `count`. On `OutOfMemory`, an allocation failed.
     #[tactic(auto, using(crate::proofs::SymbolTables::table_empty))]
     pub fn with_slots(alloc: Global, count: usize) -> Result<SymbolTable, OutOfMemory>
         ensures { IfOk result (λ table. table ≡ []) }
     {
+        let symbols = Vec::with_capacity(alloc, count)?;
         let slots = empty_slots(alloc, count)?;
         Ok(SymbolTable {
-            symbols: Vec::new(alloc),
+            symbols,
             slots,
             numbers: BTreeMap::new(alloc),
         })

@@ -1,4 +1,4 @@
-use Rattle.std.proofs.Common.{◌≡◌, ◌<◌, length, drop, ap, sym, ◌∙◌, arith}
+use Rattle.std.proofs.Common.{◌<◌, length, drop, ap, ◌∙◌, arith}
 use Rattle.rl_bindings.specs.Machines.{undo}
 use Rattle.rl_bindings.proofs.Linking.{undone_one, taken_one}
 use Rattle.rl_bindings.proofs.resolve.leave.Goals as goal
