@@ -13,7 +13,7 @@ binding_texts (bindings.Global name) = name ∷ []
 binding_texts (bindings.ModuleLocal name) = name ∷ codes "module" ∷ []
 binding_texts (bindings.ImportDefault name source) = name ∷ codes "default" ∷ source ∷ []
 binding_texts (bindings.ImportNamespace name source) = name ∷ codes "namespace" ∷ source ∷ []
-binding_texts (bindings.ImportSpecifier name source imported) = name ∷ codes "named" ∷ source ∷ imported ∷ []
+binding_texts (bindings.ImportSpecifier name export) = name ∷ codes "named" ∷ export.module ∷ export.imported ∷ []
 
 -- The text that stands for an argument's shape.
 abbrev pub argument_shape : PlaceOrSpread → List ℕ

@@ -3,4 +3,7 @@ pub mod Instructions
 pub mod Listing
 pub mod Numbered
 pub mod Pairs
+pub mod Pieces
 pub mod Terminals
+pub mod Trees
+pub mod Values

@@ -4,13 +4,6 @@ use Rattle.std.specs.Option.{option_map}
 use Rattle.rl_base.specs.declared.ids.InstructionId.{InstructionId}
 use Rattle.rl_hir.specs.declared.instruction.Instruction.{Instruction}
 use Rattle.rl_hir.specs.declared.function.NumberedBlock.{NumberedBlock}
-use Rattle.rl_hir.specs.declared.terminal.Terminal.{Terminal}
-use Rattle.rl_hir.specs.declared.terminal.Terminal.TheVariants as terminals
-
--- The evaluation order of a terminal.
-abbrev pub order_of : Terminal → ℕ
-order_of (terminals.Return order at variant p) = order.0
-order_of (terminals.Unreachable order at) = order.0
 
 -- The evaluation order of the instruction at an index into the table; None past its end.
 abbrev pub order_at : List Instruction → InstructionId → Option ℕ
@@ -19,7 +12,7 @@ order_at table id = option_map (λ i. i.order.0) (slice_get table id.0)
 -- The orders of blocks, in block order: those of a block's instructions, and then its terminal's.
 abbrev pub orders_in : List Instruction → List NumberedBlock → List (Option ℕ)
 orders_in table [] = []
-orders_in table (b ∷ blocks) = map (λ id. order_at table id) b.block.instructions ++ Some (order_of b.block.terminal) ∷ orders_in table blocks
+orders_in table (b ∷ blocks) = map (λ id. order_at table id) b.block.instructions ++ Some b.block.terminal.order.0 ∷ orders_in table blocks
 
 -- The indices into the instruction table that blocks list, in block order.
 abbrev pub listed_in : List NumberedBlock → List ℕ

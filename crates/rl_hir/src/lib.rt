@@ -2,8 +2,11 @@
 //! that the functions of a unit share, and the listing of results.
 #![tactic(auto)]
 
+mod ends;
 pub mod environment;
 pub mod function;
 pub mod instruction;
 pub mod listing;
+pub mod pieces;
 pub mod terminal;
+mod values;

@@ -9,114 +9,11 @@ use crate::function::{
     BlockKind, HirFunction, Identifier, IdentifierName, InnerFunction, Lowered, NumberedBlock,
     Pair, Param, ReactFunctionType,
 };
-use crate::instruction::{
-    Instruction, InstructionValue, NonLocalBinding, Place, PlaceOrSpread, PrimitiveValue,
-};
-use crate::terminal::{ReturnVariant, Terminal};
-use rl_base::closed_text::ClosedText;
+use crate::instruction::Instruction;
 use rl_base::error::OutOfMemory;
 use rl_text::raw::Raw;
-use rl_text::written::{
-    Both, Each, Listing, Literal, Nothing, Shows, Written, tree_of, write_node,
-};
+use rl_text::written::{Both, Literal, Written, tree_of, write_node};
 use std::alloc::Global;
-
-impl Written for Place {
-    ghost shown = { spec.place };
-
-    fn write(&self, out: &mut Vec<u8>) -> Result<(), OutOfMemory> {
-        write_node("p", &(self.identifier, self.span), out)
-    }
-}
-
-impl Written for PrimitiveValue {
-    ghost shown = { spec.primitive };
-
-    fn write(&self, out: &mut Vec<u8>) -> Result<(), OutOfMemory> {
-        match self {
-            PrimitiveValue::Undefined => write_node("undefined", &(), out),
-            PrimitiveValue::Null => write_node("null", &(), out),
-            PrimitiveValue::Boolean(value) => write_node("bool", &(value,), out),
-            PrimitiveValue::Number(value) => write_node("number", &(value,), out),
-            PrimitiveValue::String(text) => write_node("text", &(text,), out),
-        }
-    }
-}
-
-impl Written for NonLocalBinding {
-    ghost shown = { spec.binding };
-
-    fn write(&self, out: &mut Vec<u8>) -> Result<(), OutOfMemory> {
-        match self {
-            NonLocalBinding::Global { name } => Listing(name, ()).write(out),
-            NonLocalBinding::ModuleLocal { name } => {
-                Listing(name, (Literal("module"),)).write(out)
-            }
-            NonLocalBinding::ImportDefault { name, module } => {
-                Listing(name, (Literal("default"), module.get())).write(out)
-            }
-            NonLocalBinding::ImportNamespace { name, module } => {
-                Listing(name, (Literal("namespace"), module.get())).write(out)
-            }
-            NonLocalBinding::ImportSpecifier {
-                name,
-                module,
-                imported,
-            } => Listing(name, (Literal("named"), module.get(), imported.get())).write(out),
-        }
-    }
-}
-
-/// Lists the shape of an argument.
-#[derive(Drop)]
-struct Shape;
-
-impl Shows<PlaceOrSpread> for Shape {
-    ghost shows = { spec.shape_of };
-
-    fn write_shown(argument: &PlaceOrSpread, out: &mut Vec<u8>) -> Result<(), OutOfMemory> {
-        Literal(argument.shape()).write(out)
-    }
-}
-
-/// Lists the place of an argument.
-#[derive(Drop)]
-struct Operand;
-
-impl Shows<PlaceOrSpread> for Operand {
-    ghost shows = { spec.operand_of };
-
-    fn write_shown(argument: &PlaceOrSpread, out: &mut Vec<u8>) -> Result<(), OutOfMemory> {
-        argument.place().write(out)
-    }
-}
-
-impl Written for InstructionValue {
-    ghost shown = { spec.value };
-
-    fn write(&self, out: &mut Vec<u8>) -> Result<(), OutOfMemory> {
-        match self {
-            InstructionValue::Primitive(value) => write_node("primitive", &(value,), out),
-            InstructionValue::LoadLocal(place) => write_node("loadlocal", &(place,), out),
-            InstructionValue::LoadGlobal(binding) => {
-                write_node("loadglobal", &(binding, Nothing), out)
-            }
-            InstructionValue::Binary {
-                operator,
-                left,
-                right,
-            } => {
-                let texts = Listing(Literal(operator.as_str()), ());
-                write_node("binary", &(texts, Listing(left, (right,))), out)
-            }
-            InstructionValue::Call { callee, arguments } => {
-                let shapes = Each::<Shape, PlaceOrSpread>::of(arguments);
-                let operands = Listing(callee, Each::<Operand, PlaceOrSpread>::of(arguments));
-                write_node("call", &(shapes, operands), out)
-            }
-        }
-    }
-}
 
 impl Written for Instruction {
     ghost shown = { spec.instruction };
@@ -124,39 +21,6 @@ impl Written for Instruction {
     fn write(&self, out: &mut Vec<u8>) -> Result<(), OutOfMemory> {
         let parts = (self.order, self.lvalue, self.span, &self.value);
         write_node("i", &parts, out)
-    }
-}
-
-impl ReturnVariant {
-    /// The word of the variant in a listing.
-    fn word(self) -> &'static str
-        ensures { result.now ≡ spec.return_variant self }
-    {
-        match self {
-            ReturnVariant::Implicit => "implicit",
-            ReturnVariant::Explicit => "explicit",
-            ReturnVariant::Void => "void",
-        }
-    }
-}
-
-impl Written for Terminal {
-    ghost shown = { spec.terminal };
-
-    fn write(&self, out: &mut Vec<u8>) -> Result<(), OutOfMemory> {
-        match self {
-            Terminal::Return {
-                order,
-                span,
-                variant,
-                value,
-            } => write_node(
-                "return",
-                &(order, span, Literal(variant.word()), value),
-                out,
-            ),
-            Terminal::Unreachable { order, span } => write_node("unreachable", &(order, span), out),
-        }
     }
 }
 

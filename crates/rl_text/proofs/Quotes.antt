@@ -1,8 +1,11 @@
 -- Laws of quoted texts.
-use Rattle.std.proofs.Common.{◌≡◌, ℕ, ◌+◌, ◌-◌, ◌*◌, ◌/◌, ◌%◌, ◌<◌, Bool, true, false, not, cond, List, [], ◌∷◌, ◌++◌, length, take, drop, get_or, ap, sym, ◌∙◌, refl, arith, true≢false, append_assoc, ◌⊎◌, inl, inr}
+use Rattle.std.proofs.Common.{◌≡◌, ℕ, ◌+◌, ◌-◌, ◌*◌, ◌/◌, ◌%◌, ◌<◌, Bool, true, false, not, cond, List, [], ◌∷◌, ◌++◌, length, take, drop, get_or, ap, sym, ◌∙◌, refl, arith, true≢false, append_assoc, ◌⊎◌, inl, inr, lit<}
 use Rattle.std.proofs.lemmas.List.{drop_more}
 use Rattle.std.proofs.lemmas.Bool.Decides.{nat_tests}
 use Rattle.std.specs.List.{list_all}
+use Rattle.std.specs.Str.{IsUtf8}
+use Rattle.std.proofs.lemmas.Str.{IsUtf8-append, IsUtf8-from_ascii}
+use Rattle.std.proofs.lemmas.Str.Ascii.{IsAscii-cons, IsAscii-nil}
 use Rattle.rl_text.specs.Quoted.{hexadecimal, is_escaped, is_plain, escape, quoted_rest}
 use Rattle.rl_text.specs.Places.{IsRun}
 use Rattle.rl_text.proofs.Runs.{heads, both, run-there}
@@ -97,6 +100,10 @@ quoted-behind (byte ∷ run) u [] v h e = absurd (escape-no_quote byte v (run ++
 quoted-behind (byte ∷ run) u (c ∷ text) v h e =
     let p = both (is_plain byte) _ h in
     quoted-behind run u text v p.1 (escapes-apart byte c (run ++ u) (quoted_rest text ++ v) (ap (λ l. l ++ (run ++ u)) (plain-escape byte p.0) ∙ e ∙ append_assoc (escape c) (quoted_rest text) v)).1
+
+-- A text behind a dot is text.
+pub dotted_utf8 : (text : List ℕ) → IsUtf8 text → IsUtf8 (46 ∷ text)
+dotted_utf8 text h = IsUtf8-append (46 ∷ []) text (IsUtf8-from_ascii (46 ∷ []) (IsAscii-cons 46 [] (lit< tt) IsAscii-nil)) h
 
 -- The rest of a text is spelled by a run of plain bytes and the rest behind it, or by an escape and the rest behind it.
 pub run-written : (out new text : List ℕ) (at end : ℕ) → IsRun is_plain text at end → new ≡ out ++ take (end - at) (drop at text) → new ++ quoted_rest (drop end text) ≡ out ++ quoted_rest (drop at text)

@@ -1,5 +1,6 @@
 -- Rows of parts, with the brackets that were written around them.
-use Rattle.std.proofs.Common.{◌≡◌, ℕ, false, List, [], ◌∷◌, ◌++◌, refl, sym, ap, ◌∙◌, append_assoc}
+use Rattle.std.proofs.Common.{◌≡◌, ℕ, ◌+◌, false, List, [], ◌∷◌, ◌++◌, length, take, drop, refl, sym, ap, ◌∙◌, append_assoc}
+use Rattle.std.proofs.Math.Seq.{take-append_seam, drop-append-add}
 use Rattle.rl_text.specs.Notation.{Tree, Node, Listed, Parts, End, Then, AreWritable, spelling, spelled_on}
 use Rattle.rl_text.specs.Spaced.{spaced, separated, join}
 
@@ -24,6 +25,14 @@ items_written out parts = simp append_assoc (ap (λ (l : List ℕ). out ++ l) (s
 -- A list of a first part and others.
 pub list_written : (out : List ℕ) (first : Tree) (rest : Parts) → (((out ++ 91 ∷ []) ++ spelling first) ++ spaced rest) ++ 93 ∷ [] ≡ out ++ spelling (Listed (Then first rest))
 list_written out first rest = simp append_assoc (ap (λ (l : List ℕ). out ++ 91 ∷ (spelling first ++ l)) (sym (spelled_on-spaced 93 rest)))
+
+drop-spaced : (parts : Parts) → drop 1 (spaced parts) ≡ separated false parts
+drop-spaced End = refl
+drop-spaced (Then first rest) = refl
+
+-- Parts behind spaces, with brackets put around them: `[` stands in the first space.
+pub bracketed : (out : List ℕ) (parts : Parts) → take (length out) (out ++ spaced parts) ++ 91 ∷ (drop (length out + 1) (out ++ spaced parts) ++ 93 ∷ []) ≡ out ++ spelling (Listed parts)
+bracketed out parts = rw (take-append_seam out (spaced parts), drop-append-add out (spaced parts) 1, drop-spaced parts) (ap (λ (l : List ℕ). out ++ l) (sym (spelling-Listed-separated parts)))
 
 spaced-join : (a b : Parts) → spaced (join a b) ≡ spaced a ++ spaced b
 spaced-join End b = refl

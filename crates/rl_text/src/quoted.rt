@@ -119,11 +119,11 @@ fn push_escape(byte: u8, out: &mut Vec<u8>) -> Result<(), OutOfMemory>
     Ok(())
 }
 
-/// Appends `text` in quotes to `out`. On `OutOfMemory`, an allocation failed, and `out` may hold a part of it.
-pub fn write_quoted(text: &[u8], out: &mut Vec<u8>) -> Result<(), OutOfMemory>
-    ensures { OnOk result (out.new.items ≡ out.old.items ++ quoted text.now) }
+/// Appends the bytes of `text` behind its opening quote, the closing quote included. On `OutOfMemory`, an allocation failed, and
+/// `out` may hold a part of them.
+fn write_rest(text: &[u8], out: &mut Vec<u8>) -> Result<(), OutOfMemory>
+    ensures { OnOk result (out.new.items ≡ out.old.items ++ quoted_rest text.now) }
 {
-    out.push(b'"')?;
     let mut end = push_run(text, 0, out)?;
     'writing: while end < text.len() {
         push_escape(text[end], out)?;
@@ -131,4 +131,20 @@ pub fn write_quoted(text: &[u8], out: &mut Vec<u8>) -> Result<(), OutOfMemory>
     }
     out.push(b'"')?;
     Ok(())
+}
+
+/// Appends `text` in quotes to `out`. On `OutOfMemory`, an allocation failed, and `out` may hold a part of it.
+pub fn write_quoted(text: &[u8], out: &mut Vec<u8>) -> Result<(), OutOfMemory>
+    ensures { OnOk result (out.new.items ≡ out.old.items ++ quoted text.now) }
+{
+    out.push(b'"')?;
+    write_rest(text, out)
+}
+
+/// Appends a dot and `text`, in quotes, to `out`. On `OutOfMemory`, an allocation failed, and `out` may hold a part of it.
+pub fn write_dotted(text: &[u8], out: &mut Vec<u8>) -> Result<(), OutOfMemory>
+    ensures { OnOk result (out.new.items ≡ out.old.items ++ quoted (46 ∷ text.now)) }
+{
+    out.extend_from_slice(b"\".")?;
+    write_rest(text, out)
 }

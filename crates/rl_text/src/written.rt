@@ -1,16 +1,18 @@
 //! Listings of values, appended to bytes. A type says its tree by `Written`; a row of parts is a tuple, which says its trees by
 //! `WrittenParts`; `write_node` puts the brackets and a word around a row. A writer allocates for its output alone.
 
-ghost use Rattle.std.specs.Prelude.{◌≡◌, ◌∷◌, ◌++◌, map, IfOk, OnOk};
+ghost use Rattle.std.specs.Prelude.{◌≡◌, [], ◌∷◌, ◌+◌, ◌≤◌, ◌++◌, length, take, drop, map, IfOk, OnOk};
 ghost use Rattle.rl_text.specs.Notation.{Tree, Node, Listed, Said, Count, Flag, Absent, Parts, End, Then, IsWord, IsWritable, AreWritable, spelling};
+ghost use Rattle.rl_text.specs.Number.{numeral};
 ghost use Rattle.rl_text.specs.Raw.{tree, parts_of};
 ghost use Rattle.rl_text.specs.Spaced as spec;
 
-use crate::quoted::write_quoted;
+use crate::quoted::{write_dotted, write_quoted};
 use crate::raw::Raw;
 use crate::read::{TextError, read_raw};
 use crate::span::{LONGEST_SPAN, write_span};
 use crate::write::write_number;
+use itoa::Buffer;
 use rl_base::error::OutOfMemory;
 use rl_base::ids::{
     BlockId, EvaluationOrder, IdentifierId, InstructionId, NodeId, SymbolId, TypeId,
@@ -230,6 +232,33 @@ impl<'a> Written for Literal<'a> {
     }
 }
 
+/// A text behind a dot, in quotes.
+#[derive(Drop)]
+pub struct Dotted<'a>(pub &'a Text);
+
+impl<'a> Written for Dotted<'a> {
+    ghost shown = { λ dotted. Said (46 ∷ dotted.0.now) };
+
+    #[tactic(auto, using(crate::proofs::Quotes::dotted_utf8))]
+    fn write(&self, out: &mut Vec<u8>) -> Result<(), OutOfMemory> {
+        write_dotted(self.0.as_str().as_bytes(), out)
+    }
+}
+
+/// A number in decimal digits, in quotes.
+#[derive(Drop)]
+pub struct Decimal(pub u32);
+
+impl Written for Decimal {
+    ghost shown = { λ decimal. Said (numeral decimal.0) };
+
+    #[tactic(auto, using(crate::proofs::Digits::numerals))]
+    fn write(&self, out: &mut Vec<u8>) -> Result<(), OutOfMemory> {
+        let mut digits = Buffer::new();
+        write_text(digits.format(u64::from(self.0)), out)
+    }
+}
+
 impl<T: Written> Written for Option<T> {
     ghost shown = { spec.optional T.shown };
 
@@ -270,6 +299,36 @@ impl<A: Written, P: WrittenParts> Written for Listing<A, P> {
         self.0.write(out)?;
         self.1.write_parts(out)?;
         out.push(b']')?;
+        Ok(())
+    }
+}
+
+/// Puts brackets around the parts that `out` holds from the byte offset `start` on, each behind a space.
+fn bracket(start: usize, out: &mut Vec<u8>) -> Result<(), OutOfMemory>
+    requires { start ≤ length out.old.items }
+    ensures { OnOk result (out.new.items ≡ take start out.old.items ++ 91 ∷ (drop (start + 1) out.old.items ++ 93 ∷ [])) }
+{
+    if start < out.len() {
+        out[start] = b'[';
+        out.push(b']')?;
+        return Ok(());
+    }
+    out.extend_from_slice(b"[]")?;
+    Ok(())
+}
+
+/// A row as one list.
+#[derive(Drop)]
+pub struct Bracketed<P>(pub P);
+
+impl<P: WrittenParts> Written for Bracketed<P> {
+    ghost shown = { λ row. Listed (P.parts row.0) };
+
+    #[tactic(auto, using(crate::proofs::Tails::bracketed))]
+    fn write(&self, out: &mut Vec<u8>) -> Result<(), OutOfMemory> {
+        let start = out.len();
+        self.0.write_parts(out)?;
+        bracket(start, out)?;
         Ok(())
     }
 }

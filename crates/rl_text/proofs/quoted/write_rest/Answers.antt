@@ -1,7 +1,6 @@
-use Rattle.std.proofs.Common.{◌+◌, [], ◌∷◌, ◌++◌, ap, ◌∙◌, append_assoc}
-use Rattle.rl_text.specs.Quoted.{quoted_rest}
+use Rattle.std.proofs.Common.{◌+◌, ◌∙◌}
 use Rattle.rl_text.proofs.Quotes.{run-written, escape-written}
-use Rattle.rl_text.proofs.quoted.write_quoted.Goals as goal
+use Rattle.rl_text.proofs.quoted.write_rest.Goals as goal
 
 pub writing-init : goal.writing-init
 writing-init c =
@@ -9,7 +8,7 @@ writing-init c =
     let run = c.in_ok-end.ensures.run in record {
       within = run.within;
       stopped = run.stopped;
-      written = run-written _ _ text 0 c.in_ok-end.end run c.in_ok-end.ensures.appended ∙ ap (λ l. l ++ quoted_rest text) c.in_ok-push.ensures.items ∙ append_assoc c.args.out.now.items (34 ∷ []) (quoted_rest text);
+      written = run-written _ _ text 0 c.in_ok-end.end run c.in_ok-end.ensures.appended;
     }
 
 pub writing-preserved : goal.writing-preserved
