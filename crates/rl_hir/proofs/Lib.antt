@@ -4,4 +4,5 @@ pub mod ReadParts
 pub mod ReadPieces
 pub mod ReadValues
 pub mod Rows
+pub mod Symbols
 pub mod Words

@@ -4,6 +4,7 @@ pub mod Listing
 pub mod Numbered
 pub mod Pairs
 pub mod Pieces
+pub mod Symbols
 pub mod Terminals
 pub mod Trees
 pub mod Values

@@ -1,21 +1,36 @@
-ghost use Rattle.std.specs.Prelude.{◌≡◌, ◌≢◌, ◌+◌, ◌<◌, ◌^◌, ◌∷◌, ◌++◌, [], OnOk, OnErr, IfOk, IfErr, length, None, Err};
+ghost use Rattle.std.specs.Prelude.{◌≡◌, ◌≢◌, ◌+◌, ◌<◌, ◌^◌, ◌∷◌, ◌++◌, [], ◌||◌, nat_eq, true, false, OnOk, OnErr, IfOk, IfErr, length, slice_get, None, Some, Ok, Err};
 ghost use Rattle.rl_base.specs.Rows.{category_of};
+ghost use Rattle.rl_base.specs.declared.ids.SymbolId.{SymbolId as Symbol};
 ghost use Rattle.rl_hir.specs.Identifiers.{with_name, with_span, changed_at};
+ghost use Rattle.rl_hir.specs.Symbols.{added, has};
 
 use crate::function::{
     HirFunction, Identifier, IdentifierName, InnerFunction, Lowered, Pair, ReactFunctionType,
 };
+use crate::symbol_set::SymbolSet;
+use rl_atoms::entity_table::EntityTable;
 use rl_base::diagnostic::Diagnostic;
 use rl_base::error::OutOfMemory;
-use rl_base::ids::{BlockId, IdentifierId, SymbolId, TypeId};
+use rl_base::ids::{BlockId, FunctionId, IdentifierId, NodeId, ReferenceId, SymbolId, TypeId};
 use rl_base::list::List;
 use rl_base::row::Category;
 use rl_base::span::Span;
 use rl_base::stop::Stop;
+use rl_base::text::Text;
 use std::alloc::Global;
 
+/// The name that a reference has in the graph, in place of that in the source.
+#[derive(Drop)]
+pub struct Rename {
+    /// The reference.
+    pub reference: ReferenceId,
+    /// Its name in the graph.
+    pub name: Text,
+}
+
 /// The counters and tables that all functions of a unit share while they are lowered (`Environment` of the compiler).
-/// A call that answers `OutOfMemory` leaves it unchanged.
+/// A call that answers `OutOfMemory` leaves it unchanged. Each call takes constant time, up to the logarithm of a look-up among the
+/// hoisted identifiers and the growth of a table.
 #[derive(Drop)]
 pub struct Environment {
     /// The type of the marked function.
@@ -32,14 +47,38 @@ pub struct Environment {
     pub pairs: List<Pair>,
     /// The diagnostics that were recorded, in the order of the walk.
     pub diagnostics: List<Diagnostic>,
+    /// The entities of JSX texts, by their names.
+    pub entities: EntityTable,
+    /// The symbols that were marked as hoisted.
+    pub hoisted: SymbolSet,
+    /// The references that were renamed, in the order in which they were.
+    pub renames: List<Rename>,
+    /// True if the unit is to be left as it is.
+    pub skip: bool,
 }
 
 impl Environment {
-    /// An environment with all tables empty and both counters at 0. It allocates nothing.
-    pub fn new(alloc: Global, fn_type: ReactFunctionType) -> Environment
-        ensures { result ≡ record { fn_type = fn_type; next_block = 0; next_type = 0; identifiers = []; functions = []; pairs = []; diagnostics = [] } }
+    /// An environment with these entities, all other tables empty and both counters at 0. It allocates nothing, so it succeeds.
+    pub fn new(
+        alloc: Global,
+        fn_type: ReactFunctionType,
+        entities: EntityTable,
+    ) -> Result<Environment, OutOfMemory>
+        ensures { result ≡ Ok (record {
+          fn_type = fn_type;
+          next_block = 0;
+          next_type = 0;
+          identifiers = [];
+          functions = [];
+          pairs = [];
+          diagnostics = [];
+          entities = entities;
+          hoisted = [];
+          renames = [];
+          skip = false;
+        }) }
     {
-        Environment {
+        Ok(Environment {
             fn_type,
             next_block: 0,
             next_type: 0,
@@ -47,7 +86,11 @@ impl Environment {
             functions: List::new(alloc),
             pairs: List::new(alloc),
             diagnostics: List::new(alloc),
-        }
+            entities,
+            hoisted: SymbolSet::new(alloc),
+            renames: List::new(alloc),
+            skip: false,
+        })
     }
 
     /// Hands out the next block id (`nextBlockId`).
@@ -94,6 +137,14 @@ impl Environment {
         Ok(id)
     }
 
+    /// An identifier by its id.
+    pub fn identifier(&self, id: IdentifierId) -> &Identifier
+        requires { id.0 < length self.now.identifiers }
+        ensures { slice_get self.now.identifiers id.0 ≡ Some result.now }
+    {
+        &self.identifiers.as_slice()[id.0 as usize]
+    }
+
     /// Gives an identifier its name, in place of the one that it had.
     pub fn set_name(&mut self, identifier: IdentifierId, name: IdentifierName)
         requires { identifier.0 < length self.old.identifiers }
@@ -110,6 +161,32 @@ impl Environment {
         self.identifiers.item_mut(identifier.0 as usize).span = Some(span);
     }
 
+    /// Appends an inner function, the graph of `node`, and answers its id. On `OutOfMemory` an allocation failed: the function is
+    /// dropped, and nothing changed.
+    pub fn add_function(
+        &mut self,
+        function: HirFunction,
+        node: NodeId,
+    ) -> Result<FunctionId, OutOfMemory>
+        requires { length self.old.functions < 2 ^ 32 }
+        ensures id { IfOk result (λ id. id.0 ≡ length self.old.functions) }
+        ensures ok { OnOk result (self.new ≡ record self.old {
+          functions = self.old.functions ++ record { node = node; function = function } ∷ [];
+        }) }
+        ensures err { OnErr result (self.new ≡ self.old) }
+    {
+        let id = FunctionId(self.functions.len() as u32);
+        self.functions.push(InnerFunction { node, function })?;
+        Ok(id)
+    }
+
+    /// The inner functions that were lowered, indexed by function id.
+    pub fn functions(&self) -> &[InnerFunction]
+        ensures { result.now ≡ self.now.functions }
+    {
+        self.functions.as_slice()
+    }
+
     /// Appends the pair of a symbol and its identifier. On `OutOfMemory` an allocation failed, and nothing changed.
     pub fn add_pair(
         &mut self,
@@ -122,6 +199,67 @@ impl Environment {
         ensures err { OnErr result (self.new ≡ self.old) }
     {
         self.pairs.push(Pair { symbol, identifier })
+    }
+
+    /// Symbols and their identifiers, in the order in which the symbols got them.
+    pub fn pairs(&self) -> &[Pair]
+        ensures { result.now ≡ self.now.pairs }
+    {
+        self.pairs.as_slice()
+    }
+
+    /// Marks a symbol as hoisted (`addHoistedIdentifier`). On `OutOfMemory` an allocation failed, and nothing changed.
+    pub fn add_hoisted_identifier(&mut self, symbol: SymbolId) -> Result<(), OutOfMemory>
+        ensures ok { OnOk result (self.new ≡ record self.old { hoisted = added self.old.hoisted symbol }) }
+        ensures members { OnOk result ((other : Symbol) → has self.new.hoisted other ≡ (has self.old.hoisted other || nat_eq other.0 symbol.0)) }
+        ensures err { OnErr result (self.new ≡ self.old) }
+    {
+        self.hoisted.insert(symbol)
+    }
+
+    /// True if the symbol was marked as hoisted (`isHoistedIdentifier`).
+    pub fn is_hoisted_identifier(&self, symbol: SymbolId) -> bool
+        ensures { result ≡ has self.now.hoisted symbol }
+    {
+        self.hoisted.contains(symbol)
+    }
+
+    /// Appends the name that a reference gets. On `OutOfMemory` an allocation failed: the name is dropped, and nothing changed.
+    pub fn add_rename(&mut self, reference: ReferenceId, name: Text) -> Result<(), OutOfMemory>
+        ensures ok { OnOk result (self.new ≡ record self.old {
+          renames = self.old.renames ++ record { reference = reference; name = name } ∷ [];
+        }) }
+        ensures err { OnErr result (self.new ≡ self.old) }
+    {
+        self.renames.push(Rename { reference, name })
+    }
+
+    /// The references that were renamed, in the order in which they were.
+    pub fn renames(&self) -> &[Rename]
+        ensures { result.now ≡ self.now.renames }
+    {
+        self.renames.as_slice()
+    }
+
+    /// The entities of JSX texts, by their names.
+    pub fn entities(&self) -> &EntityTable
+        ensures { result.now ≡ self.now.entities }
+    {
+        &self.entities
+    }
+
+    /// Says that the unit is to be left as it is.
+    pub fn mark_skip(&mut self)
+        ensures { self.new ≡ record self.old { skip = true } }
+    {
+        self.skip = true;
+    }
+
+    /// True if the unit is to be left as it is.
+    pub fn skip_compilation(&self) -> bool
+        ensures { result ≡ self.now.skip }
+    {
+        self.skip
     }
 
     /// Appends a diagnostic, of whatever category (`recordDiagnostic`). On `OutOfMemory` an allocation failed, and
@@ -148,7 +286,21 @@ impl Environment {
         Ok(())
     }
 
-    /// The marked function with the inner functions, identifiers and pairs that were kept beside it. Diagnostics are
+    /// The diagnostics that were recorded, in the order of the walk.
+    pub fn diagnostics(&self) -> &[Diagnostic]
+        ensures { result.now ≡ self.now.diagnostics }
+    {
+        self.diagnostics.as_slice()
+    }
+
+    /// The diagnostics that were recorded. All else is dropped.
+    pub fn into_diagnostics(self) -> List<Diagnostic>
+        ensures { result ≡ self.diagnostics }
+    {
+        self.diagnostics
+    }
+
+    /// The marked function with the inner functions, identifiers and pairs that were kept beside it. All else is
     /// dropped.
     pub fn into_lowered(self, function: HirFunction) -> Lowered
         ensures { result ≡ record { function = function; inner = self.functions; identifiers = self.identifiers; pairs = self.pairs } }

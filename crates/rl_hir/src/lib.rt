@@ -2,11 +2,13 @@
 //! that the functions of a unit share, and the listing of results.
 #![tactic(auto)]
 
+pub mod binding;
 mod ends;
 pub mod environment;
 pub mod function;
 pub mod instruction;
 pub mod listing;
 pub mod pieces;
+pub mod symbol_set;
 pub mod terminal;
 mod values;
