@@ -1,4 +1,5 @@
 pub mod ClosedTexts
+pub mod DistinctLists
 pub mod KnownBytes
 pub mod Lines
 pub mod NameTables

@@ -1,5 +1,4 @@
 pub mod Candidates
-pub mod DistinctLists
 pub mod NameEntries
 pub mod NameLaws
 pub mod NumberedOrders

@@ -6,8 +6,8 @@ use Rattle.std.proofs.lemmas.List.{length-map, length-set}
 use Rattle.std.proofs.lemmas.Option.{get_or_from_slice_get, slice_get_within}
 use Rattle.rl_base.specs.Distinct.{AreDistinct}
 use Rattle.rl_base.specs.declared.ids.InstructionId.{InstructionId}
-use Rattle.rl_builder.proofs.DistinctLists.{IsIn, contains_in, in_either, in_head, in_left, in_none, in_right, in_tail}
-use Rattle.rl_builder.proofs.DistinctLists.{distinct_apart, distinct_head, distinct_left, distinct_right, distinct_tail}
+use Rattle.rl_base.proofs.DistinctLists.{IsIn, contains_in, in_either, in_head, in_left, in_none, in_right, in_tail}
+use Rattle.rl_base.proofs.DistinctLists.{distinct_apart, distinct_head, distinct_left, distinct_right, distinct_tail}
 use Rattle.rl_builder.specs.Order.{ordered_at, ordered_list, order_after, ordered_blocks, ordered_table}
 use Rattle.rl_hir.specs.Numbered.{IsNumbered, listed_in, order_at, order_of, orders_in}
 use Rattle.rl_hir.specs.Terminals.{with_order}

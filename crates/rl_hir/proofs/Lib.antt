@@ -1,4 +1,5 @@
 pub mod Identifiers
+pub mod OwnIds
 pub mod ReadBack
 pub mod ReadParts
 pub mod ReadPieces

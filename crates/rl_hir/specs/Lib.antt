@@ -1,3 +1,4 @@
+pub mod Blocks
 pub mod Identifiers
 pub mod Instructions
 pub mod Listing

@@ -3,7 +3,7 @@ use Rattle.std.proofs.Common.{◌≡◌, ℕ, zero, suc, ◌+◌, ◌<◌, ◌�
 use Rattle.std.proofs.lemmas.List.{map-append}
 use Rattle.std.proofs.lemmas.List.Elements.{All-append}
 use Rattle.rl_base.specs.Distinct.{AreDistinct}
-use Rattle.rl_builder.proofs.DistinctLists.{IsIn, distinct_push}
+use Rattle.rl_base.proofs.DistinctLists.{IsIn, distinct_push}
 use Rattle.rl_hir.specs.declared.terminal.Terminal.{Terminal}
 use Rattle.rl_hir.specs.declared.function.NumberedBlock.{NumberedBlock}
 use Rattle.rl_hir.specs.declared.function.BlockKind.{BlockKind}

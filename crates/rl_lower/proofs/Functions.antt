@@ -35,7 +35,7 @@ use Rattle.rl_lower.proofs.Building.{IsFresh}
 use Rattle.rl_lower.proofs.Steps.{agrees_then, made_then, get_seam, comes_at_once, steps_on}
 use Rattle.rl_lower.proofs.Moves.{extends_then, extends_value, extends_completed, contained_before, terminal_met}
 use Rattle.rl_base.specs.Distinct.{AreDistinct}
-use Rattle.rl_builder.proofs.DistinctLists.{distinct_none}
+use Rattle.rl_base.proofs.DistinctLists.{distinct_none}
 use Rattle.rl_lower.proofs.BlockIds.{apart_ended, ids_of, ended_more}
 use Rattle.rl_lower.proofs.Parts.{value_runs}
 use Rattle.rl_lower.proofs.Finished.{IsFinished, entry_built, finished_contained, finished_runs, limited, total_runs}

@@ -22,7 +22,7 @@ use Rattle.rl_model.specs.Machine.{Item, Runs, Ends, Code, Notes, Next, Act, Com
 use Rattle.rl_lower.specs.Simulation.{InBlock, walk}
 use Rattle.rl_lower.proofs.Asking.{asked_same}
 use Rattle.rl_lower.proofs.BlockIds.{ids_of}
-use Rattle.rl_builder.proofs.DistinctLists.{distinct_head, distinct_tail}
+use Rattle.rl_base.proofs.DistinctLists.{distinct_head, distinct_tail}
 use Rattle.rl_base.specs.Distinct.{AreDistinct}
 
 -- The numbers of blocks are distinct.

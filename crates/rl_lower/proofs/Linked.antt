@@ -4,7 +4,7 @@ use Rattle.std.proofs.Common.{slice_get, Some, refl, sym, ap, subst, arith}
 use Rattle.std.proofs.lemmas.List.Elements.{All-cons, All-contains, All-head, All-tail}
 use Rattle.rl_base.specs.Distinct.{AreDistinct}
 use Rattle.rl_base.specs.declared.ids.BlockId.{BlockId}
-use Rattle.rl_builder.proofs.DistinctLists.{IsIn, distinct_cons, distinct_head, distinct_left, distinct_tail, in_tail}
+use Rattle.rl_base.proofs.DistinctLists.{IsIn, distinct_cons, distinct_head, distinct_left, distinct_tail, in_tail}
 use Rattle.rl_builder.proofs.NumberedOrders.{listed_below, numbered_orders}
 use Rattle.rl_builder.specs.Build.{built_of}
 use Rattle.rl_builder.specs.Builder.{State}

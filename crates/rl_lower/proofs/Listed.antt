@@ -7,8 +7,8 @@ use Rattle.std.proofs.lemmas.List.Elements.{All-append, All-nil, All-push}
 use Rattle.rl_base.specs.Distinct.{AreDistinct}
 use Rattle.rl_base.specs.declared.ids.InstructionId.{InstructionId}
 use Rattle.rl_base.specs.declared.span.Span.{Span}
-use Rattle.rl_builder.proofs.DistinctLists.{IsIn, distinct_append, distinct_apart, distinct_left, distinct_none}
-use Rattle.rl_builder.proofs.DistinctLists.{distinct_push, distinct_right, in_either, in_left, in_right}
+use Rattle.rl_base.proofs.DistinctLists.{IsIn, distinct_append, distinct_apart, distinct_left, distinct_none}
+use Rattle.rl_base.proofs.DistinctLists.{distinct_push, distinct_right, in_either, in_left, in_right}
 use Rattle.rl_builder.proofs.NumberedOrders.{listed_below, numbers_below}
 use Rattle.rl_builder.specs.Builder.{State, ended_by, completed_by}
 use Rattle.rl_builder.specs.Order.{orders_of}

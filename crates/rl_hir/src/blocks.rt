@@ -1,0 +1,118 @@
+//! The blocks of a graph, by id and in order.
+
+ghost use Rattle.std.specs.Prelude.{◌≡◌, ◌<◌, [], List, Some, length, OnOk, OnErr, option_copied, slice_get};
+ghost use Rattle.std.specs.Map.{values_of};
+ghost use Rattle.rl_base.specs.declared.ids.BlockId.{BlockId};
+ghost use Rattle.rl_hir.specs.Blocks.{HaveOwnIds, block_at, with_block, with_block_at, without_block};
+ghost use Rattle.rl_hir.specs.declared.function.BasicBlock.{BasicBlock};
+
+use crate::function::BasicBlock;
+use indexmap::IndexMap;
+use rl_base::error::OutOfMemory;
+use rl_base::ids::BlockId;
+use std::alloc::Global;
+use std::marker::Model;
+use std::mem;
+
+/// Blocks as a list of pairs of an id and a block. No two pairs have one id.
+pub trait Blocks: Drop {
+    ghost pairs: { Self → List (BlockId × BasicBlock) };
+
+    /// No pairs. Allocates nothing.
+    fn empty(alloc: Global) -> Self
+        ensures { pairs result ≡ [] };
+
+    /// The block with this id. `None` if no pair has it.
+    fn get(&self, id: BlockId) -> Option<&BasicBlock>
+        ensures { option_copied result ≡ block_at (pairs self.now) id };
+
+    /// Puts a block under an id: in the place of the block that has the id, else as the last pair. On `OutOfMemory`, an allocation
+    /// failed, nothing has changed, and the block is dropped.
+    fn put(&mut self, id: BlockId, block: BasicBlock) -> Result<(), OutOfMemory>
+        ensures ok { OnOk result (pairs self.new ≡ with_block (pairs self.old) id block) }
+        ensures err { OnErr result (pairs self.new ≡ pairs self.old) };
+
+    /// Takes out the pair with this id and returns its block; the pairs behind it move up. `None` if no pair has the id.
+    fn remove(&mut self, id: BlockId) -> Option<BasicBlock>
+        ensures value { result ≡ block_at (pairs self.old) id }
+        ensures removed { pairs self.new ≡ without_block (pairs self.old) id };
+
+    /// The number of pairs.
+    fn len(&self) -> usize
+        ensures count { result ≡ length (pairs self.now) }
+        ensures distinct { HaveOwnIds (pairs self.now) };
+
+    /// The pair at a place, from 0.
+    fn at(&self, place: usize) -> (BlockId, &BasicBlock)
+        requires { place < length (pairs self.now) }
+        ensures { slice_get (pairs self.now) place ≡ Some (result.0, result.1.now) };
+
+    /// Puts a block in the pair at a place, and returns the block that was in it.
+    fn set_at(&mut self, place: usize, block: BasicBlock) -> BasicBlock
+        requires { place < length (pairs self.old) }
+        ensures old { slice_get (values_of (pairs self.old)) place ≡ Some result }
+        ensures new { pairs self.new ≡ with_block_at (pairs self.old) place block };
+}
+
+/// Blocks in a hash map that keeps their order. A look-up by id takes a constant number of steps on average; `remove` moves the pairs
+/// behind it.
+#[derive(Drop)]
+pub struct MapBlocks {
+    map: IndexMap<BlockId, BasicBlock>,
+}
+
+impl Model for MapBlocks {
+    ghost use Rattle.std.specs.Prelude.{List};
+    ghost use Rattle.rl_base.specs.declared.ids.BlockId.{BlockId};
+    ghost use Rattle.rl_hir.specs.Blocks.{HaveOwnIds};
+    ghost use Rattle.rl_hir.specs.declared.function.BasicBlock.{BasicBlock};
+
+    ghost Value = { List (BlockId × BasicBlock) };
+
+    ghost view = { λ blocks. blocks.map.entries };
+
+    ghost invariant = { λ blocks. HaveOwnIds blocks.map.entries };
+}
+
+impl Blocks for MapBlocks {
+    ghost pairs = { λ blocks. blocks };
+
+    #[tactic(auto, using(crate::proofs::OwnIds::none))]
+    fn empty(alloc: Global) -> MapBlocks {
+        MapBlocks {
+            map: IndexMap::new(alloc),
+        }
+    }
+
+    fn get(&self, id: BlockId) -> Option<&BasicBlock> {
+        self.map.get(&id)
+    }
+
+    fn put(&mut self, id: BlockId, block: BasicBlock) -> Result<(), OutOfMemory> {
+        self.map.insert(id, block)?;
+        Ok(())
+    }
+
+    fn remove(&mut self, id: BlockId) -> Option<BasicBlock> {
+        self.map.shift_remove(&id)
+    }
+
+    fn len(&self) -> usize {
+        self.map.len()
+    }
+
+    fn at(&self, place: usize) -> (BlockId, &BasicBlock) {
+        match self.map.get_index(place) {
+            Some((id, block)) => (*id, block),
+            None => unreachable!(),
+        }
+    }
+
+    #[tactic(auto, using(crate::proofs::OwnIds::replaced))]
+    fn set_at(&mut self, place: usize, block: BasicBlock) -> BasicBlock {
+        match self.map.get_index_mut(place) {
+            Some(slot) => mem::replace(slot, block),
+            None => unreachable!(),
+        }
+    }
+}
