@@ -20,6 +20,7 @@ pub mod row;
 pub mod scalar;
 pub mod slots;
 pub mod span;
+pub mod steps;
 pub mod stop;
 pub mod streams;
 mod template;

@@ -106,3 +106,14 @@ impl<T: Drop> List<T> {
         Ok(())
     }
 }
+
+impl<T: Copy> List<T> {
+    /// A copy in memory of its own. On `OutOfMemory` an allocation failed.
+    pub fn copy(&self, alloc: Global) -> Result<List<T>, OutOfMemory>
+        ensures { IfOk result (λ copy. copy ≡ self.now) }
+    {
+        Ok(List {
+            items: Vec::from_slice(alloc, self.items.as_slice())?,
+        })
+    }
+}

@@ -132,3 +132,7 @@ named_ids terminal = names (fields_of terminal.kind)
 -- The terminal with another evaluation order.
 abbrev pub with_order : ℕ → Terminal → Terminal
 with_order order terminal = record terminal { order = record { 0 = order } }
+
+-- The terminal of a block that is never run to its end, with the order and the span of another terminal.
+abbrev pub unreachable : Terminal → Terminal
+unreachable terminal = record terminal { kind = kinds.Unreachable }

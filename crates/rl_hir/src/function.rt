@@ -1,9 +1,13 @@
+ghost use Rattle.std.specs.Prelude.{◌≡◌, IfOk};
+
 use crate::instruction::{Instruction, Place};
 use crate::terminal::Terminal;
+use rl_base::error::OutOfMemory;
 use rl_base::ids::{BlockId, IdentifierId, InstructionId, NodeId, SymbolId, TypeId};
 use rl_base::list::List;
 use rl_base::span::Span;
 use rl_base::text::Text;
+use std::alloc::Global;
 
 /// The construct that a block belongs to.
 #[derive(Clone, Copy, Debug, PartialEq, Eq)]
@@ -32,6 +36,20 @@ pub struct BasicBlock {
     pub terminal: Terminal,
     /// The ids of the blocks that have this one as a successor, each once.
     pub preds: List<BlockId>,
+}
+
+impl BasicBlock {
+    /// A copy in memory of its own. On `OutOfMemory` an allocation failed.
+    pub fn copy(&self, alloc: Global) -> Result<BasicBlock, OutOfMemory>
+        ensures { IfOk result (λ copy. copy ≡ self.now) }
+    {
+        Ok(BasicBlock {
+            kind: self.kind,
+            instructions: self.instructions.copy(alloc)?,
+            terminal: self.terminal.copy(alloc)?,
+            preds: self.preds.copy(alloc)?,
+        })
+    }
 }
 
 /// A block and its id.

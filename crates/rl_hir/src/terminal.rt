@@ -1,7 +1,7 @@
 //! Terminals: the ends of blocks, and the blocks to which they lead.
 
 ghost use Rattle.std.specs.Prelude.{◌≡◌, IfOk, map};
-ghost use Rattle.rl_hir.specs.Terminals.{fallthrough, successor_ids};
+ghost use Rattle.rl_hir.specs.Terminals.{fallthrough, successor_ids, unreachable};
 
 use crate::instruction::Place;
 use rl_base::error::OutOfMemory;
@@ -255,5 +255,179 @@ pub fn terminal_fallthrough(terminal: &Terminal) -> Option<BlockId>
         | TerminalKind::Return { .. }
         | TerminalKind::Throw { .. }
         | TerminalKind::Unreachable => None,
+    }
+}
+
+impl Terminal {
+    /// The terminal of a block that is never run to its end, with the order and the span of this one.
+    pub fn unreachable(&self) -> Terminal
+        ensures { result ≡ unreachable self.now }
+    {
+        Terminal {
+            order: self.order,
+            span: self.span,
+            kind: TerminalKind::Unreachable,
+        }
+    }
+
+    /// A copy in memory of its own. On `OutOfMemory` an allocation failed.
+    pub fn copy(&self, alloc: Global) -> Result<Terminal, OutOfMemory>
+        ensures { IfOk result (λ copy. copy ≡ self.now) }
+    {
+        Ok(Terminal {
+            order: self.order,
+            span: self.span,
+            kind: self.kind.copy(alloc)?,
+        })
+    }
+}
+
+impl TerminalKind {
+    /// A copy in memory of its own. On `OutOfMemory` an allocation failed.
+    pub fn copy(&self, alloc: Global) -> Result<TerminalKind, OutOfMemory>
+        ensures { IfOk result (λ copy. copy ≡ self.now) }
+    {
+        Ok(match self {
+            TerminalKind::Goto { block, variant } => TerminalKind::Goto {
+                block: *block,
+                variant: *variant,
+            },
+            TerminalKind::If {
+                test,
+                consequent,
+                alternate,
+                fallthrough,
+            } => TerminalKind::If {
+                test: *test,
+                consequent: *consequent,
+                alternate: *alternate,
+                fallthrough: *fallthrough,
+            },
+            TerminalKind::Branch {
+                test,
+                consequent,
+                alternate,
+                fallthrough,
+            } => TerminalKind::Branch {
+                test: *test,
+                consequent: *consequent,
+                alternate: *alternate,
+                fallthrough: *fallthrough,
+            },
+            TerminalKind::Switch {
+                test,
+                cases,
+                fallthrough,
+            } => TerminalKind::Switch {
+                test: *test,
+                cases: cases.copy(alloc)?,
+                fallthrough: *fallthrough,
+            },
+            TerminalKind::Logical {
+                operator,
+                test,
+                fallthrough,
+            } => TerminalKind::Logical {
+                operator: *operator,
+                test: *test,
+                fallthrough: *fallthrough,
+            },
+            TerminalKind::Ternary { test, fallthrough } => TerminalKind::Ternary {
+                test: *test,
+                fallthrough: *fallthrough,
+            },
+            TerminalKind::Optional {
+                optional,
+                test,
+                fallthrough,
+            } => TerminalKind::Optional {
+                optional: *optional,
+                test: *test,
+                fallthrough: *fallthrough,
+            },
+            TerminalKind::Sequence { block, fallthrough } => TerminalKind::Sequence {
+                block: *block,
+                fallthrough: *fallthrough,
+            },
+            TerminalKind::Label { block, fallthrough } => TerminalKind::Label {
+                block: *block,
+                fallthrough: *fallthrough,
+            },
+            TerminalKind::Try {
+                block,
+                handler_binding,
+                handler,
+                fallthrough,
+            } => TerminalKind::Try {
+                block: *block,
+                handler_binding: *handler_binding,
+                handler: *handler,
+                fallthrough: *fallthrough,
+            },
+            TerminalKind::While {
+                test,
+                loop_block,
+                fallthrough,
+            } => TerminalKind::While {
+                test: *test,
+                loop_block: *loop_block,
+                fallthrough: *fallthrough,
+            },
+            TerminalKind::DoWhile {
+                loop_block,
+                test,
+                fallthrough,
+            } => TerminalKind::DoWhile {
+                loop_block: *loop_block,
+                test: *test,
+                fallthrough: *fallthrough,
+            },
+            TerminalKind::For {
+                init,
+                test,
+                update,
+                loop_block,
+                fallthrough,
+            } => TerminalKind::For {
+                init: *init,
+                test: *test,
+                update: *update,
+                loop_block: *loop_block,
+                fallthrough: *fallthrough,
+            },
+            TerminalKind::ForIn {
+                init,
+                loop_block,
+                fallthrough,
+            } => TerminalKind::ForIn {
+                init: *init,
+                loop_block: *loop_block,
+                fallthrough: *fallthrough,
+            },
+            TerminalKind::ForOf {
+                init,
+                test,
+                loop_block,
+                fallthrough,
+            } => TerminalKind::ForOf {
+                init: *init,
+                test: *test,
+                loop_block: *loop_block,
+                fallthrough: *fallthrough,
+            },
+            TerminalKind::MaybeThrow {
+                continuation,
+                handler,
+            } => TerminalKind::MaybeThrow {
+                continuation: *continuation,
+                handler: *handler,
+            },
+            TerminalKind::Return { variant, value } => TerminalKind::Return {
+                variant: *variant,
+                value: *value,
+            },
+            TerminalKind::Throw { value } => TerminalKind::Throw { value: *value },
+            TerminalKind::Unreachable => TerminalKind::Unreachable,
+        })
     }
 }
