@@ -1,0 +1,10 @@
+pub mod Examples
+pub mod Forwards
+pub mod Keeping
+pub mod Loop
+pub mod Measure
+pub mod Ordering
+pub mod Seen
+pub mod Stack
+pub mod Used
+pub mod Whole

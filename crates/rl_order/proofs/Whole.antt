@@ -1,0 +1,141 @@
+-- Reached blocks are kept whole, and a graph has one order.
+use Rattle.std.proofs.Common.{◌≡◌, Bool, true, false, ◌||◌, ◌⊎◌, inl, inr, true≢false, Option, Some, None, is_some, unwrap_or, List, [], ◌∷◌, ◌++◌, reverse, refl, append-nil, sym, ap, ◌∙◌, subst}
+use Rattle.std.specs.List.{list_any}
+use Rattle.std.specs.Map.{lookup}
+use Rattle.rl_base.specs.declared.ids.BlockId.{BlockId}
+use Rattle.rl_hir.specs.Blocks.{Pair, block_at, same_id}
+use Rattle.rl_hir.specs.Terminals.{fallthrough}
+use Rattle.rl_hir.specs.declared.function.BasicBlock.{BasicBlock}
+use Rattle.rl_order.proofs.Keeping.{kept_apart}
+use Rattle.rl_order.proofs.Ordering.{is_done, same_ids, same_self, walked_opened}
+use Rattle.rl_order.proofs.Used.{reached_used}
+use Rattle.rl_order.specs.Reached.{KeepsReached}
+use Rattle.rl_order.specs.Walk.{Ends, Expands, IsOrdered, Passes, Walk, Walks, WalksFrom, entered, is_first, is_passed, is_used, kept, kept_block, left, nothing, visit, visits_from}
+use Rattle.rl_order.specs.declared.tasks.Visit.{Visit}
+
+-- A block that no pair of the first list has is looked up in the second.
+block_at_skip : (xs ys : List Pair) (id : BlockId) → block_at xs id ≡ None → block_at (xs ++ ys) id ≡ block_at ys id
+block_at_skip [] ys id h = refl
+block_at_skip (p ∷ xs) ys id h = by_head (same_id id p.0) refl (λ none. block_at_skip xs ys id none)
+  where
+    by_head : (b : Bool) → same_id id p.0 ≡ b → (block_at xs id ≡ None → block_at (xs ++ ys) id ≡ block_at ys id)
+        → block_at (p ∷ xs ++ ys) id ≡ block_at ys id
+    by_head true e rest = let h' = rw e at h in absurd (cc)
+    by_head false e rest = let h' = rw e at h in rw e (rest h')
+
+-- What is kept of another block is passed over.
+kept_skip : (graph : List Pair) (w : Walk) (other : BlockId) (ids : List BlockId) (id : BlockId)
+    → same_id id other ≡ false → block_at (kept graph w (other ∷ ids)) id ≡ block_at (kept graph w ids) id
+kept_skip graph w other ids id differ =
+    block_at_skip (elim (block_at graph other) [ Some block ↦ kept_block w other block | None ↦ [] ]) (kept graph w ids) id
+    (ap (λ (t : List Pair). block_at t id)
+    (sym (append-nil (elim (block_at graph other) [ Some block ↦ kept_block w other block | None ↦ [] ])))
+    ∙ kept_apart graph w other id differ)
+
+-- No block is kept under an id that the graph does not have.
+kept_missing : (graph : List Pair) (w : Walk) (ids : List BlockId) (id : BlockId) → block_at graph id ≡ None
+    → block_at (kept graph w ids) id ≡ None
+kept_missing graph w [] id none = refl
+kept_missing graph w (x ∷ ids) id none = by_head (same_id id x) refl (kept_missing graph w ids id none)
+  where
+    here : block_at (kept graph w ids) id ≡ None → block_at (kept graph w (id ∷ ids)) id ≡ None
+    here rest = rw none rest
+
+    by_head : (b : Bool) → same_id id x ≡ b → block_at (kept graph w ids) id ≡ None
+        → block_at (kept graph w (x ∷ ids)) id ≡ None
+    by_head true e rest = subst (λ y. block_at (kept graph w (y ∷ ids)) id ≡ None) (same_ids id x e) (here rest)
+    by_head false e rest = kept_skip graph w x ids id e ∙ rest
+
+-- A used block among the ids is kept as it is.
+kept_whole : (graph : List Pair) (w : Walk) (ids : List BlockId) (id : BlockId) → list_any (same_id id) ids ≡ true
+    → is_used w id ≡ true → block_at (kept graph w ids) id ≡ block_at graph id
+kept_whole graph w [] id among used = absurd (true≢false (sym among))
+kept_whole graph w (x ∷ ids) id among used = by_head (same_id id x) refl (λ there. kept_whole graph w ids id there used)
+  where
+    here : (found : Option BasicBlock) → block_at graph id ≡ found → block_at (kept graph w (id ∷ ids)) id ≡ found
+    here None none = kept_missing graph w (id ∷ ids) id none
+    here (Some block) there = let self = same_self id in rw (there, used, self) refl
+
+    by_head : (b : Bool) → same_id id x ≡ b
+        → (list_any (same_id id) ids ≡ true → block_at (kept graph w ids) id ≡ block_at graph id)
+        → block_at (kept graph w (x ∷ ids)) id ≡ block_at graph id
+    by_head true e rest =
+        subst (λ y. block_at (kept graph w (y ∷ ids)) id ≡ block_at graph id) (same_ids id x e) (here (block_at graph id) refl)
+    by_head false e rest = kept_skip graph w x ids id e ∙ rest (sym (ap (λ b. b || list_any (same_id id) ids) e) ∙ among)
+
+-- A used block was appended when the walk has ended.
+used_done : (graph : List Pair) (entry : BlockId) (end : Walk) → WalksFrom graph entry end → (id : BlockId)
+    → is_used end id ≡ true → is_done end id ≡ true
+used_done graph entry end walk id used = by_done (is_done end id) refl
+  where
+    seen_by : (found : Option Bool) → unwrap_or found false ≡ true → is_some found ≡ true
+    seen_by (Some u) h = refl
+    seen_by None h = h
+
+    by_done : (b : Bool) → is_done end id ≡ b → is_done end id ≡ true
+    by_done true e = e
+    by_done false e =
+        absurd (true≢false (sym (walked_opened graph entry end walk id
+        (record { seen = seen_by (lookup (same_id id) end.seen) used; undone = e })).seen))
+
+pub keeps_reached : (graph : List Pair) (entry : BlockId) (end : Walk) → WalksFrom graph entry end
+    → KeepsReached graph entry (kept graph end (reverse end.appended))
+keeps_reached graph entry end walk id reached =
+    let used = reached_used graph entry end walk id reached in
+    kept_whole graph end (reverse end.appended) id (used_done graph entry end walk id used) used
+
+pub ends_reached : (graph : List Pair) (entry : BlockId) (end : Walk) (ordered : List Pair) → WalksFrom graph entry end
+    → ordered ≡ kept graph end (reverse end.appended) → KeepsReached graph entry ordered
+ends_reached graph entry end ordered walk is =
+    subst (λ pairs. KeepsReached graph entry pairs) (sym is) (keeps_reached graph entry end walk)
+
+-- The first of some visits expands a block.
+record Expanded (graph : List Pair) (v : Visit) (vs : List Visit) (w end : Walk) : Type 0 where
+  block : BasicBlock
+  inner : Walk
+  passed : is_passed w v ≡ false
+  there : block_at graph v.id ≡ Some block
+  within : Walks graph (visits_from v.used block) (entered w v (fallthrough block.terminal)) inner
+  rest : Walks graph vs (left (is_first w v.id) inner v.id) end
+
+walks_none : (graph : List Pair) (w end : Walk) → Walks graph [] w end → w ≡ end
+walks_none graph _ _ (Ends w) = refl
+
+walks_first : (graph : List Pair) (v : Visit) (vs : List Visit) (w end : Walk) → Walks graph (v ∷ vs) w end
+    → ((is_passed w v ≡ true) × Walks graph vs w end) ⊎ Expanded graph v vs w end
+walks_first graph _ _ _ _ (Passes v vs w end passed rest) = inl (passed, rest)
+walks_first graph _ _ _ _ (Expands v vs block w inner end passed there within rest) =
+    inr (record { block = block; inner = inner; passed = passed; there = there; within = within; rest = rest })
+
+-- A walk has one end.
+pub walks_same : (graph : List Pair) (vs : List Visit) (w a b : Walk) → Walks graph vs w a → Walks graph vs w b → a ≡ b
+walks_same graph _ _ _ b (Ends w) other = walks_none graph w b other
+walks_same graph _ _ _ b (Passes v vs w a passed rest) other =
+    elim (walks_first graph v vs w b other) [
+      | inl both ↦ walks_same graph vs w a b rest both.1
+      | inr e ↦ absurd (true≢false (sym passed ∙ e.passed))
+    ]
+walks_same graph _ _ _ b (Expands v vs block w inner a passed there within rest) other =
+    by_first (walks_first graph v vs w b other)
+    (λ x walk. walks_same graph (visits_from v.used block) (entered w v (fallthrough block.terminal)) inner x within walk)
+    (λ walk. walks_same graph vs (left (is_first w v.id) inner v.id) a b rest walk)
+  where
+    some_same : (x y : BasicBlock) → Some x ≡ Some y → x ≡ y
+    some_same x y e = ap (λ (o : Option BasicBlock). elim o [ Some z ↦ z | None ↦ x ]) e
+
+    by_first : ((is_passed w v ≡ true) × Walks graph vs w b) ⊎ Expanded graph v vs w b
+        → ((x : Walk) → Walks graph (visits_from v.used block) (entered w v (fallthrough block.terminal)) x → inner ≡ x)
+        → (Walks graph vs (left (is_first w v.id) inner v.id) b → a ≡ b) → a ≡ b
+    by_first (inl both) inside behind = absurd (true≢false (sym both.0 ∙ passed))
+    by_first (inr e) inside behind =
+        let same : e.block ≡ block = some_same e.block block (sym e.there ∙ there) in
+        let within' = subst (λ x. Walks graph (visits_from v.used x) (entered w v (fallthrough x.terminal)) e.inner) same
+        e.within in
+        behind (subst (λ x. Walks graph vs (left (is_first w v.id) x v.id) b) (sym (inside e.inner within')) e.rest)
+
+-- A graph has one order.
+pub order_same : (graph : List Pair) (entry : BlockId) (a b : List Pair) → IsOrdered graph entry a
+    → IsOrdered graph entry b → a ≡ b
+order_same graph entry a b x y =
+    x.blocks ∙ ap (λ (w : Walk). kept graph w (reverse w.appended))
+    (walks_same graph (visit true entry ∷ []) nothing x.end y.end x.walk y.walk) ∙ sym y.blocks

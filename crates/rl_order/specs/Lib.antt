@@ -1,0 +1,5 @@
+pub mod Forward
+pub mod Own
+pub mod Reached
+pub mod Tasks
+pub mod Walk
