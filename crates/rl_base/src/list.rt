@@ -35,6 +35,15 @@ impl<T> List<T> {
         }
     }
 
+    /// An empty list with the allocator of this one. Allocates nothing.
+    pub fn empty_beside(&self) -> List<T>
+        ensures { result ≡ [] }
+    {
+        List {
+            items: Vec::new(*self.items.allocator()),
+        }
+    }
+
     /// The empty list, with room for `capacity` items. On `OutOfMemory` an allocation failed.
     pub fn with_capacity(alloc: Global, capacity: usize) -> Result<List<T>, OutOfMemory>
         ensures { IfOk result (λ list. list ≡ []) }

@@ -1,9 +1,9 @@
 ghost use Rattle.std.specs.Prelude.{◌≡◌, IfOk};
 
 use crate::instruction::{Instruction, Place};
-use crate::terminal::Terminal;
+use crate::terminal::{Terminal, TerminalKind};
 use rl_base::error::OutOfMemory;
-use rl_base::ids::{BlockId, IdentifierId, InstructionId, NodeId, SymbolId, TypeId};
+use rl_base::ids::{BlockId, EvaluationOrder, IdentifierId, InstructionId, NodeId, SymbolId, TypeId};
 use rl_base::list::List;
 use rl_base::span::Span;
 use rl_base::text::Text;
@@ -39,6 +39,20 @@ pub struct BasicBlock {
 }
 
 impl BasicBlock {
+    /// A block of this kind without instructions and predecessors, which ends as unreachable. Allocates nothing.
+    pub fn blank_beside(&self) -> BasicBlock {
+        BasicBlock {
+            kind: self.kind,
+            instructions: self.instructions.empty_beside(),
+            terminal: Terminal {
+                order: EvaluationOrder(0),
+                span: None,
+                kind: TerminalKind::Unreachable,
+            },
+            preds: self.preds.empty_beside(),
+        }
+    }
+
     /// A copy in memory of its own. On `OutOfMemory` an allocation failed.
     pub fn copy(&self, alloc: Global) -> Result<BasicBlock, OutOfMemory>
         ensures { IfOk result (λ copy. copy ≡ self.now) }

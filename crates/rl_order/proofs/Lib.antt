@@ -3,7 +3,10 @@ pub mod Forwards
 pub mod Keeping
 pub mod Loop
 pub mod Measure
+pub mod NumberedOrders
+pub mod NumberingSteps
 pub mod Ordering
+pub mod PlaceSteps
 pub mod Seen
 pub mod Stack
 pub mod Used

@@ -1,4 +1,5 @@
 pub mod Forward
+pub mod Numbering
 pub mod Own
 pub mod Reached
 pub mod Tasks

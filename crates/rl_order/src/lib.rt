@@ -1,7 +1,9 @@
-//! The ordering of the blocks of a graph.
+//! The order of blocks, and the passes that are made over a graph.
 #![tactic(auto)]
 
+pub mod numbering;
 pub mod order;
+pub mod places;
 mod step;
 pub mod tasks;
 mod walked;

@@ -1,0 +1,47 @@
+-- Steps of the numbering of blocks.
+use Rattle.std.proofs.Common.{◌≡◌, ℕ, zero, suc, ◌+◌, ◌<◌, List, [], ◌∷◌, ◌++◌, length, get_or, take, drop, slice_set, All, arith, subst, ap, ◌∙◌, sym, refl}
+use Rattle.std.proofs.lemmas.Option.{slice_get-get_or}
+use Rattle.rl_base.specs.declared.ids.InstructionId.{InstructionId}
+use Rattle.rl_hir.specs.Blocks.{Pair}
+use Rattle.rl_hir.specs.Terminals.{with_order}
+use Rattle.rl_hir.specs.declared.function.BasicBlock.{BasicBlock}
+use Rattle.rl_hir.specs.declared.instruction.Instruction.{Instruction}
+use Rattle.rl_order.proofs.PlaceSteps.{IsReplaced, first_is, one_more}
+use Rattle.rl_order.specs.Numbering.{ordered_at, ordered_blocks, ordered_list, ordered_table, orders_of}
+
+-- Inside the table the instruction is changed in place.
+pub ordered_at-within : (order place : ℕ) (table : List Instruction) (d : Instruction) → place < length table → ordered_at order place table ≡ slice_set table place (record (get_or table place d) { order = record { 0 = order } })
+ordered_at-within order place table d within = rw (ordered_at, slice_get-get_or table place d within) refl
+
+-- The block with the order after those of its instructions, which begin with `order`.
+abbrev pub marked : ℕ → BasicBlock → BasicBlock
+marked order block = record block { terminal = with_order (order + length block.instructions) block.terminal }
+
+module _ (now after : List Pair) (place next next1 : ℕ) (old : BasicBlock) (r : IsReplaced now after place old (marked next old)) (ends : next1 ≡ next + length old.instructions + 1) where
+  pub blocks_step : take (place + 1) after ++ ordered_blocks next1 (drop (place + 1) after) ≡ take place now ++ ordered_blocks next (drop place now)
+  blocks_step =
+      ap (λ (t : List Pair). t ++ ordered_blocks next1 (drop (place + 1) after)) r.done
+      ∙ ap (λ (t : List Pair). (take place now ++ (r.id, marked next old) ∷ []) ++ ordered_blocks next1 t) r.rest
+      ∙ ap (λ n. (take place now ++ (r.id, marked next old) ∷ []) ++ ordered_blocks n (drop (place + 1) now)) ends
+      ∙ one_more (take place now) (r.id, marked next old) (ordered_blocks (next + length old.instructions + 1) (drop (place + 1) now))
+      ∙ ap (λ (t : List Pair). take place now ++ ordered_blocks next t) (sym r.before)
+
+  pub table_step : (table table1 : List Instruction) → table1 ≡ ordered_list next old.instructions table → ordered_table next1 (drop (place + 1) after) table1 ≡ ordered_table next (drop place now) table
+  table_step table table1 is =
+      ap (λ (t : List Pair). ordered_table next1 t table1) r.rest
+      ∙ ap (λ n. ordered_table n (drop (place + 1) now) table1) ends
+      ∙ ap (λ (t : List Instruction). ordered_table (next + length old.instructions + 1) (drop (place + 1) now) t) is
+      ∙ ap (λ (t : List Pair). ordered_table next t table) (sym r.before)
+
+  pub room_step : next1 + orders_of (drop (place + 1) after) ≡ next + orders_of (drop place now)
+  room_step =
+      let first : orders_of (drop (place + 1) after) ≡ orders_of (drop (place + 1) now) = ap orders_of r.rest in
+      let second : orders_of (drop place now) ≡ length old.instructions + 1 + orders_of (drop (place + 1) now) = ap orders_of r.before in
+      omega (arith, first, second, ends)
+
+-- What the numbering of a block requires, from what that of all blocks requires.
+pub listed_within : (bound : ℕ) (pairs now after : List Pair) (place : ℕ) (old new : BasicBlock) → IsReplaced now after place old new → drop place now ≡ drop place pairs → place < length pairs
+    → All (λ (p : Pair). All (λ (id : InstructionId). id.0 < bound) p.1.instructions) pairs → All (λ (id : InstructionId). id.0 < bound) old.instructions
+listed_within bound pairs now after place old new r same within all =
+    let first : get_or pairs place (r.id, old) ≡ (r.id, old) = first_is pairs (drop (place + 1) now) place (r.id, old) (r.id, old) (sym same ∙ r.before) in
+    subst (λ (p : Pair). All (λ (id : InstructionId). id.0 < bound) p.1.instructions) first (all place (r.id, old) within)

@@ -1,0 +1,61 @@
+use Rattle.std.proofs.Common.{◌≡◌, ◌<◌, ◌+◌, ◌++◌, List, [], append-nil, drop, length, take, ap, sym, ◌∙◌, refl, arith}
+use Rattle.std.proofs.lemmas.List.{drop_all, take_all}
+use Rattle.rl_hir.specs.Blocks.{Pair, with_block_at}
+use Rattle.rl_hir.specs.declared.function.BasicBlock.{BasicBlock}
+use Rattle.rl_order.proofs.NumberedOrders.{numbered_marked}
+use Rattle.rl_order.proofs.NumberingSteps.{blocks_step, listed_within, marked, room_step, table_step}
+use Rattle.rl_order.proofs.PlaceSteps.{IsReplaced, replaced, same_count, same_later}
+use Rattle.rl_order.specs.Numbering.{ordered_blocks, ordered_table, orders_of}
+use Rattle.rl_order.proofs.numbering.mark_instruction_ids.Goals as goal
+
+pub mark_block-next-requires-clause-within : goal.mark_block-next-requires-clause-within
+mark_block-next-requires-clause-within g c =
+    let now : List Pair = g.B.Blocks.pairs c.loop-place.blocks in
+    let place = c.loop-place.place in
+    let old : BasicBlock = c.take_block-block.result in
+    let r : IsReplaced now (with_block_at now place old) place old old = replaced now (with_block_at now place old) place old old c.take_block-block.ensures.value refl in
+    let all = listed_within (length c.args.table.now) (g.B.Blocks.pairs c.args.blocks.now) now (with_block_at now place old) place old old r c.loop-place.invariant.rest (omega arith) c.requires.within in
+    λ k d h. omega (arith, all k d h)
+
+pub mark_block-next-requires-clause-room : goal.mark_block-next-requires-clause-room
+mark_block-next-requires-clause-room g c =
+    let now : List Pair = g.B.Blocks.pairs c.loop-place.blocks in
+    let place = c.loop-place.place in
+    let old : BasicBlock = c.take_block-block.result in
+    let r : IsReplaced now (with_block_at now place old) place old old = replaced now (with_block_at now place old) place old old c.take_block-block.ensures.value refl in
+    let taken : orders_of (drop place now) ≡ length old.instructions + 1 + orders_of (drop (place + 1) now) = ap orders_of r.before in
+    omega (arith, taken)
+
+pub loop-place-preserved : goal.loop-place-preserved
+loop-place-preserved g c =
+    let now : List Pair = g.B.Blocks.pairs c.loop-place.blocks in
+    let after : List Pair = g.B.Blocks.pairs c.set_at.new.self in
+    let place = c.loop-place.place in
+    let next = c.loop-place.next in
+    let old : BasicBlock = c.take_block-block.result in
+    let put : after ≡ with_block_at now place (marked next old) =
+    c.set_at.ensures.new ∙ c.take_block-block.ensures.free c.mark_block-next.new.block ∙ ap (λ (b : BasicBlock). with_block_at now place b) c.mark_block-next.ensures.block in
+    let r : IsReplaced now after place old (marked next old) = replaced now after place old (marked next old) c.take_block-block.ensures.value put in
+    let ends = c.mark_block-next.ensures.next in
+    record {
+      blocks = blocks_step now after place next c.mark_block-next.result old r ends ∙ c.loop-place.invariant.blocks;
+      table = table_step now after place next c.mark_block-next.result old r ends c.loop-place.table c.mark_block-next.new.table c.mark_block-next.ensures.table ∙ c.loop-place.invariant.table;
+      room = room_step now after place next c.mark_block-next.result old r ends ∙ c.loop-place.invariant.room;
+      rest = r.rest ∙ same_later now (g.B.Blocks.pairs c.args.blocks.now) place c.loop-place.invariant.rest;
+      count = same_count now after place (marked next old) put ∙ c.loop-place.invariant.count;
+    }
+
+pub returns-clause-numbered : goal.returns-clause-numbered
+returns-clause-numbered g c =
+    let end = c.loop-place in
+    let pairs : List Pair = g.B.Blocks.pairs end.blocks in
+    let first : List Pair = g.B.Blocks.pairs c.args.blocks.now in
+    let rest : drop end.place pairs ≡ [] = drop_all end.place pairs (omega arith) in
+    let table : end.table ≡ ordered_table 1 first c.args.table.now =
+    ap (λ (left : List Pair). ordered_table end.next left end.table) (sym rest) ∙ end.invariant.table in
+    let blocks : pairs ≡ ordered_blocks 1 first =
+    sym (append-nil pairs)
+    ∙ ap (λ (left : List Pair). left ++ ordered_blocks end.next []) (sym (take_all end.place pairs (omega arith)))
+    ∙ ap (λ (left : List Pair). take end.place pairs ++ ordered_blocks end.next left) (sym rest)
+    ∙ end.invariant.blocks in
+    numbered_marked first pairs c.args.table.now end.table blocks table c.requires.within

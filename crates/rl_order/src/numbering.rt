@@ -1,0 +1,57 @@
+//! The evaluation orders of instructions and terminals.
+
+ghost use Rattle.std.specs.Prelude.{◌≡◌, ◌+◌, ◌<◌, ◌^◌, All, length};
+ghost use Rattle.rl_base.specs.Distinct.{AreDistinct};
+ghost use Rattle.rl_hir.specs.Terminals.{with_order};
+ghost use Rattle.rl_order.specs.Numbering.{IsNumbered, listed_in, ordered_list, ordered_blocks, ordered_table, orders_of};
+
+use crate::places::take_block;
+use rl_base::ids::{EvaluationOrder, InstructionId};
+use rl_hir::blocks::Blocks;
+use rl_hir::function::BasicBlock;
+use rl_hir::instruction::Instruction;
+
+/// Gives the instructions that are listed consecutive orders from `first` on. Returns the next order.
+fn mark_listed(listed: &[InstructionId], table: &mut [Instruction], first: u32) -> u32
+    requires within { All (λ id. id.0 < length table.old) listed.now }
+    requires room { first + length listed.now < 2 ^ 32 }
+    ensures table { table.new ≡ ordered_list first listed.now table.old }
+    ensures next { result ≡ first + length listed.now }
+{
+    let mut next = first;
+    for id in listed {
+        table[id.0 as usize].order = EvaluationOrder(next);
+        next += 1;
+    }
+    next
+}
+
+/// Gives a block's instructions and then its terminal consecutive orders from `first` on. Returns the next order.
+fn mark_block(block: &mut BasicBlock, table: &mut [Instruction], first: u32) -> u32
+    requires within { All (λ id. id.0 < length table.old) block.old.instructions }
+    requires room { first + length block.old.instructions + 1 < 2 ^ 32 }
+    ensures block { block.new ≡ record block.old { terminal = with_order (first + length block.old.instructions) block.old.terminal } }
+    ensures table { table.new ≡ ordered_list first block.old.instructions table.old }
+    ensures next { result ≡ first + length block.old.instructions + 1 }
+{
+    let order = mark_listed(block.instructions.as_slice(), table, first);
+    block.terminal.order = EvaluationOrder(order);
+    order + 1
+}
+
+/// Sets the evaluation orders of instructions and terminals, from 1 in block order (`markInstructionIds`). An instruction
+/// that no block lists keeps its order.
+pub fn mark_instruction_ids<B: Blocks>(blocks: &mut B, table: &mut [Instruction])
+    requires within { All (λ p. All (λ id. id.0 < length table.old) p.1.instructions) (B.pairs blocks.old) }
+    requires room { 1 + orders_of (B.pairs blocks.old) < 2 ^ 32 }
+    ensures blocks { B.pairs blocks.new ≡ ordered_blocks 1 (B.pairs blocks.old) }
+    ensures table { table.new ≡ ordered_table 1 (B.pairs blocks.old) table.old }
+    ensures numbered { AreDistinct (listed_in (B.pairs blocks.old)) → All (λ i. i.order.0 ≡ 0) table.old → IsNumbered table.new (B.pairs blocks.new) }
+{
+    let mut next = 1;
+    for place in 0..blocks.len() {
+        let mut block = take_block(blocks, place);
+        next = mark_block(&mut block, table, next);
+        let _ = blocks.set_at(place, block);
+    }
+}

@@ -1,0 +1,22 @@
+//! Changes of the block at a place.
+
+ghost use Rattle.std.specs.Prelude.{◌≡◌, ◌<◌, length, slice_get, Some};
+ghost use Rattle.std.specs.Map.{values_of};
+ghost use Rattle.rl_hir.specs.Blocks.{with_block_at};
+ghost use Rattle.rl_hir.specs.declared.function.BasicBlock.{BasicBlock};
+
+use rl_hir::blocks::Blocks;
+use rl_hir::function::BasicBlock;
+
+/// Takes out the block at a place, which a blank one keeps free. Another block can be put there by `set_at`.
+#[tactic(auto, using(crate::proofs::PlaceSteps::put_back, crate::proofs::PlaceSteps::same_count))]
+pub fn take_block<B: Blocks>(blocks: &mut B, place: usize) -> BasicBlock
+    requires { place < length (B.pairs blocks.old) }
+    ensures value { slice_get (values_of (B.pairs blocks.old)) place ≡ Some result }
+    ensures count { length (B.pairs blocks.new) ≡ length (B.pairs blocks.old) }
+    ensures free { (block : BasicBlock) → with_block_at (B.pairs blocks.new) place block ≡ with_block_at (B.pairs blocks.old) place block }
+{
+    let (_, block) = blocks.at(place);
+    let blank = block.blank_beside();
+    blocks.set_at(place, blank)
+}
