@@ -7,6 +7,7 @@ pub mod NumberedOrders
 pub mod NumberingSteps
 pub mod Ordering
 pub mod PlaceSteps
+pub mod RemovalSteps
 pub mod Seen
 pub mod Stack
 pub mod Used
