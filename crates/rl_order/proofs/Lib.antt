@@ -1,4 +1,5 @@
 pub mod Examples
+pub mod Following
 pub mod Forwards
 pub mod Keeping
 pub mod Loop
@@ -7,8 +8,10 @@ pub mod NumberedOrders
 pub mod NumberingSteps
 pub mod Ordering
 pub mod PlaceSteps
+pub mod Reached
 pub mod RemovalSteps
 pub mod Seen
+pub mod SourceLists
 pub mod Stack
 pub mod Used
 pub mod Whole

@@ -1,7 +1,9 @@
 pub mod Forward
 pub mod Numbering
 pub mod Own
+pub mod Predecessors
 pub mod Reached
 pub mod Removals
 pub mod Tasks
 pub mod Walk
+pub mod Walked

@@ -4,6 +4,7 @@
 pub mod numbering;
 pub mod order;
 pub mod places;
+pub mod predecessors;
 pub mod removals;
 mod step;
 pub mod tasks;

@@ -1,0 +1,196 @@
+//! The predecessors of blocks.
+
+ghost use Rattle.std.specs.Prelude.{◌≡◌, ◌≤◌, ◌++◌, ◌∷◌, [], IfOk, OnOk, OnErr, length, reverse, vec_len};
+ghost use Rattle.std.specs.Map.{keys_of};
+ghost use Rattle.rl_hir.specs.Blocks.{HaveOwnIds};
+ghost use Rattle.rl_order.specs.Predecessors.{IsMarked, WalksAlong, distinct_ids, edges_from, source_lists};
+ghost use Rattle.rl_order.specs.Walked.{Goes, left_of, trail_of, with_lists, with_source, worklist};
+
+use crate::places::take_block;
+use indexmap::IndexSet;
+use rl_base::error::OutOfMemory;
+use rl_base::ids::BlockId;
+use rl_base::list::List;
+use rl_hir::blocks::Blocks;
+use rl_hir::function::BasicBlock;
+use rl_hir::terminal::{Terminal, each_terminal_successor};
+use std::alloc::Global;
+
+/// A block, and a block to which its terminal may lead.
+#[derive(Clone, Copy)]
+pub struct Edge {
+    /// The block that leads on.
+    pub from: BlockId,
+    /// One of its successors.
+    pub to: BlockId,
+}
+
+/// The state of a walk along the edges of a graph, depth first.
+#[derive(Drop)]
+struct Walk {
+    /// The blocks that were visited.
+    seen: IndexSet<BlockId>,
+    /// The edges that were followed, in this order.
+    edges: Vec<Edge>,
+    /// The edges that are left; the last one is followed next.
+    left: Vec<Edge>,
+}
+
+/// The successors of a terminal, each once, in order. On `OutOfMemory`, an allocation failed.
+fn distinct_successors(alloc: Global, terminal: &Terminal) -> Result<IndexSet<BlockId>, OutOfMemory>
+    ensures { IfOk result (λ ids. ids.keys ≡ distinct_ids terminal.now) }
+{
+    let successors = each_terminal_successor(alloc, terminal)?;
+    let mut distinct = IndexSet::new(alloc);
+    for id in successors.as_slice() {
+        distinct.insert(*id)?;
+    }
+    Ok(distinct)
+}
+
+/// Leaves the edges from a block to be followed next. On `OutOfMemory`, an allocation failed.
+fn leave_edges(
+    alloc: Global,
+    left: &mut Vec<Edge>,
+    from: BlockId,
+    block: &BasicBlock,
+) -> Result<(), OutOfMemory>
+    ensures { OnOk result (reverse left.new.items ≡ edges_from from block.now ++ reverse left.old.items) }
+{
+    let distinct = distinct_successors(alloc, &block.terminal)?;
+    let successors = distinct.as_slice();
+    for back in 0..successors.len() {
+        let to = successors[successors.len() - 1 - back];
+        left.push(Edge { from, to })?;
+    }
+    Ok(())
+}
+
+/// Follows an edge. On `OutOfMemory`, an allocation failed.
+fn follow<B: Blocks>(
+    alloc: Global,
+    blocks: &B,
+    walk: &mut Walk,
+    edge: Edge,
+) -> Result<(), OutOfMemory>
+    ensures goes { OnOk result (Goes (B.pairs blocks.now) (edge ∷ worklist walk.old) (trail_of walk.old) (worklist walk.new) (trail_of walk.new)) }
+    ensures falls { OnOk result (left_of (B.pairs blocks.now) walk.new ≤ left_of (B.pairs blocks.now) walk.old) }
+{
+    if let Some(block) = blocks.get(edge.to) {
+        walk.edges.push(edge)?;
+        if walk.seen.insert(edge.to)? {
+            leave_edges(alloc, &mut walk.left, edge.to, block)?;
+        }
+    }
+    Ok(())
+}
+
+/// The edges that the walk from the entry follows. On `OutOfMemory`, an allocation failed.
+fn walk_along<B: Blocks>(
+    alloc: Global,
+    blocks: &B,
+    entry: BlockId,
+) -> Result<Vec<Edge>, OutOfMemory>
+    ensures { IfOk result (λ edges. WalksAlong (B.pairs blocks.now) entry edges.items) }
+{
+    let mut walk = Walk {
+        seen: IndexSet::new(alloc),
+        edges: Vec::new(alloc),
+        left: Vec::new(alloc),
+    };
+    walk.seen.insert(entry)?;
+    if let Some(block) = blocks.get(entry) {
+        leave_edges(alloc, &mut walk.left, entry, block)?;
+    }
+    while let Some(edge) = walk.left.pop() {
+        follow(alloc, blocks, &mut walk, edge)?;
+    }
+    Ok(walk.edges)
+}
+
+/// The ids of the blocks, in block order, so that a look-up by id gives a place. On `OutOfMemory`, an allocation failed.
+fn place_index<B: Blocks>(alloc: Global, blocks: &B) -> Result<IndexSet<BlockId>, OutOfMemory>
+    ensures keys { IfOk result (λ places. places.keys ≡ keys_of (B.pairs blocks.now)) }
+    ensures distinct { HaveOwnIds (B.pairs blocks.now) }
+{
+    let mut places = IndexSet::new(alloc);
+    for place in 0..blocks.len() {
+        let (id, _) = blocks.at(place);
+        places.insert(id)?;
+    }
+    Ok(places)
+}
+
+/// As many empty lists as there are blocks. On `OutOfMemory`, an allocation failed.
+fn empty_lists<B: Blocks>(alloc: Global, blocks: &B) -> Result<Vec<List<BlockId>>, OutOfMemory>
+    ensures { IfOk result (λ lists. lists.items ≡ source_lists [] (B.pairs blocks.now)) }
+{
+    let mut lists = Vec::with_capacity(alloc, blocks.len())?;
+    for _ in 0..blocks.len() {
+        lists.push(List::new(alloc))?;
+    }
+    Ok(lists)
+}
+
+/// Appends a source to the list at a place, if there is one. On `OutOfMemory`, an allocation failed.
+fn add_source(
+    lists: &mut Vec<List<BlockId>>,
+    place: Option<usize>,
+    from: BlockId,
+) -> Result<(), OutOfMemory>
+    ensures { OnOk result (lists.new.items ≡ with_source place from lists.old.items) }
+{
+    if let Some(place) = place
+        && place < lists.len()
+    {
+        lists[place].push(from)?;
+    }
+    Ok(())
+}
+
+/// The sources of the edges to each block, in block order. On `OutOfMemory`, an allocation failed.
+fn predecessor_lists<B: Blocks>(
+    alloc: Global,
+    blocks: &B,
+    edges: &[Edge],
+) -> Result<Vec<List<BlockId>>, OutOfMemory>
+    ensures { IfOk result (λ lists. lists.items ≡ source_lists edges.now (B.pairs blocks.now)) }
+{
+    let places = place_index(alloc, blocks)?;
+    let mut lists = empty_lists(alloc, blocks)?;
+    for edge in edges {
+        add_source(&mut lists, places.get_index_of(&edge.to), edge.from)?;
+    }
+    Ok(lists)
+}
+
+/// Makes the lists the predecessors of the first blocks.
+fn set_predecessors<B: Blocks>(blocks: &mut B, lists: Vec<List<BlockId>>)
+    requires { vec_len lists ≤ length (B.pairs blocks.old) }
+    ensures { B.pairs blocks.new ≡ with_lists (B.pairs blocks.old) lists.items }
+{
+    let mut lists = lists;
+    while let Some(list) = lists.pop() {
+        let place = lists.len();
+        let mut block = take_block(blocks, place);
+        block.preds = list;
+        let _ = blocks.set_at(place, block);
+    }
+}
+
+/// Gives each block its predecessors (`markPredecessors`): those that a walk over successors comes from, depth first from the entry, in
+/// the order in which it comes from them. Fallthroughs count only where they are successors too. On `OutOfMemory`, an allocation failed,
+/// nothing has changed.
+pub fn mark_predecessors<B: Blocks>(
+    alloc: Global,
+    blocks: &mut B,
+    entry: BlockId,
+) -> Result<(), OutOfMemory>
+    ensures walked { OnOk result (IsMarked (B.pairs blocks.old) entry (B.pairs blocks.new)) }
+    ensures err { OnErr result (B.pairs blocks.new ≡ B.pairs blocks.old) }
+{
+    let edges = walk_along(alloc, blocks, entry)?;
+    let lists = predecessor_lists(alloc, blocks, edges.as_slice())?;
+    set_predecessors(blocks, lists);
+    Ok(())
+}
