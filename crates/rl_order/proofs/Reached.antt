@@ -1,5 +1,5 @@
 -- The edges that the walk follows are those between the blocks that the entry reaches.
-use Rattle.std.proofs.Common.{◌≡◌, ℕ, zero, suc, ◌+◌, ◌<◌, ◌⊎◌, inl, inr, Bool, true, false, not, ◌||◌, if◌then◌else◌, List, [], ◌∷◌, ◌++◌, length, map, filter, get_or, Contains, Some, None, ap, sym, ◌∙◌, refl, subst, arith, eq-eqb}
+use Rattle.std.proofs.Common.{◌≡◌, ℕ, zero, suc, ◌+◌, ◌<◌, ◌⊎◌, inl, inr, Bool, true, false, not, ◌||◌, if◌then◌else◌, Option, List, [], ◌∷◌, ◌++◌, length, map, filter, get_or, Contains, Some, None, ap, sym, ◌∙◌, refl, subst, arith, eq-eqb}
 use Rattle.std.specs.List.{list_any}
 use Rattle.std.specs.Map.{lookup}
 use Rattle.indexmap.specs.IndexSet.{insert_key, insert_all}
@@ -8,7 +8,7 @@ use Rattle.rl_hir.specs.Blocks.{Pair, block_at, same_id}
 use Rattle.rl_hir.specs.Terminals.{successor_ids}
 use Rattle.rl_hir.specs.declared.function.BasicBlock.{BasicBlock}
 use Rattle.rl_order.proofs.Following.{one_id}
-use Rattle.rl_order.specs.Predecessors.{Follows, Ends, Misses, Meets, Visits, Trail, LeadsTo, Reaches, Begins, Goes, distinct_ids, edges_from, entry_edges, followed, sources, visited}
+use Rattle.rl_order.specs.Predecessors.{Follows, Ends, Misses, Meets, Visits, Trail, LeadsTo, Reaches, Begins, Goes, IsMarked, PredecessorsReached, distinct_ids, edges_from, followed, sources, visited, with_predecessors}
 use Rattle.rl_order.specs.declared.predecessors.Edge.{Edge}
 
 -- `x` is one of the items.
@@ -167,6 +167,7 @@ module _ (graph : List Pair) (entry : BlockId) where
     work_leads : (e : Edge) → In e work → Leads graph e.from e.to
     edges_from : (e : Edge) → In e trail.edges → In e.from trail.seen
     edges_lead : (e : Edge) → In e trail.edges → Leads graph e.from e.to
+    begun : In entry trail.seen
     reached : (id : BlockId) → In id trail.seen → Reaches graph entry id
     all : (from to : BlockId) (block : BasicBlock) → In from trail.seen → Leads graph from to → block_at graph to ≡ Some block
         → (In (edge from to) trail.edges × In to trail.seen) ⊎ In (edge from to) work
@@ -177,6 +178,7 @@ module _ (graph : List Pair) (entry : BlockId) where
     work_leads = λ x h. w.work_leads x (inr h);
     edges_from = w.edges_from;
     edges_lead = w.edges_lead;
+    begun = w.begun;
     reached = w.reached;
     all = λ from to block seen leads there. elim (w.all from to block seen leads there) [
       | inl done ↦ inl done
@@ -196,6 +198,7 @@ module _ (graph : List Pair) (entry : BlockId) where
     work_leads = λ x h. w.work_leads x (inr h);
     edges_from = λ x h. elim (follows_edge e es trail x w h) [ inl a ↦ w.work_from x a | inr b ↦ w.edges_from x b ];
     edges_lead = λ x h. elim (follows_edge e es trail x w h) [ inl a ↦ w.work_leads x a | inr b ↦ w.edges_lead x b ];
+    begun = w.begun;
     reached = w.reached;
     all = λ from to block seen leads there. elim (w.all from to block seen leads there) [
       | inl done ↦ inl (in_left (edge from to) trail.edges (e ∷ []) done.0, done.1)
@@ -230,6 +233,7 @@ module _ (graph : List Pair) (entry : BlockId) where
     work_leads = λ x h. elim (in_either x (edges_from e.to block) es h) [ inl mine ↦ own_leads e.to block x found mine | inr later ↦ w.work_leads x (inr later) ];
     edges_from = λ x h. old x.from (elim (follows_edge e es trail x w h) [ inl a ↦ w.work_from x a | inr b ↦ w.edges_from x b ]);
     edges_lead = λ x h. elim (follows_edge e es trail x w h) [ inl a ↦ w.work_leads x a | inr b ↦ w.edges_lead x b ];
+    begun = old entry w.begun;
     reached = λ id h. elim (in_last id e.to trail.seen h) [
       | inl before ↦ w.reached id before
       | inr new ↦ subst (λ (x : BlockId). Reaches graph entry x) new (Goes e.from e.to (w.reached e.from (w.work_from e (inl refl))) (from_leads graph e.from e.to (w.work_leads e (inl refl))))
@@ -263,3 +267,93 @@ module _ (graph : List Pair) (entry : BlockId) where
   walked work trail end (Misses e es t end1 gone rest) w = walked es t end1 rest (misses e es t gone w)
   walked work trail end (Meets e es block t end1 found met rest) w = walked es (followed e t) end1 rest (meets e es t (any_in e.to t.seen met) w)
   walked work trail end (Visits e es block t end1 found fresh rest) w = walked (edges_from e.to block ++ es) (visited e.to (followed e t)) end1 rest (visits e es block t found w)
+
+  abbrev start : Trail
+  start = record { seen = entry ∷ []; edges = [] }
+
+  only_entry : (id : BlockId) → In id (entry ∷ []) → entry ≡ id
+  only_entry id h = elim h [ inl e ↦ e | inr never ↦ absurd never ]
+
+  begins : (o : Option BasicBlock) → block_at graph entry ≡ o → Walking (elim o [ None ↦ [] | Some block ↦ edges_from entry block ]) start
+  begins None gone = record {
+    work_from = λ x h. absurd h;
+    work_leads = λ x h. absurd h;
+    edges_from = λ x h. absurd h;
+    edges_lead = λ x h. absurd h;
+    begun = inl refl;
+    reached = λ id h. subst (λ (x : BlockId). Reaches graph entry x) (only_entry id h) Begins;
+    all = λ from to block seen leads there. absurd (let never : None ≡ Some leads.block = sym gone ∙ ap (block_at graph) (only_entry from seen) ∙ leads.found in cc);
+  }
+  begins (Some block) found = record {
+    work_from = λ x h. inl (own_from entry block x h);
+    work_leads = λ x h. own_leads entry block x found h;
+    edges_from = λ x h. absurd h;
+    edges_lead = λ x h. absurd h;
+    begun = inl refl;
+    reached = λ id h. subst (λ (x : BlockId). Reaches graph entry x) (only_entry id h) Begins;
+    all = λ from to other seen leads there.
+        let first : entry ≡ from = only_entry from seen in
+        let same : block ≡ leads.block = (let both : Some block ≡ Some leads.block = sym found ∙ ap (block_at graph) first ∙ leads.found in cc) in
+        let next : In to (successor_ids block.terminal) = subst (λ (b : BasicBlock). In to (successor_ids b.terminal)) (sym same) leads.leads in
+        inr (subst (λ (id : BlockId). In (edge id to) (edges_from entry block)) first (in_map (edge entry) to (distinct_ids block.terminal) (all_new to (successor_ids block.terminal) [] next)));
+  }
+
+  module _ (seen : List BlockId) (edges : List Edge) (w : Walking [] (record { seen = seen; edges = edges })) where
+    -- A block that the entry reaches was visited.
+    was_seen : (id : BlockId) (block : BasicBlock) → Reaches graph entry id → block_at graph id ≡ Some block → In id seen
+    was_seen id block Begins found = w.begun
+    was_seen id block (Goes before id1 r leads) found =
+        elim (w.all before id block (was_seen before leads.block r leads.found) (to_leads graph before id leads) found) [
+          | inl done ↦ done.1
+          | inr never ↦ absurd never
+        ]
+
+    from_source : (id from : BlockId) → In from (sources edges id) → Reaches graph entry from × LeadsTo graph from id
+    from_source id from h =
+        let e : In (edge from id) edges = in_source from id edges h in
+        (w.reached from (w.edges_from (edge from id) e), from_leads graph from id (w.edges_lead (edge from id) e))
+
+    to_source : (id from : BlockId) (block : BasicBlock) → block_at graph id ≡ Some block → Reaches graph entry from → LeadsTo graph from id → In from (sources edges id)
+    to_source id from block found r leads =
+        elim (w.all from id block (was_seen from leads.block r leads.found) (to_leads graph from id leads) found) [
+          | inl done ↦ source_in from id edges done.0
+          | inr never ↦ absurd never
+        ]
+
+-- A block that was given predecessors.
+record Given (edges : List Edge) (graph : List Pair) (id : BlockId) (block : BasicBlock) : Type 0 where
+  old : BasicBlock
+  found : block_at graph id ≡ Some old
+  preds : block.preds ≡ sources edges id
+
+given : (edges : List Edge) (graph : List Pair) (id : BlockId) (block : BasicBlock) → block_at (with_predecessors edges graph) id ≡ Some block → Given edges graph id block
+given edges [] id block at = absurd (cc)
+given edges (p ∷ graph) id block at = by_head (same_id id p.0) refl at (given edges graph id block)
+  where
+    by_head : (b : Bool) → same_id id p.0 ≡ b → block_at (with_predecessors edges (p ∷ graph)) id ≡ Some block
+        → (block_at (with_predecessors edges graph) id ≡ Some block → Given edges graph id block) → Given edges (p ∷ graph) id block
+    by_head true is at1 rest =
+        let some : Some (record p.1 { preds = sources edges p.0 }) ≡ Some block = rw is at at1 in
+        let same : record p.1 { preds = sources edges p.0 } ≡ block = cc in
+        record {
+          old = p.1;
+          found = rw is refl;
+          preds = sym (ap (λ (b : BasicBlock). b.preds) same) ∙ ap (sources edges) (sym (one_id id p.0 is));
+        }
+    by_head false is at1 rest =
+        let later : block_at (with_predecessors edges graph) id ≡ Some block = rw is at at1 in
+        let g : Given edges graph id block = rest later in
+        record { old = g.old; found = rw is g.found; preds = g.preds }
+
+-- At each block that the entry reaches, the predecessors are the blocks that the entry reaches and that lead to it.
+pub predecessors_reached : (graph marked : List Pair) (entry : BlockId) → IsMarked graph entry marked → PredecessorsReached graph entry marked
+predecessors_reached graph marked entry m id block reached found from =
+    let edges : List Edge = m.edges in
+    let seen : List BlockId = m.walk.seen in
+    let w : Walking graph entry [] (record { seen = seen; edges = edges }) = walked graph entry _ _ _ m.walk.walk (begins graph entry (block_at graph entry) refl) in
+    let g : Given edges graph id block = given edges graph id block (ap (λ (t : List Pair). block_at t id) (sym m.blocks) ∙ found) in (
+      λ h.
+          let h1 : In from (sources edges id) = subst (λ (l : List BlockId). In from l) g.preds (contains_in from block.preds h) in
+          from_source graph entry seen edges w id from h1,
+      λ h. in_contains from block.preds (subst (λ (l : List BlockId). In from l) (sym g.preds) (to_source graph entry seen edges w id from g.old g.found h.0 h.1)),
+    )

@@ -10,7 +10,7 @@ use Rattle.rl_base.specs.declared.ids.BlockId.{BlockId}
 use Rattle.rl_hir.specs.Blocks.{Pair, HaveOwnIds, block_at, ids, same_id, with_block_at}
 use Rattle.rl_hir.specs.declared.function.BasicBlock.{BasicBlock}
 use Rattle.rl_order.proofs.Following.{one_id}
-use Rattle.rl_order.specs.Predecessors.{source_lists, sources, with_predecessors}
+use Rattle.rl_order.specs.Predecessors.{IsMarked, WalksAlong, source_lists, sources, with_predecessors}
 use Rattle.rl_order.specs.Walked.{with_lists, with_source}
 use Rattle.rl_order.specs.declared.predecessors.Edge.{Edge}
 
@@ -171,3 +171,11 @@ all_lists edges (p ∷ pairs) = ap (λ (t : List Pair). (p.0, record p.1 { preds
 pub length-lists : (edges : List Edge) (pairs : List Pair) → length (source_lists edges pairs) ≡ length pairs
 length-lists edges [] = refl
 length-lists edges (p ∷ pairs) = ap suc (length-lists edges pairs)
+
+pub is_marked : (graph marked : List Pair) (entry : BlockId) (edges : List Edge) (lists : List (List BlockId)) → WalksAlong graph entry edges → lists ≡ source_lists edges graph
+    → marked ≡ with_lists graph lists → IsMarked graph entry marked
+is_marked graph marked entry edges lists walk is put = record {
+  edges = edges;
+  walk = walk;
+  blocks = put ∙ ap (λ (t : List (List BlockId)). with_lists graph t) is ∙ all_lists edges graph;
+}

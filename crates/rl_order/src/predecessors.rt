@@ -3,7 +3,7 @@
 ghost use Rattle.std.specs.Prelude.{◌≡◌, ◌≤◌, ◌++◌, ◌∷◌, [], IfOk, OnOk, OnErr, length, reverse, vec_len};
 ghost use Rattle.std.specs.Map.{keys_of};
 ghost use Rattle.rl_hir.specs.Blocks.{HaveOwnIds};
-ghost use Rattle.rl_order.specs.Predecessors.{IsMarked, WalksAlong, distinct_ids, edges_from, source_lists};
+ghost use Rattle.rl_order.specs.Predecessors.{IsMarked, PredecessorsReached, WalksAlong, distinct_ids, edges_from, source_lists};
 ghost use Rattle.rl_order.specs.Walked.{Goes, left_of, trail_of, with_lists, with_source, worklist};
 
 use crate::places::take_block;
@@ -187,6 +187,7 @@ pub fn mark_predecessors<B: Blocks>(
     entry: BlockId,
 ) -> Result<(), OutOfMemory>
     ensures walked { OnOk result (IsMarked (B.pairs blocks.old) entry (B.pairs blocks.new)) }
+    ensures reached { OnOk result (PredecessorsReached (B.pairs blocks.old) entry (B.pairs blocks.new)) }
     ensures err { OnErr result (B.pairs blocks.new ≡ B.pairs blocks.old) }
 {
     let edges = walk_along(alloc, blocks, entry)?;

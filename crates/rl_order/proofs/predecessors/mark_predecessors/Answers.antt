@@ -1,19 +1,13 @@
-use Rattle.std.proofs.Common.{◌≡◌, List, ap, ◌∙◌}
-use Rattle.rl_base.specs.declared.ids.BlockId.{BlockId}
-use Rattle.rl_hir.specs.Blocks.{Pair}
-use Rattle.rl_order.proofs.SourceLists.{all_lists}
+use Rattle.std.proofs.Common.{ap, ◌∙◌}
+use Rattle.rl_order.proofs.Reached.{predecessors_reached}
+use Rattle.rl_order.proofs.SourceLists.{is_marked}
 use Rattle.rl_order.specs.Predecessors.{source_lists}
-use Rattle.rl_order.specs.Walked.{with_lists}
 use Rattle.rl_order.proofs.predecessors.mark_predecessors.Goals as goal
 
 pub returns-clause-walked : goal.returns-clause-walked
 returns-clause-walked g c =
-    let graph : List Pair = g.B.Blocks.pairs c.args.blocks.now in
-    record {
-      edges = c.in_ok-edges.edges.items;
-      walk = c.in_ok-edges.ensures;
-      blocks =
-          c.set_predecessors.ensures
-          ∙ ap (λ (t : List (List BlockId)). with_lists graph t) (c.in_ok-lists.ensures ∙ ap (λ e. source_lists e graph) c.as_slice.ensures.value)
-          ∙ all_lists c.in_ok-edges.edges.items graph;
-    }
+    is_marked (g.B.Blocks.pairs c.args.blocks.now) _ c.args.entry c.in_ok-edges.edges.items c.in_ok-lists.lists.items c.in_ok-edges.ensures
+    (c.in_ok-lists.ensures ∙ ap (λ e. source_lists e (g.B.Blocks.pairs c.args.blocks.now)) c.as_slice.ensures.value) c.set_predecessors.ensures
+
+pub returns-clause-reached : goal.returns-clause-reached
+returns-clause-reached g c = predecessors_reached (g.B.Blocks.pairs c.args.blocks.now) _ c.args.entry (returns-clause-walked g c)
