@@ -1,3 +1,4 @@
+pub mod Dropping
 pub mod Examples
 pub mod Following
 pub mod Forwards

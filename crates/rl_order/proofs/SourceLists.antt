@@ -15,7 +15,7 @@ use Rattle.rl_order.specs.Walked.{with_lists, with_source}
 use Rattle.rl_order.specs.declared.predecessors.Edge.{Edge}
 
 -- The ids of two places differ.
-apart : (p : Pair) (graph : List Pair) (place : ℕ) (id : BlockId) → HaveOwnIds (p ∷ graph) → slice_get (ids graph) place ≡ Some id.0 → (test : Bool) → same_id id p.0 ≡ test → test ≡ false
+pub apart : (p : Pair) (graph : List Pair) (place : ℕ) (id : BlockId) → HaveOwnIds (p ∷ graph) → slice_get (ids graph) place ≡ Some id.0 → (test : Bool) → same_id id p.0 ≡ test → test ≡ false
 apart p graph place id own at true is =
     let same : id ≡ p.0 = one_id id p.0 is in
     absurd (let never : 0 ≡ suc place = own 0 (suc place) p.0.0 refl (at ∙ ap (λ (x : BlockId). Some x.0) same) in omega arith)
@@ -110,7 +110,7 @@ one_hit (p ∷ graph) (suc place) e done own at =
         let rest1 : source_lists done graph ≡ source_lists (done ++ e ∷ []) graph = rw (is, with_source) at rest in
         rw (is, with_source) (λ j. sym first j ∷ rest1 j)
 
-passes : (graph : List Pair) (to key : BlockId) → lookup_key (same_id to) graph ≡ Some key → to ≡ key
+pub passes : (graph : List Pair) (to key : BlockId) → lookup_key (same_id to) graph ≡ Some key → to ≡ key
 passes [] to key h = absurd (cc)
 passes (p ∷ graph) to key h = by_head (same_id to p.0) refl h (passes graph to key)
   where
@@ -118,7 +118,7 @@ passes (p ∷ graph) to key h = by_head (same_id to p.0) refl h (passes graph to
     by_head true is at rest = let first : p.0 ≡ key = (let some : Some p.0 ≡ Some key = rw is at at in cc) in one_id to p.0 is ∙ first
     by_head false is at rest = rest (rw is at at)
 
-get_keys : (graph : List Pair) (place : ℕ) → place < length graph → (key : BlockId) × (slice_get (keys_of graph) place ≡ Some key) × (slice_get (ids graph) place ≡ Some key.0)
+pub get_keys : (graph : List Pair) (place : ℕ) → place < length graph → (key : BlockId) × (slice_get (keys_of graph) place ≡ Some key) × (slice_get (ids graph) place ≡ Some key.0)
 get_keys [] place within = absurd (omega arith)
 get_keys (p ∷ graph) zero within = (p.0, refl, refl)
 get_keys (p ∷ graph) (suc place) within = get_keys graph place (omega arith)

@@ -1,9 +1,11 @@
 pub mod Forward
+pub mod Kept
 pub mod Numbering
 pub mod Own
 pub mod Predecessors
 pub mod Reached
 pub mod Removals
 pub mod Tasks
+pub mod TrySteps
 pub mod Walk
 pub mod Walked

@@ -8,4 +8,5 @@ pub mod predecessors;
 pub mod removals;
 mod step;
 pub mod tasks;
+pub mod tries;
 mod walked;

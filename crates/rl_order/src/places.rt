@@ -1,12 +1,16 @@
 //! Changes of the block at a place.
 
-ghost use Rattle.std.specs.Prelude.{◌≡◌, ◌<◌, length, slice_get, Some};
-ghost use Rattle.std.specs.Map.{values_of};
-ghost use Rattle.rl_hir.specs.Blocks.{with_block_at};
+ghost use Rattle.std.specs.Prelude.{◌≡◌, ◌<◌, length, slice_get, IfOk, Some};
+ghost use Rattle.std.specs.Map.{keys_of, values_of};
+ghost use Rattle.rl_hir.specs.Blocks.{HaveOwnIds, with_block_at};
 ghost use Rattle.rl_hir.specs.declared.function.BasicBlock.{BasicBlock};
 
+use indexmap::IndexSet;
+use rl_base::error::OutOfMemory;
+use rl_base::ids::BlockId;
 use rl_hir::blocks::Blocks;
 use rl_hir::function::BasicBlock;
+use std::alloc::Global;
 
 /// Takes out the block at a place, which a blank one keeps free. Another block can be put there by `set_at`.
 #[tactic(auto, using(crate::proofs::PlaceSteps::put_back, crate::proofs::PlaceSteps::same_count))]
@@ -19,4 +23,17 @@ pub fn take_block<B: Blocks>(blocks: &mut B, place: usize) -> BasicBlock
     let (_, block) = blocks.at(place);
     let blank = block.blank_beside();
     blocks.set_at(place, blank)
+}
+
+/// The ids of the blocks, in block order, so that a look-up by id gives a place. On `OutOfMemory`, an allocation failed.
+pub fn place_index<B: Blocks>(alloc: Global, blocks: &B) -> Result<IndexSet<BlockId>, OutOfMemory>
+    ensures keys { IfOk result (λ places. places.keys ≡ keys_of (B.pairs blocks.now)) }
+    ensures distinct { HaveOwnIds (B.pairs blocks.now) }
+{
+    let mut places = IndexSet::new(alloc);
+    for place in 0..blocks.len() {
+        let (id, _) = blocks.at(place);
+        places.insert(id)?;
+    }
+    Ok(places)
 }

@@ -1,12 +1,10 @@
 //! The predecessors of blocks.
 
 ghost use Rattle.std.specs.Prelude.{◌≡◌, ◌≤◌, ◌++◌, ◌∷◌, [], IfOk, OnOk, OnErr, length, reverse, vec_len};
-ghost use Rattle.std.specs.Map.{keys_of};
-ghost use Rattle.rl_hir.specs.Blocks.{HaveOwnIds};
 ghost use Rattle.rl_order.specs.Predecessors.{IsMarked, PredecessorsReached, WalksAlong, distinct_ids, edges_from, source_lists};
 ghost use Rattle.rl_order.specs.Walked.{Goes, left_of, trail_of, with_lists, with_source, worklist};
 
-use crate::places::take_block;
+use crate::places::{place_index, take_block};
 use indexmap::IndexSet;
 use rl_base::error::OutOfMemory;
 use rl_base::ids::BlockId;
@@ -106,19 +104,6 @@ fn walk_along<B: Blocks>(
         follow(alloc, blocks, &mut walk, edge)?;
     }
     Ok(walk.edges)
-}
-
-/// The ids of the blocks, in block order, so that a look-up by id gives a place. On `OutOfMemory`, an allocation failed.
-fn place_index<B: Blocks>(alloc: Global, blocks: &B) -> Result<IndexSet<BlockId>, OutOfMemory>
-    ensures keys { IfOk result (λ places. places.keys ≡ keys_of (B.pairs blocks.now)) }
-    ensures distinct { HaveOwnIds (B.pairs blocks.now) }
-{
-    let mut places = IndexSet::new(alloc);
-    for place in 0..blocks.len() {
-        let (id, _) = blocks.at(place);
-        places.insert(id)?;
-    }
-    Ok(places)
 }
 
 /// As many empty lists as there are blocks. On `OutOfMemory`, an allocation failed.

@@ -12,7 +12,7 @@ use rl_hir::blocks::Blocks;
 use rl_hir::terminal::{GotoVariant, TerminalKind};
 
 /// True of a block of the graph.
-fn is_there<B: Blocks>(blocks: &B, id: BlockId) -> bool
+pub fn is_there<B: Blocks>(blocks: &B, id: BlockId) -> bool
     ensures { result ≡ is_there (B.pairs blocks.now) id }
 {
     blocks.get(id).is_some()

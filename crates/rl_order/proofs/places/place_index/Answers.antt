@@ -1,6 +1,6 @@
 use Rattle.std.proofs.Common.{Some, ap, ◌∙◌}
 use Rattle.rl_order.proofs.SourceLists.{one_more_key}
-use Rattle.rl_order.proofs.predecessors.place_index.Goals as goal
+use Rattle.rl_order.proofs.places.place_index.Goals as goal
 
 pub loop-place-preserved : goal.loop-place-preserved
 loop-place-preserved g c =

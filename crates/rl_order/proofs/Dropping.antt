@@ -1,0 +1,348 @@
+-- Blocks that are changed by their places, and blocks that are kept.
+use Rattle.std.proofs.Common.{◌≡◌, ℕ, zero, suc, ◌+◌, ◌<◌, ◌⊎◌, inl, inr, Bool, true, false, not, ◌&&◌, ◌||◌, if◌then◌else◌, Option, List, [], ◌∷◌, ◌++◌, length, map, filter, fold, get_or, take, drop, position, IfSome, slice_get, Some, None, ap, sym, ◌∙◌, refl, subst, arith, add-one, append_assoc, eq-eqb}
+use Rattle.std.specs.List.{list_any}
+use Rattle.std.proofs.Math.Seq.{drop-cons}
+use Rattle.std.specs.Option.{option_to_list}
+use Rattle.std.specs.Map.{keys_of, values_of}
+use Rattle.std.proofs.lemmas.List.Folds.{list_any-append}
+use Rattle.indexmap.proofs.MapLemmas.{Found-position, Missing-position}
+use Rattle.indexmap.specs.IndexSet.{insert_key}
+use Rattle.rl_base.specs.Distinct.{AreDistinct}
+use Rattle.rl_base.proofs.DistinctLists.{distinct_tail}
+use Rattle.rl_base.specs.declared.ids.BlockId.{BlockId}
+use Rattle.rl_hir.specs.Blocks.{Pair, HaveOwnIds, block_at, ids, same_id, with_block, with_block_at}
+use Rattle.rl_hir.specs.declared.function.BasicBlock.{BasicBlock}
+use Rattle.rl_order.proofs.Following.{one_id}
+use Rattle.rl_order.proofs.Reached.{In}
+use Rattle.rl_order.proofs.SourceLists.{apart, fresh_id, get_keys, id_at, passes}
+use Rattle.rl_order.specs.Kept.{changed_at, kept}
+use Rattle.rl_order.specs.Removals.{dead_tries, dead_try, is_alone, is_lost, with_changed, without_predecessor, without_try, ended_by_goto}
+use Rattle.rl_order.specs.TrySteps.{has_alone}
+use Rattle.rl_order.specs.declared.tries.DeadTry.{DeadTry}
+
+-- The pair at a place
+
+drop_pair1 : (graph : List Pair) (place : ℕ) (p : Pair) → slice_get graph place ≡ Some p → drop place graph ≡ p ∷ drop (suc place) graph
+drop_pair1 [] place p at = absurd (cc)
+drop_pair1 (q ∷ graph) zero p at = let same : q ≡ p = cc in ap (λ (r : Pair). r ∷ graph) same
+drop_pair1 (q ∷ graph) (suc place) p at = drop_pair1 graph place p at
+
+pub drop_pair : (graph : List Pair) (place : ℕ) (p : Pair) → slice_get graph place ≡ Some p → drop place graph ≡ p ∷ drop (place + 1) graph
+drop_pair graph place p at = rw add-one (drop_pair1 graph place p at)
+
+take_next1 : (graph rest : List Pair) (place : ℕ) (p : Pair) → drop place graph ≡ p ∷ rest → take (suc place) graph ≡ take place graph ++ p ∷ []
+take_next1 [] rest zero p at = absurd (cc)
+take_next1 [] rest (suc place) p at = absurd (cc)
+take_next1 (q ∷ graph) rest zero p at = let same : q ≡ p = cc in ap (λ (r : Pair). r ∷ []) same
+take_next1 (q ∷ graph) rest (suc place) p at = ap (λ (t : List Pair). q ∷ t) (take_next1 graph rest place p at)
+
+get_from_drop : (graph rest : List Pair) (place : ℕ) (p : Pair) → drop place graph ≡ p ∷ rest → slice_get graph place ≡ Some p
+get_from_drop [] rest zero p at = absurd (cc)
+get_from_drop [] rest (suc place) p at = absurd (cc)
+get_from_drop (q ∷ graph) rest zero p at = let same : q ≡ p = cc in ap (λ (r : Pair). Some r) same
+get_from_drop (q ∷ graph) rest (suc place) p at = get_from_drop graph rest place p at
+
+drop_set : (graph : List Pair) (place : ℕ) (block : BasicBlock) → drop (suc place) (with_block_at graph place block) ≡ drop (suc place) graph
+drop_set [] place block = refl
+drop_set (p ∷ graph) zero block = refl
+drop_set (p ∷ graph) (suc place) block = drop_set graph place block
+
+-- A block that is taken out leaves those behind it.
+pub later_stays : (graph after : List Pair) (place : ℕ) (block : BasicBlock) → with_block_at after place block ≡ with_block_at graph place block → drop (place + 1) after ≡ drop (place + 1) graph
+later_stays graph after place block same =
+    rw add-one (sym (drop_set after place block) ∙ ap (λ (t : List Pair). drop (suc place) t) same ∙ drop_set graph place block)
+
+-- The list of dead `try`s
+
+module _ (there : BlockId → Bool) (graph : List Pair) (place : ℕ) (p : Pair) (at : slice_get graph place ≡ Some p) (tries : List DeadTry) where
+  pub no_try : None ≡ dead_try there p.0 p.1.terminal.kind → tries ++ dead_tries there (drop (place + 1) graph) ≡ tries ++ dead_tries there (drop place graph)
+  no_try none =
+      ap (λ (o : Option DeadTry). tries ++ (option_to_list o ++ dead_tries there (drop (place + 1) graph))) none
+      ∙ ap (λ (t : List Pair). tries ++ dead_tries there t) (sym (drop_pair graph place p at))
+
+  pub one_try : (tries1 : List DeadTry) (dead : DeadTry) → Some dead ≡ dead_try there p.0 p.1.terminal.kind → tries1 ≡ tries ++ dead ∷ []
+      → tries1 ++ dead_tries there (drop (place + 1) graph) ≡ tries ++ dead_tries there (drop place graph)
+  one_try tries1 dead some is =
+      ap (λ (t : List DeadTry). t ++ dead_tries there (drop (place + 1) graph)) is
+      ∙ append_assoc tries (dead ∷ []) (dead_tries there (drop (place + 1) graph))
+      ∙ ap (λ (o : Option DeadTry). tries ++ (option_to_list o ++ dead_tries there (drop (place + 1) graph))) some
+      ∙ ap (λ (t : List Pair). tries ++ dead_tries there t) (sym (drop_pair graph place p at))
+
+-- Blocks that are kept
+
+kept_skip : (lost : List BlockId) (xs : List Pair) (p : Pair) → list_any (same_id p.0) lost ≡ true → kept lost (xs ++ p ∷ []) ≡ kept lost xs
+kept_skip lost [] p h = rw h refl
+kept_skip lost (x ∷ xs) p h = by_head (list_any (same_id x.0) lost) refl (kept_skip lost xs p h)
+  where
+    by_head : (b : Bool) → list_any (same_id x.0) lost ≡ b → kept lost (xs ++ p ∷ []) ≡ kept lost xs → kept lost (x ∷ xs ++ p ∷ []) ≡ kept lost (x ∷ xs)
+    by_head true e rest = rw e rest
+    by_head false e rest = rw e (ap (λ (t : List Pair). x ∷ t) rest)
+
+kept_one : (lost : List BlockId) (xs : List Pair) (p : Pair) → list_any (same_id p.0) lost ≡ false → kept lost (xs ++ p ∷ []) ≡ kept lost xs ++ p ∷ []
+kept_one lost [] p h = rw h refl
+kept_one lost (x ∷ xs) p h = by_head (list_any (same_id x.0) lost) refl (kept_one lost xs p h)
+  where
+    by_head : (b : Bool) → list_any (same_id x.0) lost ≡ b → kept lost (xs ++ p ∷ []) ≡ kept lost xs ++ p ∷ [] → kept lost (x ∷ xs ++ p ∷ []) ≡ kept lost (x ∷ xs) ++ p ∷ []
+    by_head true e rest = rw e rest
+    by_head false e rest = rw e (ap (λ (t : List Pair). x ∷ t) rest)
+
+pub kept_all : (pairs : List Pair) → kept [] pairs ≡ pairs
+kept_all [] = refl
+kept_all (p ∷ pairs) = ap (λ (t : List Pair). p ∷ t) (kept_all pairs)
+
+fewer_keys : (lost : List BlockId) (id : BlockId) (xs : List Pair) → list_any (same_id id) (keys_of xs) ≡ false → list_any (same_id id) (keys_of (kept lost xs)) ≡ false
+fewer_keys lost id [] h = refl
+fewer_keys lost id (x ∷ xs) h = by_head (same_id id x.0) refl h (fewer_keys lost id xs)
+  where
+    by_lost : (b : Bool) → list_any (same_id x.0) lost ≡ b → same_id id x.0 ≡ false → list_any (same_id id) (keys_of (kept lost xs)) ≡ false → list_any (same_id id) (keys_of (kept lost (x ∷ xs))) ≡ false
+    by_lost true e first rest = rw e rest
+    by_lost false e first rest = rw (e, first) rest
+
+    by_head : (b : Bool) → same_id id x.0 ≡ b → list_any (same_id id) (keys_of (x ∷ xs)) ≡ false → (list_any (same_id id) (keys_of xs) ≡ false → list_any (same_id id) (keys_of (kept lost xs)) ≡ false)
+        → list_any (same_id id) (keys_of (kept lost (x ∷ xs))) ≡ false
+    by_head true e h1 rest = absurd (let never : true ≡ false = rw e at h1 in cc)
+    by_head false e h1 rest = by_lost (list_any (same_id x.0) lost) refl e (rest (rw e at h1))
+
+keys_take : (graph : List Pair) (place : ℕ) → keys_of (take place graph) ≡ take place (keys_of graph)
+keys_take [] zero = refl
+keys_take [] (suc place) = refl
+keys_take (p ∷ graph) zero = refl
+keys_take (p ∷ graph) (suc place) = ap (λ (t : List BlockId). p.0 ∷ t) (keys_take graph place)
+
+put_last : (xs : List Pair) (id : BlockId) (block : BasicBlock) → list_any (same_id id) (keys_of xs) ≡ false → with_block xs id block ≡ xs ++ (id, block) ∷ []
+put_last [] id block h = refl
+put_last (x ∷ xs) id block h = by_head (same_id id x.0) refl h (put_last xs id block)
+  where
+    by_head : (b : Bool) → same_id id x.0 ≡ b → list_any (same_id id) (keys_of (x ∷ xs)) ≡ false → (list_any (same_id id) (keys_of xs) ≡ false → with_block xs id block ≡ xs ++ (id, block) ∷ [])
+        → with_block (x ∷ xs) id block ≡ x ∷ xs ++ (id, block) ∷ []
+    by_head true e h1 rest = absurd (let never : true ≡ false = rw e at h1 in cc)
+    by_head false e h1 rest = rw e (ap (λ (t : List Pair). x ∷ t) (rest (rw e at h1)))
+
+module _ (lost : List BlockId) (graph now rest : List Pair) (place : ℕ) (p : Pair) (same : drop place now ≡ drop place graph) (at : slice_get now place ≡ Some p) where
+  split : drop place graph ≡ p ∷ drop (place + 1) now
+  split = sym same ∙ drop_pair now place p at
+
+  next : take (place + 1) graph ≡ take place graph ++ p ∷ []
+  next = rw add-one (take_next1 graph (drop (place + 1) now) place p split)
+
+  pub skipped : rest ≡ kept lost (take place graph) → list_any (same_id p.0) lost ≡ true → rest ≡ kept lost (take (place + 1) graph)
+  skipped is h = is ∙ sym (kept_skip lost (take place graph) p h) ∙ ap (kept lost) (sym next)
+
+  pub put_behind : (rest1 : List Pair) → HaveOwnIds graph → rest ≡ kept lost (take place graph) → list_any (same_id p.0) lost ≡ false → rest1 ≡ with_block rest p.0 p.1
+      → rest1 ≡ kept lost (take (place + 1) graph)
+  put_behind rest1 own is h put =
+      let fresh : list_any (same_id p.0) (keys_of (take place graph)) ≡ false =
+      ap (list_any (same_id p.0)) (keys_take graph place) ∙ fresh_id graph place p.0 own (id_at graph place p (get_from_drop graph (drop (place + 1) now) place p split)) in
+      put ∙ ap (λ (t : List Pair). with_block t p.0 p.1) is
+      ∙ put_last (kept lost (take place graph)) p.0 p.1 (fewer_keys lost p.0 (take place graph) fresh)
+      ∙ sym (kept_one lost (take place graph) p h) ∙ ap (kept lost) (sym next)
+
+-- Changes by places
+
+pub keys_changed : (id : BlockId) (change : BasicBlock → BasicBlock) (graph : List Pair) → keys_of (with_changed id change graph) ≡ keys_of graph
+keys_changed id change [] = refl
+keys_changed id change (p ∷ graph) = ap (λ (t : List BlockId). p.0 ∷ t) (keys_changed id change graph)
+
+ids_of_keys : (graph : List Pair) → ids graph ≡ map (λ (k : BlockId). k.0) (keys_of graph)
+ids_of_keys [] = refl
+ids_of_keys (p ∷ graph) = ap (λ (t : List ℕ). p.0.0 ∷ t) (ids_of_keys graph)
+
+pub own_by_keys : (graph now : List Pair) → keys_of now ≡ keys_of graph → HaveOwnIds graph → HaveOwnIds now
+own_by_keys graph now same own =
+    subst AreDistinct (ids_of_keys graph ∙ ap (λ (k : List BlockId). map (λ (x : BlockId). x.0) k) (sym same) ∙ sym (ids_of_keys now)) own
+
+unchanged_missing : (id : BlockId) (change : BasicBlock → BasicBlock) (graph : List Pair) → block_at graph id ≡ None → graph ≡ with_changed id change graph
+unchanged_missing id change [] gone = refl
+unchanged_missing id change (p ∷ graph) gone = by_head (same_id id p.0) refl gone (unchanged_missing id change graph)
+  where
+    by_head : (b : Bool) → same_id id p.0 ≡ b → block_at (p ∷ graph) id ≡ None → (block_at graph id ≡ None → graph ≡ with_changed id change graph) → p ∷ graph ≡ with_changed id change (p ∷ graph)
+    by_head true e h rest = absurd (let some : Some p.1 ≡ None = rw e at h in cc)
+    by_head false e h rest = rw e (ap (λ (t : List Pair). p ∷ t) (rest (rw e at h)))
+
+unchanged_later : (id : BlockId) (change : BasicBlock → BasicBlock) (graph : List Pair) → ((place : ℕ) → slice_get (ids graph) place ≡ Some id.0 → ⊥) → graph ≡ with_changed id change graph
+unchanged_later id change [] gone = refl
+unchanged_later id change (p ∷ graph) gone = by_head (same_id id p.0) refl (unchanged_later id change graph (λ place at. gone (suc place) at))
+  where
+    by_head : (b : Bool) → same_id id p.0 ≡ b → graph ≡ with_changed id change graph → p ∷ graph ≡ with_changed id change (p ∷ graph)
+    by_head true e rest = absurd (gone 0 (ap (λ (x : BlockId). Some x.0) (sym (one_id id p.0 e))))
+    by_head false e rest = rw e (ap (λ (t : List Pair). p ∷ t) rest)
+
+one_change : (id : BlockId) (change : BasicBlock → BasicBlock) (graph : List Pair) (place : ℕ) → HaveOwnIds graph → slice_get (ids graph) place ≡ Some id.0
+    → changed_at (Some place) change graph ≡ with_changed id change graph
+one_change id change [] place own at = absurd (cc)
+one_change id change (p ∷ graph) zero own at =
+    let same : same_id id p.0 ≡ true = (let n : p.0.0 ≡ id.0 = cc in eq-eqb id.0 p.0.0 (sym n)) in
+    rw same (ap (λ (t : List Pair). (p.0, change p.1) ∷ t) (unchanged_later id change graph (λ place later. (let never : 0 ≡ suc place = own 0 (suc place) id.0 at later in omega arith))))
+one_change id change (p ∷ graph) (suc place) own at =
+    let other : same_id id p.0 ≡ false = (let t : (b : Bool) → same_id id p.0 ≡ b → b ≡ false = apart p graph place id own at in t (same_id id p.0) refl) in
+    by_block (slice_get (values_of graph) place) refl other (one_change id change graph place (distinct_tail p.0.0 (ids graph) own) at)
+  where
+    by_block : (o : Option BasicBlock) → slice_get (values_of graph) place ≡ o → same_id id p.0 ≡ false → changed_at (Some place) change graph ≡ with_changed id change graph
+        → changed_at (Some (suc place)) change (p ∷ graph) ≡ with_changed id change (p ∷ graph)
+    by_block (Some block) is other rest =
+        let rest1 : with_block_at graph place (change block) ≡ with_changed id change graph = rw (is, changed_at) at rest in
+        rw (is, changed_at, other) (ap (λ (t : List Pair). p ∷ t) rest1)
+    by_block None is other rest =
+        let rest1 : graph ≡ with_changed id change graph = rw (is, changed_at) at rest in
+        rw (is, changed_at, other) (ap (λ (t : List Pair). p ∷ t) rest1)
+
+-- A change at the place of an id is a change of the block of the id.
+pub change_there : (id : BlockId) (change : BasicBlock → BasicBlock) (graph : List Pair) (place : Option ℕ) → HaveOwnIds graph → place ≡ position (same_id id) (keys_of graph)
+    → changed_at place change graph ≡ with_changed id change graph
+change_there id change graph None own is = unchanged_missing id change graph (Missing-position (same_id id) graph (sym is)).value
+change_there id change graph (Some place) own is =
+    let f = Found-position (same_id id) graph place (sym is) in
+    let k : (key : BlockId) × (slice_get (keys_of graph) place ≡ Some key) × (slice_get (ids graph) place ≡ Some key.0) = get_keys graph place f.within in
+    let same : id ≡ k.0 = passes graph id k.0 (f.key ∙ k.1) in
+    one_change id change graph place own (k.2 ∙ ap (λ (x : BlockId). Some x.0) (sym same))
+
+pub preds_changed : (graph after : List Pair) (place : ℕ) (id : BlockId) (block : BasicBlock) (preds : List BlockId) → slice_get (values_of graph) place ≡ Some block
+    → preds ≡ filter (λ (other : BlockId). not (same_id id other)) block.preds → after ≡ with_block_at graph place (record block { preds = preds })
+    → after ≡ changed_at (Some place) (without_predecessor id) graph
+preds_changed graph after place id block preds at is put = rw (at, changed_at) (put ∙ ap (λ (l : List BlockId). with_block_at graph place (record block { preds = l })) is)
+
+-- A `try` is dropped
+
+kept_changed : (lost : List BlockId) (id : BlockId) (change : BasicBlock → BasicBlock) (graph : List Pair) → kept lost (with_changed id change graph) ≡ with_changed id change (kept lost graph)
+kept_changed lost id change [] = refl
+kept_changed lost id change (p ∷ graph) = by_head (list_any (same_id p.0) lost) refl (kept_changed lost id change graph)
+  where
+    by_head : (b : Bool) → list_any (same_id p.0) lost ≡ b → kept lost (with_changed id change graph) ≡ with_changed id change (kept lost graph)
+        → kept lost (with_changed id change (p ∷ graph)) ≡ with_changed id change (kept lost (p ∷ graph))
+    by_head true e rest = rw e rest
+    by_head false e rest = rw e (ap (λ (t : List Pair). (p.0, if same_id id p.0 then change p.1 else p.1) ∷ t) rest)
+
+filter_both : (first second all : Pair → Bool) (graph : List Pair) → ((p : Pair) → In p graph → all p ≡ (first p && second p)) → filter all graph ≡ filter second (filter first graph)
+filter_both first second all [] h = refl
+filter_both first second all (p ∷ graph) h = by_head (first p) (second p) refl refl (h p (inl refl)) (filter_both first second all graph (λ q i. h q (inr i)))
+  where
+    by_head : (a b : Bool) → first p ≡ a → second p ≡ b → all p ≡ (first p && second p) → filter all graph ≡ filter second (filter first graph) → filter all (p ∷ graph) ≡ filter second (filter first (p ∷ graph))
+    by_head true true e f is rest = rw (is, e, f) (ap (λ (t : List Pair). p ∷ t) rest)
+    by_head true false e f is rest = rw (is, e, f) rest
+    by_head false b e f is rest = rw (is, e) rest
+
+or_false : (b : Bool) → (b || false) ≡ b
+or_false true = refl
+or_false false = refl
+
+or_true : (b : Bool) → (b || true) ≡ true
+or_true true = refl
+or_true false = refl
+
+and_true : (b : Bool) → b ≡ (b && true)
+and_true true = refl
+and_true false = refl
+
+and_false : (b : Bool) → false ≡ (b && false)
+and_false true = refl
+and_false false = refl
+
+-- An id that is listed besides others.
+any_insert_other : (id key : BlockId) (lost : List BlockId) → same_id id key ≡ false → list_any (same_id id) (insert_key same_id lost key) ≡ list_any (same_id id) lost
+any_insert_other id key lost other = by_any (list_any (same_id key) lost)
+  where
+    by_any : (b : Bool) → list_any (same_id id) (if b then lost else lost ++ key ∷ []) ≡ list_any (same_id id) lost
+    by_any true = refl
+    by_any false = list_any-append (same_id id) lost (key ∷ []) ∙ rw other (or_false (list_any (same_id id) lost))
+
+any_insert_same : (key : BlockId) (lost : List BlockId) → list_any (same_id key) (insert_key same_id lost key) ≡ true
+any_insert_same key lost = by_any (list_any (same_id key) lost) refl
+  where
+    same : same_id key key ≡ true
+    same = eq-eqb key.0 key.0 refl
+
+    by_any : (b : Bool) → list_any (same_id key) lost ≡ b → list_any (same_id key) (if b then lost else lost ++ key ∷ []) ≡ true
+    by_any true e = e
+    by_any false e = list_any-append (same_id key) lost (key ∷ []) ∙ rw same (or_true (list_any (same_id key) lost))
+
+in_at : (p : Pair) (graph : List Pair) → In p graph → (place : ℕ) × (slice_get (ids graph) place ≡ Some p.0.0)
+in_at p [] h = absurd h
+in_at p (q ∷ graph) h = elim h [
+  | inl same ↦ (0, ap (λ (r : Pair). Some r.0.0) same)
+  | inr rest ↦ (let i : (place : ℕ) × (slice_get (ids graph) place ≡ Some p.0.0) = in_at p graph rest in (suc i.0, i.1))
+]
+
+in_found : (p : Pair) (graph : List Pair) → HaveOwnIds graph → In p graph → block_at graph p.0 ≡ Some p.1
+in_found p [] own h = absurd h
+in_found p (q ∷ graph) own h = elim h [
+  | inl same ↦ (let first : block_at (q ∷ graph) q.0 ≡ Some q.1 = (let e : same_id q.0 q.0 ≡ true = eq-eqb q.0.0 q.0.0 refl in rw e refl) in subst (λ (r : Pair). block_at (q ∷ graph) r.0 ≡ Some r.1) same first)
+  | inr rest ↦
+      (let i : (place : ℕ) × (slice_get (ids graph) place ≡ Some p.0.0) = in_at p graph rest in
+      let other : same_id p.0 q.0 ≡ false = (let t : (b : Bool) → same_id p.0 q.0 ≡ b → b ≡ false = apart q graph i.0 p.0 own i.1 in t (same_id p.0 q.0) refl) in
+      rw other (in_found p graph (distinct_tail q.0.0 (ids graph) own) rest))
+]
+
+-- Of blocks that are kept, the fallthrough is lost if the handler is its only predecessor.
+lost_next : (dead : DeadTry) (graph : List Pair) (lost lost1 : List BlockId) (alone : Bool) → HaveOwnIds graph → alone ≡ has_alone (block_at graph dead.fallthrough) dead.handler
+    → lost1 ≡ (if alone then insert_key same_id lost dead.fallthrough else lost) → kept lost1 graph ≡ filter (λ (p : Pair). not (is_lost dead p)) (kept lost graph)
+lost_next dead graph lost lost1 alone own tells is =
+    filter_both (λ (p : Pair). not (list_any (same_id p.0) lost)) (λ (p : Pair). not (is_lost dead p)) (λ (p : Pair). not (list_any (same_id p.0) lost1)) graph
+    (λ p i. by_id p i (same_id dead.fallthrough p.0) refl)
+  where
+    by_alone : (p : Pair) (b : Bool) → alone ≡ b → is_alone dead.handler p.1.preds ≡ b → same_id dead.fallthrough p.0 ≡ true
+        → not (list_any (same_id p.0) lost1) ≡ (not (list_any (same_id p.0) lost) && not (is_lost dead p))
+    by_alone p true a e same =
+        let ends : dead.fallthrough ≡ p.0 = one_id dead.fallthrough p.0 same in
+        let listed : lost1 ≡ insert_key same_id lost dead.fallthrough = is ∙ ap (λ (b : Bool). if b then insert_key same_id lost dead.fallthrough else lost) a in
+        let hit : list_any (same_id p.0) lost1 ≡ true =
+        ap (list_any (same_id p.0)) listed ∙ subst (λ (x : BlockId). list_any (same_id x) (insert_key same_id lost dead.fallthrough) ≡ true) ends (any_insert_same dead.fallthrough lost) in
+        rw (hit, same, e) (and_false (not (list_any (same_id p.0) lost)))
+    by_alone p false a e same =
+        let listed : lost1 ≡ lost = is ∙ ap (λ (b : Bool). if b then insert_key same_id lost dead.fallthrough else lost) a in
+        rw (same, e) (ap (λ (l : List BlockId). not (list_any (same_id p.0) l)) listed ∙ and_true (not (list_any (same_id p.0) lost)))
+
+    by_listed : (p : Pair) (b : Bool) → alone ≡ b → same_id p.0 dead.fallthrough ≡ false → list_any (same_id p.0) lost1 ≡ list_any (same_id p.0) lost
+    by_listed p true a other =
+        ap (list_any (same_id p.0)) (is ∙ ap (λ (b : Bool). if b then insert_key same_id lost dead.fallthrough else lost) a) ∙ any_insert_other p.0 dead.fallthrough lost other
+    by_listed p false a other = ap (list_any (same_id p.0)) (is ∙ ap (λ (b : Bool). if b then insert_key same_id lost dead.fallthrough else lost) a)
+
+    flipped : (p : Pair) (b : Bool) → same_id p.0 dead.fallthrough ≡ b → same_id dead.fallthrough p.0 ≡ false → b ≡ false
+    flipped p true e other = absurd (let hit : same_id dead.fallthrough p.0 ≡ true = eq-eqb dead.fallthrough.0 p.0.0 (ap (λ (x : BlockId). x.0) (sym (one_id p.0 dead.fallthrough e))) in let never : true ≡ false = sym hit ∙ other in cc)
+    flipped p false e other = refl
+
+    by_id : (p : Pair) → In p graph → (b : Bool) → same_id dead.fallthrough p.0 ≡ b → not (list_any (same_id p.0) lost1) ≡ (not (list_any (same_id p.0) lost) && not (is_lost dead p))
+    by_id p i true same =
+        let ends : p.0 ≡ dead.fallthrough = sym (one_id dead.fallthrough p.0 same) in
+        let found : block_at graph dead.fallthrough ≡ Some p.1 = ap (block_at graph) (sym ends) ∙ in_found p graph own i in
+        let same_test : alone ≡ is_alone dead.handler p.1.preds = tells ∙ ap (λ (o : Option BasicBlock). has_alone o dead.handler) found in
+        by_alone p (is_alone dead.handler p.1.preds) same_test refl same
+    by_id p i false other =
+        let other1 : same_id p.0 dead.fallthrough ≡ false = flipped p (same_id p.0 dead.fallthrough) refl other in
+        rw other (ap not (by_listed p alone refl other1) ∙ and_true (not (list_any (same_id p.0) lost)))
+
+-- The steps of the code drop a `try` from the blocks that are kept.
+pub try_dropped : (dead : DeadTry) (graph after last : List Pair) (lost lost1 : List BlockId) (alone : Bool) → HaveOwnIds graph → after ≡ with_changed dead.id (ended_by_goto dead.block) graph
+    → alone ≡ has_alone (block_at after dead.fallthrough) dead.handler → lost1 ≡ (if alone then insert_key same_id lost dead.fallthrough else lost)
+    → last ≡ with_changed dead.fallthrough (without_predecessor dead.handler) after → kept lost1 last ≡ without_try dead (kept lost graph)
+try_dropped dead graph after last lost lost1 alone own first tells is second =
+    let keys : keys_of after ≡ keys_of graph = ap keys_of first ∙ keys_changed dead.id (ended_by_goto dead.block) graph in
+    let moved : kept lost after ≡ with_changed dead.id (ended_by_goto dead.block) (kept lost graph) = ap (kept lost) first ∙ kept_changed lost dead.id (ended_by_goto dead.block) graph in
+    ap (kept lost1) second
+    ∙ kept_changed lost1 dead.fallthrough (without_predecessor dead.handler) after
+    ∙ ap (with_changed dead.fallthrough (without_predecessor dead.handler)) (lost_next dead after lost lost1 alone (own_by_keys graph after keys own) tells is)
+    ∙ ap (λ (t : List Pair). with_changed dead.fallthrough (without_predecessor dead.handler) (filter (λ (p : Pair). not (is_lost dead p)) t)) moved
+
+pub length-changed : (id : BlockId) (change : BasicBlock → BasicBlock) (graph : List Pair) → length (with_changed id change graph) ≡ length graph
+length-changed id change [] = refl
+length-changed id change (p ∷ graph) = ap suc (length-changed id change graph)
+
+pub length-keys : (graph : List Pair) → length (keys_of graph) ≡ length graph
+length-keys [] = refl
+length-keys (p ∷ graph) = ap suc (length-keys graph)
+
+pub same_length : (graph now : List Pair) → keys_of now ≡ keys_of graph → length now ≡ length graph
+same_length graph now same = sym (length-keys now) ∙ ap length same ∙ length-keys graph
+
+-- A place of the index is one of the blocks.
+pub place_within : (keys : List BlockId) (graph : List Pair) (place : Option ℕ) → IfSome place (λ p. p < length keys) → keys ≡ keys_of graph → IfSome place (λ p. p < length graph)
+place_within keys graph None h is = tt
+place_within keys graph (Some place) h is = omega (arith, h, ap length is, length-keys graph)
+
+fold_next : (now : List Pair) (tries : List DeadTry) (index : ℕ) (dead : DeadTry) → index < length tries
+    → fold (λ (b : List Pair) (d : DeadTry). without_try d b) (without_try (get_or tries index dead) now) (drop (index + 1) tries) ≡ fold (λ (b : List Pair) (d : DeadTry). without_try d b) now (drop index tries)
+fold_next now tries index dead within = rw add-one (ap (fold (λ (b : List Pair) (d : DeadTry). without_try d b) now) (sym (drop-cons tries index dead within)))
+
+-- One more `try` is dropped.
+pub rest_next : (now now1 : List Pair) (tries : List DeadTry) (index : ℕ) (dead : DeadTry) → index < length tries → now1 ≡ without_try (get_or tries index dead) now
+    → fold (λ (b : List Pair) (d : DeadTry). without_try d b) now1 (drop (index + 1) tries) ≡ fold (λ (b : List Pair) (d : DeadTry). without_try d b) now (drop index tries)
+rest_next now now1 tries index dead within is = ap (λ (t : List Pair). fold (λ (b : List Pair) (d : DeadTry). without_try d b) t (drop (index + 1) tries)) is ∙ fold_next now tries index dead within

@@ -1,0 +1,22 @@
+use Rattle.std.proofs.Common.{◌≡◌, List, Bool, Some, ap, filter, not, slice_get, sym, ◌∙◌, subst}
+use Rattle.std.specs.Map.{values_of}
+use Rattle.rl_base.specs.declared.ids.BlockId.{BlockId}
+use Rattle.rl_hir.specs.Blocks.{Pair, same_id}
+use Rattle.rl_hir.specs.declared.function.BasicBlock.{BasicBlock}
+use Rattle.rl_order.proofs.Dropping.{preds_changed}
+use Rattle.rl_order.proofs.RemovalSteps.{value_at}
+use Rattle.rl_order.specs.Kept.{changed_at}
+use Rattle.rl_order.specs.Removals.{without_predecessor}
+use Rattle.rl_order.proofs.tries.drop_predecessor.Goals as goal
+
+pub returns : goal.returns
+returns g c =
+    let graph : List Pair = g.B.Blocks.pairs c.args.blocks.now in
+    let place = c.in-Some.place in
+    let block : BasicBlock = c.take_block-block.result in
+    let same : c.at.result.1.now ≡ block =
+    (let both : Some c.at.result.1.now ≡ Some block = sym (value_at graph place (c.at.result.0, c.at.result.1.now) c.at.ensures) ∙ c.take_block-block.ensures.value in cc) in
+    let rest : List BlockId → List BlockId = filter (λ (other : BlockId). not (same_id c.args.id other)) in
+    let preds : c.in_ok-preds.preds ≡ rest block.preds = c.in_ok-preds.ensures ∙ ap rest c.as_slice.ensures ∙ ap (λ (b : BasicBlock). rest b.preds) same in
+    rw c.in-Some.is
+    (preds_changed graph (g.B.Blocks.pairs c.set_at.new.self) place c.args.id block c.in_ok-preds.preds c.take_block-block.ensures.value preds (c.set_at.ensures.new ∙ c.take_block-block.ensures.free _))

@@ -1,0 +1,36 @@
+use Rattle.std.proofs.Common.{◌≡◌, ℕ, List, ap, fold, get_or, sym, refl, ◌∙◌}
+use Rattle.std.specs.Map.{keys_of}
+use Rattle.rl_base.specs.declared.ids.BlockId.{BlockId}
+use Rattle.rl_hir.specs.Blocks.{HaveOwnIds, Pair}
+use Rattle.rl_order.proofs.Dropping.{kept_all, own_by_keys, rest_next}
+use Rattle.rl_order.specs.Kept.{kept}
+use Rattle.rl_order.specs.Removals.{dead_tries, is_there, without_try}
+use Rattle.rl_order.specs.declared.tries.DeadTry.{DeadTry}
+use Rattle.rl_order.proofs.tries.remove_unnecessary_try_catch.Goals as goal
+
+pub loop-dead-init : goal.loop-dead-init
+loop-dead-init g c =
+    let graph : List Pair = g.B.Blocks.pairs c.args.blocks.now in
+    record {
+      rest =
+          ap (λ (l : List BlockId). fold (λ (b : List Pair) (d : DeadTry). without_try d b) (kept l graph) c.as_slice-dead-items.result.now) c.new-lost.ensures.empty
+          ∙ ap (λ (b : List Pair). fold (λ (b : List Pair) (d : DeadTry). without_try d b) b c.as_slice-dead-items.result.now) (kept_all graph)
+          ∙ ap (λ (t : List DeadTry). fold (λ (b : List Pair) (d : DeadTry). without_try d b) graph t) (c.as_slice-dead-items.ensures.value ∙ c.in_ok-tries.ensures);
+      keys = refl;
+    }
+
+pub drop_try-requires-clause-distinct : goal.drop_try-requires-clause-distinct
+drop_try-requires-clause-distinct g c =
+    let own : HaveOwnIds (g.B.Blocks.pairs c.loop-dead.blocks) = own_by_keys (g.B.Blocks.pairs c.args.blocks.now) (g.B.Blocks.pairs c.loop-dead.blocks) c.loop-dead.invariant.keys c.place_index.ensures.distinct in
+    own
+
+pub loop-dead-preserved : goal.loop-dead-preserved
+loop-dead-preserved g c =
+    let some : DeadTry = record { id = record { 0 = 0 }; block = record { 0 = 0 }; handler = record { 0 = 0 }; fallthrough = record { 0 = 0 } } in
+    record {
+      rest =
+          rest_next (kept c.loop-dead.lost.keys (g.B.Blocks.pairs c.loop-dead.blocks)) (kept c.drop_try.new.lost.keys (g.B.Blocks.pairs c.drop_try.new.blocks)) c.as_slice-dead-items.result.now c.loop-dead.dead-index some
+          c.loop-dead-test.true c.in_ok-drop_try.ensures.kept
+          ∙ c.loop-dead.invariant.rest;
+      keys = c.in_ok-drop_try.ensures.keys ∙ c.loop-dead.invariant.keys;
+    }
