@@ -8,6 +8,7 @@ pub mod Measure
 pub mod NumberedOrders
 pub mod NumberingSteps
 pub mod Ordering
+pub mod PassExamples
 pub mod PlaceSteps
 pub mod Reached
 pub mod RemovalSteps
