@@ -9,7 +9,7 @@ use Rattle.rl_order.proofs.Ordering.{Forward, any_append, walked_good, or_left, 
 use Rattle.rl_order.specs.Forward.{GoesForward, Leads, Leaves, OnCycle, Reaches, Stays}
 use Rattle.rl_order.specs.Walk.{Walk, WalksFrom, emptied, is_noted, is_used, kept, kept_block}
 
--- What is kept of a block, where that is one block.
+-- All that is kept of a block, if that is one block.
 record OneKept (graph : List Pair) (id : BlockId) (part : List Pair) : Type 0 where
   block : BasicBlock
   is : part ≡ (id, block) ∷ []

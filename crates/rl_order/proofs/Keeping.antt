@@ -52,7 +52,7 @@ block_at_append (p ∷ xs) ys id hx hy = by_head (same_id id p.0) refl (λ none.
     by_head true e rest = let h' = rw e at hx in absurd (cc)
     by_head false e rest = let h' = rw e at hx in rw e (rest h')
 
--- What is kept of a block has its id alone.
+-- All that is kept of a block has its id.
 pub kept_apart : (graph : List Pair) (w : Walk) (id other : BlockId) → same_id other id ≡ false
     → block_at (kept graph w (id ∷ [])) other ≡ None
 kept_apart graph w id other differ = by_found (block_at graph id) refl (is_used w id) refl (is_noted w id) refl
@@ -64,7 +64,8 @@ kept_apart graph w id other differ = by_found (block_at graph id) refl (is_used 
     by_found (Some block) at false u true n = rw (at, u, n, differ) refl
     by_found (Some block) at false u false n = rw (at, u, n) refl
 
--- What holds between two blocks: `pairs` and what is kept of the blocks that are left make up all that is kept.
+-- The invariant of the loop over appended blocks: `pairs`, and what is kept of the blocks that are left, make up all that is
+-- kept.
 pub record Keeps (graph : List Pair) (end : Walk) (pairs : List Pair) (w : Walk) : Type 0 where
   pub same : w ≡ record end { appended = w.appended }
   pub all : pairs ++ kept graph end (reverse w.appended) ≡ kept graph end (reverse end.appended)

@@ -11,7 +11,7 @@ use Rattle.rl_order.specs.Walk.{IsWhole, Walk, WalksFrom, nothing, visit}
 use Rattle.rl_order.specs.declared.tasks.Task.{Task}
 use Rattle.rl_order.specs.declared.tasks.Task.TheVariants as tasks
 
--- What holds between two tasks. `items` is the stack, `count` and `first` the steps now and at the begin.
+-- The invariant of the loop over tasks. `items` is the stack; `first` and `count` are the steps at the start and now.
 pub record Holds (graph : List Pair) (entry : BlockId) (items : List Task) (w : Walk) (first count : ℕ) : Type 0 where
   pub back : (end : Walk) → Runs graph (reverse items) w end → WalksFrom graph entry end
   pub known : list_all (is_known graph) items ≡ true
@@ -86,7 +86,7 @@ falls graph entry items rest task w first count items' w' h is is' walked =
     let one : length (task ∷ []) ≡ 1 = refl in
     omega (arith, now, few, old_length, new_length, one)
 
--- Where a task fails, the steps are within the bound too.
+-- The steps are within the bound too if a task fails.
 pub stops : (graph : List Pair) (entry : BlockId) (items rest : List Task) (task : Task) (w : Walk) (first count count' : ℕ)
     → Holds graph entry items w first count → items ≡ rest ++ task ∷ []
     → count' ≡ count + (if is_expanding w task then 1 else 0) → count' ≤ first + 2 * length graph

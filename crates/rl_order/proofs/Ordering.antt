@@ -1,4 +1,4 @@
--- What a walk keeps: each block is appended once, and edges go back on cycles alone.
+-- The invariant of a walk: each block is appended once, and edges go back on cycles alone.
 use Rattle.std.proofs.Common.{◌≡◌, ℕ, Bool, true, false, cond, not, ◌||◌, ◌⊎◌, inl, inr, true≢false, Option, Some, None, List, [], ◌∷◌, ◌++◌, map, reverse, is_some, refl, append-nil, sym, ap, ◌∙◌, subst, eq-eqb, eqb-true}
 use Rattle.std.proofs.lemmas.List.{reverse-append}
 use Rattle.std.specs.List.{list_any}
@@ -41,7 +41,7 @@ Forward graph (id ∷ ids) =
     ((other : BlockId) → list_any (same_id other) ids ≡ true → Leads graph other id → Reaches graph id other) ×
     Forward graph ids
 
--- What holds at each state of a walk.
+-- The invariant at each state of a walk.
 pub record Good (graph : List Pair) (w : Walk) : Type 0 where
   pub own : AreOwn (order w)
   pub within : (id : BlockId) → is_done w id ≡ true → is_seen w id ≡ true
@@ -57,7 +57,7 @@ abbrev AllSeen : Walk → List Visit → Type 0
 AllSeen w [] = Unit {0}
 AllSeen w (v ∷ vs) = (is_seen w v.id ≡ true) × AllSeen w vs
 
--- What holds between two states of a walk.
+-- The invariant between two states of a walk.
 pub record Kept (graph : List Pair) (vs : List Visit) (w end : Walk) : Type 0 where
   pub good : Good graph end
   pub seen : (id : BlockId) → is_seen w id ≡ true → is_seen end id ≡ true
@@ -69,7 +69,7 @@ pub decide : (b : Bool) → (b ≡ true) ⊎ (b ≡ false)
 decide true = inl refl
 decide false = inr refl
 
--- Where one is true only with the other, it is false with the other.
+-- If `a` implies `b` and `b` is false, `a` is false.
 backwards : (a b : Bool) → (a ≡ true → b ≡ true) → b ≡ false → a ≡ false
 backwards true b h e = absurd (true≢false (sym (h refl) ∙ e))
 backwards false b h e = refl

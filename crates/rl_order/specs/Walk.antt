@@ -1,4 +1,4 @@
--- The ordering of the blocks of a graph: a walk from the entry, and the blocks that are kept.
+-- The ordering of the blocks of a graph (`getReversePostorderedBlocks`): a walk from the entry, and the blocks that are kept.
 use Rattle.std.specs.Prelude.{◌≡◌, Bool, true, false, not, ◌||◌, if◌then◌else◌, Option, Some, None, List, [], ◌∷◌, ◌++◌, map, reverse, is_some, unwrap_or}
 use Rattle.std.specs.Map.{lookup}
 use Rattle.std.specs.List.{list_any, list_all}
