@@ -1,5 +1,5 @@
 -- Blocks that are changed by their places, and blocks that are kept.
-use Rattle.std.proofs.Common.{◌≡◌, ℕ, zero, suc, ◌+◌, ◌<◌, ◌⊎◌, inl, inr, Bool, true, false, not, ◌&&◌, ◌||◌, if◌then◌else◌, Option, List, [], ◌∷◌, ◌++◌, length, map, filter, fold, get_or, take, drop, position, IfSome, slice_get, Some, None, ap, sym, ◌∙◌, refl, subst, arith, add-one, append_assoc, eq-eqb}
+use Rattle.std.proofs.Common.{◌≡◌, ℕ, zero, suc, ◌+◌, ◌<◌, inl, inr, Bool, true, false, not, ◌&&◌, ◌||◌, if◌then◌else◌, Option, List, [], ◌∷◌, ◌++◌, length, map, filter, fold, get_or, take, drop, position, IfSome, slice_get, Some, None, ap, sym, ◌∙◌, refl, subst, arith, add-one, append_assoc, eq-eqb}
 use Rattle.std.specs.List.{list_any}
 use Rattle.std.proofs.Math.Seq.{drop-cons}
 use Rattle.std.specs.Option.{option_to_list}

@@ -1,8 +1,7 @@
 -- Small graphs before and after the passes, by computation.
-use Rattle.std.proofs.Common.{◌≡◌, ℕ, Option, Some, None, List, [], ◌∷◌, map, refl}
+use Rattle.std.proofs.Common.{◌≡◌, ℕ, Some, None, List, [], ◌∷◌, map, refl}
 use Rattle.rl_base.specs.declared.ids.BlockId.{BlockId}
 use Rattle.rl_hir.specs.Blocks.{Pair}
-use Rattle.rl_hir.specs.declared.function.BasicBlock.{BasicBlock}
 use Rattle.rl_hir.specs.declared.function.BlockKind.TheVariants as blocks
 use Rattle.rl_hir.specs.declared.instruction.Place.{Place}
 use Rattle.rl_hir.specs.declared.terminal.GotoVariant.TheVariants as gotos
@@ -11,7 +10,6 @@ use Rattle.rl_hir.specs.declared.terminal.TerminalKind.TheVariants as kinds
 use Rattle.rl_order.specs.Numbering.{ordered_blocks}
 use Rattle.rl_order.specs.Predecessors.{IsMarked, Visits, Ends}
 use Rattle.rl_order.specs.Removals.{without_dead_do_whiles, without_dead_tries, without_unreachable_updates}
-use Rattle.rl_order.specs.declared.predecessors.Edge.{Edge}
 
 abbrev id : ℕ → BlockId
 id n = record { 0 = n }

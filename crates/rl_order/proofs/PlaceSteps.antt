@@ -1,5 +1,5 @@
 -- Blocks that are taken out and put back.
-use Rattle.std.proofs.Common.{◌≡◌, ℕ, zero, suc, ◌+◌, ◌<◌, List, [], ◌∷◌, ◌++◌, length, take, drop, Some, None, slice_get, get_or, get_or-drop, add-zero, add-one, append_assoc, ap, sym, ◌∙◌, refl, subst, arith, map}
+use Rattle.std.proofs.Common.{◌≡◌, ℕ, zero, suc, ◌+◌, List, [], ◌∷◌, ◌++◌, length, take, drop, Some, slice_get, get_or, get_or-drop, add-zero, add-one, append_assoc, ap, sym, ◌∙◌, refl}
 use Rattle.std.specs.Map.{values_of}
 use Rattle.indexmap.specs.Layout.{length-set_value_at}
 use Rattle.rl_base.specs.declared.ids.BlockId.{BlockId}

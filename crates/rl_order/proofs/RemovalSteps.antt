@@ -1,9 +1,9 @@
 -- Steps of the passes that change the kinds of terminals.
-use Rattle.std.proofs.Common.{◌≡◌, ℕ, zero, suc, ◌+◌, ◌<◌, Bool, true, false, is_some, List, [], ◌∷◌, ◌++◌, length, take, drop, append-nil, Some, slice_get, ap, sym, ◌∙◌, refl, arith, unwrap_or}
+use Rattle.std.proofs.Common.{◌≡◌, ℕ, zero, suc, ◌+◌, Bool, true, false, List, [], ◌∷◌, ◌++◌, length, take, drop, append-nil, Some, slice_get, ap, sym, ◌∙◌, refl, arith}
 use Rattle.std.specs.Map.{values_of}
 use Rattle.std.proofs.lemmas.List.{drop_all, take_all}
 use Rattle.rl_base.specs.declared.ids.BlockId.{BlockId}
-use Rattle.rl_hir.specs.Blocks.{Pair, block_at, same_id, with_block_at}
+use Rattle.rl_hir.specs.Blocks.{Pair, same_id, with_block_at}
 use Rattle.rl_hir.specs.declared.function.BasicBlock.{BasicBlock}
 use Rattle.rl_hir.specs.declared.terminal.TerminalKind.{TerminalKind}
 use Rattle.rl_order.proofs.PlaceSteps.{IsReplaced, one_more, replaced, same_count, same_later}

@@ -1,10 +1,9 @@
 -- The lists of sources, one for each block.
-use Rattle.std.proofs.Common.{◌≡◌, ℕ, zero, suc, ◌+◌, ◌<◌, ◌≤◌, Bool, true, false, ◌||◌, if◌then◌else◌, Option, List, [], ◌∷◌, ◌++◌, length, map, filter, take, position, slice_get, slice_set, Some, None, ap, sym, ◌∙◌, refl, subst, arith, add-one, eq-eqb}
+use Rattle.std.proofs.Common.{◌≡◌, ℕ, zero, suc, ◌+◌, ◌<◌, Bool, true, false, if◌then◌else◌, Option, List, [], ◌∷◌, ◌++◌, length, take, position, slice_get, slice_set, Some, None, ap, sym, ◌∙◌, refl, arith, add-one, eq-eqb}
 use Rattle.std.specs.List.{list_any}
-use Rattle.std.specs.Map.{keys_of, values_of, lookup, lookup_key}
+use Rattle.std.specs.Map.{keys_of, values_of, lookup_key}
 use Rattle.indexmap.proofs.MapLemmas.{Found-position, Missing-position}
 use Rattle.indexmap.specs.IndexSet.{insert_key}
-use Rattle.rl_base.specs.Distinct.{AreDistinct}
 use Rattle.rl_base.proofs.DistinctLists.{distinct_tail}
 use Rattle.rl_base.specs.declared.ids.BlockId.{BlockId}
 use Rattle.rl_hir.specs.Blocks.{Pair, HaveOwnIds, block_at, ids, same_id, with_block_at}

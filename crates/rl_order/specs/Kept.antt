@@ -1,5 +1,5 @@
 -- Changes of blocks by their places, and blocks that are kept.
-use Rattle.std.specs.Prelude.{◌≡◌, ℕ, Bool, not, Option, Some, None, List, filter, slice_get}
+use Rattle.std.specs.Prelude.{ℕ, not, Option, Some, None, List, filter, slice_get}
 use Rattle.std.specs.List.{list_any}
 use Rattle.std.specs.Map.{values_of}
 use Rattle.rl_base.specs.declared.ids.BlockId.{BlockId}

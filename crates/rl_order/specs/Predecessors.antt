@@ -1,5 +1,5 @@
 -- Predecessors: a walk over a graph, depth first, and the edges that it follows.
-use Rattle.std.specs.Prelude.{◌≡◌, Bool, true, false, Option, Some, None, List, [], ◌∷◌, ◌++◌, Contains, ◌↔◌, map, filter}
+use Rattle.std.specs.Prelude.{◌≡◌, Bool, true, false, Some, None, List, [], ◌∷◌, ◌++◌, Contains, ◌↔◌, map, filter}
 use Rattle.std.specs.List.{list_any}
 use Rattle.indexmap.specs.IndexSet.{insert_all}
 use Rattle.rl_base.specs.declared.ids.BlockId.{BlockId}

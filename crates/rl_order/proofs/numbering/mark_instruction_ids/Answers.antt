@@ -1,4 +1,4 @@
-use Rattle.std.proofs.Common.{◌≡◌, ◌<◌, ◌+◌, ◌++◌, List, [], append-nil, drop, length, take, ap, sym, ◌∙◌, refl, arith}
+use Rattle.std.proofs.Common.{◌≡◌, ◌+◌, ◌++◌, List, [], append-nil, drop, length, take, ap, sym, ◌∙◌, refl, arith}
 use Rattle.std.proofs.lemmas.List.{drop_all, take_all}
 use Rattle.rl_hir.specs.Blocks.{Pair, with_block_at}
 use Rattle.rl_hir.specs.declared.function.BasicBlock.{BasicBlock}

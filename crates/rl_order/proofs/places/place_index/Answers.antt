@@ -1,4 +1,3 @@
-use Rattle.std.proofs.Common.{Some, ap, ◌∙◌}
 use Rattle.rl_order.proofs.SourceLists.{one_more_key}
 use Rattle.rl_order.proofs.places.place_index.Goals as goal
 

@@ -1,7 +1,6 @@
 use Rattle.std.proofs.Common.{◌≡◌, [], drop}
 use Rattle.indexmap.specs.IndexSet.{insert_all}
 use Rattle.rl_hir.specs.Blocks.{same_id}
-use Rattle.rl_order.specs.Predecessors.{distinct_ids}
 use Rattle.rl_order.proofs.predecessors.distinct_successors.Given as goal
 
 -- those to come are put behind those that are there already

@@ -1,4 +1,4 @@
-use Rattle.std.proofs.Common.{◌≡◌, ◌++◌, ◌∷◌, List, [], ap, sym, ◌∙◌, arith, take}
+use Rattle.std.proofs.Common.{◌++◌, ◌∷◌, List, [], ap, sym, ◌∙◌, arith, take}
 use Rattle.rl_base.specs.declared.ids.BlockId.{BlockId}
 use Rattle.rl_hir.specs.Blocks.{Pair}
 use Rattle.rl_order.proofs.SourceLists.{one_more_list}

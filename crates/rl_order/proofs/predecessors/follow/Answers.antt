@@ -1,7 +1,6 @@
-use Rattle.std.proofs.Common.{◌≡◌, ◌∙◌, List, Some, None, ap, reverse, sym, false, true}
+use Rattle.std.proofs.Common.{◌≡◌, ◌∙◌, None, reverse, sym}
 use Rattle.std.specs.List.{list_any}
-use Rattle.rl_hir.specs.Blocks.{Pair, block_at, same_id}
-use Rattle.rl_order.specs.declared.predecessors.Edge.{Edge}
+use Rattle.rl_hir.specs.Blocks.{block_at, same_id}
 use Rattle.rl_order.proofs.Following.{meets, misses, not_false, not_true, visits, visit_falls}
 use Rattle.rl_order.proofs.predecessors.follow.Goals as goal
 

@@ -1,4 +1,4 @@
-use Rattle.std.proofs.Common.{◌≡◌, ℕ, Option, List, ap, sym, ◌∙◌, arith, get_or, position, take}
+use Rattle.std.proofs.Common.{◌≡◌, List, ap, sym, ◌∙◌, get_or, position, take}
 use Rattle.std.specs.Map.{keys_of}
 use Rattle.std.proofs.lemmas.List.{take_more}
 use Rattle.rl_base.specs.declared.ids.BlockId.{BlockId}

@@ -1,5 +1,4 @@
 use Rattle.std.proofs.Common.{◌≡◌, take}
-use Rattle.std.specs.Map.{keys_of}
 use Rattle.rl_order.specs.Predecessors.{source_lists}
 use Rattle.rl_order.proofs.predecessors.predecessor_lists.Given as goal
 

@@ -1,4 +1,4 @@
-use Rattle.std.proofs.Common.{◌≡◌, List, [], reverse, length, ap, subst, sym, arith}
+use Rattle.std.proofs.Common.{◌≡◌, List, [], reverse, subst, sym, arith}
 use Rattle.rl_order.specs.declared.predecessors.Edge.{Edge}
 use Rattle.rl_order.specs.Predecessors.{Follows, Ends, Trail}
 use Rattle.rl_order.specs.Walked.{trail_of}

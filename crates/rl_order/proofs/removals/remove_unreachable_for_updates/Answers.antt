@@ -1,4 +1,4 @@
-use Rattle.std.proofs.Common.{◌≡◌, List, unwrap_or, slice_get, Some, sym, ◌∙◌}
+use Rattle.std.proofs.Common.{◌≡◌, List, unwrap_or, slice_get, Some, ◌∙◌}
 use Rattle.std.specs.Map.{values_of}
 use Rattle.rl_hir.specs.Blocks.{Pair}
 use Rattle.rl_hir.specs.declared.function.BasicBlock.{BasicBlock}

@@ -1,4 +1,4 @@
-use Rattle.std.proofs.Common.{◌≡◌, ℕ, List, Option, ap, position, sym, ◌∙◌}
+use Rattle.std.proofs.Common.{◌≡◌, List, ap, position, sym, ◌∙◌}
 use Rattle.std.specs.Map.{keys_of}
 use Rattle.rl_base.specs.declared.ids.BlockId.{BlockId}
 use Rattle.rl_hir.specs.Blocks.{HaveOwnIds, Pair, same_id}

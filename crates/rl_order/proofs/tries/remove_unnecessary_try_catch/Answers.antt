@@ -1,10 +1,9 @@
-use Rattle.std.proofs.Common.{◌≡◌, ℕ, List, ap, fold, get_or, sym, refl, ◌∙◌}
-use Rattle.std.specs.Map.{keys_of}
+use Rattle.std.proofs.Common.{List, ap, fold, refl, ◌∙◌}
 use Rattle.rl_base.specs.declared.ids.BlockId.{BlockId}
 use Rattle.rl_hir.specs.Blocks.{HaveOwnIds, Pair}
 use Rattle.rl_order.proofs.Dropping.{kept_all, own_by_keys, rest_next}
 use Rattle.rl_order.specs.Kept.{kept}
-use Rattle.rl_order.specs.Removals.{dead_tries, is_there, without_try}
+use Rattle.rl_order.specs.Removals.{without_try}
 use Rattle.rl_order.specs.declared.tries.DeadTry.{DeadTry}
 use Rattle.rl_order.proofs.tries.remove_unnecessary_try_catch.Goals as goal
 
