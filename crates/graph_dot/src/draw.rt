@@ -66,7 +66,7 @@ fn push_block(
         // Each index that a block lists is one of the table's (`IsLinked`).
         if let Some(instruction) = table.get(index.0 as usize) {
             let mut line = String::new(alloc);
-            push_instruction(instruction, &mut line)?;
+            push_instruction(alloc, instruction, &mut line)?;
             push_line(line.as_str(), out)?;
         }
     }

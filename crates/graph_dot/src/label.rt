@@ -5,9 +5,11 @@ use rl_base::error::OutOfMemory;
 use rl_hir::instruction::{
     Instruction, InstructionValue, NonLocalBinding, PlaceOrSpread, PrimitiveValue,
 };
-use rl_hir::terminal::{Terminal, each_terminal_successor};
+use rl_hir::terminal::{Terminal, TerminalKind, each_terminal_successor};
+use rl_text::written::Written;
 use std::alloc::Global;
 use std::fmt::Write;
+use std::str;
 
 /// Appends a line to a label of the shape `record`: there braces, bars, angle brackets, quotes and backslashes have a meaning,
 /// spaces in a row are one, and `&` begins an entity.
@@ -30,11 +32,15 @@ pub fn push_line(line: &str, out: &mut String) -> Result<(), OutOfMemory> {
 }
 
 /// Appends `ORDER: $LVALUE = VALUE`.
-pub fn push_instruction(instruction: &Instruction, line: &mut String) -> Result<(), OutOfMemory> {
+pub fn push_instruction(
+    alloc: Global,
+    instruction: &Instruction,
+    line: &mut String,
+) -> Result<(), OutOfMemory> {
     let order = instruction.order.0;
     let lvalue = instruction.lvalue.identifier.0;
     write!(line, "{order}: ${lvalue} = ")?;
-    push_value(&instruction.value, line)
+    push_value(alloc, &instruction.value, line)
 }
 
 /// Appends `ORDER: return $VALUE`, or `to bbID bbID ..` for another terminal: the blocks to which it may lead.
@@ -43,8 +49,8 @@ pub fn push_terminal(
     terminal: &Terminal,
     line: &mut String,
 ) -> Result<(), OutOfMemory> {
-    if let Terminal::Return { order, value, .. } = terminal {
-        let order = order.0;
+    if let TerminalKind::Return { value, .. } = &terminal.kind {
+        let order = terminal.order.0;
         let returned = value.identifier.0;
         write!(line, "{order}: return ${returned}")?;
         return Ok(());
@@ -57,8 +63,12 @@ pub fn push_terminal(
     Ok(())
 }
 
-/// Appends a value as an expression over identifiers, written `$ID`.
-fn push_value(value: &InstructionValue, line: &mut String) -> Result<(), OutOfMemory> {
+/// Appends a value as an expression over identifiers, written `$ID`; a value without such a form as it is listed.
+fn push_value(
+    alloc: Global,
+    value: &InstructionValue,
+    line: &mut String,
+) -> Result<(), OutOfMemory> {
     match value {
         InstructionValue::Primitive(primitive) => push_primitive(primitive, line),
         InstructionValue::LoadLocal(place) => {
@@ -67,7 +77,7 @@ fn push_value(value: &InstructionValue, line: &mut String) -> Result<(), OutOfMe
             Ok(())
         }
         InstructionValue::LoadGlobal(binding) => push_binding(binding, line),
-        InstructionValue::Binary {
+        InstructionValue::BinaryExpression {
             operator,
             left,
             right,
@@ -78,12 +88,27 @@ fn push_value(value: &InstructionValue, line: &mut String) -> Result<(), OutOfMe
             write!(line, "${left} {operator} ${right}")?;
             Ok(())
         }
-        InstructionValue::Call { callee, arguments } => {
+        InstructionValue::CallExpression { callee, arguments } => {
             let callee = callee.identifier.0;
             write!(line, "${callee}")?;
             push_arguments(arguments.as_slice(), line)
         }
+        listed => push_listed(alloc, listed, line),
     }
+}
+
+/// Appends the listing of a value.
+fn push_listed(
+    alloc: Global,
+    value: &InstructionValue,
+    line: &mut String,
+) -> Result<(), OutOfMemory> {
+    let mut bytes = Vec::new(alloc);
+    value.write(&mut bytes)?;
+    if let Ok(text) = str::from_utf8(&bytes) {
+        line.push_str(text)?;
+    }
+    Ok(())
 }
 
 fn push_primitive(value: &PrimitiveValue, line: &mut String) -> Result<(), OutOfMemory> {

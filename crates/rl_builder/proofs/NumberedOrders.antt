@@ -9,12 +9,11 @@ use Rattle.rl_base.specs.declared.ids.InstructionId.{InstructionId}
 use Rattle.rl_base.proofs.DistinctLists.{IsIn, contains_in, in_either, in_head, in_left, in_none, in_right, in_tail}
 use Rattle.rl_base.proofs.DistinctLists.{distinct_apart, distinct_head, distinct_left, distinct_right, distinct_tail}
 use Rattle.rl_builder.specs.Order.{ordered_at, ordered_list, order_after, ordered_blocks, ordered_table}
-use Rattle.rl_hir.specs.Numbered.{IsNumbered, listed_in, order_at, order_of, orders_in}
+use Rattle.rl_hir.specs.Numbered.{IsNumbered, listed_in, order_at, orders_in}
 use Rattle.rl_hir.specs.Terminals.{with_order}
 use Rattle.rl_hir.specs.declared.function.NumberedBlock.{NumberedBlock}
 use Rattle.rl_hir.specs.declared.instruction.Instruction.{Instruction}
 use Rattle.rl_hir.specs.declared.terminal.Terminal.{Terminal}
-use Rattle.rl_hir.specs.declared.terminal.Terminal.TheVariants as terminals
 
 -- The indices into the instruction table that a block lists.
 abbrev numbers : List InstructionId → List ℕ
@@ -176,9 +175,8 @@ table_other order (b ∷ blocks) table other apart =
     (λ h. apart (in_right (numbers ids) (listed_in blocks) other h))
     ∙ list_other order ids table other (λ h. apart (in_left (numbers ids) (listed_in blocks) other h))
 
-order_given : (order : ℕ) (t : Terminal) → order_of (with_order order t) ≡ order
-order_given order (terminals.Return old at variant p) = refl
-order_given order (terminals.Unreachable old at) = refl
+order_given : (order : ℕ) (t : Terminal) → (with_order order t).order.0 ≡ order
+order_given order t = refl
 
 blocks_count : (order : ℕ) (blocks : List NumberedBlock) (table : List Instruction) → AreDistinct (listed_in blocks)
     → ((n : ℕ) → IsIn (listed_in blocks) n → n < length table)
@@ -201,7 +199,7 @@ blocks_count order (b ∷ blocks) table distinct below =
     let within : n < length table = below n (in_right (numbers ids) others n h) in
     omega (arith, within, list_length order ids table)) in
     count_append order last (map (λ (id : InstructionId). order_at all id) ids)
-    (Some (order_of (with_order last b.block.terminal)) ∷ orders_in all (ordered_blocks next blocks))
+    (Some ((with_order last b.block.terminal).order.0) ∷ orders_in all (ordered_blocks next blocks))
     (omega (arith, length-map ids (λ (id : InstructionId). order_at all id))) own
     (count_cons last _ (orders_in all (ordered_blocks next blocks)) (ap (λ n. Some n) (order_given last b.block.terminal)) rest)
 

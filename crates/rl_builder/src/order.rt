@@ -51,7 +51,7 @@ fn mark_block(block: &mut NumberedBlock, table: &mut [Instruction], first: u32) 
     ensures next { result ≡ order_after first block.old }
 {
     let order = mark_listed(block.block.instructions.as_slice(), table, first);
-    block.block.terminal.set_order(EvaluationOrder(order));
+    block.block.terminal.order = EvaluationOrder(order);
     order + 1
 }
 

@@ -4,8 +4,8 @@ use Rattle.rl_text.specs.Notation.{Tree, Said, Count, Flag, spelling}
 use Rattle.rl_base.specs.declared.ids.BlockId.{BlockId}
 use Rattle.rl_base.specs.declared.ids.InstructionId.{InstructionId}
 use Rattle.rl_hir.specs.Terminals.{Field, Leads, MayLead, Chooses, Follows, Names, MayName, Reads, MayBind, Says, Holds, fields_of, terminal_word}
-use Rattle.rl_hir.specs.Trees.{node, list, optional, said, span, place}
-use Rattle.rl_hir.specs.Values.{value}
+pub use Rattle.rl_hir.specs.Trees.{node, list, optional, said, span, place}
+pub use Rattle.rl_hir.specs.Values.{value}
 use Rattle.rl_hir.specs.declared.instruction.Instruction.{Instruction}
 use Rattle.rl_hir.specs.declared.terminal.Case.{Case}
 use Rattle.rl_hir.specs.declared.terminal.Terminal.{Terminal}

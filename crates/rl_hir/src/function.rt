@@ -3,7 +3,9 @@ ghost use Rattle.std.specs.Prelude.{◌≡◌, IfOk};
 use crate::instruction::{Instruction, Place};
 use crate::terminal::{Terminal, TerminalKind};
 use rl_base::error::OutOfMemory;
-use rl_base::ids::{BlockId, EvaluationOrder, IdentifierId, InstructionId, NodeId, SymbolId, TypeId};
+use rl_base::ids::{
+    BlockId, EvaluationOrder, IdentifierId, InstructionId, NodeId, SymbolId, TypeId,
+};
 use rl_base::list::List;
 use rl_base::span::Span;
 use rl_base::text::Text;

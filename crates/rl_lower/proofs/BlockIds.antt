@@ -9,8 +9,7 @@ use Rattle.rl_hir.specs.declared.function.NumberedBlock.{NumberedBlock}
 use Rattle.rl_hir.specs.declared.function.BlockKind.{BlockKind}
 use Rattle.rl_builder.specs.Builder.{State, reserved, new_block, ended_by, completed_by}
 use Rattle.rl_builder.specs.declared.builder.WipBlock.{WipBlock}
-use Rattle.rl_model.specs.Closed.{IsUnreachable}
-use Rattle.rl_lower.specs.Simulation.{IsCompleted, UniqueIds, IsOwn, PreservesUniqueIds, PreservesIds, AreEnded}
+use Rattle.rl_lower.specs.Simulation.{IsCompleted, UniqueIds, IsOwn, PreservesUniqueIds, PreservesIds, AreEnded, LeavesFunction}
 
 -- An element of a list with one more at its end.
 pub added_cases : (xs : List NumberedBlock) (x : NumberedBlock) (place : ℕ) (b : NumberedBlock)
@@ -133,11 +132,11 @@ ids_fresh s t kind =
     ids_ended (reserved s) t (new_block s.env.next_block kind) (ids_counted s.completed s.current.id.0 s.env.next_block (s.env.next_block + 1) (omega arith)) (inr (omega arith))
     (λ c. free_fresh s.completed s.current.id.0 s.env.next_block (s.env.next_block + 1) s.env.next_block c (omega arith) (omega arith))
 
-only_one : (b : NumberedBlock) → (IsUnreachable b.block.terminal → ⊥) → AreEnded (b ∷ [])
+only_one : (b : NumberedBlock) → LeavesFunction b.block.terminal → AreEnded (b ∷ [])
 only_one b end zero d below = end
 only_one b end (suc k) d below = absurd (omega arith)
 
-pub ended_more : (completed : List NumberedBlock) (b : NumberedBlock) → (IsUnreachable b.block.terminal → ⊥)
+pub ended_more : (completed : List NumberedBlock) (b : NumberedBlock) → LeavesFunction b.block.terminal
     → AreEnded completed → AreEnded (completed ++ b ∷ [])
 ended_more completed b end all =
-    All-append (λ (x : NumberedBlock). IsUnreachable x.block.terminal → ⊥) completed (b ∷ []) all (only_one b end)
+    All-append (λ (x : NumberedBlock). LeavesFunction x.block.terminal) completed (b ∷ []) all (only_one b end)

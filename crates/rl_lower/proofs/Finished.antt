@@ -13,11 +13,12 @@ use Rattle.rl_builder.specs.Build.{built_of}
 use Rattle.rl_model.specs.declared.trace.Answer.{Answer}
 use Rattle.rl_model.specs.declared.trace.Trace.{Trace}
 use Rattle.rl_model.specs.Traces.{Store}
-use Rattle.rl_model.specs.Closed.{IsUnreachable, IsClosed}
+use Rattle.rl_model.specs.Closed.{IsClosed}
+use Rattle.rl_model.specs.WellFormed.{IsPredecessor}
 use Rattle.rl_model.specs.Machine.{Item, Runs, Ends, Code, Notes, block_of, code_in, exec, item_in, positions, steps_for}
-use Rattle.rl_lower.specs.Simulation.{Fact, InBlock, InCompleted, InCurrent, HasItem, IsCompleted, IsCurrentOrCompleted, Extends, IsContainedIn, UniqueIds, IsOwn, PreservesUniqueIds, PreservesIds, AreEnded, Eventually, TracesAt, TracesFrom, Later, Follows, Continues, Throws, RunsExpression, RunsStatement}
+use Rattle.rl_lower.specs.Simulation.{Fact, InBlock, InCompleted, InCurrent, HasItem, IsCompleted, IsCurrentOrCompleted, Extends, IsContainedIn, UniqueIds, IsOwn, PreservesUniqueIds, PreservesIds, AreEnded, LeavesFunction, Eventually, TracesAt, TracesFrom, Later, Follows, Continues, Throws, RunsExpression, RunsStatement}
 use Rattle.rl_lower.proofs.NeverStuck.{IsShort, exec_walks}
-use Rattle.rl_lower.proofs.Graphs.{Apart, built_entry, found_by, item_met, same_in_block, entry_plain, built_closed}
+use Rattle.rl_lower.proofs.Graphs.{Apart, built_entry, found_by, item_met, same_in_block, entry_plain, built_closed, built_precede}
 
 -- Every block is complete, ids are distinct, and the entry is one of them.
 pub record IsFinished (s : State) : Type 0 where
@@ -51,13 +52,17 @@ within [] place x e = absurd (cc)
 within (y ∷ xs) zero x e = omega arith
 within (y ∷ xs) (suc place) x e = let rest : place < length xs = within xs place x e in omega arith
 
-entry_ends : (s : State) (fin : IsFinished s) → IsUnreachable fin.entry.block.block.terminal → ⊥
-entry_ends s fin =
-    subst (λ (b : NumberedBlock). IsUnreachable b.block.terminal → ⊥) (get_or_from_slice_get s.completed fin.entry.place fin.entry.block fin.entry.block fin.entry.found) (fin.ended fin.entry.place fin.entry.block (within s.completed fin.entry.place fin.entry.block fin.entry.found))
+pub leaves : (s : State) (fin : IsFinished s) → LeavesFunction fin.entry.block.block.terminal
+leaves s fin =
+    subst (λ (b : NumberedBlock). LeavesFunction b.block.terminal) (get_or_from_slice_get s.completed fin.entry.place fin.entry.block fin.entry.block fin.entry.found) (fin.ended fin.entry.place fin.entry.block (within s.completed fin.entry.place fin.entry.block fin.entry.found))
 
 -- The graph that is built is closed.
 pub finished_closed : (s : State) → IsFinished s → IsClosed (built_of s).hir
-finished_closed s fin = built_closed s.entry s.completed fin.entry.block.block (entry_block s fin) (entry_ends s fin)
+finished_closed s fin = built_closed s.entry s.completed fin.entry.block.block (entry_block s fin) (leaves s fin)
+
+-- No block of the graph that is built has a predecessor.
+pub finished_precede : (s : State) → IsFinished s → (other id : ℕ) → IsPredecessor (built_of s).hir other id → ⊥
+finished_precede s fin = built_precede s.entry s.completed fin.entry.block.block (entry_block s fin) (leaves s fin)
 
 -- The graph that is built has the traces of the builder's blocks from the entry.
 pub finished_runs : (s : State) → IsFinished s → (store : Store) (notes : Notes) (answers : List Answer) (t : Trace)

@@ -108,7 +108,7 @@ none_ended k d below = absurd (omega arith)
 pub function_finished : (begun s : State) → IsFresh begun → PreservesBlocks begun s → IsFinished (closed_off s)
 function_finished begun s fresh b = record {
   apart = apart_ended s.completed s.current.id.0 s.env.next_block (ended_by (with_undefined s).current (return_of None returns.Void (temporary s None))) refl (b.ids.distinct (distinct_fresh begun fresh));
-  ended = ended_more s.completed (ended_by (with_undefined s).current (return_of None returns.Void (temporary s None))) (λ h. h) (b.ended (subst AreEnded (sym fresh.completed) none_ended));
+  ended = ended_more s.completed (ended_by (with_undefined s).current (return_of None returns.Void (temporary s None))) (refl, λ h. h) (b.ended (subst AreEnded (sym fresh.completed) none_ended));
   empty = refl;
   entry = subst (λ (id : ℕ). IsCompleted (closed_off s).completed id) (sym (ap (λ (id : BlockId). id.0) b.extends.entry ∙ fresh.entry))
       (entry_completed (with_undefined s) (return_of None returns.Void (temporary s None)) placeholder begun.current.id.0

@@ -7,19 +7,19 @@ use Rattle.rl_base.specs.declared.ids.BlockId.{BlockId}
 use Rattle.rl_base.specs.declared.ids.InstructionId.{InstructionId}
 use Rattle.rl_hir.specs.declared.instruction.Instruction.{Instruction}
 use Rattle.rl_hir.specs.declared.terminal.Terminal.{Terminal}
-use Rattle.rl_hir.specs.declared.terminal.Terminal.TheVariants as terminals
 use Rattle.rl_hir.specs.declared.function.BasicBlock.{BasicBlock}
 use Rattle.rl_hir.specs.declared.function.Hir.{Hir}
 use Rattle.rl_hir.specs.declared.function.NumberedBlock.{NumberedBlock}
-use Rattle.rl_hir.specs.Terminals.{with_order}
+use Rattle.rl_hir.specs.Terminals.{Field, Leads, MayLead, Chooses, Follows, Names, MayName, Reads, MayBind, Says, Holds, fields_of, leads, named_ids, names, with_order}
 use Rattle.rl_builder.specs.Order.{reached_blocks, ordered_at, ordered_list, order_after, ordered_block, ordered_blocks, ordered_table}
 use Rattle.rl_model.specs.declared.trace.Answer.{Answer}
 use Rattle.rl_model.specs.declared.trace.Trace.{Trace}
 use Rattle.rl_model.specs.Traces.{Store, set, set_open, threw}
-use Rattle.rl_model.specs.Closed.{successors, named, IsUnreachable, IsClosed, Reaches}
+use Rattle.rl_model.specs.Closed.{successors, named, IsClosed, Reaches}
 use Rattle.rl_model.specs.Closed as closed
-use Rattle.rl_model.specs.Machine.{Item, Runs, Ends, Code, Notes, Next, Act, Computes, Asks, act, block_of, item_in, code_in, executed, is_open, step}
-use Rattle.rl_lower.specs.Simulation.{InBlock, walk}
+use Rattle.rl_model.specs.WellFormed.{IsPredecessor}
+use Rattle.rl_model.specs.Machine.{Item, Runs, Ends, Code, Notes, Next, Act, Computes, Asks, Stops, act, block_of, item_in, code_in, executed, is_open, step}
+use Rattle.rl_lower.specs.Simulation.{InBlock, LeavesFunction, walk}
 use Rattle.rl_lower.proofs.Asking.{asked_same}
 use Rattle.rl_lower.proofs.BlockIds.{ids_of}
 use Rattle.rl_base.proofs.DistinctLists.{distinct_head, distinct_tail}
@@ -75,22 +75,21 @@ plain o = option_map plain_item o
 step_plain : (stuck : Trace) (o : Option Item) (silent loud : Next) (block place : ℕ) (store : Store) (notes : Notes) (answers : List Answer) → step stuck (plain o) silent loud block place store notes answers ≡ step stuck o silent loud block place store notes answers
 step_plain stuck None silent loud block place store notes answers = refl
 step_plain stuck (Some (Runs i)) silent loud block place store notes answers = refl
-step_plain stuck (Some (Ends (terminals.Return order at variant p))) silent loud block place store notes answers = refl
-step_plain stuck (Some (Ends (terminals.Unreachable order at))) silent loud block place store notes answers = refl
+step_plain stuck (Some (Ends t)) silent loud block place store notes answers = refl
 
 -- Two continuations agree in the block.
 abbrev SameBehind : Next → Next → ℕ → Notes → Type 0
 SameBehind f g block notes = (place : ℕ) (store : Store) (answers : List Answer) → f block place store notes answers ≡ g block place store notes answers
 
-stays_act : (a : Act) (identifier : ℕ) (f g : Next) (block place : ℕ) (store : Store) (notes : Notes) (answers : List Answer) → SameBehind f g block notes → executed a identifier f f block place store notes answers ≡ executed a identifier g g block place store notes answers
-stays_act (Computes v) identifier f g block place store notes answers same = same (place + 1) (set store identifier v) answers
-stays_act (Asks event) identifier f g block place store notes answers same = asked_same (λ assignments before. set_open is_open assignments before) event store answers _ _ (λ v after rest. threw v) (λ v after rest. same (place + 1) (set after identifier v) rest)
+stays_act : (stuck : Trace) (a : Act) (identifier : ℕ) (f g : Next) (block place : ℕ) (store : Store) (notes : Notes) (answers : List Answer) → SameBehind f g block notes → executed stuck a identifier f f block place store notes answers ≡ executed stuck a identifier g g block place store notes answers
+stays_act stuck (Computes v) identifier f g block place store notes answers same = same (place + 1) (set store identifier v) answers
+stays_act stuck (Asks event) identifier f g block place store notes answers same = asked_same (λ assignments before. set_open is_open assignments before) event store answers _ _ (λ v after rest. threw v) (λ v after rest. same (place + 1) (set after identifier v) rest)
+stays_act stuck Stops identifier f g block place store notes answers same = refl
 
 stays : (stuck : Trace) (o : Option Item) (f g : Next) (block place : ℕ) (store : Store) (notes : Notes) (answers : List Answer) → SameBehind f g block notes → step stuck o f f block place store notes answers ≡ step stuck o g g block place store notes answers
 stays stuck None f g block place store notes answers same = refl
-stays stuck (Some (Runs i)) f g block place store notes answers same = stays_act (act i.value store) i.lvalue.identifier.0 f g block place store notes answers same
-stays stuck (Some (Ends (terminals.Return order at variant p))) f g block place store notes answers same = refl
-stays stuck (Some (Ends (terminals.Unreachable order at))) f g block place store notes answers same = refl
+stays stuck (Some (Runs i)) f g block place store notes answers same = stays_act stuck (act i.value store) i.lvalue.identifier.0 f g block place store notes answers same
+stays stuck (Some (Ends t)) f g block place store notes answers same = refl
 
 pub same_in_block : (stuck : Trace) (c d : Code) (block : ℕ) → ((place : ℕ) → plain (c block place) ≡ plain (d block place)) → (steps place : ℕ) (store : Store) (notes : Notes) (answers : List Answer) → walk stuck c steps block place store notes answers ≡ walk stuck d steps block place store notes answers
 same_in_block stuck c d block same zero place store notes answers = refl
@@ -138,8 +137,7 @@ listed_plain table table1 number same =
     ∙ sym (plain_runs (slice_get table number))
 
 order_again : (order : ℕ) (t : Terminal) → with_order 0 (with_order order t) ≡ with_order 0 t
-order_again order (terminals.Return old at variant p) = refl
-order_again order (terminals.Unreachable old at) = refl
+order_again order t = refl
 
 last_plain : (b : Bool) (order : ℕ) (t : Terminal) → plain (if b then Some (Ends (with_order order t)) else None) ≡ plain (if b then Some (Ends t) else None)
 last_plain true order t = ap (λ u. Some (Ends u)) (order_again order t)
@@ -178,37 +176,74 @@ entry_plain entry completed table block is place =
     ∙ sym (item_plain table table1 block found.0 place (ordered_table_plain 1 (reached_blocks entry completed) table))
     ∙ sym (ap (λ (o : Option BasicBlock). plain (elim o [ Some b ↦ item_in table1 b place | None ↦ None ])) found.1)
 
--- Terminals have no successors and name no blocks.
-names_nothing : (t : Terminal) (other : ℕ) → Contains (named t) other → ⊥
-names_nothing (terminals.Return order at variant p) other there = let within : there.0 < 0 = there.1 in omega arith
-names_nothing (terminals.Unreachable order at) other there = let within : there.0 < 0 = there.1 in omega arith
+-- A block that leaves the function leads to none, and names none.
 
-leads_nowhere : (t : Terminal) (other : ℕ) → Contains (successors t) other → ⊥
-leads_nowhere (terminals.Return order at variant p) other there = let within : there.0 < 0 = there.1 in omega arith
-leads_nowhere (terminals.Unreachable order at) other there = let within : there.0 < 0 = there.1 in omega arith
+nothing_in : (ids : List ℕ) (id : ℕ) → ids ≡ [] → Contains ids id → ⊥
+nothing_in ids id none h = let empty : length ids ≡ 0 = ap (λ (l : List ℕ). length l) none in absurd (omega (arith, empty, h.1))
 
-only_entry : (hir : Hir) (id : ℕ) → Reaches hir id → id ≡ hir.entry.0
-only_entry hir id closed.entry = refl
-only_entry hir id (closed.next from successor block before is there) = absurd (leads_nowhere block.terminal successor there)
+leads_none : (fields : List Field) → names fields ≡ [] → leads fields ≡ []
+leads_none [] none = refl
+leads_none (Leads block ∷ fields) none = absurd (cc)
+leads_none (MayLead None ∷ fields) none = leads_none fields none
+leads_none (MayLead (Some block) ∷ fields) none = absurd (cc)
+leads_none (Chooses [] ∷ fields) none = leads_none fields none
+leads_none (Chooses (c ∷ cases) ∷ fields) none = absurd (cc)
+leads_none (Follows block ∷ fields) none = absurd (cc)
+leads_none (Names block ∷ fields) none = absurd (cc)
+leads_none (MayName None ∷ fields) none = leads_none fields none
+leads_none (MayName (Some block) ∷ fields) none = absurd (cc)
+leads_none (Reads place ∷ fields) none = leads_none fields none
+leads_none (MayBind place ∷ fields) none = leads_none fields none
+leads_none (Says text ∷ fields) none = leads_none fields none
+leads_none (Holds flag ∷ fields) none = leads_none fields none
 
-still_ended : (order : ℕ) (t : Terminal) → (IsUnreachable t → ⊥) → IsUnreachable (with_order order t) → ⊥
-still_ended order (terminals.Return old at variant p) end u = u
-still_ended order (terminals.Unreachable old at) end u = end u
+pub names_nothing : (t : Terminal) (other : ℕ) → named_ids t ≡ [] → Contains (named t) other → ⊥
+names_nothing t other none there = nothing_in (named t) other (ap (λ (ids : List BlockId). map (λ (id : BlockId). id.0) ids) none) there
+
+pub leads_nowhere : (t : Terminal) (other : ℕ) → named_ids t ≡ [] → Contains (successors t) other → ⊥
+leads_nowhere t other none there =
+    nothing_in (successors t) other (ap (λ (ids : List BlockId). map (λ (id : BlockId). id.0) ids) (leads_none (fields_of t.kind) none)) there
+
+-- Where the entry leaves the function, it alone is reached.
+module _ (hir : Hir) (first : BasicBlock) (is_first : block_of hir.blocks hir.entry.0 ≡ Some first) (none : named_ids first.terminal ≡ []) where
+  pub at_entry : (id : ℕ) (block : BasicBlock) → id ≡ hir.entry.0 → block_of hir.blocks id ≡ Some block → block ≡ first
+  at_entry id block at is =
+      let there : block_of hir.blocks hir.entry.0 ≡ Some block = subst (λ (n : ℕ). block_of hir.blocks n ≡ Some block) at is in
+      let same : ◌≡◌ {A = Option BasicBlock} (Some first) (Some block) = sym is_first ∙ there in
+      cc
+
+  names_none : (block : BasicBlock) → block ≡ first → named_ids block.terminal ≡ []
+  names_none block same = ap (λ (b : BasicBlock). named_ids b.terminal) same ∙ none
+
+  pub only_entry : (id : ℕ) → Reaches hir id → id ≡ hir.entry.0
+  only_entry id closed.entry = refl
+  only_entry id (closed.next from successor block before is there) =
+      absurd (leads_nowhere block.terminal successor (names_none block (at_entry from block (only_entry from before) is)) there)
+
+  pub none_precede : (other id : ℕ) → IsPredecessor hir other id → ⊥
+  none_precede other id h =
+      leads_nowhere h.block.terminal id (names_none h.block (at_entry other h.block (only_entry other h.reached) h.found)) h.leads
 
 -- The entry is a block of the graph that is built.
 pub built_entry : (entry : BlockId) (completed : List NumberedBlock) (block : BasicBlock) → block_of completed entry.0 ≡ Some block → (b : BasicBlock) × (block_of (ordered_blocks 1 (reached_blocks entry completed)) entry.0 ≡ Some b)
 built_entry entry completed block is = let found = kept 1 entry.0 completed block is in (record block { terminal = with_order found.0 block.terminal }, found.1)
 
-pub built_closed : (entry : BlockId) (completed : List NumberedBlock) (block : BasicBlock) → block_of completed entry.0 ≡ Some block → (IsUnreachable block.terminal → ⊥) → IsClosed (record { entry = entry; blocks = ordered_blocks 1 (reached_blocks entry completed) })
-built_closed entry completed block is end =
+pub built_closed : (entry : BlockId) (completed : List NumberedBlock) (block : BasicBlock) → block_of completed entry.0 ≡ Some block → LeavesFunction block.terminal → IsClosed (record { entry = entry; blocks = ordered_blocks 1 (reached_blocks entry completed) })
+built_closed entry completed block is leaves =
     let found = kept 1 entry.0 completed block is in
     let hir : Hir = record { entry = entry; blocks = ordered_blocks 1 (reached_blocks entry completed) } in
+    let first : BasicBlock = record block { terminal = with_order found.0 block.terminal } in
+    let alone : (id : ℕ) (b : BasicBlock) → Reaches hir id → block_of hir.blocks id ≡ Some b → LeavesFunction b.terminal =
+    λ id b reaches there. subst (λ (x : BasicBlock). LeavesFunction x.terminal) (sym (at_entry hir first found.1 leaves.0 id b (only_entry hir first found.1 leaves.0 id reaches) there)) leaves in
     record {
-      entry_block = (record block { terminal = with_order found.0 block.terminal }, found.1);
-      names = λ id other b reaches there named. absurd (names_nothing b.terminal other named);
-      ends = λ id b reaches there unreachable.
-          let at_entry : block_of hir.blocks entry.0 ≡ Some b = subst (λ (n : ℕ). block_of hir.blocks n ≡ Some b) (only_entry hir id reaches) there in
-          let same : ◌≡◌ {A = Option BasicBlock} (Some (record block { terminal = with_order found.0 block.terminal })) (Some b) = sym found.1 ∙ at_entry in
-          let one : record block { terminal = with_order found.0 block.terminal } ≡ b = cc in
-          still_ended found.0 block.terminal end (subst (λ (x : BasicBlock). IsUnreachable x.terminal) (sym one) unreachable);
+      entry_block = (first, found.1);
+      names = λ id other b reaches there named. absurd (names_nothing b.terminal other (alone id b reaches there).0 named);
+      ends = λ id b reaches there unreachable. (alone id b reaches there).1 unreachable;
     }
+
+-- No block of the graph that is built has a predecessor.
+pub built_precede : (entry : BlockId) (completed : List NumberedBlock) (block : BasicBlock) → block_of completed entry.0 ≡ Some block → LeavesFunction block.terminal
+    → (other id : ℕ) → IsPredecessor (record { entry = entry; blocks = ordered_blocks 1 (reached_blocks entry completed) }) other id → ⊥
+built_precede entry completed block is leaves =
+    let found = kept 1 entry.0 completed block is in
+    none_precede (record { entry = entry; blocks = ordered_blocks 1 (reached_blocks entry completed) }) (record block { terminal = with_order found.0 block.terminal }) found.1 leaves.0

@@ -14,7 +14,6 @@ use Rattle.rl_hir.specs.declared.function.Hir.{Hir}
 use Rattle.rl_hir.specs.declared.function.HirFunction.{HirFunction}
 use Rattle.rl_hir.specs.declared.function.NumberedBlock.{NumberedBlock}
 use Rattle.rl_hir.specs.declared.terminal.Terminal.{Terminal}
-use Rattle.rl_hir.specs.declared.terminal.Terminal.TheVariants as terminals
 use Rattle.rl_model.specs.Closed.{successors}
 use Rattle.rl_model.specs.WellFormed.{IsLinked, IsPredecessor}
 use Rattle.rl_lower.specs.Listed.{IsListed}
@@ -64,17 +63,8 @@ all_ordered P keeps order (b ∷ blocks) all =
     All-cons P (ordered_block order b) (ordered_blocks (order_after order b) blocks) (keeps order b (All-head P b blocks all))
     (all_ordered P keeps (order_after order b) blocks (All-tail P b blocks all))
 
--- No terminal has a successor, so no block has a predecessor.
-
-none_follow : (t : Terminal) → successors t ≡ []
-none_follow (terminals.Return order at variant p) = refl
-none_follow (terminals.Unreachable order at) = refl
-
 nothing_in : (ids : List ℕ) (id : ℕ) → ids ≡ [] → Contains ids id → ⊥
 nothing_in ids id none h = let empty : length ids ≡ 0 = ap (λ (l : List ℕ). length l) none in absurd (omega (arith, empty, h.1))
-
-none_precede : (hir : Hir) (other id : ℕ) → IsPredecessor hir other id → ⊥
-none_precede hir other id h = nothing_in (successors h.block.terminal) id (none_follow h.block.terminal) h.leads
 
 -- The graph that is built
 
@@ -86,9 +76,9 @@ built_numbered s l =
     (listed_below (length s.table) reached (filtered (ListsBelow (length s.table)) _ s.completed l.completed))
     l.unordered
 
-pub built_linked : (s : State) → IsListed s → AreDistinct (ids_of s.completed) → (f : HirFunction) → f.body ≡ (built_of s).hir
-    → length f.instructions ≡ length s.table → IsLinked f
-built_linked s l apart f body table = record {
+pub built_linked : (s : State) → IsListed s → AreDistinct (ids_of s.completed) → ((other id : ℕ) → IsPredecessor (built_of s).hir other id → ⊥)
+    → (f : HirFunction) → f.body ≡ (built_of s).hir → length f.instructions ≡ length s.table → IsLinked f
+built_linked s l apart none f body table = record {
   ids = subst (λ (h : Hir). AreDistinct (ids_of h.blocks)) (sym body)
       (subst (λ (ids : List ℕ). AreDistinct ids) (sym (ids_ordered 1 reached)) (kept_apart _ s.completed apart));
   listed = subst (λ (h : Hir). All (ListsBelow (length f.instructions)) h.blocks) (sym body)
@@ -97,7 +87,7 @@ built_linked s l apart f body table = record {
       (filtered (ListsBelow (length s.table)) _ s.completed l.completed)));
   preds = λ b here other. (
     (λ before. absurd (no_member b here other before)),
-    (λ h. absurd (none_precede f.body other b.id.0 h)),
+    (λ h. absurd (none other b.id.0 (subst (λ (g : Hir). IsPredecessor g other b.id.0) body h))),
   );
 }
   where

@@ -206,18 +206,18 @@ pub binary_call : (names : Names) (tree left right : Syntax) (at : At) (operator
     (s mid last new : State) (span : Option Span) (place : Place)
     → tree ≡ Node at word.Binary (Then (Said (operator_text operator)) (Then left (Then right End)))
     → LowersExpression names left s mid l.identifier.0 → LowersExpression names right mid last r.identifier.0
-    → new ≡ with_value last (values.Binary operator l r) span → place ≡ temporary last span
+    → new ≡ with_value last (values.BinaryExpression operator l r) span → place ≡ temporary last span
     → LowersExpression names tree s new place.identifier.0
 binary_call names tree left right at operator l r s mid last new span place is ll lr moved placed =
     expression_call names tree whole s new _ place _ is moved placed (record {
-      keeps = keeps_more s _ (4 * nodes left + (4 * nodes right + 1)) _ (omega arith) (keeps_then s mid _ (4 * nodes left) (4 * nodes right + 1) ll.keeps (keeps_then mid last _ (4 * nodes right) 1 lr.keeps (keeps_value last (values.Binary operator l r) span)));
-      blocks = blocks_then s last _ (blocks_then s mid last ll.blocks lr.blocks) (blocks_value last (values.Binary operator l r) span);
+      keeps = keeps_more s _ (4 * nodes left + (4 * nodes right + 1)) _ (omega arith) (keeps_then s mid _ (4 * nodes left) (4 * nodes right + 1) ll.keeps (keeps_then mid last _ (4 * nodes right) 1 lr.keeps (keeps_value last (values.BinaryExpression operator l r) span)));
+      blocks = blocks_then s last _ (blocks_then s mid last ll.blocks lr.blocks) (blocks_value last (values.BinaryExpression operator l r) span);
       made = simp length-append (omega arith);
       refused = added_then (refusals names left) (refusals names right ++ []) _ _ _ ll.refused (lr.refused ∙ ap (λ (ds : List Diagnostic). mid.env.diagnostics ++ ds) (sym (append-nil (refusals names right))));
-      calls = calls_same last.table (unordered (temporary last span) (values.Binary operator l r) span) refl
+      calls = calls_same last.table (unordered (temporary last span) (values.BinaryExpression operator l r) span) refl
           ∙ added_then (calls_in left) (calls_in right ++ []) _ _ _ ll.calls (lr.calls ∙ ap (λ (cs : List (Option Span)). calls_of mid.table ++ cs) (sym (append-nil (calls_in right))));
       reachable = adds_same _ _ true true s _ (append_assoc (calls_in left) (calls_in right) []) refl
-          (adds_then (calls_in left ++ calls_in right) _ true true s last _ (adds_then (calls_in left) (calls_in right) true true s mid last ll.reachable lr.reachable ll.keeps.listed) (adds_value last (values.Binary operator l r) span) (λ listed. lr.keeps.listed (ll.keeps.listed listed)));
+          (adds_then (calls_in left ++ calls_in right) _ true true s last _ (adds_then (calls_in left) (calls_in right) true true s mid last ll.reachable lr.reachable ll.keeps.listed) (adds_value last (values.BinaryExpression operator l r) span) (λ listed. lr.keeps.listed (ll.keeps.listed listed)));
       runs = λ supported. (let none = append_none (refusals names left) (refusals names right ++ []) supported in
           same_runs s _ (eval_expr names whole) _ (length last.env.identifiers) (λ source answers onward throws. refl)
           (binary_runs s mid last (eval_expr names left) (eval_expr names right) operator l r span ll.blocks.extends lr.blocks.extends ll.made (ll.runs none.0) (lr.runs (sym (append-nil (refusals names right)) ∙ none.1))));
@@ -259,19 +259,19 @@ pub call_call : (names : Names) (tree callee : Syntax) (arguments : Pieces) (at 
     → LowersExpression names callee s mid f.identifier.0 → LowersExpressions names arguments mid last identifiers
     → map argument_shape given ≡ shape_of arguments →
     ((store : Store) → map (λ a. store (argument_place a).identifier.0) given ≡ map store identifiers)
-    → new ≡ with_value last (values.Call f given) (Some at.span) → place ≡ temporary last (Some at.span)
+    → new ≡ with_value last (values.CallExpression f given) (Some at.span) → place ≡ temporary last (Some at.span)
     → LowersExpression names tree s new place.identifier.0
 call_call names tree callee arguments at f given identifiers s mid last new place is lf la shaped values_given moved placed =
     expression_call names tree whole s new _ place _ is moved placed (record {
-      keeps = keeps_more s _ (4 * nodes callee + (4 * nodes_of arguments + 1)) _ (omega arith) (keeps_then s mid _ (4 * nodes callee) (4 * nodes_of arguments + 1) lf.keeps (keeps_then mid last _ (4 * nodes_of arguments) 1 la.keeps (keeps_value last (values.Call f given) (Some at.span))));
-      blocks = blocks_then s last _ (blocks_then s mid last lf.blocks la.blocks) (blocks_value last (values.Call f given) (Some at.span));
+      keeps = keeps_more s _ (4 * nodes callee + (4 * nodes_of arguments + 1)) _ (omega arith) (keeps_then s mid _ (4 * nodes callee) (4 * nodes_of arguments + 1) lf.keeps (keeps_then mid last _ (4 * nodes_of arguments) 1 la.keeps (keeps_value last (values.CallExpression f given) (Some at.span))));
+      blocks = blocks_then s last _ (blocks_then s mid last lf.blocks la.blocks) (blocks_value last (values.CallExpression f given) (Some at.span));
       made = simp length-append (omega arith);
       refused = added_then (refusals names callee) (refusals_in names arguments ++ []) _ _ _ lf.refused (la.refused ∙ ap (λ (ds : List Diagnostic). mid.env.diagnostics ++ ds) (sym (append-nil (refusals_in names arguments))));
-      calls = calls_more last.table (unordered (temporary last (Some at.span)) (values.Call f given) (Some at.span))
+      calls = calls_more last.table (unordered (temporary last (Some at.span)) (values.CallExpression f given) (Some at.span))
           ∙ ap (λ (cs : List (Option Span)). cs ++ Some at.span ∷ []) (added_then (calls_in callee) (calls_among arguments ++ []) _ _ _ lf.calls (la.calls ∙ ap (λ (cs : List (Option Span)). calls_of mid.table ++ cs) (sym (append-nil (calls_among arguments)))))
           ∙ append_assoc (calls_of s.table) (calls_in callee ++ (calls_among arguments ++ [])) (Some at.span ∷ []);
       reachable = adds_same _ _ true true s _ (ap (λ (cs : List (Option Span)). (calls_in callee ++ cs) ++ Some at.span ∷ []) (sym (append-nil (calls_among arguments)))) refl
-          (adds_then (calls_in callee ++ calls_among arguments) _ true true s last _ (adds_then (calls_in callee) (calls_among arguments) true true s mid last lf.reachable la.reachable lf.keeps.listed) (adds_value last (values.Call f given) (Some at.span)) (λ listed. la.keeps.listed (lf.keeps.listed listed)));
+          (adds_then (calls_in callee ++ calls_among arguments) _ true true s last _ (adds_then (calls_in callee) (calls_among arguments) true true s mid last lf.reachable la.reachable lf.keeps.listed) (adds_value last (values.CallExpression f given) (Some at.span)) (λ listed. la.keeps.listed (lf.keeps.listed listed)));
       runs = λ supported. (let none = append_none (refusals names callee) (refusals_in names arguments ++ []) supported in
           same_runs s _ (eval_expr names whole) _ (length last.env.identifiers) (λ source answers onward throws. refl)
           (call_runs s mid last (eval_expr names callee) (eval_exprs names arguments) f given identifiers (shape_of arguments) (Some at.span) lf.blocks.extends la.blocks.extends lf.made (lf.runs none.0) (la.runs (sym (append-nil (refusals_in names arguments)) ∙ none.1)) shaped values_given));

@@ -2,11 +2,10 @@
 use Rattle.std.proofs.Common.{◌≡◌, ℕ, zero, suc, ◌+◌, ◌<◌, ◌≤◌, List, Option, Some, None, refl, ap, sym, arith}
 use Rattle.rl_hir.specs.declared.instruction.Instruction.{Instruction}
 use Rattle.rl_hir.specs.declared.terminal.Terminal.{Terminal}
-use Rattle.rl_hir.specs.declared.terminal.Terminal.TheVariants as terminals
 use Rattle.rl_model.specs.declared.trace.Answer.{Answer}
 use Rattle.rl_model.specs.declared.trace.Trace.{Trace}
 use Rattle.rl_model.specs.Traces.{Store, set, set_open, threw}
-use Rattle.rl_model.specs.Machine.{Item, Runs, Ends, Code, Notes, Next, Act, Computes, Asks, act, exec, executed, is_open, no_way, step}
+use Rattle.rl_model.specs.Machine.{Item, Runs, Ends, Code, Notes, Next, Act, Computes, Asks, Stops, act, exec, executed, is_open, no_way, step}
 use Rattle.rl_lower.specs.Simulation.{walk}
 use Rattle.rl_lower.proofs.Asking.{asked_same}
 
@@ -30,14 +29,15 @@ stuck_past stuck c block bound place silent loud store notes answers s past =
     ap (λ o. step stuck o silent loud block place store notes answers) (nothing_past c block bound place s past)
 
 -- A step reads the continuations at the next index alone.
-stepped_act : (a : Act) (identifier : ℕ) (silent loud f : Next) (block place : ℕ) (store : Store) (notes : Notes)
+stepped_act : (stuck : Trace) (a : Act) (identifier : ℕ) (silent loud f : Next) (block place : ℕ) (store : Store) (notes : Notes)
     (answers : List Answer)
     → ((store1 : Store) → silent block (place + 1) store1 notes answers ≡ f block (place + 1) store1 notes answers)
     → ((store1 : Store) (answers1 : List Answer) → loud block (place + 1) store1 notes answers1 ≡ f block (place + 1) store1 notes answers1)
-    → executed a identifier silent loud block place store notes answers ≡ executed a identifier f f block place store notes answers
-stepped_act (Computes v) identifier silent loud f block place store notes answers same also = same (set store identifier v)
-stepped_act (Asks event) identifier silent loud f block place store notes answers same also =
+    → executed stuck a identifier silent loud block place store notes answers ≡ executed stuck a identifier f f block place store notes answers
+stepped_act stuck (Computes v) identifier silent loud f block place store notes answers same also = same (set store identifier v)
+stepped_act stuck (Asks event) identifier silent loud f block place store notes answers same also =
     asked_same (λ assignments before. set_open is_open assignments before) event store answers _ _ (λ v after rest. threw v) (λ v after rest. also (set after identifier v) rest)
+stepped_act stuck Stops identifier silent loud f block place store notes answers same also = refl
 
 stepped : (stuck : Trace) (o : Option Item) (silent loud f : Next) (block place : ℕ) (store : Store) (notes : Notes)
     (answers : List Answer)
@@ -46,9 +46,8 @@ stepped : (stuck : Trace) (o : Option Item) (silent loud f : Next) (block place 
     → step stuck o silent loud block place store notes answers ≡ step stuck o f f block place store notes answers
 stepped stuck None silent loud f block place store notes answers same also = refl
 stepped stuck (Some (Runs i)) silent loud f block place store notes answers same also =
-    stepped_act (act i.value store) i.lvalue.identifier.0 silent loud f block place store notes answers (same i refl) (also i refl)
-stepped stuck (Some (Ends (terminals.Return order at variant p))) silent loud f block place store notes answers same also = refl
-stepped stuck (Some (Ends (terminals.Unreachable order at))) silent loud f block place store notes answers same also = refl
+    stepped_act stuck (act i.value store) i.lvalue.identifier.0 silent loud f block place store notes answers (same i refl) (also i refl)
+stepped stuck (Some (Ends t)) silent loud f block place store notes answers same also = refl
 
 -- From each index on `exec` is `walk`, where both have steps enough to reach the end of the block.
 pub exec_walks : (stuck : Trace) (c : Code) (block bound most : ℕ) → IsShort c block bound → bound ≤ most

@@ -10,7 +10,6 @@ use Rattle.rl_hir.specs.declared.instruction.InstructionValue.TheVariants as val
 use Rattle.rl_hir.specs.declared.instruction.NonLocalBinding.{NonLocalBinding}
 use Rattle.rl_hir.specs.declared.instruction.PlaceOrSpread.{PlaceOrSpread}
 use Rattle.rl_hir.specs.declared.instruction.PrimitiveValue.{PrimitiveValue}
-use Rattle.rl_hir.specs.declared.terminal.Terminal.TheVariants as terminals
 use Rattle.rl_hir.specs.declared.terminal.ReturnVariant.{ReturnVariant}
 use Rattle.rl_hir.specs.declared.function.BlockKind.{BlockKind}
 use Rattle.rl_builder.specs.Builder.{State, reserved, new_block, with_temporary}
@@ -29,7 +28,7 @@ use Rattle.rl_model.specs.Source as source_side
 use Rattle.rl_model.specs.Machine.{Item, Runs, Ends, Code, Notes, Next, Computes, Asks, act, executed, value_of}
 use Rattle.rl_hir.specs.Instructions.{argument_place, argument_shape, binding_texts}
 use Rattle.rl_model.specs.Machine as machine
-use Rattle.rl_lower.specs.Endings.{returned_from}
+use Rattle.rl_lower.specs.Endings.{return_of, returned_from}
 use Rattle.rl_lower.specs.Simulation.{Agrees, AreMade, Eventually, Continues, Extends, IsContainedIn, TracesFrom, TracesAt, Later, Throws, RunsAll, RunsExpression, RunsStatement, walk}
 use Rattle.rl_lower.proofs.Asking.{machine_unchanged, source_unchanged}
 use Rattle.rl_lower.proofs.Steps.{agrees_before, agrees_set, agrees_then, made_then, set_same, comes_at_once, steps_on, later_refl, later_then, later_set}
@@ -46,7 +45,7 @@ computed_runs s d value span computed acts silent = record {
       let after : Store = set store (length s.env.identifiers) (computed store) in
       subst (λ t. TracesFrom c s store notes answers t) (sym (silent source store a answers k h))
       (push_runs (with_temporary s span) (unordered (temporary s span) value span) c store after notes answers (k (computed store) source answers)
-      (λ stuck next block place. ap (λ act1. executed act1 (length s.env.identifiers) next next block place store notes answers) (acts store)) cover
+      (λ stuck next block place. ap (λ act1. executed stuck act1 (length s.env.identifiers) next next block place store notes answers) (acts store)) cover
       (onward.goes (computed store) source after notes answers (agrees_set s source store (length s.env.identifiers) (computed store) m (omega arith) a) (later_set s store (length s.env.identifiers) (computed store) (omega arith)) (set_same store (length s.env.identifiers) (computed store))));
 }
 
@@ -97,7 +96,7 @@ asked_from s base value span event c k h source store first notes answers g cove
     stepped : (answers1 : List Answer) (t : Trace) → Eventually c (λ stuck next. asked (λ assignments before. set_open machine.is_open assignments before) event store answers1 (λ v after rest. next s.current.id.0 (length s.current.instructions + 1) (set after identifier v) notes rest) (λ v after rest. threw v)) t → TracesFrom c s store notes answers1 t
     stepped answers1 t comes =
         steps_on c s.current.id.0 (length s.current.instructions) store notes answers1 item t (instruction_met (with_temporary s span) (unordered (temporary s span) value span) c cover)
-        (record { by = (comes.by.0, λ stuck steps enough. ap (λ act1. executed act1 identifier (walk stuck c steps) (walk stuck c steps) s.current.id.0 (length s.current.instructions) store notes answers1) acts ∙ comes.by.1 stuck steps enough) })
+        (record { by = (comes.by.0, λ stuck steps enough. ap (λ act1. executed stuck act1 identifier (walk stuck c steps) (walk stuck c steps) s.current.id.0 (length s.current.instructions) store notes answers1) acts ∙ comes.by.1 stuck steps enough) })
 
     one : length (s.current.instructions ++ record { 0 = length s.table } ∷ []) ≡ length s.current.instructions + 1
     one = length-append s.current.instructions (record { 0 = length s.table } ∷ [])
@@ -128,10 +127,10 @@ outer_runs s binding span = record {
 pub binary_runs : (s mid last : State) (dl dr : ExprMeaning) (operator : BinaryOperator) (l r : Place) (span : Option Span)
     → Extends s mid → Extends mid last → l.identifier.0 < length mid.env.identifiers → RunsExpression dl s mid l.identifier.0
     → RunsExpression dr mid last r.identifier.0
-    → RunsExpression (λ source answers onward throws. dl source answers (λ v after rest. dr after rest (λ w later left. asks (binary (operator_text operator) v w) later left onward throws) throws) throws) s (with_value last (values.Binary operator l r) span) (length last.env.identifiers)
+    → RunsExpression (λ source answers onward throws. dl source answers (λ v after rest. dr after rest (λ w later left. asks (binary (operator_text operator) v w) later left onward throws) throws) throws) s (with_value last (values.BinaryExpression operator l r) span) (length last.env.identifiers)
 binary_runs s mid last dl dr operator l r span gl gr made rl rr = record {
   runs = λ c cover m k h source store notes answers a throws onward.
-      let covered : IsContainedIn last c = contained_before last _ c (extends_value last (values.Binary operator l r) span) cover in
+      let covered : IsContainedIn last c = contained_before last _ c (extends_value last (values.BinaryExpression operator l r) span) cover in
       rl.runs c (contained_before mid last c gr covered) m (λ v after rest. dr after rest (λ w later left. asks (binary (operator_text operator) v w) later left k h) h) h source store notes answers a throws
       (record {
         goes = λ v source1 store1 notes1 answers1 a1 l1 is1.
@@ -139,7 +138,7 @@ binary_runs s mid last dl dr operator l r span gl gr made rl rr = record {
             (record {
               goes = λ w source2 store2 notes2 answers2 a2 l2 is2.
                   let kept : store2 l.identifier.0 ≡ v = l2.temporaries l.identifier.0 made ∙ is1 in
-                  asked_from last s (values.Binary operator l r) span (binary (operator_text operator) v w) c k h source2 store2 store notes2 answers2 both cover (made_then s last both m)
+                  asked_from last s (values.BinaryExpression operator l r) span (binary (operator_text operator) v w) c k h source2 store2 store notes2 answers2 both cover (made_then s last both m)
                   (ap (λ (x : Value). Asks (binary (operator_text operator) x (store2 r.identifier.0))) kept ∙ ap (λ (x : Value). Asks (binary (operator_text operator) v x)) is2)
                   (agrees_before s mid source2 store2 gl a2) (later_then s mid store store1 store2 gl.identifiers l1 l2) throws onward;
             });
@@ -180,10 +179,10 @@ pub call_runs : (s mid last : State) (df : ExprMeaning) (ds : ExprsMeaning) (cal
     → RunsAll ds mid last identifiers
     → map argument_shape given ≡ shape →
     ((store : Store) → map (λ a. store (argument_place a).identifier.0) given ≡ map store identifiers)
-    → RunsExpression (λ source answers onward throws. df source answers (λ f after rest. ds after rest (λ vs later left. asks (call shape f vs) later left onward throws) throws) throws) s (with_value last (values.Call callee given) span) (length last.env.identifiers)
+    → RunsExpression (λ source answers onward throws. df source answers (λ f after rest. ds after rest (λ vs later left. asks (call shape f vs) later left onward throws) throws) throws) s (with_value last (values.CallExpression callee given) span) (length last.env.identifiers)
 call_runs s mid last df ds callee given identifiers shape span gf gs made rf rs shaped placed = record {
   runs = λ c cover m k h source store notes answers a throws onward.
-      let covered : IsContainedIn last c = contained_before last _ c (extends_value last (values.Call callee given) span) cover in
+      let covered : IsContainedIn last c = contained_before last _ c (extends_value last (values.CallExpression callee given) span) cover in
       rf.runs c (contained_before mid last c gs covered) m (λ f after rest. ds after rest (λ vs later left. asks (call shape f vs) later left k h) h) h source store notes answers a throws
       (record {
         goes = λ f source1 store1 notes1 answers1 a1 l1 is1.
@@ -191,7 +190,7 @@ call_runs s mid last df ds callee given identifiers shape span gf gs made rf rs 
             (record {
               goes = λ vs source2 store2 notes2 answers2 a2 l2 is2.
                   let kept : store2 callee.identifier.0 ≡ f = l2.temporaries callee.identifier.0 made ∙ is1 in
-                  asked_from last s (values.Call callee given) span (call shape f vs) c k h source2 store2 store notes2 answers2 both cover (made_then s last both m)
+                  asked_from last s (values.CallExpression callee given) span (call shape f vs) c k h source2 store2 store notes2 answers2 both cover (made_then s last both m)
                   (ap (λ (x : List (List ℕ)). Asks (call x (store2 callee.identifier.0) (map (λ b. store2 (argument_place b).identifier.0) given))) shaped
                   ∙ ap (λ (x : Value). Asks (call shape x (map (λ b. store2 (argument_place b).identifier.0) given))) kept
                   ∙ ap (λ (x : List Value). Asks (call shape f x)) (placed store2 ∙ is2))
@@ -234,8 +233,8 @@ pub return_ends : (s : State) (span : Option Span) (variant : ReturnVariant) (pl
     → (v : Value) (store : Store) (notes : Notes) (answers : List Answer) → store place.identifier.0 ≡ v
     → TracesFrom c s store notes answers (returned variant v)
 return_ends s span variant place kind c cover v store notes answers is =
-    steps_on c s.current.id.0 (length s.current.instructions) store notes answers (Ends (terminals.Return (record { 0 = 0 }) span variant place)) (returned variant v)
-    (terminal_met (reserved s) (terminals.Return (record { 0 = 0 }) span variant place) (new_block s.env.next_block kind) c cover)
+    steps_on c s.current.id.0 (length s.current.instructions) store notes answers (Ends (return_of span variant place)) (returned variant v)
+    (terminal_met (reserved s) (return_of span variant place) (new_block s.env.next_block kind) c cover)
     (comes_at_once c _ _ (λ stuck next. ap (λ w. returned variant w) is))
 
 -- A return of an expression's value.

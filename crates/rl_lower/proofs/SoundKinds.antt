@@ -1,7 +1,7 @@
 -- Each kind of expression and statement keeps places known and parts writable.
-use Rattle.std.proofs.Common.{◌≡◌, ℕ, ◌<◌, false, List, [], ◌∷◌, ◌++◌, length, Option, Some, None, refl, sym, ap, ◌∙◌, subst, arith}
+use Rattle.std.proofs.Common.{◌≡◌, ℕ, ◌<◌, false, List, [], ◌∷◌, ◌++◌, All, length, map, Option, Some, None, refl, sym, ap, ◌∙◌, subst, arith}
 use Rattle.std.proofs.lemmas.Option.{slice_get_within}
-use Rattle.std.proofs.lemmas.List.Elements.{All-cons, All-map, All-push, All-weaker}
+use Rattle.std.proofs.lemmas.List.Elements.{All-cons, All-head, All-nil, All-push, All-tail, All-weaker}
 use Rattle.rl_base.specs.Operators.{operator_text}
 use Rattle.rl_base.specs.declared.diagnostic.Diagnostic.{Diagnostic}
 use Rattle.rl_base.specs.declared.ids.IdentifierId.{IdentifierId}
@@ -12,12 +12,14 @@ use Rattle.rl_syntax.specs.Syntax.{Syntax, Node, Listed, Said, Flag, Absent, Pie
 use Rattle.rl_syntax.specs.declared.numbered.At.{At}
 use Rattle.rl_syntax.specs.declared.word.Word.{Word}
 use Rattle.rl_syntax.specs.declared.word.Word.TheVariants as word
-use Rattle.rl_hir.specs.Instructions.{argument_place}
+use Rattle.rl_hir.specs.Instructions.{argument_place, binding_texts}
 use Rattle.rl_hir.specs.Listing as listing
 use Rattle.rl_hir.specs.Pairs.{identifier_of}
+use Rattle.rl_hir.specs.Pieces.{Says, argument_pieces, gathered, operands}
 use Rattle.rl_hir.specs.declared.function.BlockKind.{BlockKind}
 use Rattle.rl_hir.specs.declared.instruction.InstructionValue.{InstructionValue}
 use Rattle.rl_hir.specs.declared.instruction.InstructionValue.TheVariants as values
+use Rattle.rl_hir.specs.declared.instruction.NonLocalBinding.{NonLocalBinding}
 use Rattle.rl_hir.specs.declared.instruction.Place.{Place}
 use Rattle.rl_hir.specs.declared.instruction.PlaceOrSpread.{PlaceOrSpread}
 use Rattle.rl_hir.specs.declared.instruction.PlaceOrSpread.TheVariants as arguments
@@ -27,7 +29,7 @@ use Rattle.rl_builder.specs.Builder.{State, reserved, completed_by, new_block}
 use Rattle.rl_builder.specs.Names.{resolved, resolved_by, refused_name}
 use Rattle.rl_builder.specs.Temporaries.{temporary, with_value}
 use Rattle.rl_builder.specs.declared.builder.WipBlock.{WipBlock}
-use Rattle.rl_model.specs.WellFormed.{AreKnown, value_places}
+use Rattle.rl_model.specs.WellFormed.{AreKnown, operand_places, value_places}
 use Rattle.rl_lower.specs.Endings.{return_of, returned_from}
 use Rattle.rl_lower.specs.Named.{HasIdentifier}
 use Rattle.rl_lower.specs.Sound.{AreSmallTrees, HasSmallCounters, IsSmallTree, IsSoundPlace, SoundArguments, SoundExpression, StaysSound}
@@ -119,10 +121,10 @@ parenthesized_sound tree e at s new p is sound = subst (λ (t : Syntax). SoundEx
 pub binary_sound : (tree left right : Syntax) (at : At) (operator : BinaryOperator) (l r : Place) (s mid last new : State)
     (p : Place) → tree ≡ Node at word.Binary (Then (Said (operator_text operator)) (Then left (Then right End)))
     → SoundExpression left s mid l → SoundExpression right mid last r
-    → new ≡ with_value last (values.Binary operator l r) (Some at.span) → p ≡ temporary last (Some at.span)
+    → new ≡ with_value last (values.BinaryExpression operator l r) (Some at.span) → p ≡ temporary last (Some at.span)
     → SoundExpression tree s new p
 binary_sound tree left right at operator l r s mid last new p is first second moved placed =
-    value_sound tree at word.Binary _ (values.Binary operator l r) s last last new p is refl
+    value_sound tree at word.Binary _ (values.BinaryExpression operator l r) s last last new p is refl
     (sound_then (IsSmallTree left) (IsSmallTree right)
     (IsSmallTree whole) s mid last left_small right_small first.state second.state)
     (All-cons (λ (q : Place). q.identifier.0 < length last.env.identifiers) l (r ∷ []) l_known.known
@@ -160,24 +162,43 @@ arguments_more trees tree s mid new given more p part added before next =
           (record { known = next.place.known; writable = λ small. next.place.writable (part small) });
     })
 
+-- a name that no local variable has reads no place
+outer_places : (said : List (List ℕ)) → operand_places (operands (map Says said)) ≡ []
+outer_places [] = refl
+outer_places (text ∷ said) = outer_places said
+
+pub outer_none : (binding : NonLocalBinding) → value_places (values.LoadGlobal binding) ≡ []
+outer_none binding = outer_places (binding_texts binding)
+
+-- what is known of the places of arguments
+arguments_known : (P : Place → Type 0) (given : List PlaceOrSpread) → All (λ a. P (argument_place a)) given
+    → All P (operand_places (operands (gathered argument_pieces given)))
+arguments_known P [] all = All-nil P
+arguments_known P (arguments.Place p ∷ given) all =
+    All-cons P p _ (All-head (λ (a : PlaceOrSpread). P (argument_place a)) (arguments.Place p) given all)
+    (arguments_known P given (All-tail (λ (a : PlaceOrSpread). P (argument_place a)) (arguments.Place p) given all))
+arguments_known P (arguments.Spread p ∷ given) all =
+    All-cons P p _ (All-head (λ (a : PlaceOrSpread). P (argument_place a)) (arguments.Spread p) given all)
+    (arguments_known P given (All-tail (λ (a : PlaceOrSpread). P (argument_place a)) (arguments.Spread p) given all))
+
 -- a function, its arguments, and the call
 pub call_sound : (tree callee : Syntax) (trees : Pieces) (at : At) (f : Place) (given : List PlaceOrSpread)
     (s mid last new : State) (p : Place) → tree ≡ Node at word.Call (Then (Flag false) (Then callee (Then (Listed trees) End)))
     → SoundExpression callee s mid f → SoundArguments trees mid last given
-    → new ≡ with_value last (values.Call f given) (Some at.span) → p ≡ temporary last (Some at.span)
+    → new ≡ with_value last (values.CallExpression f given) (Some at.span) → p ≡ temporary last (Some at.span)
     → SoundExpression tree s new p
 call_sound tree callee trees at f given s mid last new p is first second moved placed =
-    value_sound tree at word.Call _ (values.Call f given) s last last new p is refl
+    value_sound tree at word.Call _ (values.CallExpression f given) s last last new p is refl
     (sound_then (IsSmallTree callee) (AreSmallTrees trees)
     (IsSmallTree whole) s mid last callee_small given_small first.state second.state)
     (All-cons (λ (q : Place). q.identifier.0 < length last.env.identifiers) f _ f_known.known
-    (All-map (λ (q : Place). q.identifier.0 < length last.env.identifiers) argument_place given
+    (arguments_known (λ (q : Place). q.identifier.0 < length last.env.identifiers) given
     (All-weaker (λ (a : PlaceOrSpread). IsSoundPlace (AreSmallTrees trees) last (argument_place a))
     (λ (a : PlaceOrSpread). (argument_place a).identifier.0 < length last.env.identifiers) (λ a known. known.known) given
     second.places)))
     (λ small fits. call_writable f given (f_known.writable small fits)
     (All-weaker (λ (a : PlaceOrSpread). IsSoundPlace (AreSmallTrees trees) last (argument_place a))
-    (λ (a : PlaceOrSpread). IsWritable (listing.operand_of a)) (λ a known. known.writable (given_small small) fits) given
+    (λ (a : PlaceOrSpread). IsWritable (listing.place (argument_place a))) (λ a known. known.writable (given_small small) fits) given
     second.places))
     moved placed
   where

@@ -9,10 +9,11 @@ use Rattle.rl_base.specs.Operators.{operator_text}
 use Rattle.rl_text.specs.Notation.{Tree, IsWritable, AreWritable}
 use Rattle.rl_text.specs.Number.{largest}
 use Rattle.rl_text.specs.Raw.{parts_of}
-use Rattle.rl_hir.specs.Instructions.{argument_shape, binding_texts}
+use Rattle.rl_hir.specs.Instructions.{argument_place, argument_shape, binding_texts}
 use Rattle.rl_hir.specs.Listing as listing
 use Rattle.rl_hir.specs.Identifiers.{named_identifier}
-use Rattle.rl_hir.specs.Terminals.{with_order}
+use Rattle.rl_hir.specs.Pieces.{Says, argument_pieces, gathered, row_parts}
+use Rattle.rl_hir.specs.Terminals.{return_variant, with_order}
 use Rattle.rl_builder.specs.Builder.{ended_by}
 use Rattle.rl_builder.specs.declared.builder.WipBlock.{WipBlock}
 use Rattle.rl_hir.specs.declared.function.BlockKind.{BlockKind}
@@ -28,8 +29,9 @@ use Rattle.rl_hir.specs.declared.instruction.PrimitiveValue.TheVariants as primi
 use Rattle.rl_hir.specs.declared.instruction.Place.{Place}
 use Rattle.rl_hir.specs.declared.instruction.PlaceOrSpread.{PlaceOrSpread}
 use Rattle.rl_hir.specs.declared.instruction.PlaceOrSpread.TheVariants as arguments
+use Rattle.rl_hir.specs.declared.pieces.Row.TheVariants as rows
 use Rattle.rl_hir.specs.declared.terminal.Terminal.{Terminal}
-use Rattle.rl_hir.specs.declared.terminal.Terminal.TheVariants as terminals
+use Rattle.rl_hir.specs.declared.terminal.TerminalKind.TheVariants as ends
 use Rattle.rl_hir.specs.declared.terminal.ReturnVariant.{ReturnVariant}
 use Rattle.rl_hir.specs.declared.terminal.ReturnVariant.TheVariants as returns
 use Rattle.rl_lower.specs.Sound.{IsSmallSpan}
@@ -50,7 +52,7 @@ unfolding lib.Utf8.encode
 shape_utf8 (arguments.Place p) = (codes "place", (refl, refl))
 shape_utf8 (arguments.Spread p) = (codes "spread", (refl, refl))
 
-variant_utf8 : (variant : ReturnVariant) → IsUtf8 (listing.return_variant variant)
+variant_utf8 : (variant : ReturnVariant) → IsUtf8 (return_variant variant)
 unfolding lib.Utf8.encode
 variant_utf8 returns.Implicit = (codes "implicit", (refl, refl))
 variant_utf8 returns.Explicit = (codes "explicit", (refl, refl))
@@ -102,21 +104,42 @@ string_writable text utf8 = ((lit< tt, refl), (((lit< tt, refl), (utf8, tt)), tt
 pub local_writable : (p : Place) → IsWritable (listing.place p) → IsWritable (listing.value (values.LoadLocal p))
 local_writable p w = ((lit< tt, refl), (w, tt))
 
+said_writable : (said : List (List ℕ)) → All IsUtf8 said → AreWritable (row_parts rows.Texts (map Says said))
+said_writable [] utf8 = tt
+said_writable (text ∷ said) utf8 = (All-head IsUtf8 text said utf8, said_writable said (All-tail IsUtf8 text said utf8))
+
+none_taken : (said : List (List ℕ)) → AreWritable (row_parts rows.Operands (map Says said))
+none_taken [] = tt
+none_taken (text ∷ said) = none_taken said
+
 pub outer_writable : (binding : NonLocalBinding) → All IsUtf8 (binding_texts binding) → IsWritable (listing.value (values.LoadGlobal binding))
-outer_writable binding utf8 = ((lit< tt, refl), (all_writable listing.said (binding_texts binding) utf8, (tt, tt)))
+outer_writable binding utf8 =
+    ((lit< tt, refl), (said_writable (binding_texts binding) utf8, (none_taken (binding_texts binding), tt)))
 
 pub binary_writable : (operator : BinaryOperator) (left right : Place) → IsUtf8 (operator_text operator)
     → IsWritable (listing.place left) → IsWritable (listing.place right)
-    → IsWritable (listing.value (values.Binary operator left right))
+    → IsWritable (listing.value (values.BinaryExpression operator left right))
 binary_writable operator left right utf8 l r = ((lit< tt, refl), ((utf8, tt), ((l, (r, tt)), tt)))
 
-shapes_writable : (given : List PlaceOrSpread) → AreWritable (parts_of (map listing.shape_of given))
+shapes_writable : (given : List PlaceOrSpread) → AreWritable (row_parts rows.Texts (gathered argument_pieces given))
 shapes_writable [] = tt
-shapes_writable (a ∷ given) = (shape_utf8 a, shapes_writable given)
+shapes_writable (arguments.Place p ∷ given) = (shape_utf8 (arguments.Place p), shapes_writable given)
+shapes_writable (arguments.Spread p ∷ given) = (shape_utf8 (arguments.Spread p), shapes_writable given)
+
+abbrev WritesPlace : PlaceOrSpread → Type 0
+WritesPlace a = IsWritable (listing.place (argument_place a))
+
+operands_writable : (given : List PlaceOrSpread) → All WritesPlace given
+    → AreWritable (row_parts rows.Operands (gathered argument_pieces given))
+operands_writable [] all = tt
+operands_writable (arguments.Place p ∷ given) all =
+    (All-head WritesPlace (arguments.Place p) given all, operands_writable given (All-tail WritesPlace (arguments.Place p) given all))
+operands_writable (arguments.Spread p ∷ given) all =
+    (All-head WritesPlace (arguments.Spread p) given all, operands_writable given (All-tail WritesPlace (arguments.Spread p) given all))
 
 pub call_writable : (callee : Place) (given : List PlaceOrSpread) → IsWritable (listing.place callee)
-    → All (λ a. IsWritable (listing.operand_of a)) given → IsWritable (listing.value (values.Call callee given))
-call_writable callee given c all = ((lit< tt, refl), (shapes_writable given, ((c, all_writable listing.operand_of given all), tt)))
+    → All (λ a. IsWritable (listing.place (argument_place a))) given → IsWritable (listing.value (values.CallExpression callee given))
+call_writable callee given c all = ((lit< tt, refl), (shapes_writable given, ((c, operands_writable given all), tt)))
 
 -- instructions, terminals and blocks
 
@@ -130,13 +153,12 @@ pub instruction_ordered : (order : ℕ) (i : Instruction) → order ≤ largest 
 instruction_ordered order i fits w = ((lit< tt, refl), (fits, w.1.1))
 
 pub return_writable : (at : Option Span) (variant : ReturnVariant) (p : Place) → IsWritable (listing.optional listing.span at)
-    → IsWritable (listing.place p) → IsWritable (listing.terminal (terminals.Return (record { 0 = 0 }) at variant p))
+    → IsWritable (listing.place p) → IsWritable (listing.terminal (record { order = record { 0 = 0 }; span = at; kind = ends.Return variant p }))
 return_writable at variant p span place = ((lit< tt, refl), (omega arith, (span, (variant_utf8 variant, (place, tt)))))
 
 terminal_ordered : (order : ℕ) (t : Terminal) → order ≤ largest → IsWritable (listing.terminal t)
     → IsWritable (listing.terminal (with_order order t))
-terminal_ordered order (terminals.Return old at variant p) fits w = (w.0, (fits, w.1.1))
-terminal_ordered order (terminals.Unreachable old at) fits w = (w.0, (fits, w.1.1))
+terminal_ordered order t fits w = (w.0, (fits, w.1.1))
 
 pub block_ordered : (order : ℕ) (b : NumberedBlock) → order ≤ largest → IsWritable (listing.block b)
     → IsWritable (listing.block (record b { block = record b.block { terminal = with_order order b.block.terminal } }))

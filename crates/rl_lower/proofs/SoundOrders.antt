@@ -9,7 +9,6 @@ use Rattle.rl_hir.specs.Terminals.{with_order}
 use Rattle.rl_hir.specs.declared.function.NumberedBlock.{NumberedBlock}
 use Rattle.rl_hir.specs.declared.instruction.Instruction.{Instruction}
 use Rattle.rl_hir.specs.declared.terminal.Terminal.{Terminal}
-use Rattle.rl_hir.specs.declared.terminal.Terminal.TheVariants as terminals
 use Rattle.rl_builder.specs.Build.{built_of}
 use Rattle.rl_builder.specs.Builder.{State}
 use Rattle.rl_builder.specs.Order.{order_after, ordered_at, ordered_block, ordered_blocks, ordered_list, ordered_table, orders_of, reached_blocks}
@@ -75,8 +74,7 @@ ordered_blocks_all P bound keeps order (b ∷ blocks) within all =
 -- a terminal reads the same places under another order
 terminal_known : (count order : ℕ) (t : Terminal) → AreKnown count (terminal_places t)
     → AreKnown count (terminal_places (with_order order t))
-terminal_known count order (terminals.Return old at variant p) known = known
-terminal_known count order (terminals.Unreachable old at) known = known
+terminal_known count order t known = known
 
 pub built_table_known : (count : ℕ) (s : State) → All (λ i. AreKnown count (instruction_places i)) s.table
     → All (λ i. AreKnown count (instruction_places i)) (built_of s).instructions

@@ -21,7 +21,7 @@ use Rattle.rl_lower.proofs.Functions.{function_finished}
 use Rattle.rl_lower.proofs.Linked.{built_linked, built_numbered}
 use Rattle.rl_lower.proofs.Parameters.{state_with}
 use Rattle.rl_lower.proofs.FunctionGraphs.{begun_fresh, lowered_from, table_length}
-use Rattle.rl_lower.proofs.Finished.{IsFinished}
+use Rattle.rl_lower.proofs.Finished.{IsFinished, finished_precede}
 
 graph_listed : (names : Names) (parameters : List Parameter) (body : Syntax) (env new : Environment) (params : List Param) (built : Built)
     (g : IsGraphOf names parameters body env new params built) → AreApart parameters → IsListed (closed_off g.state)
@@ -44,7 +44,7 @@ graph_linked names parameters body env new params built g distinct f body_is ins
     let finished : IsFinished s =
     function_finished begun g.state (begun_fresh env parameters)
     (lowered_from names parameters body env new params built g distinct).blocks in
-    built_linked s (graph_listed names parameters body env new params built g distinct) finished.apart f
+    built_linked s (graph_listed names parameters body env new params built g distinct) finished.apart (finished_precede s finished) f
     (body_is ∙ ap (λ (b : Built). b.hir) g.graph)
     (ap (λ (l : List Instruction). length l) (instructions_is ∙ ap (λ (b : Built). b.instructions) g.graph)
     ∙ table_length (reached_blocks s.entry s.completed) s.table)

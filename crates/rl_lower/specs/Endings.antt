@@ -7,7 +7,7 @@ use Rattle.rl_hir.specs.declared.instruction.Place.{Place}
 use Rattle.rl_hir.specs.declared.instruction.InstructionValue.TheVariants as values
 use Rattle.rl_hir.specs.declared.instruction.PrimitiveValue.TheVariants as primitives
 use Rattle.rl_hir.specs.declared.terminal.Terminal.{Terminal}
-use Rattle.rl_hir.specs.declared.terminal.Terminal.TheVariants as terminals
+use Rattle.rl_hir.specs.declared.terminal.TerminalKind.TheVariants as ends
 use Rattle.rl_hir.specs.declared.terminal.ReturnVariant.{ReturnVariant}
 use Rattle.rl_hir.specs.declared.terminal.ReturnVariant.TheVariants as returns
 use Rattle.rl_builder.specs.Builder.{State, started, reserved, new_block, completed_by, placeholder}
@@ -25,7 +25,7 @@ use Rattle.rl_model.specs.Fields.{places_from}
 
 -- A return of a place, not numbered yet.
 abbrev pub return_of : Option Span → ReturnVariant → Place → Terminal
-return_of span variant place = terminals.Return (record { 0 = 0 }) span variant place
+return_of span variant place = record { order = record { 0 = 0 }; span = span; kind = ends.Return variant place }
 
 -- The current block ends by a return of `place`, and a fresh, unreachable block of kind `kind` goes on.
 abbrev pub returned_from : State → Option Span → ReturnVariant → Place → BlockKind → State

@@ -1,5 +1,5 @@
 -- The simulation: the graph that is built between two states of the builder has the traces of a part of the source.
-use Rattle.std.specs.Prelude.{◌≡◌, ℕ, zero, suc, ◌<◌, ◌≤◌, ◌⊎◌, Some, List, All, length, map, slice_get}
+use Rattle.std.specs.Prelude.{◌≡◌, ℕ, zero, suc, ◌<◌, ◌≤◌, ◌⊎◌, Some, List, [], All, length, map, slice_get}
 use Rattle.rl_base.specs.Distinct.{AreDistinct}
 use Rattle.rl_base.specs.declared.ids.InstructionId.{InstructionId}
 use Rattle.rl_hir.specs.declared.instruction.Instruction.{Instruction}
@@ -11,6 +11,8 @@ use Rattle.rl_model.specs.declared.trace.Value.{Value}
 use Rattle.rl_model.specs.declared.trace.Answer.{Answer}
 use Rattle.rl_model.specs.declared.trace.Trace.{Trace}
 use Rattle.rl_model.specs.Traces.{Store, ValueCont, ValuesCont, Cont, ExprMeaning, ExprsMeaning, StmtMeaning, Exits, threw}
+use Rattle.rl_hir.specs.Terminals.{named_ids}
+use Rattle.rl_hir.specs.declared.terminal.Terminal.{Terminal}
 use Rattle.rl_model.specs.Closed.{IsUnreachable}
 use Rattle.rl_model.specs.Machine.{Item, Runs, Ends, Code, Notes, Next, step}
 
@@ -101,11 +103,15 @@ abbrev pub PreservesIds : State → State → Type 0
 PreservesIds old new =
     PreservesUniqueIds old.completed old.current.id.0 old.env.next_block new.completed new.current.id.0 new.env.next_block
 
--- No complete block ends as unreachable.
-abbrev pub AreEnded : List NumberedBlock → Type 0
-AreEnded completed = All (λ b. IsUnreachable b.block.terminal → ⊥) completed
+-- A terminal that names no block, and is not the sign of a block that is never run to its end.
+abbrev pub LeavesFunction : Terminal → Type 0
+LeavesFunction t = (named_ids t ≡ []) × (IsUnreachable t → ⊥)
 
--- The new state extends the old one, ids stay distinct, and no block was completed that ends as unreachable.
+-- Every complete block leaves the function.
+abbrev pub AreEnded : List NumberedBlock → Type 0
+AreEnded completed = All (λ b. LeavesFunction b.block.terminal) completed
+
+-- The new state extends the old one, ids stay distinct, and every block that was completed leaves the function.
 pub record PreservesBlocks (old new : State) : Type 0 where
   pub extends : Extends old new
   pub ids : PreservesIds old new

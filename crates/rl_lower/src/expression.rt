@@ -241,7 +241,7 @@ pub(crate) fn lower_expression(
         } => {
             let left = lower_expression(alloc, builder, names, left)?;
             let right = lower_expression(alloc, builder, names, right)?;
-            let value = InstructionValue::Binary {
+            let value = InstructionValue::BinaryExpression {
                 operator,
                 left,
                 right,
@@ -256,7 +256,7 @@ pub(crate) fn lower_expression(
         } => {
             let callee = lower_expression(alloc, builder, names, callee)?;
             let arguments = lower_arguments(alloc, builder, names, arguments)?;
-            let value = InstructionValue::Call { callee, arguments };
+            let value = InstructionValue::CallExpression { callee, arguments };
             lower_value_to_temporary(builder, value, Some(at.span))
         }
         _ => unreachable!(),

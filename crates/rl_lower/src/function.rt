@@ -49,7 +49,7 @@ use rl_grammar::sort::{BindingIdentifierTree, TextTrees};
 use rl_hir::environment::Environment;
 use rl_hir::function::{BlockKind, HirFunction, Param};
 use rl_hir::instruction::{InstructionValue, Place, PrimitiveValue};
-use rl_hir::terminal::{ReturnVariant, Terminal};
+use rl_hir::terminal::{ReturnVariant, Terminal, TerminalKind};
 use rl_names::names::FunctionNames;
 use rl_names::parameters::{Parameter, parameters};
 use rl_syntax::numbered::At;
@@ -186,11 +186,13 @@ fn lower_body(
             let fallthrough = builder.reserve(BlockKind::Block);
             let value = lower_expression(alloc, builder, names, expression)?;
             builder.terminate_with_continuation(
-                Terminal::Return {
+                Terminal {
                     order: EvaluationOrder(0),
                     span: None,
-                    variant: ReturnVariant::Implicit,
-                    value,
+                    kind: TerminalKind::Return {
+                        variant: ReturnVariant::Implicit,
+                        value,
+                    },
                 },
                 fallthrough,
             )
@@ -225,11 +227,13 @@ fn lower_graph(
     lower_body(alloc, &mut builder, names, body)?;
     let undefined = InstructionValue::Primitive(PrimitiveValue::Undefined);
     let value = lower_value_to_temporary(&mut builder, undefined, None)?;
-    builder.terminate(Terminal::Return {
+    builder.terminate(Terminal {
         order: EvaluationOrder(0),
         span: None,
-        variant: ReturnVariant::Void,
-        value,
+        kind: TerminalKind::Return {
+            variant: ReturnVariant::Void,
+            value,
+        },
     })?;
     let built = builder.build()?;
     Ok(Graph { params, built })

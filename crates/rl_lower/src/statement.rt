@@ -19,7 +19,7 @@ use rl_builder::builder::HirBuilder;
 use rl_grammar::sort::{StatementTree, StatementTrees};
 use rl_hir::function::BlockKind;
 use rl_hir::instruction::{InstructionValue, Place, PrimitiveValue};
-use rl_hir::terminal::{ReturnVariant, Terminal};
+use rl_hir::terminal::{ReturnVariant, Terminal, TerminalKind};
 use rl_names::names::FunctionNames;
 use std::alloc::Global;
 
@@ -31,11 +31,13 @@ fn lower_return(builder: &mut HirBuilder, span: Span, value: Place) -> Result<()
 {
     let next = builder.reserve(BlockKind::Block);
     builder.terminate_with_continuation(
-        Terminal::Return {
+        Terminal {
             order: EvaluationOrder(0),
             span: Some(span),
-            variant: ReturnVariant::Explicit,
-            value,
+            kind: TerminalKind::Return {
+                variant: ReturnVariant::Explicit,
+                value,
+            },
         },
         next,
     )

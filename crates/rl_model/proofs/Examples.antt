@@ -18,7 +18,7 @@ use Rattle.rl_hir.specs.declared.instruction.NonLocalBinding.TheVariants as bind
 use Rattle.rl_hir.specs.declared.instruction.Place.{Place}
 use Rattle.rl_hir.specs.declared.instruction.PlaceOrSpread.TheVariants as arguments
 use Rattle.rl_hir.specs.declared.terminal.ReturnVariant.TheVariants as returns
-use Rattle.rl_hir.specs.declared.terminal.Terminal.TheVariants as terminals
+use Rattle.rl_hir.specs.declared.terminal.TerminalKind.TheVariants as ends
 use Rattle.rl_model.specs.Events.{call, global}
 use Rattle.rl_model.specs.Held.{calls_in, live_calls_in}
 use Rattle.rl_model.specs.Machine.{code_of, exec, function_trace, no_notes, steps_for, take_arguments, trace_by}
@@ -117,7 +117,7 @@ graph = record {
       block = record {
         kind = kinds.Block;
         instructions = record { 0 = 0 } ∷ record { 0 = 1 } ∷ record { 0 = 2 } ∷ [];
-        terminal = terminals.Return (record { 0 = 4 }) None returns.Explicit (place 3);
+        terminal = record { order = record { 0 = 4 }; span = None; kind = ends.Return returns.Explicit (place 3) };
         preds = [];
       };
     } ∷ [];
@@ -125,7 +125,7 @@ graph = record {
   instructions =
       instruction 1 (values.LoadGlobal (bindings.Global (codes "f"))) ∷
       instruction 2 (values.LoadLocal (place 0)) ∷
-      instruction 3 (values.Call (place 1) (arguments.Place (place 2) ∷ [])) ∷ [];
+      instruction 3 (values.CallExpression (place 1) (arguments.Place (place 2) ∷ [])) ∷ [];
 }
 
 -- their runs, with the argument 1
@@ -180,7 +180,7 @@ waits_for_an_answer stuck = refl
 stuck_without_block : (stuck : Trace) → trace_by stuck (record graph { body = record { entry = record { 0 = 0 }; blocks = [] } }) [] [] [] [] ≡ stuck
 stuck_without_block stuck = refl
 
-stuck_at_an_unreachable_end : (stuck : Trace) → trace_by stuck (record graph { body = record { entry = record { 0 = 0 }; blocks = record { id = record { 0 = 0 }; block = record { kind = kinds.Block; instructions = []; terminal = terminals.Unreachable (record { 0 = 1 }) None; preds = [] } } ∷ [] } }) [] [] [] [] ≡ stuck
+stuck_at_an_unreachable_end : (stuck : Trace) → trace_by stuck (record graph { body = record { entry = record { 0 = 0 }; blocks = record { id = record { 0 = 0 }; block = record { kind = kinds.Block; instructions = []; terminal = record { order = record { 0 = 1 }; span = None; kind = ends.Unreachable }; preds = [] } } ∷ [] } }) [] [] [] [] ≡ stuck
 stuck_at_an_unreachable_end stuck = refl
 
 -- `(a, b) => { f(g); return b; }`: the callee comes before its arguments, and each parameter takes its own argument

@@ -1,9 +1,9 @@
 -- Closed graphs: every block that is reached is there.
 use Rattle.std.specs.Prelude.{◌≡◌, ℕ, Some, List, [], Contains, map}
 use Rattle.rl_model.specs.Machine.{block_of}
-use Rattle.rl_hir.specs.Terminals.{successor_ids}
+use Rattle.rl_hir.specs.Terminals.{named_ids, successor_ids}
 use Rattle.rl_hir.specs.declared.terminal.Terminal.{Terminal}
-use Rattle.rl_hir.specs.declared.terminal.Terminal.TheVariants as terminals
+use Rattle.rl_hir.specs.declared.terminal.TerminalKind.TheVariants as kinds
 use Rattle.rl_hir.specs.declared.function.BasicBlock.{BasicBlock}
 use Rattle.rl_hir.specs.declared.function.Hir.{Hir}
 
@@ -11,14 +11,16 @@ use Rattle.rl_hir.specs.declared.function.Hir.{Hir}
 abbrev pub successors : Terminal → List ℕ
 successors terminal = map (λ id. id.0) (successor_ids terminal)
 
--- The blocks that a terminal names in any field.
+-- The blocks that a terminal names in any field, by block id.
 abbrev pub named : Terminal → List ℕ
-named (terminals.Return order at variant p) = []
-named (terminals.Unreachable order at) = []
+named terminal = map (λ id. id.0) (named_ids terminal)
 
+-- The block is never run to its end.
 abbrev pub IsUnreachable : Terminal → Type 0
-IsUnreachable (terminals.Return order at variant p) = ⊥
-IsUnreachable (terminals.Unreachable order at) = Unit {0}
+IsUnreachable terminal = elim terminal.kind [
+  | kinds.Unreachable ↦ Unit {0}
+  | _ ↦ ⊥
+]
 
 abbrev pub IsBlock : Hir → ℕ → Type 0
 IsBlock hir id = (block : BasicBlock) × (block_of hir.blocks id ≡ Some block)

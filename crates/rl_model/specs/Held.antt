@@ -44,7 +44,7 @@ live_calls_in function = live_in_body (body_in function)
 -- The span of an instruction that is a call.
 abbrev pub call_at : Instruction → List (Option Span)
 call_at i = elim i.value [
-  | values.Call callee arguments ↦ i.span ∷ []
+  | values.CallExpression callee arguments ↦ i.span ∷ []
   | _ ↦ []
 ]
 

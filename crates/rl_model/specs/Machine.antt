@@ -12,7 +12,8 @@ use Rattle.rl_hir.specs.declared.instruction.PrimitiveValue.TheVariants as primi
 use Rattle.rl_hir.specs.Pairs.{identifier_of}
 use Rattle.rl_hir.specs.Instructions.{argument_place, argument_shape, binding_texts}
 use Rattle.rl_hir.specs.declared.terminal.Terminal.{Terminal}
-use Rattle.rl_hir.specs.declared.terminal.Terminal.TheVariants as terminals
+use Rattle.rl_hir.specs.declared.terminal.TerminalKind.{TerminalKind}
+use Rattle.rl_hir.specs.declared.terminal.TerminalKind.TheVariants as kinds
 use Rattle.rl_hir.specs.declared.function.BasicBlock.{BasicBlock}
 use Rattle.rl_hir.specs.declared.function.NumberedBlock.{NumberedBlock}
 use Rattle.rl_hir.specs.declared.function.Param.{Param}
@@ -76,31 +77,39 @@ value_of (primitives.String text) = value.Text text
 abbrev pub is_open : ℕ → Bool
 is_open identifier = false
 
--- The effect of an instruction: it computes a value silently, or it asks an event.
+-- The effect of an instruction: it computes a value silently, or it asks an event, or it has none: the lowering does not make it
+-- yet, and a run goes no further.
 pub data Act : Type 0 where
   Computes : (v : Value) → Act
   Asks : (event : Event) → Act
+  Stops : Act
 
 abbrev pub act : InstructionValue → Store → Act
 act (values.Primitive v) store = Computes (value_of v)
 act (values.LoadLocal p) store = Computes (store p.identifier.0)
 act (values.LoadGlobal binding) store = Asks (global (binding_texts binding))
-act (values.Binary operator left right) store = Asks (binary (operator_text operator) (store left.identifier.0) (store right.identifier.0))
-act (values.Call callee arguments) store = Asks (call (map argument_shape arguments) (store callee.identifier.0) (map (λ a. store (argument_place a).identifier.0) arguments))
+act (values.BinaryExpression operator left right) store = Asks (binary (operator_text operator) (store left.identifier.0) (store right.identifier.0))
+act (values.CallExpression callee arguments) store = Asks (call (map argument_shape arguments) (store callee.identifier.0) (map (λ a. store (argument_place a).identifier.0) arguments))
+act _ store = Stops
 
 -- Runs an instruction: its value goes to `identifier`, and the run goes on at the next index, by `silent` after a value that
 -- was computed and by `loud` after an event. A throw ends the run, since there is no handler.
-abbrev pub executed : Act → ℕ → Next → Next → Next
-executed (Computes v) identifier silent loud id place store notes answers = silent id (place + 1) (set store identifier v) notes answers
-executed (Asks event) identifier silent loud id place store notes answers =
+abbrev pub executed : (stuck : Trace) → Act → ℕ → Next → Next → Next
+executed stuck (Computes v) identifier silent loud id place store notes answers = silent id (place + 1) (set store identifier v) notes answers
+executed stuck (Asks event) identifier silent loud id place store notes answers =
     asked (λ assignments before. set_open is_open assignments before) event store answers (λ v after rest. loud id (place + 1) (set after identifier v) notes rest) (λ v after rest. threw v)
+executed stuck Stops identifier silent loud id place store notes answers = stuck
+
+-- Runs the end of a block. A kind that the lowering does not make yet goes no further.
+abbrev pub ended_by : (stuck : Trace) → TerminalKind → Store → Trace
+ended_by stuck (kinds.Return variant p) store = returned variant (store p.identifier.0)
+ended_by stuck _ store = stuck
 
 -- Runs one item. `stuck` is the trace of a run that cannot go on: there is no item, or the block ends as unreachable.
 abbrev pub step : (stuck : Trace) → Option Item → (silent loud : Next) → Next
 step stuck None silent loud id place store notes answers = stuck
-step stuck (Some (Runs i)) silent loud id place store notes answers = executed (act i.value store) i.lvalue.identifier.0 silent loud id place store notes answers
-step stuck (Some (Ends (terminals.Return order at variant p))) silent loud id place store notes answers = returned variant (store p.identifier.0)
-step stuck (Some (Ends (terminals.Unreachable order at))) silent loud id place store notes answers = stuck
+step stuck (Some (Runs i)) silent loud id place store notes answers = executed stuck (act i.value store) i.lvalue.identifier.0 silent loud id place store notes answers
+step stuck (Some (Ends t)) silent loud id place store notes answers = ended_by stuck t.kind store
 
 -- The run that goes no further.
 abbrev pub no_way : (stuck : Trace) → Next

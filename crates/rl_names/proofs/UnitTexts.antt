@@ -169,7 +169,7 @@ module _ (name : List ℕ) (utf8 : IsUtf8 name) where
   kind_texts import.Namespace source imported s i =
       texts IsUtf8 (binding_texts (binding.ImportNamespace name source)) (utf8, ((codes "namespace", (refl, refl)), (s, tt)))
   kind_texts import.Named source imported s i =
-      texts IsUtf8 (binding_texts (binding.ImportSpecifier name source imported))
+      texts IsUtf8 (binding_texts (binding.ImportSpecifier name (record { «module» = source; imported = imported })))
       (utf8, ((codes "named", (refl, refl)), (s, (i, tt))))
 
   imported_texts : (o : Option ImportBindingData) → IfSome o HasImportTexts

@@ -70,7 +70,7 @@ is_local at scopes symbols symbol = of_item false (λ b. is_variable b.kind) (sl
 abbrev pub binding_of_kind : ImportBindingKind → (name source imported : List ℕ) → NonLocalBinding
 binding_of_kind import.Default name source imported = binding.ImportDefault name source
 binding_of_kind import.Namespace name source imported = binding.ImportNamespace name source
-binding_of_kind import.Named name source imported = binding.ImportSpecifier name source imported
+binding_of_kind import.Named name source imported = binding.ImportSpecifier name (record { «module» = source; imported = imported })
 
 abbrev pub import_binding : (name : List ℕ) → ImportBindingData → NonLocalBinding
 import_binding name d = binding_of_kind d.kind name d.source (unwrap_or d.imported [])

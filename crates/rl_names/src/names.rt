@@ -17,7 +17,7 @@ use rl_base::ids::{NodeId, ScopeId, SymbolId};
 use rl_base::span::Span;
 use rl_base::text::Text;
 use rl_bindings::event::{BindKind, Bound};
-use rl_hir::instruction::NonLocalBinding;
+use rl_hir::instruction::{ImportSpecifier, NonLocalBinding};
 use rl_resolver::resolver::ScopeResolver;
 use rl_semantic::imports::{ImportBindingKind, ImportEntry};
 use rl_syntax::numbered::At;
@@ -78,15 +78,21 @@ fn import_binding(
 ) -> Result<NonLocalBinding, OutOfMemory>
     ensures { IfOk result (λ b. b ≡ spec.import_binding name (data_of import.entry)) }
 {
-    let module = Boxed::new(alloc, import.source.copy(alloc)?)?;
+    let module = import.source.copy(alloc)?;
     match import.kind {
-        ImportBindingKind::Default => Ok(NonLocalBinding::ImportDefault { name, module }),
-        ImportBindingKind::Namespace => Ok(NonLocalBinding::ImportNamespace { name, module }),
-        ImportBindingKind::Named => Ok(NonLocalBinding::ImportSpecifier {
+        ImportBindingKind::Default => Ok(NonLocalBinding::ImportDefault {
             name,
-            module,
-            imported: Boxed::new(alloc, copy_or_empty(alloc, import.imported)?)?,
+            module: Boxed::new(alloc, module)?,
         }),
+        ImportBindingKind::Namespace => Ok(NonLocalBinding::ImportNamespace {
+            name,
+            module: Boxed::new(alloc, module)?,
+        }),
+        ImportBindingKind::Named => {
+            let imported = copy_or_empty(alloc, import.imported)?;
+            let import = Boxed::new(alloc, ImportSpecifier { module, imported })?;
+            Ok(NonLocalBinding::ImportSpecifier { name, import })
+        }
     }
 }
 

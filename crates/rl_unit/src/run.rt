@@ -165,8 +165,8 @@ fn room_for_parts(value: &InstructionValue) -> usize {
     match value {
         InstructionValue::Primitive(PrimitiveValue::String(text)) => text.as_bytes().len(),
         InstructionValue::LoadLocal(_) => BYTES_OF_OPERAND,
-        InstructionValue::Binary { .. } => 2 * BYTES_OF_OPERAND,
-        InstructionValue::Call { arguments, .. } => {
+        InstructionValue::BinaryExpression { .. } => 2 * BYTES_OF_OPERAND,
+        InstructionValue::CallExpression { arguments, .. } => {
             BYTES_OF_OPERAND.saturating_mul(arguments.len().saturating_add(1))
         }
         _ => 0,

@@ -1,6 +1,6 @@
 //! Units, from their bytes to their results.
 
-ghost use Rattle.std.specs.Prelude.{◌≡◌, ◌↔◌, Some, None, List, IfErr, IfOk, IsErrOf};
+ghost use Rattle.std.specs.Prelude.{◌≡◌, ◌↔◌, [], false, Some, None, List, IfErr, IfOk, IsErrOf};
 ghost use Rattle.rl_ast.specs.FunctionNodes.{seen_function_node};
 ghost use Rattle.rl_ast.specs.Marked.{first, marked_functions};
 ghost use Rattle.rl_base.specs.declared.diagnostic.Diagnostic.{Diagnostic};
@@ -17,6 +17,7 @@ ghost use Rattle.rl_names.specs.Seen.{seen, shown};
 use rl_ast::function_node::FunctionNode;
 use rl_ast::read::{TreeError, read_tree};
 use rl_ast::unit::Unit;
+use rl_atoms::entity_table::EntityTable;
 use rl_base::diagnostic::Diagnostic;
 use rl_base::error::OutOfMemory;
 use rl_base::ids::NodeId;
@@ -92,6 +93,28 @@ fn function_of(unit: &Unit) -> FunctionNode<'_>
     }
 }
 
+/// The environment of a unit before its function is lowered. It has no entities: no text of JSX is lowered yet.
+fn fresh_environment(alloc: Global) -> Environment
+    ensures { result ≡ record {
+      fn_type = ReactFunctionType.Other;
+      next_block = 0;
+      next_type = 0;
+      identifiers = [];
+      functions = [];
+      pairs = [];
+      diagnostics = [];
+      entities = [];
+      hoisted = [];
+      renames = [];
+      skip = false;
+    } }
+{
+    match Environment::new(alloc, ReactFunctionType::Other, EntityTable::new(alloc)) {
+        Ok(env) => env,
+        Err(_) => unreachable!(),
+    }
+}
+
 /// Lowers a function under the names of its unit.
 fn lower_function(
     alloc: Global,
@@ -102,7 +125,7 @@ fn lower_function(
     ensures lowered { IfOk result (λ l. IsResultOf (seen names.now) (seen_function_node function.entry) l) }
     ensures error { IfErr result (λ e. IsFunctionError (seen names.now) (seen_function_node function.entry) e) }
 {
-    let mut env = Environment::new(alloc, ReactFunctionType::Other);
+    let mut env = fresh_environment(alloc);
     let lowered = match lower(alloc, function, names, &mut env) {
         Ok(lowered) => lowered,
         Err(Stop::Diagnostic(diagnostic)) => return Err(LowerError::Stopped(diagnostic)),

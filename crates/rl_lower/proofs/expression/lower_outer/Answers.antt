@@ -1,9 +1,10 @@
-use Rattle.std.proofs.Common.{Bool, if◌then◌else◌, [], ◌∷◌, Some, refl, sym, ap, ◌∙◌}
+use Rattle.std.proofs.Common.{Bool, if◌then◌else◌, [], ◌∷◌, Some, refl, sym, ap, subst, ◌∙◌}
 use Rattle.rl_base.specs.declared.row.Row.TheVariants as row
 use Rattle.rl_model.specs.Rows.{refusal}
+use Rattle.rl_model.specs.WellFormed.{AreKnown}
 use Rattle.rl_lower.proofs.Answering.{ok_given}
 use Rattle.rl_lower.proofs.Lowered.{outer_call, refused_outer_call}
-use Rattle.rl_lower.proofs.SoundKinds.{leaf_sound, noted_sound}
+use Rattle.rl_lower.proofs.SoundKinds.{leaf_sound, noted_sound, outer_none}
 use Rattle.rl_lower.proofs.SoundListing.{outer_writable}
 use Rattle.rl_lower.proofs.SoundMoves.{none_known}
 use Rattle.rl_lower.proofs.expression.lower_outer.Goals as goal
@@ -23,11 +24,12 @@ returns-clause-lowered c =
 pub returns-then-is_refused-clause-sound : goal.returns-then-is_refused-clause-sound
 returns-then-is_refused-clause-sound c =
     ok_given c.lower_value_to_temporary.result c.lower_value_to_temporary.ensures.state c.lower_value_to_temporary.ensures.place
-    (λ place moved placed name texts. noted_sound _ c.args.at _ _ _ _ _ _ _ place refl c.in_ok-refuse.ensures.state (none_known _)
+    (λ place moved placed name texts. noted_sound _ c.args.at _ _ _ _ _ _ _ place refl c.in_ok-refuse.ensures.state
+    (subst (AreKnown _) (sym (outer_none c.args.binding)) (none_known _))
     (λ small fits. outer_writable c.args.binding (texts small.1.1.0)) moved placed)
 
 pub returns-clause-sound : goal.returns-clause-sound
 returns-clause-sound c =
     ok_given c.lower_value_to_temporary-2.result c.lower_value_to_temporary-2.ensures.state c.lower_value_to_temporary-2.ensures.place
-    (λ place moved placed name texts. leaf_sound _ c.args.at _ _ _ _ _ place refl refl
+    (λ place moved placed name texts. leaf_sound _ c.args.at _ _ _ _ _ place refl (outer_none c.args.binding)
     (λ small. outer_writable c.args.binding (texts small.1.1.0)) moved placed)
