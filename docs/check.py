@@ -7,9 +7,9 @@ TOP = pathlib.Path(__file__).resolve().parent.parent
 PAGES = [TOP / "README.md", *sorted((TOP / "docs").glob("*.md"))]
 # Names of the original, of the toolchain, of lemmas by pattern, and of crates and files.
 OUTSIDE = set(
-    "ArenaVec BinaryExpression CloneIn FloatValue OxcDiagnostic aliasing_effects effects name_hint phis reactive renames "
+    "ArenaVec CloneIn LValue LValuePattern FloatValue OxcDiagnostic aliasing_effects effects name_hint phis reactive renames "
     "expect unwrap retain x0 x1 "
-    "CallExpression antt hyperfine oxc_react_compiler rl_frames rl_order crates txt "
+    "antt hyperfine oxc_react_compiler rl_frames crates txt "
     "X_call X_counted X_runs X_sound X_tree X_writable read_X Kinds c in-Variant decreases-NAME".split()
 )
 
