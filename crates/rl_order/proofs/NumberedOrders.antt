@@ -8,7 +8,7 @@ use Rattle.rl_base.specs.Distinct.{AreDistinct}
 use Rattle.rl_base.specs.declared.ids.InstructionId.{InstructionId}
 use Rattle.rl_base.proofs.DistinctLists.{IsIn, contains_in, in_either, in_head, in_left, in_none, in_right, in_tail}
 use Rattle.rl_base.proofs.DistinctLists.{distinct_apart, distinct_head, distinct_left, distinct_right, distinct_tail}
-use Rattle.rl_order.specs.Numbering.{IsNumbered, listed_in, order_at, orders_in, ordered_at, ordered_list, order_after, ordered_blocks, ordered_table}
+use Rattle.rl_order.specs.Numbering.{IsCounted, IsNumbered, listed_in, order_at, orders_in, ordered_at, ordered_list, order_after, ordered_blocks, ordered_table}
 use Rattle.rl_hir.specs.Blocks.{Pair}
 use Rattle.rl_hir.specs.declared.instruction.Instruction.{Instruction}
 
@@ -214,12 +214,17 @@ order_stays table index order unordered is = by_item (slice_get table index) ref
         sym same ∙ ap (λ (j : Instruction). j.order.0) (sym (get_or_from_slice_get table index i i found))
         ∙ unordered index i (slice_get_within table index i found)
 
+-- If blocks list each instruction at most once, `mark_instruction_ids` makes orders that count from 1.
+orders_counted : (blocks : List Pair) (table : List Instruction) → AreDistinct (listed_in blocks)
+    → ((n : ℕ) → IsIn (listed_in blocks) n → n < length table) → IsCounted (ordered_table 1 blocks table) (ordered_blocks 1 blocks)
+orders_counted blocks table distinct below = record { in_order = (blocks_count 1 blocks table distinct below).counted }
+
 -- If no instruction has an order and blocks list each at most once, `mark_instruction_ids` makes orders that count from 1.
 pub numbered_orders : (blocks : List Pair) (table : List Instruction) → AreDistinct (listed_in blocks)
     → ((n : ℕ) → IsIn (listed_in blocks) n → n < length table) → All (λ (i : Instruction). i.order.0 ≡ 0) table
     → IsNumbered (ordered_table 1 blocks table) (ordered_blocks 1 blocks)
 numbered_orders blocks table distinct below unordered = record {
-  in_order = (blocks_count 1 blocks table distinct below).counted;
+  counted = orders_counted blocks table distinct below;
   unlisted = λ index i found free.
       order_stays table index i.order.0 unordered
       (sym (table_other 1 blocks table index (λ h. free (ordered index h)))
@@ -240,7 +245,16 @@ listed_below bound (b ∷ blocks) below n h = elim (in_either (numbers b.1.instr
   | inr rest ↦ listed_below bound blocks (λ place d within. below (suc place) d (omega arith)) n rest
 ]
 
--- The promise of `mark_instruction_ids` about orders, from the blocks and the table that it leaves.
+-- The promises of `mark_instruction_ids` about orders, from the blocks and the table that it leaves.
+pub counted_marked : (blocks blocks1 : List Pair) (table table1 : List Instruction) → blocks1 ≡ ordered_blocks 1 blocks
+    → table1 ≡ ordered_table 1 blocks table
+    → All (λ (b : Pair). All (λ (id : InstructionId). id.0 < length table) b.1.instructions) blocks
+    → AreDistinct (listed_in blocks) → IsCounted table1 blocks1
+counted_marked blocks blocks1 table table1 is_blocks is_table within distinct =
+    subst (λ (t : List Instruction). IsCounted t blocks1) (sym is_table)
+    (subst (λ (l : List Pair). IsCounted (ordered_table 1 blocks table) l) (sym is_blocks)
+    (orders_counted blocks table distinct (listed_below (length table) blocks within)))
+
 pub numbered_marked : (blocks blocks1 : List Pair) (table table1 : List Instruction) → blocks1 ≡ ordered_blocks 1 blocks
     → table1 ≡ ordered_table 1 blocks table
     → All (λ (b : Pair). All (λ (id : InstructionId). id.0 < length table) b.1.instructions) blocks

@@ -1,5 +1,6 @@
 -- Steps of the numbering of blocks.
-use Rattle.std.proofs.Common.{◌≡◌, ℕ, ◌+◌, ◌<◌, List, [], ◌∷◌, ◌++◌, length, get_or, take, drop, slice_set, All, arith, subst, ap, ◌∙◌, sym, refl}
+use Rattle.std.proofs.Common.{◌≡◌, ℕ, ◌+◌, ◌<◌, List, [], ◌∷◌, ◌++◌, length, get_or, take, drop, slice_set, All, append-nil, arith, subst, ◌≤◌, ap, ◌∙◌, sym, refl}
+use Rattle.std.proofs.lemmas.List.{drop_all, take_all}
 use Rattle.std.proofs.lemmas.Option.{slice_get-get_or}
 use Rattle.rl_base.specs.declared.ids.InstructionId.{InstructionId}
 use Rattle.rl_hir.specs.Blocks.{Pair}
@@ -39,9 +40,23 @@ module _ (now after : List Pair) (place next next1 : ℕ) (old : BasicBlock) (r 
       let second : orders_of (drop place now) ≡ length old.instructions + 1 + orders_of (drop (place + 1) now) = ap orders_of r.before in
       omega (arith, first, second, ends)
 
--- What the numbering of a block requires, from what that of all blocks requires.
+-- The requirement of the numbering of a block follows from that of all blocks.
 pub listed_within : (bound : ℕ) (pairs now after : List Pair) (place : ℕ) (old new : BasicBlock) → IsReplaced now after place old new → drop place now ≡ drop place pairs → place < length pairs
     → All (λ (p : Pair). All (λ (id : InstructionId). id.0 < bound) p.1.instructions) pairs → All (λ (id : InstructionId). id.0 < bound) old.instructions
 listed_within bound pairs now after place old new r same within all =
     let first : get_or pairs place (r.id, old) ≡ (r.id, old) = first_is pairs (drop (place + 1) now) place (r.id, old) (r.id, old) (sym same ∙ r.before) in
     subst (λ (p : Pair). All (λ (id : InstructionId). id.0 < bound) p.1.instructions) first (all place (r.id, old) within)
+
+-- At the end of the blocks all are numbered, and the table is that of all of them.
+pub all_marked : (first pairs : List Pair) (before table : List Instruction) (place next : ℕ) → length pairs ≤ place
+    → take place pairs ++ ordered_blocks next (drop place pairs) ≡ ordered_blocks 1 first
+    → ordered_table next (drop place pairs) table ≡ ordered_table 1 first before
+    → (pairs ≡ ordered_blocks 1 first) × (table ≡ ordered_table 1 first before)
+all_marked first pairs before table place next end blocks marked =
+    let rest : drop place pairs ≡ [] = drop_all place pairs (omega (arith, end)) in (
+      sym (append-nil pairs)
+          ∙ ap (λ (left : List Pair). left ++ ordered_blocks next []) (sym (take_all place pairs (omega (arith, end))))
+          ∙ ap (λ (left : List Pair). take place pairs ++ ordered_blocks next left) (sym rest)
+          ∙ blocks,
+      ap (λ (left : List Pair). ordered_table next left table) (sym rest) ∙ marked,
+    )

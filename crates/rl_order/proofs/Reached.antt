@@ -7,7 +7,8 @@ use Rattle.rl_hir.specs.Blocks.{Pair, block_at, same_id}
 use Rattle.rl_hir.specs.Terminals.{successor_ids}
 use Rattle.rl_hir.specs.declared.function.BasicBlock.{BasicBlock}
 use Rattle.rl_order.proofs.Following.{one_id}
-use Rattle.rl_order.specs.Predecessors.{Follows, Ends, Misses, Meets, Visits, Trail, LeadsTo, Reaches, Begins, Goes, IsMarked, PredecessorsReached, distinct_ids, edges_from, followed, sources, visited, with_predecessors}
+use Rattle.rl_order.specs.Predecessors.{Follows, Ends, Misses, Meets, Visits, Trail, LeadsTo, IsMarked, PredecessorsReached, distinct_ids, edges_from, followed, sources, visited, with_predecessors}
+use Rattle.rl_order.specs.Reached.{IsReached, Begins, Goes}
 use Rattle.rl_order.specs.declared.predecessors.Edge.{Edge}
 
 -- `x` is one of the items.
@@ -72,6 +73,17 @@ any_in id (x ∷ ids) h = by_head (same_id id x) refl h (any_in id ids)
     by_head : (b : Bool) → same_id id x ≡ b → list_any (same_id id) (x ∷ ids) ≡ true → (list_any (same_id id) ids ≡ true → In id ids) → In id (x ∷ ids)
     by_head true e h1 rest = inl (sym (one_id id x e))
     by_head false e h1 rest = inr (rest (rw e at h1))
+
+in_any : (id : BlockId) (ids : List BlockId) → In id ids → list_any (same_id id) ids ≡ true
+in_any id [] h = absurd h
+in_any id (x ∷ ids) h = by_head (same_id id x) refl h (in_any id ids)
+  where
+    by_head : (b : Bool) → same_id id x ≡ b → In id (x ∷ ids) → (In id ids → list_any (same_id id) ids ≡ true) → list_any (same_id id) (x ∷ ids) ≡ true
+    by_head true e i rest = rw e refl
+    by_head false e i rest = elim i [
+      | inl same ↦ absurd (let hit : same_id id x ≡ true = eq-eqb id.0 x.0 (ap (λ (y : BlockId). y.0) (sym same)) in let never : true ≡ false = sym hit ∙ e in cc)
+      | inr r ↦ rw e (rest r)
+    ]
 
 self_same : (id : BlockId) → same_id id id ≡ true
 self_same id = eq-eqb id.0 id.0 refl
@@ -155,19 +167,22 @@ record Leads (graph : List Pair) (from to : BlockId) : Type 0 where
   leads : In to (successor_ids block.terminal)
 
 to_leads : (graph : List Pair) (from to : BlockId) → LeadsTo graph from to → Leads graph from to
-to_leads graph from to h = record { block = h.block; found = h.found; leads = contains_in to (successor_ids h.block.terminal) h.leads }
+to_leads graph from to h = record { block = h.block; found = h.found; leads = any_in to (successor_ids h.block.terminal) h.leads }
 
 from_leads : (graph : List Pair) (from to : BlockId) → Leads graph from to → LeadsTo graph from to
-from_leads graph from to h = record { block = h.block; found = h.found; leads = in_contains to (successor_ids h.block.terminal) h.leads }
+from_leads graph from to h = record { block = h.block; found = h.found; leads = in_any to (successor_ids h.block.terminal) h.leads }
 
 module _ (graph : List Pair) (entry : BlockId) where
+  reaches_next : (from to : BlockId) → IsReached graph entry from → LeadsTo graph from to → IsReached graph entry to
+  reaches_next from to r h = Goes from to h.block r h.found h.leads
+
   record Walking (work : List Edge) (trail : Trail) : Type 0 where
     work_from : (e : Edge) → In e work → In e.from trail.seen
     work_leads : (e : Edge) → In e work → Leads graph e.from e.to
     edges_from : (e : Edge) → In e trail.edges → In e.from trail.seen
     edges_lead : (e : Edge) → In e trail.edges → Leads graph e.from e.to
     begun : In entry trail.seen
-    reached : (id : BlockId) → In id trail.seen → Reaches graph entry id
+    reached : (id : BlockId) → In id trail.seen → IsReached graph entry id
     all : (from to : BlockId) (block : BasicBlock) → In from trail.seen → Leads graph from to → block_at graph to ≡ Some block
         → (In (edge from to) trail.edges × In to trail.seen) ⊎ In (edge from to) work
 
@@ -235,7 +250,7 @@ module _ (graph : List Pair) (entry : BlockId) where
     begun = old entry w.begun;
     reached = λ id h. elim (in_last id e.to trail.seen h) [
       | inl before ↦ w.reached id before
-      | inr new ↦ subst (λ (x : BlockId). Reaches graph entry x) new (Goes e.from e.to (w.reached e.from (w.work_from e (inl refl))) (from_leads graph e.from e.to (w.work_leads e (inl refl))))
+      | inr new ↦ subst (λ (x : BlockId). IsReached graph entry x) new (reaches_next e.from e.to (w.reached e.from (w.work_from e (inl refl))) (from_leads graph e.from e.to (w.work_leads e (inl refl))))
     ];
     all = λ from to other seen leads there. elim (in_last from e.to trail.seen seen) [
       | inl before ↦ elim (w.all from to other before leads there) [
@@ -280,7 +295,7 @@ module _ (graph : List Pair) (entry : BlockId) where
     edges_from = λ x h. absurd h;
     edges_lead = λ x h. absurd h;
     begun = inl refl;
-    reached = λ id h. subst (λ (x : BlockId). Reaches graph entry x) (only_entry id h) Begins;
+    reached = λ id h. subst (λ (x : BlockId). IsReached graph entry x) (only_entry id h) Begins;
     all = λ from to block seen leads there. absurd (let never : None ≡ Some leads.block = sym gone ∙ ap (block_at graph) (only_entry from seen) ∙ leads.found in cc);
   }
   begins (Some block) found = record {
@@ -289,7 +304,7 @@ module _ (graph : List Pair) (entry : BlockId) where
     edges_from = λ x h. absurd h;
     edges_lead = λ x h. absurd h;
     begun = inl refl;
-    reached = λ id h. subst (λ (x : BlockId). Reaches graph entry x) (only_entry id h) Begins;
+    reached = λ id h. subst (λ (x : BlockId). IsReached graph entry x) (only_entry id h) Begins;
     all = λ from to other seen leads there.
         let first : entry ≡ from = only_entry from seen in
         let same : block ≡ leads.block = (let both : Some block ≡ Some leads.block = sym found ∙ ap (block_at graph) first ∙ leads.found in cc) in
@@ -299,20 +314,20 @@ module _ (graph : List Pair) (entry : BlockId) where
 
   module _ (seen : List BlockId) (edges : List Edge) (w : Walking [] (record { seen = seen; edges = edges })) where
     -- A block that the entry reaches was visited.
-    was_seen : (id : BlockId) (block : BasicBlock) → Reaches graph entry id → block_at graph id ≡ Some block → In id seen
+    was_seen : (id : BlockId) (block : BasicBlock) → IsReached graph entry id → block_at graph id ≡ Some block → In id seen
     was_seen id block Begins found = w.begun
-    was_seen id block (Goes before id1 r leads) found =
-        elim (w.all before id block (was_seen before leads.block r leads.found) (to_leads graph before id leads) found) [
+    was_seen id block (Goes before id1 from r there any) found =
+        elim (w.all before id block (was_seen before from r there) (record { block = from; found = there; leads = any_in id (successor_ids from.terminal) any }) found) [
           | inl done ↦ done.1
           | inr never ↦ absurd never
         ]
 
-    from_source : (id from : BlockId) → In from (sources edges id) → Reaches graph entry from × LeadsTo graph from id
+    from_source : (id from : BlockId) → In from (sources edges id) → IsReached graph entry from × LeadsTo graph from id
     from_source id from h =
         let e : In (edge from id) edges = in_source from id edges h in
         (w.reached from (w.edges_from (edge from id) e), from_leads graph from id (w.edges_lead (edge from id) e))
 
-    to_source : (id from : BlockId) (block : BasicBlock) → block_at graph id ≡ Some block → Reaches graph entry from → LeadsTo graph from id → In from (sources edges id)
+    to_source : (id from : BlockId) (block : BasicBlock) → block_at graph id ≡ Some block → IsReached graph entry from → LeadsTo graph from id → In from (sources edges id)
     to_source id from block found r leads =
         elim (w.all from id block (was_seen from leads.block r leads.found) (to_leads graph from id leads) found) [
           | inl done ↦ source_in from id edges done.0

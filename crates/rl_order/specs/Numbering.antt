@@ -56,7 +56,11 @@ abbrev pub listed_in : List Pair → List ℕ
 listed_in [] = []
 listed_in (p ∷ pairs) = map (λ id. id.0) p.1.instructions ++ listed_in pairs
 
+-- Orders count from 1 in block order.
+pub record IsCounted (table : List Instruction) (pairs : List Pair) : Type 0 where
+  pub in_order : (index : ℕ) (order : Option ℕ) → slice_get (orders_in table pairs) index ≡ Some order → order ≡ Some (index + 1)
+
 -- Orders count from 1 in block order, and an instruction that no block lists has order 0.
 pub record IsNumbered (table : List Instruction) (pairs : List Pair) : Type 0 where
-  pub in_order : (index : ℕ) (order : Option ℕ) → slice_get (orders_in table pairs) index ≡ Some order → order ≡ Some (index + 1)
+  pub counted : IsCounted table pairs
   pub unlisted : (index : ℕ) (i : Instruction) → slice_get table index ≡ Some i → (Contains (listed_in pairs) index → ⊥) → i.order.0 ≡ 0

@@ -7,6 +7,7 @@ use Rattle.rl_hir.specs.Blocks.{Pair, block_at, same_id}
 use Rattle.rl_hir.specs.Terminals.{successor_ids}
 use Rattle.rl_hir.specs.declared.function.BasicBlock.{BasicBlock}
 use Rattle.rl_hir.specs.declared.terminal.Terminal.{Terminal}
+use Rattle.rl_order.specs.Reached.{IsReached}
 use Rattle.rl_order.specs.declared.predecessors.Edge.{Edge}
 
 -- The successors of a terminal, each once, in order.
@@ -76,14 +77,9 @@ pub record IsMarked (graph : List Pair) (entry : BlockId) (marked : List Pair) :
 pub record LeadsTo (graph : List Pair) (id successor : BlockId) : Type 0 where
   pub block : BasicBlock
   pub found : block_at graph id ≡ Some block
-  pub leads : Contains (successor_ids block.terminal) successor
-
--- The blocks that successors reach from the entry.
-pub data Reaches (graph : List Pair) (entry : BlockId) : BlockId → Type 0 where
-  Begins : Reaches graph entry entry
-  Goes : (id successor : BlockId) → Reaches graph entry id → LeadsTo graph id successor → Reaches graph entry successor
+  pub leads : list_any (same_id successor) (successor_ids block.terminal) ≡ true
 
 -- At each block that the entry reaches, the predecessors are exactly the blocks that the entry reaches and that lead to it.
 abbrev pub PredecessorsReached : List Pair → BlockId → List Pair → Type 0
-PredecessorsReached graph entry marked = (id : BlockId) (block : BasicBlock) → Reaches graph entry id → block_at marked id ≡ Some block
-    → (from : BlockId) → Contains block.preds from ↔ (Reaches graph entry from × LeadsTo graph from id)
+PredecessorsReached graph entry marked = (id : BlockId) (block : BasicBlock) → IsReached graph entry id → block_at marked id ≡ Some block
+    → (from : BlockId) → Contains block.preds from ↔ (IsReached graph entry from × LeadsTo graph from id)

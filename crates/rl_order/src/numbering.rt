@@ -3,7 +3,7 @@
 ghost use Rattle.std.specs.Prelude.{◌≡◌, ◌+◌, ◌<◌, ◌^◌, All, length};
 ghost use Rattle.rl_base.specs.Distinct.{AreDistinct};
 ghost use Rattle.rl_hir.specs.Terminals.{with_order};
-ghost use Rattle.rl_order.specs.Numbering.{IsNumbered, listed_in, ordered_list, ordered_blocks, ordered_table, orders_of};
+ghost use Rattle.rl_order.specs.Numbering.{IsCounted, IsNumbered, listed_in, ordered_list, ordered_blocks, ordered_table, orders_of};
 
 use crate::places::take_block;
 use rl_base::ids::{EvaluationOrder, InstructionId};
@@ -46,6 +46,7 @@ pub fn mark_instruction_ids<B: Blocks>(blocks: &mut B, table: &mut [Instruction]
     requires room { 1 + orders_of (B.pairs blocks.old) < 2 ^ 32 }
     ensures blocks { B.pairs blocks.new ≡ ordered_blocks 1 (B.pairs blocks.old) }
     ensures table { table.new ≡ ordered_table 1 (B.pairs blocks.old) table.old }
+    ensures counted { AreDistinct (listed_in (B.pairs blocks.old)) → IsCounted table.new (B.pairs blocks.new) }
     ensures numbered { AreDistinct (listed_in (B.pairs blocks.old)) → All (λ i. i.order.0 ≡ 0) table.old → IsNumbered table.new (B.pairs blocks.new) }
 {
     let mut next = 1;

@@ -1,11 +1,10 @@
-use Rattle.std.proofs.Common.{◌≡◌, ◌+◌, ◌++◌, List, [], append-nil, drop, length, take, ap, sym, ◌∙◌, refl, arith}
-use Rattle.std.proofs.lemmas.List.{drop_all, take_all}
+use Rattle.std.proofs.Common.{◌≡◌, ◌+◌, List, drop, length, ap, ◌∙◌, refl, arith}
 use Rattle.rl_hir.specs.Blocks.{Pair, with_block_at}
 use Rattle.rl_hir.specs.declared.function.BasicBlock.{BasicBlock}
-use Rattle.rl_order.proofs.NumberedOrders.{numbered_marked}
-use Rattle.rl_order.proofs.NumberingSteps.{blocks_step, listed_within, marked, room_step, table_step}
+use Rattle.rl_order.proofs.NumberedOrders.{counted_marked, numbered_marked}
+use Rattle.rl_order.proofs.NumberingSteps.{all_marked, blocks_step, listed_within, marked, room_step, table_step}
 use Rattle.rl_order.proofs.PlaceSteps.{IsReplaced, replaced, same_count, same_later}
-use Rattle.rl_order.specs.Numbering.{ordered_blocks, ordered_table, orders_of}
+use Rattle.rl_order.specs.Numbering.{orders_of}
 use Rattle.rl_order.proofs.numbering.mark_instruction_ids.Goals as goal
 
 pub mark_block-next-requires-clause-within : goal.mark_block-next-requires-clause-within
@@ -45,17 +44,18 @@ loop-place-preserved g c =
       count = same_count now after place (marked next old) put ∙ c.loop-place.invariant.count;
     }
 
+pub returns-clause-counted : goal.returns-clause-counted
+returns-clause-counted g c =
+    let end = c.loop-place in
+    let pairs : List Pair = g.B.Blocks.pairs end.blocks in
+    let first : List Pair = g.B.Blocks.pairs c.args.blocks.now in
+    let done = all_marked first pairs c.args.table.now end.table end.place end.next (omega arith) end.invariant.blocks end.invariant.table in
+    counted_marked first pairs c.args.table.now end.table done.0 done.1 c.requires.within
+
 pub returns-clause-numbered : goal.returns-clause-numbered
 returns-clause-numbered g c =
     let end = c.loop-place in
     let pairs : List Pair = g.B.Blocks.pairs end.blocks in
     let first : List Pair = g.B.Blocks.pairs c.args.blocks.now in
-    let rest : drop end.place pairs ≡ [] = drop_all end.place pairs (omega arith) in
-    let table : end.table ≡ ordered_table 1 first c.args.table.now =
-    ap (λ (left : List Pair). ordered_table end.next left end.table) (sym rest) ∙ end.invariant.table in
-    let blocks : pairs ≡ ordered_blocks 1 first =
-    sym (append-nil pairs)
-    ∙ ap (λ (left : List Pair). left ++ ordered_blocks end.next []) (sym (take_all end.place pairs (omega arith)))
-    ∙ ap (λ (left : List Pair). take end.place pairs ++ ordered_blocks end.next left) (sym rest)
-    ∙ end.invariant.blocks in
-    numbered_marked first pairs c.args.table.now end.table blocks table c.requires.within
+    let done = all_marked first pairs c.args.table.now end.table end.place end.next (omega arith) end.invariant.blocks end.invariant.table in
+    numbered_marked first pairs c.args.table.now end.table done.0 done.1 c.requires.within
