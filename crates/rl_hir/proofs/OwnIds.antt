@@ -1,6 +1,6 @@
 -- Every move of blocks keeps their ids distinct.
-use Rattle.std.proofs.Common.{◌≡◌, ℕ, zero, suc, Bool, true, false, nat_eq, ◌⊎◌, inl, inr, ◌++◌, List, [], ◌∷◌, slice_get, Some, refl, sym, ap, ◌∙◌, subst, eq-eqb}
-use Rattle.rl_base.proofs.DistinctLists.{IsIn, in_head, in_tail, distinct_none, distinct_cons, distinct_tail, distinct_head}
+use Rattle.std.proofs.Common.{◌≡◌, ℕ, zero, suc, Bool, true, false, ◌⊎◌, inl, inr, List, [], ◌∷◌, slice_get, Some, refl, sym, ap, subst, eq-eqb}
+use Rattle.rl_base.proofs.DistinctLists.{IsIn, in_tail, distinct_none, distinct_cons, distinct_tail, distinct_head}
 use Rattle.rl_base.specs.Distinct.{AreDistinct}
 use Rattle.rl_base.specs.declared.ids.BlockId.{BlockId}
 use Rattle.rl_hir.specs.Blocks.{Pair, HaveOwnIds, ids, same_id, with_block, with_block_at, without_block}

@@ -16,6 +16,7 @@ use Rattle.rl_text.specs.Notation.{Tree, Said}
 use Rattle.rl_hir.proofs.ReadParts.{part, number_of, flag_of, word_of, text_of, optional_of, IsPresent, optional-back, list_of, list-back, choose, spans_of, spans-back, place_of, place-back}
 use Rattle.rl_hir.proofs.ReadValues.{value_of, value-back}
 use Rattle.rl_hir.proofs.Words.{lowered_worded}
+use Rattle.rl_hir.specs.Blocks.{Pair as BlockPair}
 use Rattle.rl_hir.specs.Listing as spec
 use Rattle.rl_hir.specs.Terminals.{goto_variant, return_variant}
 use Rattle.rl_hir.specs.Trees as trees
@@ -31,7 +32,6 @@ use Rattle.rl_hir.specs.declared.terminal.ReturnVariant.{ReturnVariant}
 use Rattle.rl_hir.specs.declared.terminal.ReturnVariant.TheVariants as returns
 use Rattle.rl_hir.specs.declared.function.BlockKind.{BlockKind}
 use Rattle.rl_hir.specs.declared.function.BlockKind.TheVariants as kinds
-use Rattle.rl_hir.specs.declared.function.NumberedBlock.{NumberedBlock}
 use Rattle.rl_hir.specs.declared.function.ReactFunctionType.{ReactFunctionType}
 use Rattle.rl_hir.specs.declared.function.ReactFunctionType.TheVariants as types
 use Rattle.rl_hir.specs.declared.function.Param.{Param}
@@ -189,24 +189,24 @@ listed_instruction-back : (id : InstructionId) → listed_instruction_of (spec.l
 unfolding listed_instruction_of
 listed_instruction-back id = refl
 
-block_of : Tree → NumberedBlock
-block_of tree = record {
-  id = record { 0 = number_of (part 0 tree) };
-  block = record {
+block_of : Tree → BlockPair
+block_of tree = (
+  record { 0 = number_of (part 0 tree) },
+  record {
     kind = block_kind_of (part 1 tree);
     instructions = list_of listed_instruction_of (part 2 tree);
     terminal = terminal_of (part 3 tree);
     preds = list_of block_id_of (part 4 tree);
-  };
-}
+  },
+)
 
-block-back : (b : NumberedBlock) → block_of (spec.block b) ≡ b
+block-back : (b : BlockPair) → block_of (spec.block b) ≡ b
 unfolding block_of
 block-back b = rw (
-  block_kind-back b.block.kind,
-  list-back spec.listed_instruction listed_instruction_of listed_instruction-back b.block.instructions,
-  terminal-back b.block.terminal,
-  list-back spec.block_id block_id_of block_id-back b.block.preds,
+  block_kind-back b.1.kind,
+  list-back spec.listed_instruction listed_instruction_of listed_instruction-back b.1.instructions,
+  terminal-back b.1.terminal,
+  list-back spec.block_id block_id_of block_id-back b.1.preds,
 ) refl
 
 function_types : List (List ℕ × ReactFunctionType)
@@ -233,7 +233,7 @@ text-back : (text : List ℕ) → text_of (trees.said text) ≡ text
 unfolding text_of
 text-back text = refl
 
-function_of : Tree → HirFunction
+function_of : Tree → HirFunction (List BlockPair)
 function_of tree = record {
   span = spans_of (part 0 tree);
   name = optional_of text_of (part 1 tree);
@@ -248,7 +248,7 @@ function_of tree = record {
   instructions = list_of instruction_of (part 11 tree);
 }
 
-function-back : (f : HirFunction) → function_of (spec.function f) ≡ f
+function-back : (f : HirFunction (List BlockPair)) → function_of (spec.function f) ≡ f
 unfolding function_of
 function-back f = rw (
   spans-back f.span,

@@ -4,6 +4,7 @@ use Rattle.rl_base.specs.declared.span.Span.{Span}
 use Rattle.rl_text.proofs.Worded.{IsWorded, AreWorded}
 use Rattle.rl_text.specs.Notation.{Tree, IsWord}
 use Rattle.rl_text.specs.Raw.{parts_of}
+use Rattle.rl_hir.specs.Blocks.{Pair as BlockPair}
 use Rattle.rl_hir.specs.Listing as spec
 use Rattle.rl_hir.specs.Pieces.{Operand, Use, Key, Piece, used, texts, operands, operand_tree, row_parts}
 use Rattle.rl_hir.specs.Terminals.{Field, Leads, MayLead, Chooses, Follows, Names, MayName, Reads, MayBind, Says, Holds, fields_of, terminal_word}
@@ -24,7 +25,6 @@ use Rattle.rl_hir.specs.declared.terminal.Case.{Case}
 use Rattle.rl_hir.specs.declared.terminal.Terminal.{Terminal}
 use Rattle.rl_hir.specs.declared.terminal.TerminalKind.{TerminalKind}
 use Rattle.rl_hir.specs.declared.terminal.TerminalKind.TheVariants as kinds
-use Rattle.rl_hir.specs.declared.function.NumberedBlock.{NumberedBlock}
 use Rattle.rl_hir.specs.declared.function.Param.{Param}
 use Rattle.rl_hir.specs.declared.function.Param.TheVariants as params
 use Rattle.rl_hir.specs.declared.function.HirFunction.{HirFunction}
@@ -146,17 +146,17 @@ terminal_is_word _ = (lit< tt, refl)
 terminal_worded : (t : Terminal) → IsWorded (spec.terminal t)
 terminal_worded t = (terminal_is_word t.kind, (tt, (spans_worded t.span, list_worded spec.field field_worded (fields_of t.kind))))
 
-block_worded : (b : NumberedBlock) → IsWorded (spec.block b)
+block_worded : (b : BlockPair) → IsWorded (spec.block b)
 block_worded b = (
   (lit< tt, refl),
-  (tt, (tt, (list_worded spec.listed_instruction (λ id. tt) b.block.instructions, (terminal_worded b.block.terminal, (list_worded spec.block_id (λ id. tt) b.block.preds, tt))))),
+  (tt, (tt, (list_worded spec.listed_instruction (λ id. tt) b.1.instructions, (terminal_worded b.1.terminal, (list_worded spec.block_id (λ id. tt) b.1.preds, tt))))),
 )
 
 param_worded : (p : Param) → IsWorded (spec.param p)
 param_worded (params.Place p) = place_worded p
 param_worded (params.Spread p) = ((lit< tt, refl), (place_worded p, tt))
 
-function_worded : (f : HirFunction) → IsWorded (spec.function f)
+function_worded : (f : HirFunction (List BlockPair)) → IsWorded (spec.function f)
 function_worded f =
     let tables : AreWorded (parts_of (trees.listed (map spec.block f.body.blocks) ∷ trees.listed (map spec.instruction f.instructions) ∷ [])) =
     (list_worded spec.block block_worded f.body.blocks, (list_worded spec.instruction instruction_worded f.instructions, tt)) in

@@ -3,6 +3,7 @@ use Rattle.std.specs.Prelude.{◌≡◌, ℕ, List, [], ◌∷◌, map, codes}
 use Rattle.rl_text.specs.Notation.{Tree, Said, Count, Flag, spelling}
 use Rattle.rl_base.specs.declared.ids.BlockId.{BlockId}
 use Rattle.rl_base.specs.declared.ids.InstructionId.{InstructionId}
+use Rattle.rl_hir.specs.Blocks.{Pair as BlockPair}
 use Rattle.rl_hir.specs.Terminals.{Field, Leads, MayLead, Chooses, Follows, Names, MayName, Reads, MayBind, Says, Holds, fields_of, terminal_word}
 pub use Rattle.rl_hir.specs.Trees.{node, list, optional, said, span, place}
 pub use Rattle.rl_hir.specs.Values.{value}
@@ -11,7 +12,6 @@ use Rattle.rl_hir.specs.declared.terminal.Case.{Case}
 use Rattle.rl_hir.specs.declared.terminal.Terminal.{Terminal}
 use Rattle.rl_hir.specs.declared.function.BlockKind.{BlockKind}
 use Rattle.rl_hir.specs.declared.function.BlockKind.TheVariants as kinds
-use Rattle.rl_hir.specs.declared.function.NumberedBlock.{NumberedBlock}
 use Rattle.rl_hir.specs.declared.function.ReactFunctionType.{ReactFunctionType}
 use Rattle.rl_hir.specs.declared.function.ReactFunctionType.TheVariants as types
 use Rattle.rl_hir.specs.declared.function.Param.{Param}
@@ -62,8 +62,8 @@ abbrev pub listed_instruction : InstructionId → Tree
 listed_instruction id = Count id.0
 
 -- `(block ID KIND [INSTRUCTION] TERMINAL [PRED])`
-abbrev pub block : NumberedBlock → Tree
-block b = node (codes "block") (Count b.id.0 ∷ Said (block_kind b.block.kind) ∷ list listed_instruction b.block.instructions ∷ terminal b.block.terminal ∷ list block_id b.block.preds ∷ [])
+abbrev pub block : BlockPair → Tree
+block b = node (codes "block") (Count b.0.0 ∷ Said (block_kind b.1.kind) ∷ list listed_instruction b.1.instructions ∷ terminal b.1.terminal ∷ list block_id b.1.preds ∷ [])
 
 abbrev pub function_type : ReactFunctionType → List ℕ
 function_type types.Component = codes "component"
@@ -75,7 +75,7 @@ param (params.Place p) = place p
 param (params.Spread p) = node (codes "spread") (place p ∷ [])
 
 -- `(fn SPAN NAME TYPE GENERATOR ASYNC [DIRECTIVE] [PARAM] [CONTEXT] RETURNS ENTRY [BLOCK] [INSTRUCTION])`
-abbrev pub function : HirFunction → Tree
+abbrev pub function : HirFunction (List BlockPair) → Tree
 function f = node (codes "fn") (
     optional span f.span ∷ optional said f.name ∷ Said (function_type f.fn_type) ∷ Flag f.generator ∷ Flag f.is_async
     ∷ list said f.directives ∷ list param f.params ∷ list place f.context ∷ place f.returns

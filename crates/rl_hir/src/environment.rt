@@ -4,6 +4,7 @@ ghost use Rattle.rl_base.specs.declared.ids.SymbolId.{SymbolId as Symbol};
 ghost use Rattle.rl_hir.specs.Identifiers.{with_name, with_span, changed_at};
 ghost use Rattle.rl_hir.specs.Symbols.{added, has};
 
+use crate::blocks::MapBlocks;
 use crate::function::{
     HirFunction, Identifier, IdentifierName, InnerFunction, Lowered, Pair, ReactFunctionType,
 };
@@ -165,7 +166,7 @@ impl Environment {
     /// dropped, and nothing changed.
     pub fn add_function(
         &mut self,
-        function: HirFunction,
+        function: HirFunction<MapBlocks>,
         node: NodeId,
     ) -> Result<FunctionId, OutOfMemory>
         requires { length self.old.functions < 2 ^ 32 }
@@ -302,7 +303,7 @@ impl Environment {
 
     /// The marked function with the inner functions, identifiers and pairs that were kept beside it. All else is
     /// dropped.
-    pub fn into_lowered(self, function: HirFunction) -> Lowered
+    pub fn into_lowered(self, function: HirFunction<MapBlocks>) -> Lowered
         ensures { result ≡ record { function = function; inner = self.functions; identifiers = self.identifiers; pairs = self.pairs } }
     {
         Lowered {

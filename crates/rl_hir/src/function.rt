@@ -1,5 +1,7 @@
-ghost use Rattle.std.specs.Prelude.{◌≡◌, IfOk};
+ghost use Rattle.std.specs.Prelude.{◌≡◌, None, [], IfOk};
+ghost use Rattle.rl_hir.specs.declared.terminal.TerminalKind.TheVariants as ends;
 
+use crate::blocks::MapBlocks;
 use crate::instruction::{Instruction, Place};
 use crate::terminal::{Terminal, TerminalKind};
 use rl_base::error::OutOfMemory;
@@ -26,8 +28,8 @@ pub enum BlockKind {
     Catch,
 }
 
-/// Instructions that run one after the other, and the terminal that runs after them. A block holds no id of its own;
-/// that of its `NumberedBlock` counts.
+/// Instructions that run one after the other, and the terminal that runs after them. A block holds no id of its own: in a
+/// graph, its id is that of its pair (`Blocks`).
 #[derive(Drop)]
 pub struct BasicBlock {
     /// The construct that it belongs to.
@@ -42,7 +44,14 @@ pub struct BasicBlock {
 
 impl BasicBlock {
     /// A block of this kind without instructions and predecessors, which ends as unreachable. Allocates nothing.
-    pub fn blank_beside(&self) -> BasicBlock {
+    pub fn blank_beside(&self) -> BasicBlock
+        ensures { result ≡ record {
+          kind = self.now.kind;
+          instructions = [];
+          terminal = record { order = record { 0 = 0 }; span = None; kind = ends.Unreachable };
+          preds = [];
+        } }
+    {
         BasicBlock {
             kind: self.kind,
             instructions: self.instructions.empty_beside(),
@@ -68,22 +77,13 @@ impl BasicBlock {
     }
 }
 
-/// A block and its id.
+/// The control-flow graph of a function (`HIR` of the compiler), over the blocks `B`.
 #[derive(Drop)]
-pub struct NumberedBlock {
-    /// An id that no other block of the unit has.
-    pub id: BlockId,
-    /// The block that has the id.
-    pub block: BasicBlock,
-}
-
-/// The control-flow graph of a function (`HIR` of the compiler).
-#[derive(Drop)]
-pub struct Hir {
+pub struct Hir<B> {
     /// The id of the block that runs first.
     pub entry: BlockId,
-    /// The blocks that the entry reaches, in the order in which they are listed.
-    pub blocks: List<NumberedBlock>,
+    /// The blocks, each with its id, in the order in which they are listed.
+    pub blocks: B,
 }
 
 /// The role that React gives a function.
@@ -106,9 +106,9 @@ pub enum Param {
     Spread(Place),
 }
 
-/// A function as a graph.
+/// A function as a graph, over the blocks `B`.
 #[derive(Drop)]
-pub struct HirFunction {
+pub struct HirFunction<B> {
     /// The span of the function's node; `None` where no node stands for it.
     pub span: Option<Span>,
     /// The name that the source gives the function.
@@ -128,7 +128,7 @@ pub struct HirFunction {
     /// The place that takes the value that the function returns.
     pub returns: Place,
     /// The control-flow graph.
-    pub body: Hir,
+    pub body: Hir<B>,
     /// The instruction table, indexed by instruction id. It may hold instructions that no block lists.
     pub instructions: List<Instruction>,
 }
@@ -160,7 +160,7 @@ pub struct InnerFunction {
     /// The node of the unit that was lowered.
     pub node: NodeId,
     /// The graph of the node.
-    pub function: HirFunction,
+    pub function: HirFunction<MapBlocks>,
 }
 
 /// A symbol of the source, and the identifier that stands for it in every graph of the unit.
@@ -176,7 +176,7 @@ pub struct Pair {
 #[derive(Drop)]
 pub struct Lowered {
     /// The marked function.
-    pub function: HirFunction,
+    pub function: HirFunction<MapBlocks>,
     /// The inner functions of the marked one, indexed by function id.
     pub inner: List<InnerFunction>,
     /// The identifiers of all functions, indexed by identifier id.

@@ -1,16 +1,19 @@
 //! Listings: results as trees of the notation, in bytes. Each type appends the spelling of its tree.
 
-ghost use Rattle.std.specs.Prelude.{◌≡◌, ◌++◌, IfOk, OnOk};
-ghost use Rattle.rl_text.specs.Notation.{spelling};
-ghost use Rattle.rl_text.specs.Raw.{tree};
+ghost use Rattle.std.specs.Prelude.{◌≡◌, ◌++◌, false, map, IfOk, OnOk};
+ghost use Rattle.rl_text.specs.Notation.{AreWritable, IsWritable, spelling};
+ghost use Rattle.rl_text.specs.Raw.{parts_of, tree};
+ghost use Rattle.rl_text.specs.Spaced.{separated};
 ghost use Rattle.rl_hir.specs.Listing as spec;
 
+use crate::blocks::{Blocks, MapBlocks};
 use crate::function::{
-    BlockKind, HirFunction, Identifier, IdentifierName, InnerFunction, Lowered, NumberedBlock,
-    Pair, Param, ReactFunctionType,
+    BasicBlock, BlockKind, HirFunction, Identifier, IdentifierName, InnerFunction, Lowered, Pair,
+    Param, ReactFunctionType,
 };
 use crate::instruction::Instruction;
 use rl_base::error::OutOfMemory;
+use rl_base::ids::BlockId;
 use rl_text::raw::Raw;
 use rl_text::written::{Both, Literal, Written, tree_of, write_node};
 use std::alloc::Global;
@@ -39,19 +42,47 @@ impl BlockKind {
     }
 }
 
-impl Written for NumberedBlock {
-    ghost shown = { spec.block };
+/// Appends the listing of a block. On `OutOfMemory` an allocation failed, and `out` may hold a part of it.
+fn write_block(id: BlockId, block: &BasicBlock, out: &mut Vec<u8>) -> Result<(), OutOfMemory>
+    ensures written { OnOk result (out.new.items ≡ out.old.items ++ spelling (spec.block (id, block.now))) }
+    ensures writable { OnOk result (IsWritable (spec.block (id, block.now))) }
+{
+    let parts = (
+        id,
+        Literal(block.kind.word()),
+        &block.instructions,
+        &block.terminal,
+        &block.preds,
+    );
+    write_node("block", &parts, out)
+}
 
+/// Appends the listings of blocks with a space between. On `OutOfMemory` an allocation failed, and `out` may hold a part of them.
+fn write_blocks<B: Blocks>(blocks: &B, out: &mut Vec<u8>) -> Result<(), OutOfMemory>
+    ensures written { OnOk result (out.new.items ≡ out.old.items ++ separated false (parts_of (map spec.block (B.pairs blocks.now)))) }
+    ensures writable { OnOk result (AreWritable (parts_of (map spec.block (B.pairs blocks.now)))) }
+{
+    let mut spaced = false;
+    for place in 0..blocks.len() {
+        if spaced {
+            out.push(b' ')?;
+        }
+        spaced = true;
+        let (id, block) = blocks.at(place);
+        write_block(id, block, out)?;
+    }
+    Ok(())
+}
+
+impl Written for MapBlocks {
+    ghost shown = { spec.list spec.block };
+
+    #[tactic(auto, using(rl_text::proofs::Tails::items_written))]
     fn write(&self, out: &mut Vec<u8>) -> Result<(), OutOfMemory> {
-        let block = &self.block;
-        let parts = (
-            self.id,
-            Literal(block.kind.word()),
-            &block.instructions,
-            &block.terminal,
-            &block.preds,
-        );
-        write_node("block", &parts, out)
+        out.push(b'[')?;
+        write_blocks(self, out)?;
+        out.push(b']')?;
+        Ok(())
     }
 }
 
@@ -79,7 +110,7 @@ impl Written for Param {
     }
 }
 
-impl Written for HirFunction {
+impl Written for HirFunction<MapBlocks> {
     ghost shown = { spec.function };
 
     fn write(&self, out: &mut Vec<u8>) -> Result<(), OutOfMemory> {
