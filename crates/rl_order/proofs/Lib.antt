@@ -9,11 +9,13 @@ pub mod NumberedOrders
 pub mod NumberingSteps
 pub mod Ordering
 pub mod PassExamples
+pub mod Pruning
 pub mod PlaceSteps
 pub mod Reached
 pub mod RemovalSteps
 pub mod Seen
 pub mod SourceLists
 pub mod Stack
+pub mod Totals
 pub mod Used
 pub mod Whole

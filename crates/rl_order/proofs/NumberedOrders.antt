@@ -8,7 +8,8 @@ use Rattle.rl_base.specs.Distinct.{AreDistinct}
 use Rattle.rl_base.specs.declared.ids.InstructionId.{InstructionId}
 use Rattle.rl_base.proofs.DistinctLists.{IsIn, contains_in, in_either, in_head, in_left, in_none, in_right, in_tail}
 use Rattle.rl_base.proofs.DistinctLists.{distinct_apart, distinct_head, distinct_left, distinct_right, distinct_tail}
-use Rattle.rl_order.specs.Numbering.{IsCounted, IsNumbered, listed_in, order_at, orders_in, ordered_at, ordered_list, order_after, ordered_blocks, ordered_table}
+use Rattle.rl_hir.specs.Numbered.{IsCounted, IsNumbered, listed_in, order_at, orders_in}
+use Rattle.rl_order.specs.Numbering.{ordered_at, ordered_list, order_after, ordered_blocks, ordered_table}
 use Rattle.rl_hir.specs.Blocks.{Pair}
 use Rattle.rl_hir.specs.declared.instruction.Instruction.{Instruction}
 

@@ -359,9 +359,9 @@ given edges (p ∷ graph) id block at = by_head (same_id id p.0) refl at (given 
         let g : Given edges graph id block = rest later in
         record { old = g.old; found = rw is g.found; preds = g.preds }
 
--- At each block that the entry reaches, the predecessors are the blocks that the entry reaches and that lead to it.
+-- At each block, the predecessors are the blocks that the entry reaches and that lead to it.
 pub predecessors_reached : (graph marked : List Pair) (entry : BlockId) → IsMarked graph entry marked → PredecessorsReached graph entry marked
-predecessors_reached graph marked entry m id block reached found from =
+predecessors_reached graph marked entry m id block found from =
     let edges : List Edge = m.edges in
     let seen : List BlockId = m.walk.seen in
     let w : Walking graph entry [] (record { seen = seen; edges = edges }) = walked graph entry _ _ _ m.walk.walk (begins graph entry (block_at graph entry) refl) in

@@ -3,6 +3,7 @@ pub mod Kept
 pub mod Numbering
 pub mod Own
 pub mod Predecessors
+pub mod Prune
 pub mod Reached
 pub mod Removals
 pub mod Tasks

@@ -79,7 +79,7 @@ pub record LeadsTo (graph : List Pair) (id successor : BlockId) : Type 0 where
   pub found : block_at graph id ≡ Some block
   pub leads : list_any (same_id successor) (successor_ids block.terminal) ≡ true
 
--- At each block that the entry reaches, the predecessors are exactly the blocks that the entry reaches and that lead to it.
+-- At each block, the predecessors are exactly the blocks that the entry reaches and that lead to it.
 abbrev pub PredecessorsReached : List Pair → BlockId → List Pair → Type 0
-PredecessorsReached graph entry marked = (id : BlockId) (block : BasicBlock) → IsReached graph entry id → block_at marked id ≡ Some block
+PredecessorsReached graph entry marked = (id : BlockId) (block : BasicBlock) → block_at marked id ≡ Some block
     → (from : BlockId) → Contains block.preds from ↔ (IsReached graph entry from × LeadsTo graph from id)

@@ -5,6 +5,7 @@ pub mod numbering;
 pub mod order;
 pub mod places;
 pub mod predecessors;
+pub mod prune;
 pub mod removals;
 mod step;
 pub mod tasks;

@@ -2,13 +2,14 @@
 
 ghost use Rattle.std.specs.Prelude.{◌≡◌, ◌+◌, ◌<◌, ◌^◌, All, length};
 ghost use Rattle.rl_base.specs.Distinct.{AreDistinct};
+ghost use Rattle.rl_hir.specs.Numbered.{IsCounted, IsNumbered, listed_in};
 ghost use Rattle.rl_hir.specs.Terminals.{with_order};
-ghost use Rattle.rl_order.specs.Numbering.{IsCounted, IsNumbered, listed_in, ordered_list, ordered_blocks, ordered_table, orders_of};
+ghost use Rattle.rl_order.specs.Numbering.{ordered_list, ordered_blocks, ordered_table, orders_of};
 
 use crate::places::take_block;
 use rl_base::ids::{EvaluationOrder, InstructionId};
 use rl_hir::blocks::Blocks;
-use rl_hir::function::BasicBlock;
+use rl_hir::function::{BasicBlock, Hir};
 use rl_hir::instruction::Instruction;
 
 /// Gives the instructions that are listed consecutive orders from `first` on. Returns the next order.
@@ -41,18 +42,19 @@ fn mark_block(block: &mut BasicBlock, table: &mut [Instruction], first: u32) -> 
 
 /// Sets the evaluation orders of instructions and terminals, from 1 in block order (`markInstructionIds`). An instruction
 /// that no block lists keeps its order.
-pub fn mark_instruction_ids<B: Blocks>(blocks: &mut B, table: &mut [Instruction])
-    requires within { All (λ p. All (λ id. id.0 < length table.old) p.1.instructions) (B.pairs blocks.old) }
-    requires room { 1 + orders_of (B.pairs blocks.old) < 2 ^ 32 }
-    ensures blocks { B.pairs blocks.new ≡ ordered_blocks 1 (B.pairs blocks.old) }
-    ensures table { table.new ≡ ordered_table 1 (B.pairs blocks.old) table.old }
-    ensures counted { AreDistinct (listed_in (B.pairs blocks.old)) → IsCounted table.new (B.pairs blocks.new) }
-    ensures numbered { AreDistinct (listed_in (B.pairs blocks.old)) → All (λ i. i.order.0 ≡ 0) table.old → IsNumbered table.new (B.pairs blocks.new) }
+pub fn mark_instruction_ids<B: Blocks>(hir: &mut Hir<B>, table: &mut [Instruction])
+    requires within { All (λ p. All (λ id. id.0 < length table.old) p.1.instructions) (B.pairs hir.old.blocks) }
+    requires room { 1 + orders_of (B.pairs hir.old.blocks) < 2 ^ 32 }
+    ensures entry { hir.new.entry ≡ hir.old.entry }
+    ensures blocks { B.pairs hir.new.blocks ≡ ordered_blocks 1 (B.pairs hir.old.blocks) }
+    ensures table { table.new ≡ ordered_table 1 (B.pairs hir.old.blocks) table.old }
+    ensures counted { AreDistinct (listed_in (B.pairs hir.old.blocks)) → IsCounted table.new (B.pairs hir.new.blocks) }
+    ensures numbered { AreDistinct (listed_in (B.pairs hir.old.blocks)) → All (λ i. i.order.0 ≡ 0) table.old → IsNumbered table.new (B.pairs hir.new.blocks) }
 {
     let mut next = 1;
-    for place in 0..blocks.len() {
-        let mut block = take_block(blocks, place);
+    for place in 0..hir.blocks.len() {
+        let mut block = take_block(&mut hir.blocks, place);
         next = mark_block(&mut block, table, next);
-        let _ = blocks.set_at(place, block);
+        let _ = hir.blocks.set_at(place, block);
     }
 }

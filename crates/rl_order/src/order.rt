@@ -15,7 +15,7 @@ use rl_base::ids::BlockId;
 use rl_base::list::List;
 use rl_base::steps::Steps;
 use rl_hir::blocks::Blocks;
-use rl_hir::function::BasicBlock;
+use rl_hir::function::{BasicBlock, Hir};
 use std::alloc::Global;
 use std::sync::ledger::Ledger;
 
@@ -99,16 +99,15 @@ fn keep_blocks<B: Blocks>(alloc: Global, blocks: &B, mut walked: Walked) -> Resu
 /// failed, and nothing is left behind.
 pub fn get_reverse_postordered_blocks<B: Blocks, L: Ledger>(
     alloc: Global,
-    blocks: &B,
-    entry: BlockId,
+    hir: &Hir<B>,
     steps: &mut Steps<L>,
 ) -> Result<B, OutOfMemory>
-    requires { IsWhole (B.pairs blocks.now) entry }
-    ensures ordered { IfOk result (λ ordered. IsOrdered (B.pairs blocks.now) entry (B.pairs ordered)) }
-    ensures forward { IfOk result (λ ordered. GoesForward (B.pairs blocks.now) (B.pairs ordered)) }
-    ensures reached { IfOk result (λ ordered. KeepsReached (B.pairs blocks.now) entry (B.pairs ordered)) }
-    ensures cost { steps.new ≤ steps.old + 2 * length (B.pairs blocks.now) }
+    requires { IsWhole (B.pairs hir.now.blocks) hir.now.entry }
+    ensures ordered { IfOk result (λ ordered. IsOrdered (B.pairs hir.now.blocks) hir.now.entry (B.pairs ordered)) }
+    ensures forward { IfOk result (λ ordered. GoesForward (B.pairs hir.now.blocks) (B.pairs ordered)) }
+    ensures reached { IfOk result (λ ordered. KeepsReached (B.pairs hir.now.blocks) hir.now.entry (B.pairs ordered)) }
+    ensures cost { steps.new ≤ steps.old + 2 * length (B.pairs hir.now.blocks) }
 {
-    let walked = walk(alloc, blocks, entry, steps)?;
-    keep_blocks(alloc, blocks, walked)
+    let walked = walk(alloc, &hir.blocks, hir.entry, steps)?;
+    keep_blocks(alloc, &hir.blocks, walked)
 }

@@ -10,7 +10,7 @@ use rl_base::error::OutOfMemory;
 use rl_base::ids::BlockId;
 use rl_base::list::List;
 use rl_hir::blocks::Blocks;
-use rl_hir::function::BasicBlock;
+use rl_hir::function::{BasicBlock, Hir};
 use rl_hir::terminal::{Terminal, each_terminal_successor};
 use std::alloc::Global;
 
@@ -166,17 +166,14 @@ fn set_predecessors<B: Blocks>(blocks: &mut B, lists: Vec<List<BlockId>>)
 /// Gives each block its predecessors (`markPredecessors`): those that a walk over successors comes from, depth first from the entry, in
 /// the order in which it comes from them. Fallthroughs count only where they are successors too. On `OutOfMemory`, an allocation failed,
 /// nothing has changed.
-pub fn mark_predecessors<B: Blocks>(
-    alloc: Global,
-    blocks: &mut B,
-    entry: BlockId,
-) -> Result<(), OutOfMemory>
-    ensures walked { OnOk result (IsMarked (B.pairs blocks.old) entry (B.pairs blocks.new)) }
-    ensures reached { OnOk result (PredecessorsReached (B.pairs blocks.old) entry (B.pairs blocks.new)) }
-    ensures err { OnErr result (B.pairs blocks.new ≡ B.pairs blocks.old) }
+pub fn mark_predecessors<B: Blocks>(alloc: Global, hir: &mut Hir<B>) -> Result<(), OutOfMemory>
+    ensures entry { hir.new.entry ≡ hir.old.entry }
+    ensures walked { OnOk result (IsMarked (B.pairs hir.old.blocks) hir.old.entry (B.pairs hir.new.blocks)) }
+    ensures reached { OnOk result (PredecessorsReached (B.pairs hir.old.blocks) hir.old.entry (B.pairs hir.new.blocks)) }
+    ensures err { OnErr result (B.pairs hir.new.blocks ≡ B.pairs hir.old.blocks) }
 {
-    let edges = walk_along(alloc, blocks, entry)?;
-    let lists = predecessor_lists(alloc, blocks, edges.as_slice())?;
-    set_predecessors(blocks, lists);
+    let edges = walk_along(alloc, &hir.blocks, hir.entry)?;
+    let lists = predecessor_lists(alloc, &hir.blocks, edges.as_slice())?;
+    set_predecessors(&mut hir.blocks, lists);
     Ok(())
 }

@@ -9,6 +9,7 @@ ghost use Rattle.rl_order.specs.Removals.{is_there, live_do_while, live_for, wit
 use crate::places::take_block;
 use rl_base::ids::BlockId;
 use rl_hir::blocks::Blocks;
+use rl_hir::function::Hir;
 use rl_hir::terminal::{GotoVariant, TerminalKind};
 
 /// True of a block of the graph.
@@ -83,8 +84,8 @@ fn without_test<B: Blocks>(blocks: &B, kind: &TerminalKind) -> Option<TerminalKi
     }
 }
 
-/// Takes the update from each `for` loop whose update is missing (`removeUnreachableForUpdates`).
-pub fn remove_unreachable_for_updates<B: Blocks>(blocks: &mut B)
+/// As `remove_unreachable_for_updates`, of the blocks of a graph.
+fn drop_updates<B: Blocks>(blocks: &mut B)
     ensures { B.pairs blocks.new ≡ without_unreachable_updates (B.pairs blocks.old) }
 {
     for place in 0..blocks.len() {
@@ -94,8 +95,8 @@ pub fn remove_unreachable_for_updates<B: Blocks>(blocks: &mut B)
     }
 }
 
-/// Makes a goto to its block of each `do`-`while` loop whose test is missing (`removeDeadDoWhileStatements`).
-pub fn remove_dead_do_while_statements<B: Blocks>(blocks: &mut B)
+/// As `remove_dead_do_while_statements`, of the blocks of a graph.
+fn drop_tests<B: Blocks>(blocks: &mut B)
     ensures { B.pairs blocks.new ≡ without_dead_do_whiles (B.pairs blocks.old) }
 {
     for place in 0..blocks.len() {
@@ -103,4 +104,20 @@ pub fn remove_dead_do_while_statements<B: Blocks>(blocks: &mut B)
         let kind = without_test(blocks, &block.terminal.kind);
         change_kind(blocks, place, kind);
     }
+}
+
+/// Takes the update from each `for` loop whose update is missing (`removeUnreachableForUpdates`).
+pub fn remove_unreachable_for_updates<B: Blocks>(hir: &mut Hir<B>)
+    ensures entry { hir.new.entry ≡ hir.old.entry }
+    ensures blocks { B.pairs hir.new.blocks ≡ without_unreachable_updates (B.pairs hir.old.blocks) }
+{
+    drop_updates(&mut hir.blocks);
+}
+
+/// Makes a goto to its block of each `do`-`while` loop whose test is missing (`removeDeadDoWhileStatements`).
+pub fn remove_dead_do_while_statements<B: Blocks>(hir: &mut Hir<B>)
+    ensures entry { hir.new.entry ≡ hir.old.entry }
+    ensures blocks { B.pairs hir.new.blocks ≡ without_dead_do_whiles (B.pairs hir.old.blocks) }
+{
+    drop_tests(&mut hir.blocks);
 }

@@ -15,6 +15,7 @@ use rl_base::error::OutOfMemory;
 use rl_base::ids::{BlockId, EvaluationOrder};
 use rl_base::list::List;
 use rl_hir::blocks::Blocks;
+use rl_hir::function::Hir;
 use rl_hir::terminal::{GotoVariant, Terminal, TerminalKind};
 use std::alloc::Global;
 
@@ -209,19 +210,20 @@ fn drop_try<B: Blocks>(
 /// `OutOfMemory`, an allocation failed, and blocks may be lost.
 pub fn remove_unnecessary_try_catch<B: Blocks>(
     alloc: Global,
-    blocks: &mut B,
+    hir: &mut Hir<B>,
 ) -> Result<(), OutOfMemory>
-    ensures { OnOk result (B.pairs blocks.new ≡ without_dead_tries (B.pairs blocks.old)) }
+    ensures entry { hir.new.entry ≡ hir.old.entry }
+    ensures blocks { OnOk result (B.pairs hir.new.blocks ≡ without_dead_tries (B.pairs hir.old.blocks)) }
 {
-    let tries = dead_tries(alloc, blocks)?;
+    let tries = dead_tries(alloc, &hir.blocks)?;
     if tries.is_empty() {
         return Ok(());
     }
-    let places = place_index(alloc, blocks)?;
+    let places = place_index(alloc, &hir.blocks)?;
     let mut lost = IndexSet::new(alloc);
     for dead in tries.as_slice() {
-        drop_try(alloc, blocks, &places, &mut lost, *dead)?;
+        drop_try(alloc, &mut hir.blocks, &places, &mut lost, *dead)?;
     }
-    keep_rest(alloc, blocks, &lost)?;
+    keep_rest(alloc, &mut hir.blocks, &lost)?;
     Ok(())
 }

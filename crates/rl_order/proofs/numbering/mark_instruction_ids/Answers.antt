@@ -9,16 +9,16 @@ use Rattle.rl_order.proofs.numbering.mark_instruction_ids.Goals as goal
 
 pub mark_block-next-requires-clause-within : goal.mark_block-next-requires-clause-within
 mark_block-next-requires-clause-within g c =
-    let now : List Pair = g.B.Blocks.pairs c.loop-place.blocks in
+    let now : List Pair = g.B.Blocks.pairs c.loop-place.hir.blocks in
     let place = c.loop-place.place in
     let old : BasicBlock = c.take_block-block.result in
     let r : IsReplaced now (with_block_at now place old) place old old = replaced now (with_block_at now place old) place old old c.take_block-block.ensures.value refl in
-    let all = listed_within (length c.args.table.now) (g.B.Blocks.pairs c.args.blocks.now) now (with_block_at now place old) place old old r c.loop-place.invariant.rest (omega arith) c.requires.within in
+    let all = listed_within (length c.args.table.now) (g.B.Blocks.pairs c.args.hir.now.blocks) now (with_block_at now place old) place old old r c.loop-place.invariant.rest (omega arith) c.requires.within in
     λ k d h. omega (arith, all k d h)
 
 pub mark_block-next-requires-clause-room : goal.mark_block-next-requires-clause-room
 mark_block-next-requires-clause-room g c =
-    let now : List Pair = g.B.Blocks.pairs c.loop-place.blocks in
+    let now : List Pair = g.B.Blocks.pairs c.loop-place.hir.blocks in
     let place = c.loop-place.place in
     let old : BasicBlock = c.take_block-block.result in
     let r : IsReplaced now (with_block_at now place old) place old old = replaced now (with_block_at now place old) place old old c.take_block-block.ensures.value refl in
@@ -27,7 +27,7 @@ mark_block-next-requires-clause-room g c =
 
 pub loop-place-preserved : goal.loop-place-preserved
 loop-place-preserved g c =
-    let now : List Pair = g.B.Blocks.pairs c.loop-place.blocks in
+    let now : List Pair = g.B.Blocks.pairs c.loop-place.hir.blocks in
     let after : List Pair = g.B.Blocks.pairs c.set_at.new.self in
     let place = c.loop-place.place in
     let next = c.loop-place.next in
@@ -40,22 +40,23 @@ loop-place-preserved g c =
       blocks = blocks_step now after place next c.mark_block-next.result old r ends ∙ c.loop-place.invariant.blocks;
       table = table_step now after place next c.mark_block-next.result old r ends c.loop-place.table c.mark_block-next.new.table c.mark_block-next.ensures.table ∙ c.loop-place.invariant.table;
       room = room_step now after place next c.mark_block-next.result old r ends ∙ c.loop-place.invariant.room;
-      rest = r.rest ∙ same_later now (g.B.Blocks.pairs c.args.blocks.now) place c.loop-place.invariant.rest;
+      rest = r.rest ∙ same_later now (g.B.Blocks.pairs c.args.hir.now.blocks) place c.loop-place.invariant.rest;
+      entry = c.loop-place.invariant.entry;
       count = same_count now after place (marked next old) put ∙ c.loop-place.invariant.count;
     }
 
 pub returns-clause-counted : goal.returns-clause-counted
 returns-clause-counted g c =
     let end = c.loop-place in
-    let pairs : List Pair = g.B.Blocks.pairs end.blocks in
-    let first : List Pair = g.B.Blocks.pairs c.args.blocks.now in
+    let pairs : List Pair = g.B.Blocks.pairs end.hir.blocks in
+    let first : List Pair = g.B.Blocks.pairs c.args.hir.now.blocks in
     let done = all_marked first pairs c.args.table.now end.table end.place end.next (omega arith) end.invariant.blocks end.invariant.table in
     counted_marked first pairs c.args.table.now end.table done.0 done.1 c.requires.within
 
 pub returns-clause-numbered : goal.returns-clause-numbered
 returns-clause-numbered g c =
     let end = c.loop-place in
-    let pairs : List Pair = g.B.Blocks.pairs end.blocks in
-    let first : List Pair = g.B.Blocks.pairs c.args.blocks.now in
+    let pairs : List Pair = g.B.Blocks.pairs end.hir.blocks in
+    let first : List Pair = g.B.Blocks.pairs c.args.hir.now.blocks in
     let done = all_marked first pairs c.args.table.now end.table end.place end.next (omega arith) end.invariant.blocks end.invariant.table in
     numbered_marked first pairs c.args.table.now end.table done.0 done.1 c.requires.within

@@ -6,9 +6,10 @@ use Rattle.rl_order.proofs.numbering.mark_instruction_ids.Given as goal
 abbrev pub invariant-loop-place : goal.invariant-loop-place
 invariant-loop-place g l =
     record {
-      blocks : take l.place (g.B.Blocks.pairs l.blocks) ++ ordered_blocks l.next (drop l.place (g.B.Blocks.pairs l.blocks)) ≡ ordered_blocks 1 (g.B.Blocks.pairs l.fn.blocks);
-      table : ordered_table l.next (drop l.place (g.B.Blocks.pairs l.blocks)) l.table ≡ ordered_table 1 (g.B.Blocks.pairs l.fn.blocks) l.fn.table;
-      room : l.next + orders_of (drop l.place (g.B.Blocks.pairs l.blocks)) ≡ 1 + orders_of (g.B.Blocks.pairs l.fn.blocks);
-      rest : drop l.place (g.B.Blocks.pairs l.blocks) ≡ drop l.place (g.B.Blocks.pairs l.fn.blocks);
-      count : length (g.B.Blocks.pairs l.blocks) ≡ length (g.B.Blocks.pairs l.fn.blocks);
+      blocks : take l.place (g.B.Blocks.pairs l.hir.blocks) ++ ordered_blocks l.next (drop l.place (g.B.Blocks.pairs l.hir.blocks)) ≡ ordered_blocks 1 (g.B.Blocks.pairs l.fn.hir.blocks);
+      table : ordered_table l.next (drop l.place (g.B.Blocks.pairs l.hir.blocks)) l.table ≡ ordered_table 1 (g.B.Blocks.pairs l.fn.hir.blocks) l.fn.table;
+      room : l.next + orders_of (drop l.place (g.B.Blocks.pairs l.hir.blocks)) ≡ 1 + orders_of (g.B.Blocks.pairs l.fn.hir.blocks);
+      rest : drop l.place (g.B.Blocks.pairs l.hir.blocks) ≡ drop l.place (g.B.Blocks.pairs l.fn.hir.blocks);
+      entry : l.hir.entry ≡ l.fn.hir.entry;
+      count : length (g.B.Blocks.pairs l.hir.blocks) ≡ length (g.B.Blocks.pairs l.fn.hir.blocks);
     }

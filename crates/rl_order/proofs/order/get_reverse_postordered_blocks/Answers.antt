@@ -9,24 +9,24 @@ use Rattle.rl_order.specs.Walk.{kept}
 
 pub keep_blocks-requires : goal.keep_blocks-requires
 keep_blocks-requires g c =
-    (walked_good (g.B.Blocks.pairs c.args.blocks.now) c.args.entry c.in_ok-walked.walked c.in_ok-walked.ensures.walk).own
+    (walked_good (g.B.Blocks.pairs c.args.hir.now.blocks) c.args.hir.now.entry c.in_ok-walked.walked c.in_ok-walked.ensures.walk).own
 
 pub returns-clause-forward : goal.returns-clause-forward
 returns-clause-forward g c =
     if_ok c.keep_blocks.result
-    (λ ordered. g.B.Blocks.pairs ordered ≡ kept (g.B.Blocks.pairs c.args.blocks.now) c.in_ok-walked.walked
+    (λ ordered. g.B.Blocks.pairs ordered ≡ kept (g.B.Blocks.pairs c.args.hir.now.blocks) c.in_ok-walked.walked
     (reverse c.in_ok-walked.walked.appended))
-    (λ ordered. GoesForward (g.B.Blocks.pairs c.args.blocks.now) (g.B.Blocks.pairs ordered))
-    (λ ordered. ends_forward (g.B.Blocks.pairs c.args.blocks.now) c.args.entry c.in_ok-walked.walked
+    (λ ordered. GoesForward (g.B.Blocks.pairs c.args.hir.now.blocks) (g.B.Blocks.pairs ordered))
+    (λ ordered. ends_forward (g.B.Blocks.pairs c.args.hir.now.blocks) c.args.hir.now.entry c.in_ok-walked.walked
     (g.B.Blocks.pairs ordered) c.in_ok-walked.ensures.walk)
     c.keep_blocks.ensures
 
 pub returns-clause-reached : goal.returns-clause-reached
 returns-clause-reached g c =
     if_ok c.keep_blocks.result
-    (λ ordered. g.B.Blocks.pairs ordered ≡ kept (g.B.Blocks.pairs c.args.blocks.now) c.in_ok-walked.walked
+    (λ ordered. g.B.Blocks.pairs ordered ≡ kept (g.B.Blocks.pairs c.args.hir.now.blocks) c.in_ok-walked.walked
     (reverse c.in_ok-walked.walked.appended))
-    (λ ordered. KeepsReached (g.B.Blocks.pairs c.args.blocks.now) c.args.entry (g.B.Blocks.pairs ordered))
-    (λ ordered. ends_reached (g.B.Blocks.pairs c.args.blocks.now) c.args.entry c.in_ok-walked.walked
+    (λ ordered. KeepsReached (g.B.Blocks.pairs c.args.hir.now.blocks) c.args.hir.now.entry (g.B.Blocks.pairs ordered))
+    (λ ordered. ends_reached (g.B.Blocks.pairs c.args.hir.now.blocks) c.args.hir.now.entry c.in_ok-walked.walked
     (g.B.Blocks.pairs ordered) c.in_ok-walked.ensures.walk)
     c.keep_blocks.ensures

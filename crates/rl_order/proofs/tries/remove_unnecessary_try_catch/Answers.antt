@@ -9,18 +9,19 @@ use Rattle.rl_order.proofs.tries.remove_unnecessary_try_catch.Goals as goal
 
 pub loop-dead-init : goal.loop-dead-init
 loop-dead-init g c =
-    let graph : List Pair = g.B.Blocks.pairs c.args.blocks.now in
+    let graph : List Pair = g.B.Blocks.pairs c.args.hir.now.blocks in
     record {
       rest =
           ap (λ (l : List BlockId). fold (λ (b : List Pair) (d : DeadTry). without_try d b) (kept l graph) c.as_slice-dead-items.result.now) c.new-lost.ensures.empty
           ∙ ap (λ (b : List Pair). fold (λ (b : List Pair) (d : DeadTry). without_try d b) b c.as_slice-dead-items.result.now) (kept_all graph)
           ∙ ap (λ (t : List DeadTry). fold (λ (b : List Pair) (d : DeadTry). without_try d b) graph t) (c.as_slice-dead-items.ensures.value ∙ c.in_ok-tries.ensures);
+      entry = refl;
       keys = refl;
     }
 
 pub drop_try-requires-clause-distinct : goal.drop_try-requires-clause-distinct
 drop_try-requires-clause-distinct g c =
-    let own : HaveOwnIds (g.B.Blocks.pairs c.loop-dead.blocks) = own_by_keys (g.B.Blocks.pairs c.args.blocks.now) (g.B.Blocks.pairs c.loop-dead.blocks) c.loop-dead.invariant.keys c.place_index.ensures.distinct in
+    let own : HaveOwnIds (g.B.Blocks.pairs c.loop-dead.hir.blocks) = own_by_keys (g.B.Blocks.pairs c.args.hir.now.blocks) (g.B.Blocks.pairs c.loop-dead.hir.blocks) c.loop-dead.invariant.keys c.place_index.ensures.distinct in
     own
 
 pub loop-dead-preserved : goal.loop-dead-preserved
@@ -28,8 +29,9 @@ loop-dead-preserved g c =
     let some : DeadTry = record { id = record { 0 = 0 }; block = record { 0 = 0 }; handler = record { 0 = 0 }; fallthrough = record { 0 = 0 } } in
     record {
       rest =
-          rest_next (kept c.loop-dead.lost.keys (g.B.Blocks.pairs c.loop-dead.blocks)) (kept c.drop_try.new.lost.keys (g.B.Blocks.pairs c.drop_try.new.blocks)) c.as_slice-dead-items.result.now c.loop-dead.dead-index some
+          rest_next (kept c.loop-dead.lost.keys (g.B.Blocks.pairs c.loop-dead.hir.blocks)) (kept c.drop_try.new.lost.keys (g.B.Blocks.pairs c.drop_try.new.blocks)) c.as_slice-dead-items.result.now c.loop-dead.dead-index some
           c.loop-dead-test.true c.in_ok-drop_try.ensures.kept
           ∙ c.loop-dead.invariant.rest;
+      entry = c.loop-dead.invariant.entry;
       keys = c.in_ok-drop_try.ensures.keys ∙ c.loop-dead.invariant.keys;
     }

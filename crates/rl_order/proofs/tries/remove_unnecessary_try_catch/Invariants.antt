@@ -8,6 +8,7 @@ use Rattle.rl_order.proofs.tries.remove_unnecessary_try_catch.Given as goal
 abbrev pub invariant-loop-dead : goal.invariant-loop-dead
 invariant-loop-dead g l =
     record {
-      rest : fold (λ now dead. without_try dead now) (kept l.lost.keys (g.B.Blocks.pairs l.blocks)) (drop l.dead-index l.dead-items) ≡ without_dead_tries (g.B.Blocks.pairs l.fn.blocks);
-      keys : keys_of (g.B.Blocks.pairs l.blocks) ≡ keys_of (g.B.Blocks.pairs l.fn.blocks);
+      rest : fold (λ now dead. without_try dead now) (kept l.lost.keys (g.B.Blocks.pairs l.hir.blocks)) (drop l.dead-index l.dead-items) ≡ without_dead_tries (g.B.Blocks.pairs l.fn.hir.blocks);
+      entry : l.hir.entry ≡ l.fn.hir.entry;
+      keys : keys_of (g.B.Blocks.pairs l.hir.blocks) ≡ keys_of (g.B.Blocks.pairs l.fn.hir.blocks);
     }

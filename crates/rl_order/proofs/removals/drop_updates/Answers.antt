@@ -4,7 +4,7 @@ use Rattle.rl_hir.specs.Blocks.{Pair}
 use Rattle.rl_hir.specs.declared.function.BasicBlock.{BasicBlock}
 use Rattle.rl_order.specs.Removals.{is_there, live_for}
 use Rattle.rl_order.proofs.RemovalSteps.{changing_step, same_kind, value_at}
-use Rattle.rl_order.proofs.removals.remove_unreachable_for_updates.Goals as goal
+use Rattle.rl_order.proofs.removals.drop_updates.Goals as goal
 
 pub loop-place-preserved : goal.loop-place-preserved
 loop-place-preserved g c =

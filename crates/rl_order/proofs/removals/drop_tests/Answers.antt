@@ -4,7 +4,7 @@ use Rattle.rl_hir.specs.Blocks.{Pair}
 use Rattle.rl_hir.specs.declared.function.BasicBlock.{BasicBlock}
 use Rattle.rl_order.specs.Removals.{is_there, live_do_while}
 use Rattle.rl_order.proofs.RemovalSteps.{changing_step, same_kind, value_at}
-use Rattle.rl_order.proofs.removals.remove_dead_do_while_statements.Goals as goal
+use Rattle.rl_order.proofs.removals.drop_tests.Goals as goal
 
 pub loop-place-preserved : goal.loop-place-preserved
 loop-place-preserved g c =

@@ -1,6 +1,6 @@
 use Rattle.rl_order.specs.Removals.{is_there, live_do_while}
 use Rattle.rl_order.proofs.RemovalSteps.{Changing}
-use Rattle.rl_order.proofs.removals.remove_dead_do_while_statements.Given as goal
+use Rattle.rl_order.proofs.removals.drop_tests.Given as goal
 
 abbrev pub invariant-loop-place : goal.invariant-loop-place
 invariant-loop-place g l = Changing (live_do_while (is_there (g.B.Blocks.pairs l.fn.blocks))) (g.B.Blocks.pairs l.fn.blocks) (g.B.Blocks.pairs l.blocks) l.place

@@ -1,0 +1,63 @@
+//! The ordering and all passes over the graph of a function, one after the other.
+
+ghost use Rattle.std.specs.Prelude.{◌≡◌, ◌+◌, ◌*◌, ◌<◌, ◌≤◌, ◌^◌, All, IfOk, length};
+ghost use Rattle.rl_base.specs.Distinct.{AreDistinct};
+ghost use Rattle.rl_hir.specs.Blocks.{HaveOwnIds};
+ghost use Rattle.rl_hir.specs.Numbered.{IsNumbered, listed_in};
+ghost use Rattle.rl_order.specs.Numbering.{orders_of};
+ghost use Rattle.rl_order.specs.Predecessors.{PredecessorsReached};
+ghost use Rattle.rl_order.specs.Prune.{IsPruned};
+ghost use Rattle.rl_order.specs.Walk.{IsWhole};
+
+use crate::numbering::mark_instruction_ids;
+use crate::order::get_reverse_postordered_blocks;
+use crate::predecessors::mark_predecessors;
+use crate::removals::{remove_dead_do_while_statements, remove_unreachable_for_updates};
+use crate::tries::remove_unnecessary_try_catch;
+use rl_base::error::OutOfMemory;
+use rl_base::steps::Steps;
+use rl_hir::blocks::Blocks;
+use rl_hir::function::Hir;
+use rl_hir::instruction::Instruction;
+use std::alloc::Global;
+use std::sync::ledger::Ledger;
+
+/// Tells that the ids of blocks are distinct.
+fn tell_own_ids<B: Blocks>(blocks: &B)
+    ensures { HaveOwnIds (B.pairs blocks.now) }
+{
+    let _ = blocks.len();
+}
+
+/// A graph in its order, without what names dropped blocks, with evaluation orders from 1 for its terminals and for the instructions of
+/// `table`, and with the predecessors of its blocks. Counts the steps of the ordering. On `OutOfMemory` an allocation failed, and
+/// instructions may have got orders.
+pub fn prune<B: Blocks, L: Ledger>(
+    alloc: Global,
+    hir: &Hir<B>,
+    table: &mut [Instruction],
+    steps: &mut Steps<L>,
+) -> Result<Hir<B>, OutOfMemory>
+    requires whole { IsWhole (B.pairs hir.now.blocks) hir.now.entry }
+    requires within { All (λ p. All (λ id. id.0 < length table.old) p.1.instructions) (B.pairs hir.now.blocks) }
+    requires room { 1 + orders_of (B.pairs hir.now.blocks) < 2 ^ 32 }
+    ensures entry { IfOk result (λ pruned. pruned.entry ≡ hir.now.entry) }
+    ensures pruned { IfOk result (λ pruned. IsPruned (B.pairs hir.now.blocks) hir.now.entry table.old (B.pairs pruned.blocks) table.new) }
+    ensures distinct { IfOk result (λ pruned. HaveOwnIds (B.pairs pruned.blocks)) }
+    ensures numbered { IfOk result (λ pruned. AreDistinct (listed_in (B.pairs hir.now.blocks)) → All (λ i. i.order.0 ≡ 0) table.old → IsNumbered table.new (B.pairs pruned.blocks)) }
+    ensures predecessors { IfOk result (λ pruned. PredecessorsReached (B.pairs pruned.blocks) pruned.entry (B.pairs pruned.blocks)) }
+    ensures cost { steps.new ≤ steps.old + 2 * length (B.pairs hir.now.blocks) }
+{
+    let blocks = get_reverse_postordered_blocks(alloc, hir, steps)?;
+    let mut pruned = Hir {
+        entry: hir.entry,
+        blocks,
+    };
+    remove_unreachable_for_updates(&mut pruned);
+    remove_dead_do_while_statements(&mut pruned);
+    remove_unnecessary_try_catch(alloc, &mut pruned)?;
+    mark_instruction_ids(&mut pruned, table);
+    mark_predecessors(alloc, &mut pruned)?;
+    tell_own_ids(&pruned.blocks);
+    Ok(pruned)
+}
