@@ -1,5 +1,4 @@
 pub mod Candidates
 pub mod NameEntries
 pub mod NameLaws
-pub mod NumberedOrders
-pub mod OrderLaws
+pub mod Pruned

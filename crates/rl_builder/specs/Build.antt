@@ -1,13 +1,25 @@
--- The graph of a builder's blocks.
+-- The graph that is made of a builder's blocks.
+use Rattle.std.specs.Prelude.{◌≡◌, List, [], All, fold}
+use Rattle.rl_base.specs.Distinct.{AreDistinct}
+use Rattle.rl_hir.specs.Blocks.{HaveOwnIds, Pair, with_block}
+use Rattle.rl_hir.specs.Numbered.{IsNumbered, listed_in}
+use Rattle.rl_order.specs.Predecessors.{PredecessorsReached}
+use Rattle.rl_order.specs.Prune.{IsPruned}
 use Rattle.rl_builder.specs.Builder.{State}
-use Rattle.rl_builder.specs.Order.{reached_blocks, ordered_blocks, ordered_table}
 use Rattle.rl_builder.specs.declared.builder.Built.{Built}
 
--- The blocks that the entry reaches, with evaluation orders from 1.
-abbrev pub built_of : State → Built
-built_of s =
-    let reached = reached_blocks s.entry s.completed in
-    record {
-      hir = record { entry = s.entry; blocks = ordered_blocks 1 reached };
-      instructions = ordered_table 1 reached s.table;
-    }
+-- The blocks as a table: each under its id, in order.
+abbrev pub table_of : List Pair → List Pair
+table_of completed = fold (λ table p. with_block table p.0 p.1) [] completed
+
+-- The completed blocks as a table.
+abbrev pub graph_of : State → List Pair
+graph_of s = table_of s.completed
+
+-- The graph in its order: without unreachable blocks and what names them, with evaluation orders from 1 and with predecessors.
+pub record IsBuilt (s : State) (built : Built) : Type 0 where
+  pub entry : built.hir.entry ≡ s.entry
+  pub pruned : IsPruned (graph_of s) s.entry s.table built.hir.blocks built.instructions
+  pub distinct : HaveOwnIds built.hir.blocks
+  pub numbered : AreDistinct (listed_in (graph_of s)) → All (λ i. i.order.0 ≡ 0) s.table → IsNumbered built.instructions built.hir.blocks
+  pub predecessors : PredecessorsReached built.hir.blocks built.hir.entry built.hir.blocks

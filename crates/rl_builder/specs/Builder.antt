@@ -5,8 +5,8 @@ use Rattle.rl_base.specs.declared.diagnostic.Diagnostic.{Diagnostic}
 use Rattle.rl_base.specs.declared.ids.BlockId.{BlockId}
 use Rattle.rl_builder.specs.declared.builder.WipBlock.{WipBlock}
 use Rattle.rl_builder.specs.declared.builder.Work.{Work}
+use Rattle.rl_hir.specs.Blocks.{Pair as BlockPair}
 use Rattle.rl_hir.specs.declared.environment.Environment.{Environment}
-use Rattle.rl_hir.specs.declared.function.NumberedBlock.{NumberedBlock}
 use Rattle.rl_hir.specs.declared.function.BlockKind.{BlockKind}
 use Rattle.rl_hir.specs.declared.function.BlockKind.TheVariants as kinds
 use Rattle.rl_hir.specs.declared.function.Pair.{Pair}
@@ -17,7 +17,7 @@ use Rattle.rl_builder.specs.UsedName.{UsedName}
 -- `env` is shared by the builders of a unit; `table` is the instruction table, indexed by instruction id.
 pub record State : Type 0 where
   pub env : Environment
-  pub completed : List NumberedBlock
+  pub completed : List BlockPair
   pub current : WipBlock
   pub entry : BlockId
   pub table : List Instruction
@@ -83,8 +83,8 @@ pushed s i = record s {
 }
 
 -- The block completed with its terminal.
-abbrev pub ended_by : WipBlock → Terminal → NumberedBlock
-ended_by wip terminal = record { id = wip.id; block = record { kind = wip.kind; instructions = wip.instructions; terminal = terminal; preds = [] } }
+abbrev pub ended_by : WipBlock → Terminal → BlockPair
+ended_by wip terminal = (wip.id, record { kind = wip.kind; instructions = wip.instructions; terminal = terminal; preds = [] })
 
 -- Completes the current block, and makes `next` the current one.
 abbrev pub completed_by : State → Terminal → WipBlock → State

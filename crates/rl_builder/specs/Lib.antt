@@ -1,6 +1,5 @@
 pub mod Build
 pub mod Builder
 pub mod Names
-pub mod Order
 pub mod Temporaries
 pub mod UsedName

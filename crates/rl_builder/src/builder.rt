@@ -9,11 +9,12 @@ ghost use Rattle.rl_base.specs.declared.diagnostic.Diagnostic.{Diagnostic};
 ghost use Rattle.rl_hir.specs.Pairs.{identifier_of};
 ghost use Rattle.rl_builder.specs.Names.{with_refused, with_binding, resolved, IsStopped, NamesAgree};
 ghost use Rattle.rl_builder.specs.Builder.{state_of, started, new_block, reserved, one_identifier_more, with_temporary, pushed, completed_by, placeholder, recorded};
-ghost use Rattle.rl_builder.specs.Order.{reached_blocks, orders_of};
-ghost use Rattle.rl_builder.specs.Build.{built_of};
+ghost use Rattle.rl_builder.specs.Build.{IsBuilt, table_of};
+ghost use Rattle.rl_order.specs.Numbering.{orders_of};
+ghost use Rattle.rl_order.specs.Walk.{IsWhole};
 
+use crate::graph::{prune_graph, table_of};
 use crate::names::{Bindings, UsedNames, fbt_diagnostic, is_fbt, reserved_identifier_diagnostic};
-use crate::order::{mark_instruction_ids, reached_blocks};
 use crate::reserved::is_always_reserved_word;
 use rl_base::diagnostic::Diagnostic;
 use rl_base::error::OutOfMemory;
@@ -22,8 +23,9 @@ use rl_base::list::List;
 use rl_base::span::Span;
 use rl_base::stop::Stop;
 use rl_base::text::Text;
+use rl_hir::blocks::MapBlocks;
 use rl_hir::environment::Environment;
-use rl_hir::function::{BasicBlock, BlockKind, Hir, IdentifierName, NumberedBlock};
+use rl_hir::function::{BasicBlock, BlockKind, Hir, IdentifierName};
 use rl_hir::instruction::{Instruction, Place};
 use rl_hir::terminal::Terminal;
 use std::alloc::Global;
@@ -44,8 +46,8 @@ pub struct WipBlock {
 #[derive(Drop)]
 pub struct Work {
     alloc: Global,
-    /// The blocks that have a terminal, in the order in which they got it.
-    completed: Vec<NumberedBlock>,
+    /// The blocks that have a terminal, each with its id, in the order in which they got it.
+    completed: Vec<(BlockId, BasicBlock)>,
     /// The block that takes the next instruction.
     current: WipBlock,
     entry: BlockId,
@@ -79,8 +81,8 @@ pub type HirBuilder<'e> = Over<'e, Work>;
 /// A finished graph and its instruction table.
 #[derive(Drop)]
 pub struct Built {
-    /// The blocks that the entry reaches.
-    pub hir: Hir,
+    /// The entry, and the blocks in their order.
+    pub hir: Hir<MapBlocks>,
     /// The instruction table, indexed by instruction id.
     pub instructions: List<Instruction>,
 }
@@ -314,15 +316,13 @@ impl<'e> Over<'e, Work> {
         ensures state { OnOk result (state_of self.new.env.now self.new.work ≡ completed_by (state_of self.old.env.now self.old.work) terminal next) }
     {
         let last = mem::replace(&mut self.work.current, next);
-        self.work.completed.push(NumberedBlock {
-            id: last.id,
-            block: BasicBlock {
-                kind: last.kind,
-                instructions: last.instructions,
-                terminal,
-                preds: List::new(self.work.alloc),
-            },
-        })?;
+        let block = BasicBlock {
+            kind: last.kind,
+            instructions: last.instructions,
+            terminal,
+            preds: List::new(self.work.alloc),
+        };
+        self.work.completed.push((last.id, block))?;
         Ok(())
     }
 
@@ -336,15 +336,15 @@ impl<'e> Over<'e, Work> {
         self.terminate_with_continuation(terminal, placeholder)
     }
 
-    /// The graph of the blocks that the entry reaches, with evaluation orders from 1 in block order, and the whole
-    /// instruction table (`build`). The current block is dropped. On `OutOfMemory` an allocation failed, and nothing is
-    /// kept.
+    /// The graph of the completed blocks in its order (`build`): without unreachable blocks and what names them, with evaluation orders
+    /// from 1 in block order and with predecessors; and the whole instruction table. The current block is dropped. On
+    /// `OutOfMemory` an allocation failed, and nothing is kept.
     pub fn build(self) -> Result<Built, OutOfMemory>
-        requires listed { All (λ b. All (λ id. id.0 < length self.work.instructions.items) b.block.instructions)
-            (reached_blocks self.work.entry self.work.completed.items) }
-        requires room { 1 + orders_of (reached_blocks self.work.entry self.work.completed.items) < 2 ^ 32 }
+        requires whole { IsWhole (table_of self.work.completed.items) self.work.entry }
+        requires listed { All (λ p. All (λ id. id.0 < length self.work.instructions.items) p.1.instructions) (table_of self.work.completed.items) }
+        requires room { 1 + orders_of (table_of self.work.completed.items) < 2 ^ 32 }
         ensures env { OnOk result (self.exit.0.now ≡ self.entry.env.now) }
-        ensures built { IfOk result (λ built. built ≡ built_of (state_of self.entry.env.now self.entry.work)) }
+        ensures built { IfOk result (λ built. IsBuilt (state_of self.entry.env.now self.entry.work) built) }
     {
         let Over { env: _, work } = self;
         let Work {
@@ -356,13 +356,11 @@ impl<'e> Over<'e, Work> {
             bindings: _,
             used_names: _,
         } = work;
-        let mut blocks = reached_blocks(alloc, completed, entry)?;
-        mark_instruction_ids(&mut blocks, &mut instructions);
+        let blocks = table_of(alloc, completed)?;
+        let graph = Hir { entry, blocks };
+        let hir = prune_graph(alloc, &graph, &mut instructions)?;
         Ok(Built {
-            hir: Hir {
-                entry,
-                blocks: List::from_vec(blocks),
-            },
+            hir,
             instructions: List::from_vec(instructions),
         })
     }

@@ -2,6 +2,6 @@
 #![tactic(auto)]
 
 pub mod builder;
+pub mod graph;
 pub mod names;
-pub mod order;
 pub mod reserved;

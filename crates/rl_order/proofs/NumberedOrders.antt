@@ -106,6 +106,11 @@ list_length : (order : ℕ) (ids : List InstructionId) (table : List Instruction
 list_length order [] table = refl
 list_length order (id ∷ ids) table = list_length (order + 1) ids (ordered_at order id.0 table) ∙ at_length order id.0 table
 
+-- The table keeps its length.
+pub table_length : (order : ℕ) (pairs : List Pair) (table : List Instruction) → length (ordered_table order pairs table) ≡ length table
+table_length order [] table = refl
+table_length order (p ∷ pairs) table = table_length (order_after order p) pairs (ordered_list order p.1.instructions table) ∙ list_length order p.1.instructions table
+
 -- Orders that are there, and count from `first`.
 record CountFrom (first : ℕ) (orders : List (Option ℕ)) : Type 0 where
   counted : (index : ℕ) (order : Option ℕ) → slice_get orders index ≡ Some order → order ≡ Some (index + first)

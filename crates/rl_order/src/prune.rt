@@ -1,6 +1,6 @@
 //! The ordering and all passes over the graph of a function, one after the other.
 
-ghost use Rattle.std.specs.Prelude.{◌≡◌, ◌+◌, ◌*◌, ◌<◌, ◌≤◌, ◌^◌, All, IfOk, length};
+ghost use Rattle.std.specs.Prelude.{◌≡◌, ◌+◌, ◌*◌, ◌<◌, ◌≤◌, ◌^◌, All, IfOk, OnOk, length};
 ghost use Rattle.rl_base.specs.Distinct.{AreDistinct};
 ghost use Rattle.rl_hir.specs.Blocks.{HaveOwnIds};
 ghost use Rattle.rl_hir.specs.Numbered.{IsNumbered, listed_in};
@@ -46,6 +46,7 @@ pub fn prune<B: Blocks, L: Ledger>(
     ensures distinct { IfOk result (λ pruned. HaveOwnIds (B.pairs pruned.blocks)) }
     ensures numbered { IfOk result (λ pruned. AreDistinct (listed_in (B.pairs hir.now.blocks)) → All (λ i. i.order.0 ≡ 0) table.old → IsNumbered table.new (B.pairs pruned.blocks)) }
     ensures predecessors { IfOk result (λ pruned. PredecessorsReached (B.pairs pruned.blocks) pruned.entry (B.pairs pruned.blocks)) }
+    ensures length { OnOk result (length table.new ≡ length table.old) }
     ensures cost { steps.new ≤ steps.old + 2 * length (B.pairs hir.now.blocks) }
 {
     let blocks = get_reverse_postordered_blocks(alloc, hir, steps)?;

@@ -8,6 +8,7 @@ use Rattle.rl_order.specs.Numbering.{orders_of}
 use Rattle.rl_order.specs.Prune.{cleaned}
 use Rattle.rl_order.specs.Predecessors.{PredecessorsReached}
 use Rattle.rl_order.specs.Removals.{without_dead_do_whiles, without_dead_tries}
+use Rattle.rl_order.proofs.NumberedOrders.{table_length}
 use Rattle.rl_order.proofs.Pruning.{left_once, left_orders, left_within, marked_numbered, own_predecessors}
 use Rattle.rl_order.proofs.prune.prune.Goals as goal
 
@@ -45,3 +46,6 @@ returns-clause-predecessors g c =
     subst (λ (entry : BlockId). PredecessorsReached (g.B.Blocks.pairs c.mark_predecessors.new.hir.blocks) entry (g.B.Blocks.pairs c.mark_predecessors.new.hir.blocks))
     (sym c.mark_predecessors.ensures.entry)
     (own_predecessors (g.B.Blocks.pairs c.mark_instruction_ids.new.hir.blocks) (g.B.Blocks.pairs c.mark_predecessors.new.hir.blocks) _ c.in_ok-mark_predecessors.ensures.walked)
+
+pub returns-clause-length : goal.returns-clause-length
+returns-clause-length g c = ap length c.mark_instruction_ids.ensures.table ∙ table_length 1 (g.B.Blocks.pairs c.remove_unnecessary_try_catch.new.hir.blocks) c.args.table.now

@@ -1,0 +1,8 @@
+use Rattle.std.proofs.Common.{◌≡◌, fold}
+use Rattle.rl_builder.specs.Build.{table_of}
+use Rattle.rl_hir.specs.Blocks.{with_block}
+use Rattle.rl_builder.proofs.graph.table_of.Given as goal
+
+-- the table so far, with the blocks that are left
+abbrev pub invariant-loop-id : goal.invariant-loop-id
+invariant-loop-id l = fold (λ table p. with_block table p.0 p.1) l.blocks l.id-iterator.rest.items ≡ table_of l.fn.completed.items
