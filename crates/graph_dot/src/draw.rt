@@ -6,7 +6,8 @@ ghost use Rattle.graph_dot.specs.Answers.{IsWhole};
 use crate::label::{push_instruction, push_line, push_terminal};
 use rl_base::error::OutOfMemory;
 use rl_base::ids::BlockId;
-use rl_hir::function::{BlockKind, Hir, Lowered, NumberedBlock};
+use rl_hir::blocks::{Blocks, MapBlocks};
+use rl_hir::function::{BasicBlock, BlockKind, Hir, Lowered};
 use rl_hir::instruction::Instruction;
 use rl_hir::terminal::{each_terminal_successor, terminal_fallthrough};
 use std::alloc::Global;
@@ -21,10 +22,11 @@ pub fn draw(alloc: Global, lowered: &Lowered) -> Result<String, OutOfMemory>
     let function = &lowered.function;
     let reached = reached_blocks(alloc, &function.body)?;
     let mut out = String::from_str(alloc, "digraph hir {\n  node [shape=record];\n")?;
-    for numbered in function.body.blocks.as_slice() {
-        if reached.contains(&numbered.id) {
-            push_block(alloc, numbered, function.instructions.as_slice(), &mut out)?;
-            push_edges(alloc, numbered, &reached, &mut out)?;
+    for place in 0..function.body.blocks.len() {
+        let (id, block) = function.body.blocks.at(place);
+        if reached.contains(&id) {
+            push_block(alloc, id, block, function.instructions.as_slice(), &mut out)?;
+            push_edges(alloc, id, block, &reached, &mut out)?;
         }
     }
     out.push_str("}\n")?;
@@ -32,11 +34,12 @@ pub fn draw(alloc: Global, lowered: &Lowered) -> Result<String, OutOfMemory>
 }
 
 /// The ids of the blocks that the entry reaches: its own, and those of the blocks with a predecessor (`IsLinked`).
-fn reached_blocks(alloc: Global, body: &Hir) -> Result<HashSet<BlockId>, OutOfMemory> {
+fn reached_blocks(alloc: Global, body: &Hir<MapBlocks>) -> Result<HashSet<BlockId>, OutOfMemory> {
     let mut reached = HashSet::new(alloc);
-    for numbered in body.blocks.as_slice() {
-        if numbered.id == body.entry || !numbered.block.preds.is_empty() {
-            reached.insert(numbered.id)?;
+    for place in 0..body.blocks.len() {
+        let (id, block) = body.blocks.at(place);
+        if id == body.entry || !block.preds.is_empty() {
+            reached.insert(id)?;
         }
     }
     Ok(reached)
@@ -55,14 +58,15 @@ fn kind_word(kind: BlockKind) -> &'static str {
 /// Appends a block's node: its id and kind, its instructions in order, its terminal.
 fn push_block(
     alloc: Global,
-    numbered: &NumberedBlock,
+    id: BlockId,
+    block: &BasicBlock,
     table: &[Instruction],
     out: &mut String,
 ) -> Result<(), OutOfMemory> {
-    let id = numbered.id.0;
-    let kind = kind_word(numbered.block.kind);
+    let id = id.0;
+    let kind = kind_word(block.kind);
     write!(out, "  bb{id} [label=\"{{bb{id} ({kind})|")?;
-    for index in numbered.block.instructions.as_slice() {
+    for index in block.instructions.as_slice() {
         // Each index that a block lists is one of the table's (`IsLinked`).
         if let Some(instruction) = table.get(index.0 as usize) {
             let mut line = String::new(alloc);
@@ -72,7 +76,7 @@ fn push_block(
     }
     out.push('|')?;
     let mut line = String::new(alloc);
-    push_terminal(alloc, &numbered.block.terminal, &mut line)?;
+    push_terminal(alloc, &block.terminal, &mut line)?;
     push_line(line.as_str(), out)?;
     out.push_str("}\"];\n")?;
     Ok(())
@@ -81,12 +85,13 @@ fn push_block(
 /// Appends the edges from a block to its terminal's successors, and to its fallthrough where the entry reaches that.
 fn push_edges(
     alloc: Global,
-    numbered: &NumberedBlock,
+    id: BlockId,
+    block: &BasicBlock,
     reached: &HashSet<BlockId>,
     out: &mut String,
 ) -> Result<(), OutOfMemory> {
-    let id = numbered.id.0;
-    let terminal = &numbered.block.terminal;
+    let id = id.0;
+    let terminal = &block.terminal;
     for successor in each_terminal_successor(alloc, terminal)?.as_slice() {
         let to = successor.0;
         writeln!(out, "  bb{id} -> bb{to};")?;

@@ -5,36 +5,36 @@ use Rattle.std.proofs.lemmas.List.Elements.{All-append}
 use Rattle.rl_base.specs.Distinct.{AreDistinct}
 use Rattle.rl_base.proofs.DistinctLists.{IsIn, distinct_push}
 use Rattle.rl_hir.specs.declared.terminal.Terminal.{Terminal}
-use Rattle.rl_hir.specs.declared.function.NumberedBlock.{NumberedBlock}
+use Rattle.rl_hir.specs.Blocks.{Pair as BlockPair}
 use Rattle.rl_hir.specs.declared.function.BlockKind.{BlockKind}
 use Rattle.rl_builder.specs.Builder.{State, reserved, new_block, ended_by, completed_by}
 use Rattle.rl_builder.specs.declared.builder.WipBlock.{WipBlock}
 use Rattle.rl_lower.specs.Simulation.{IsCompleted, UniqueIds, IsOwn, PreservesUniqueIds, PreservesIds, AreEnded, LeavesFunction}
 
 -- An element of a list with one more at its end.
-pub added_cases : (xs : List NumberedBlock) (x : NumberedBlock) (place : ℕ) (b : NumberedBlock)
+pub added_cases : (xs : List BlockPair) (x : BlockPair) (place : ℕ) (b : BlockPair)
     → slice_get (xs ++ x ∷ []) place ≡ Some b → (slice_get xs place ≡ Some b) ⊎ (b ≡ x)
 added_cases [] x zero b e = inr cc
 added_cases [] x (suc place) b e = absurd (cc)
 added_cases (y ∷ xs) x zero b e = inl e
 added_cases (y ∷ xs) x (suc place) b e = added_cases xs x place b e
 
-completed_cases : (xs : List NumberedBlock) (x : NumberedBlock) (id : ℕ) → IsCompleted (xs ++ x ∷ []) id
-    → IsCompleted xs id ⊎ (id ≡ x.id.0)
+completed_cases : (xs : List BlockPair) (x : BlockPair) (id : ℕ) → IsCompleted (xs ++ x ∷ []) id
+    → IsCompleted xs id ⊎ (id ≡ x.0.0)
 completed_cases xs x id k = elim (added_cases xs x k.place k.block k.found) [
   | inl e ↦ inl (record { place = k.place; block = k.block; found = e; named = k.named })
-  | inr e ↦ inr (sym k.named ∙ ap (λ (b : NumberedBlock). b.id.0) e)
+  | inr e ↦ inr (sym k.named ∙ ap (λ (b : BlockPair). b.0.0) e)
 ]
 
 -- The numbers of blocks.
-abbrev pub ids_of : List NumberedBlock → List ℕ
-ids_of blocks = map (λ (b : NumberedBlock). b.id.0) blocks
+abbrev pub ids_of : List BlockPair → List ℕ
+ids_of blocks = map (λ (b : BlockPair). b.0.0) blocks
 
 -- A number in the list is that of a block.
-pub completed_in : (blocks : List NumberedBlock) (id : ℕ) → IsIn (ids_of blocks) id → IsCompleted blocks id
+pub completed_in : (blocks : List BlockPair) (id : ℕ) → IsIn (ids_of blocks) id → IsCompleted blocks id
 completed_in blocks id h = by_index blocks h.index h.found
   where
-    by_index : (rest : List NumberedBlock) (index : ℕ) → slice_get (ids_of rest) index ≡ Some id → IsCompleted rest id
+    by_index : (rest : List BlockPair) (index : ℕ) → slice_get (ids_of rest) index ≡ Some id → IsCompleted rest id
     by_index [] index e = absurd (cc)
     by_index (b ∷ rest) zero e = record { place = 0; block = b; found = refl; named = cc }
     by_index (b ∷ rest) (suc index) e =
@@ -42,30 +42,30 @@ completed_in blocks id h = by_index blocks h.index h.found
         record { place = suc later.place; block = later.block; found = later.found; named = later.named }
 
 -- Numbers are distinct also with the block that ends.
-pub apart_ended : (completed : List NumberedBlock) (current next : ℕ) (b : NumberedBlock) → b.id.0 ≡ current
+pub apart_ended : (completed : List BlockPair) (current next : ℕ) (b : BlockPair) → b.0.0 ≡ current
     → UniqueIds completed current next
     → AreDistinct (ids_of (completed ++ b ∷ []))
 apart_ended completed current next b named c =
-    subst (λ (ids : List ℕ). AreDistinct ids) (sym (map-append (λ (x : NumberedBlock). x.id.0) completed (b ∷ [])))
-    (distinct_push (ids_of completed) b.id.0 c.apart
-    (λ h. c.open_block (subst (λ (id : ℕ). IsCompleted completed id) named (completed_in completed b.id.0 h))))
+    subst (λ (ids : List ℕ). AreDistinct ids) (sym (map-append (λ (x : BlockPair). x.0.0) completed (b ∷ [])))
+    (distinct_push (ids_of completed) b.0.0 c.apart
+    (λ h. c.open_block (subst (λ (id : ℕ). IsCompleted completed id) named (completed_in completed b.0.0 h))))
 
 -- An id that was reserved and that no block has.
-pub record IsFree (completed : List NumberedBlock) (current next id : ℕ) : Type 0 where
+pub record IsFree (completed : List BlockPair) (current next id : ℕ) : Type 0 where
   pub below : id < next
   pub unused : IsCompleted completed id → ⊥
   pub other : id ≡ current → ⊥
 
-pub ids_refl : (completed : List NumberedBlock) (current next : ℕ)
+pub ids_refl : (completed : List BlockPair) (current next : ℕ)
     → PreservesUniqueIds completed current next completed current next
 ids_refl completed current next = record { added = λ id k. inl k; own = inl refl; distinct = λ c. c; counted = omega arith }
 
-own_then : (completed0 completed : List NumberedBlock) (current0 next0 current next id : ℕ)
+own_then : (completed0 completed : List BlockPair) (current0 next0 current next id : ℕ)
     → PreservesUniqueIds completed0 current0 next0 completed current next → IsOwn current next id → IsOwn current0 next0 id
 own_then completed0 completed current0 next0 current next id t o =
     elim o [ inl e ↦ subst (λ (z : ℕ). IsOwn current0 next0 z) (sym e) t.own | inr le ↦ inr (omega (arith, t.counted)) ]
 
-pub ids_then : {completed0 completed1 completed2 : List NumberedBlock} {current0 next0 current1 next1 current2 next2 : ℕ}
+pub ids_then : {completed0 completed1 completed2 : List BlockPair} {current0 next0 current1 next1 current2 next2 : ℕ}
     → PreservesUniqueIds completed0 current0 next0 completed1 current1 next1
     → PreservesUniqueIds completed1 current1 next1 completed2 current2 next2
     → PreservesUniqueIds completed0 current0 next0 completed2 current2 next2
@@ -76,7 +76,7 @@ ids_then {completed0} {completed1} {completed2} {current0} {next0} {current1} {n
   counted = omega (arith, t.counted, u.counted);
 }
 
-pub ids_counted : (completed : List NumberedBlock) (current next later : ℕ) → next ≤ later
+pub ids_counted : (completed : List BlockPair) (current next later : ℕ) → next ≤ later
     → PreservesUniqueIds completed current next completed current later
 ids_counted completed current next later le = record {
   added = λ id k. inl k;
@@ -85,7 +85,7 @@ ids_counted completed current next later le = record {
   distinct = λ c. record { apart = c.apart; open_block = c.open_block; below = λ id k. (let below : id < next = c.below id k in omega arith); current_below = omega (arith, c.current_below) };
 }
 
-pub free_fresh : (completed : List NumberedBlock) (current next later id : ℕ) → UniqueIds completed current next → next ≤ id
+pub free_fresh : (completed : List BlockPair) (current next later id : ℕ) → UniqueIds completed current next → next ≤ id
     → id < later → IsFree completed current later id
 free_fresh completed current next later id c le lt = record {
   below = lt;
@@ -93,7 +93,7 @@ free_fresh completed current next later id c le lt = record {
   other = λ e. absurd (omega (arith, c.current_below));
 }
 
-pub free_then : {completed0 completed1 : List NumberedBlock} {current0 next0 current1 next1 : ℕ} (id : ℕ)
+pub free_then : {completed0 completed1 : List BlockPair} {current0 next0 current1 next1 : ℕ} (id : ℕ)
     → PreservesUniqueIds completed0 current0 next0 completed1 current1 next1 → IsFree completed0 current0 next0 id
     → IsFree completed1 current1 next1 id
 free_then {completed0} {completed1} {current0} {next0} {current1} {next1} id t f = record {
@@ -105,7 +105,7 @@ free_then {completed0} {completed1} {current0} {next0} {current1} {next1} id t f
     never : IsOwn current0 next0 id → ⊥
     never o = elim o [ inl e ↦ f.other e | inr le ↦ absurd (omega (arith, f.below)) ]
 
-distinct_ended : (completed : List NumberedBlock) (current next : ℕ) (b : NumberedBlock) (id : ℕ) → b.id.0 ≡ current
+distinct_ended : (completed : List BlockPair) (current next : ℕ) (b : BlockPair) (id : ℕ) → b.0.0 ≡ current
     → UniqueIds completed current next → IsFree completed current next id → UniqueIds (completed ++ b ∷ []) id next
 distinct_ended completed current next b id named c f = record {
   apart = apart_ended completed current next b named c;
@@ -115,7 +115,7 @@ distinct_ended completed current next b id named c f = record {
 }
 
 -- The current block ends, and one with a free id goes on.
-pub ids_ended : {completed0 : List NumberedBlock} {current0 next0 : ℕ} (s : State) (t : Terminal) (next : WipBlock)
+pub ids_ended : {completed0 : List BlockPair} {current0 next0 : ℕ} (s : State) (t : Terminal) (next : WipBlock)
     → PreservesUniqueIds completed0 current0 next0 s.completed s.current.id.0 s.env.next_block → IsOwn current0 next0 next.id.0
     → (UniqueIds completed0 current0 next0 → IsFree s.completed s.current.id.0 s.env.next_block next.id.0)
     → PreservesUniqueIds completed0 current0 next0 (completed_by s t next).completed next.id.0 s.env.next_block
@@ -132,11 +132,11 @@ ids_fresh s t kind =
     ids_ended (reserved s) t (new_block s.env.next_block kind) (ids_counted s.completed s.current.id.0 s.env.next_block (s.env.next_block + 1) (omega arith)) (inr (omega arith))
     (λ c. free_fresh s.completed s.current.id.0 s.env.next_block (s.env.next_block + 1) s.env.next_block c (omega arith) (omega arith))
 
-only_one : (b : NumberedBlock) → LeavesFunction b.block.terminal → AreEnded (b ∷ [])
+only_one : (b : BlockPair) → LeavesFunction b.1.terminal → AreEnded (b ∷ [])
 only_one b end zero d below = end
 only_one b end (suc k) d below = absurd (omega arith)
 
-pub ended_more : (completed : List NumberedBlock) (b : NumberedBlock) → LeavesFunction b.block.terminal
+pub ended_more : (completed : List BlockPair) (b : BlockPair) → LeavesFunction b.1.terminal
     → AreEnded completed → AreEnded (completed ++ b ∷ [])
 ended_more completed b end all =
-    All-append (λ (x : NumberedBlock). LeavesFunction x.block.terminal) completed (b ∷ []) all (only_one b end)
+    All-append (λ (x : BlockPair). LeavesFunction x.1.terminal) completed (b ∷ []) all (only_one b end)

@@ -1,13 +1,13 @@
 -- A builder that was closed off can be built.
 use Rattle.std.proofs.Common.{◌≡◌, ◌+◌, ◌*◌, ◌^◌, ◌<◌, ◌≤◌, Bool, true, false, cond, List, [], ◌∷◌, filter, length, All, refl, arith}
 use Rattle.std.proofs.lemmas.List.Elements.{All-cons, All-head, All-tail}
-use Rattle.rl_hir.specs.declared.function.NumberedBlock.{NumberedBlock}
+use Rattle.rl_hir.specs.Blocks.{Pair as BlockPair}
 use Rattle.rl_builder.specs.Builder.{State, placeholder}
-use Rattle.rl_builder.specs.Order.{orders_of, reached_blocks}
+use Rattle.rl_order.specs.Numbering.{orders_of}
 use Rattle.rl_builder.specs.Temporaries.{temporary}
 use Rattle.rl_syntax.specs.Syntax.{Syntax, nodes}
 use Rattle.rl_names.specs.Names.{Names}
-use Rattle.rl_lower.specs.Listed.{AreBelow, IsListed}
+use Rattle.rl_lower.specs.Listed.{IsListed}
 use Rattle.rl_lower.specs.Lowering.{HasRoom, Preserves, LowersBody}
 use Rattle.rl_lower.specs.Endings.{return_of, with_undefined, closed_off}
 use Rattle.rl_hir.specs.declared.terminal.ReturnVariant.TheVariants as returns
@@ -33,7 +33,7 @@ pub record IsFresh (s : State) : Type 0 where
 pub listed_fresh : (s : State) → IsFresh s → IsListed s
 listed_fresh s fresh = listed_none s fresh.completed fresh.instructions fresh.table
 
-pub filtered : (P : NumberedBlock → Type 0) (p : NumberedBlock → Bool) (xs : List NumberedBlock) → All P xs
+pub filtered : (P : BlockPair → Type 0) (p : BlockPair → Bool) (xs : List BlockPair) → All P xs
     → All P (filter p xs)
 filtered P p [] all = all
 filtered P p (x ∷ xs) all = by_test (filtered P p xs (All-tail P x xs all)) (p x)
@@ -42,7 +42,7 @@ filtered P p (x ∷ xs) all = by_test (filtered P p xs (All-tail P x xs all)) (p
     by_test rest true = All-cons P x (filter p xs) (All-head P x xs all) rest
     by_test rest false = rest
 
-fewer_orders : (p : NumberedBlock → Bool) (xs : List NumberedBlock) → orders_of (filter p xs) ≤ orders_of xs
+pub fewer_orders : (p : BlockPair → Bool) (xs : List BlockPair) → orders_of (filter p xs) ≤ orders_of xs
 fewer_orders p [] = omega arith
 fewer_orders p (x ∷ xs) = let rest : orders_of (filter p xs) ≤ orders_of xs = fewer_orders p xs in by_test rest (p x)
   where
@@ -54,22 +54,14 @@ pub closed_listed : (names : Names) (begun : State) (body : Syntax) (s : State) 
     → LowersBody names body begun s → IsListed (closed_off s)
 closed_listed names begun body s fresh l = (keeps_closed s).listed (l.keeps.listed (listed_fresh begun fresh))
 
-pub listed_reached : (names : Names) (begun : State) (body : Syntax) (s : State) → IsFresh begun
-    → LowersBody names body begun s
-    → All (λ b. AreBelow (length (closed_off s).table) b.block.instructions)
-    (reached_blocks (closed_off s).entry (closed_off s).completed)
-listed_reached names begun body s fresh l =
-    filtered (λ b. AreBelow (length (closed_off s).table) b.block.instructions) _ (closed_off s).completed (closed_listed names begun body s fresh l).completed
-
 pub orders_fit : (names : Names) (begun : State) (body : Syntax) (s : State) → IsFresh begun
     → LowersBody names body begun s → HasRoom begun (4 * (nodes body + 2))
-    → 1 + orders_of (reached_blocks (closed_off s).entry (closed_off s).completed) < 2 ^ 32
+    → 1 + orders_of (closed_off s).completed < 2 ^ 32
 orders_fit names begun body s fresh l room =
     let keeps : Preserves begun (closed_off s) (4 * (nodes body + 1) + 2) = keeps_then begun s (closed_off s) (4 * (nodes body + 1)) 2 l.keeps (keeps_closed s) in
     let counted : orders_of (closed_off s).completed + 0 ≡ length (closed_off s).table + length (closed_off s).completed = (closed_listed names begun body s fresh l).counted in
-    let fewer : orders_of (reached_blocks (closed_off s).entry (closed_off s).completed) ≤ orders_of (closed_off s).completed = fewer_orders _ (closed_off s).completed in
     let table : length (closed_off s).table ≤ length begun.table + (4 * (nodes body + 1) + 2) = keeps.uses.instructions in
     let blocks : length (closed_off s).completed ≤ length begun.completed + (4 * (nodes body + 1) + 2) = keeps.uses.completed in
     let most : length begun.table + 4 * (nodes body + 2) < 2 ^ 31 = room.instructions in
     let also : length begun.completed + 4 * (nodes body + 2) < 2 ^ 31 = room.completed in
-    omega (arith, counted, fewer, table, blocks, most, also)
+    omega (arith, counted, table, blocks, most, also)

@@ -7,18 +7,17 @@ use Rattle.rl_base.specs.declared.ids.InstructionId.{InstructionId}
 use Rattle.rl_hir.specs.declared.instruction.Instruction.{Instruction}
 use Rattle.rl_hir.specs.declared.terminal.Terminal.{Terminal}
 use Rattle.rl_hir.specs.declared.function.BasicBlock.{BasicBlock}
-use Rattle.rl_hir.specs.declared.function.NumberedBlock.{NumberedBlock}
+use Rattle.rl_hir.specs.Blocks.{Pair as BlockPair}
 use Rattle.rl_builder.specs.Builder.{State}
-use Rattle.rl_builder.specs.Build.{built_of}
+use Rattle.rl_lower.proofs.Alone.{built_of}
 use Rattle.rl_model.specs.declared.trace.Answer.{Answer}
 use Rattle.rl_model.specs.declared.trace.Trace.{Trace}
 use Rattle.rl_model.specs.Traces.{Store}
 use Rattle.rl_model.specs.Closed.{IsClosed}
-use Rattle.rl_model.specs.WellFormed.{IsPredecessor}
 use Rattle.rl_model.specs.Machine.{Item, Runs, Ends, Code, Notes, block_of, code_in, exec, item_in, positions, steps_for}
 use Rattle.rl_lower.specs.Simulation.{Fact, InBlock, InCompleted, InCurrent, HasItem, IsCompleted, IsCurrentOrCompleted, Extends, IsContainedIn, UniqueIds, IsOwn, PreservesUniqueIds, PreservesIds, AreEnded, LeavesFunction, Eventually, TracesAt, TracesFrom, Later, Follows, Continues, Throws, RunsExpression, RunsStatement}
 use Rattle.rl_lower.proofs.NeverStuck.{IsShort, exec_walks}
-use Rattle.rl_lower.proofs.Graphs.{Apart, built_entry, found_by, item_met, same_in_block, entry_plain, built_closed, built_precede}
+use Rattle.rl_lower.proofs.Graphs.{Apart, built_entry, found_by, item_met, same_in_block, entry_plain, built_closed}
 
 -- Every block is complete, ids are distinct, and the entry is one of them.
 pub record IsFinished (s : State) : Type 0 where
@@ -33,7 +32,7 @@ finished_contained s fin = record { has = has }
   where
     of_block : (f : Fact) (d : InCompleted s f) → code_in s.completed s.table f.block f.place ≡ Some f.item
     of_block f d =
-        ap (λ (o : Option BasicBlock). elim o [ Some b ↦ Rattle.rl_model.specs.Machine.item_in s.table b f.place | None ↦ None ]) (subst (λ (id : ℕ). block_of s.completed id ≡ Some d.block.block) d.named (found_by s.completed d.place d.block fin.apart d.found))
+        ap (λ (o : Option BasicBlock). elim o [ Some b ↦ Rattle.rl_model.specs.Machine.item_in s.table b f.place | None ↦ None ]) (subst (λ (id : ℕ). block_of s.completed id ≡ Some d.block.1) d.named (found_by s.completed d.place d.block fin.apart d.found))
         ∙ item_met s.table d.block f.place f.item d.holds
 
     nothing_open : (place : ℕ) (item : Item) → Rattle.rl_lower.specs.Simulation.InWip s.table s.current.instructions place item → ⊥
@@ -43,41 +42,37 @@ finished_contained s fin = record { has = has }
     has : (f : Fact) → HasItem s f → code_in s.completed s.table f.block f.place ≡ Some f.item
     has f h = elim h [ inl d ↦ of_block f d | inr w ↦ absurd (nothing_open f.place f.item w.holds) ]
 
-entry_block : (s : State) (fin : IsFinished s) → block_of s.completed s.entry.0 ≡ Some fin.entry.block.block
+pub entry_block : (s : State) (fin : IsFinished s) → block_of s.completed s.entry.0 ≡ Some fin.entry.block.1
 entry_block s fin =
-    subst (λ (id : ℕ). block_of s.completed id ≡ Some fin.entry.block.block) fin.entry.named (found_by s.completed fin.entry.place fin.entry.block fin.apart fin.entry.found)
+    subst (λ (id : ℕ). block_of s.completed id ≡ Some fin.entry.block.1) fin.entry.named (found_by s.completed fin.entry.place fin.entry.block fin.apart fin.entry.found)
 
 within : {X : Type 0} (xs : List X) (place : ℕ) (x : X) → slice_get xs place ≡ Some x → place < length xs
 within [] place x e = absurd (cc)
 within (y ∷ xs) zero x e = omega arith
 within (y ∷ xs) (suc place) x e = let rest : place < length xs = within xs place x e in omega arith
 
-pub leaves : (s : State) (fin : IsFinished s) → LeavesFunction fin.entry.block.block.terminal
+pub leaves : (s : State) (fin : IsFinished s) → LeavesFunction fin.entry.block.1.terminal
 leaves s fin =
-    subst (λ (b : NumberedBlock). LeavesFunction b.block.terminal) (get_or_from_slice_get s.completed fin.entry.place fin.entry.block fin.entry.block fin.entry.found) (fin.ended fin.entry.place fin.entry.block (within s.completed fin.entry.place fin.entry.block fin.entry.found))
+    subst (λ (b : BlockPair). LeavesFunction b.1.terminal) (get_or_from_slice_get s.completed fin.entry.place fin.entry.block fin.entry.block fin.entry.found) (fin.ended fin.entry.place fin.entry.block (within s.completed fin.entry.place fin.entry.block fin.entry.found))
 
 -- The graph that is built is closed.
 pub finished_closed : (s : State) → IsFinished s → IsClosed (built_of s).hir
-finished_closed s fin = built_closed s.entry s.completed fin.entry.block.block (entry_block s fin) (leaves s fin)
-
--- No block of the graph that is built has a predecessor.
-pub finished_precede : (s : State) → IsFinished s → (other id : ℕ) → IsPredecessor (built_of s).hir other id → ⊥
-finished_precede s fin = built_precede s.entry s.completed fin.entry.block.block (entry_block s fin) (leaves s fin)
+finished_closed s fin = built_closed s.entry s.completed fin.entry.block.1 (entry_block s fin) (leaves s fin)
 
 -- The graph that is built has the traces of the builder's blocks from the entry.
 pub finished_runs : (s : State) → IsFinished s → (store : Store) (notes : Notes) (answers : List Answer) (t : Trace)
     → TracesAt (code_in s.completed s.table) s.entry.0 0 store notes answers t
     → TracesAt (code_in (built_of s).hir.blocks (built_of s).instructions) s.entry.0 0 store notes answers t
 finished_runs s fin store notes answers t goes = record {
-  by = (goes.by.0, λ stuck steps enough. sym (same_in_block stuck (code_in s.completed s.table) (code_in (built_of s).hir.blocks (built_of s).instructions) s.entry.0 (entry_plain s.entry s.completed s.table fin.entry.block.block (entry_block s fin)) steps 0 store notes answers) ∙ goes.by.1 stuck steps enough);
+  by = (goes.by.0, λ stuck steps enough. sym (same_in_block stuck (code_in s.completed s.table) (code_in (built_of s).hir.blocks (built_of s).instructions) s.entry.0 (entry_plain s.entry s.completed s.table fin.entry.block.1 (entry_block s fin)) steps 0 store notes answers) ∙ goes.by.1 stuck steps enough);
 }
 
 -- The entry is a block of the graph that is built.
 pub entry_built : (s : State) → IsFinished s → (block : BasicBlock) × (block_of (built_of s).hir.blocks s.entry.0 ≡ Some block)
-entry_built s fin = built_entry s.entry s.completed fin.entry.block.block (entry_block s fin)
+entry_built s fin = built_entry s.entry s.completed fin.entry.block.1 (entry_block s fin)
 
 -- The run of a graph within its bounds on steps.
-abbrev pub limited : (stuck : Trace) → List NumberedBlock → List Instruction → (entry : ℕ) → Store → Notes → List Answer → Trace
+abbrev pub limited : (stuck : Trace) → List BlockPair → List Instruction → (entry : ℕ) → Store → Notes → List Answer → Trace
 limited stuck blocks table entry store notes answers =
     let most = positions blocks in exec stuck (code_in blocks table) most (steps_for answers most) most entry 0 store notes answers
 
@@ -85,16 +80,16 @@ more_steps : (answers : List Answer) (most : ℕ) → most < steps_for answers m
 more_steps [] most = omega arith
 more_steps (a ∷ rest) most = omega arith
 
-has_place : (blocks : List NumberedBlock) (id : ℕ) (block : BasicBlock) → block_of blocks id ≡ Some block
+has_place : (blocks : List BlockPair) (id : ℕ) (block : BasicBlock) → block_of blocks id ≡ Some block
     → length block.instructions < positions blocks
 has_place [] id block is = absurd (cc)
-has_place (b ∷ blocks) id block is = by_test (λ there. has_place blocks id block there) (nat_eq b.id.0 id) is
+has_place (b ∷ blocks) id block is = by_test (λ there. has_place blocks id block there) (nat_eq id b.0.0) is
   where
-    by_test : (block_of blocks id ≡ Some block → length block.instructions < positions blocks) → (t : Bool) → cond t (Some b.block) (block_of blocks id) ≡ Some block → length block.instructions < positions (b ∷ blocks)
-    by_test rest true e = (let same : b.block ≡ block = cc in let long : length b.block.instructions ≡ length block.instructions = ap (λ (x : BasicBlock). length x.instructions) same in omega (arith, long))
+    by_test : (block_of blocks id ≡ Some block → length block.instructions < positions blocks) → (t : Bool) → cond t (Some b.1) (block_of blocks id) ≡ Some block → length block.instructions < positions (b ∷ blocks)
+    by_test rest true e = (let same : b.1 ≡ block = cc in let long : length b.1.instructions ≡ length block.instructions = ap (λ (x : BasicBlock). length x.instructions) same in omega (arith, long))
     by_test rest false e = (let later : length block.instructions < positions blocks = rest e in omega (arith, later))
 
-short_block : (blocks : List NumberedBlock) (table : List Instruction) (id : ℕ) (block : BasicBlock)
+short_block : (blocks : List BlockPair) (table : List Instruction) (id : ℕ) (block : BasicBlock)
     → block_of blocks id ≡ Some block → IsShort (code_in blocks table) id (length block.instructions)
 short_block blocks table id block is =
     record { instructions = λ place i there. runs_before place i (sym (opened place) ∙ there); terminal = λ place t there. ends_at place t (sym (opened place) ∙ there) }
@@ -124,7 +119,7 @@ short_block blocks table id block is =
         ]
 
 -- A trace that the unbounded run reaches, the run within the bounds reaches too, whatever trace a stuck run has.
-pub total_runs : (stuck : Trace) (blocks : List NumberedBlock) (table : List Instruction) (entry : ℕ) (store : Store)
+pub total_runs : (stuck : Trace) (blocks : List BlockPair) (table : List Instruction) (entry : ℕ) (store : Store)
     (notes : Notes) (answers : List Answer) (t : Trace) → (block : BasicBlock) × (block_of blocks entry ≡ Some block)
     → TracesAt (code_in blocks table) entry 0 store notes answers t → limited stuck blocks table entry store notes answers ≡ t
 total_runs stuck blocks table entry store notes answers t there goes =

@@ -8,13 +8,14 @@ use Rattle.rl_hir.specs.declared.environment.Environment.{Environment}
 use Rattle.rl_hir.specs.declared.function.BlockKind.TheVariants as kinds
 use Rattle.rl_hir.specs.declared.function.HirFunction.{HirFunction}
 use Rattle.rl_hir.specs.declared.function.Identifier.{Identifier}
-use Rattle.rl_hir.specs.declared.function.NumberedBlock.{NumberedBlock}
+use Rattle.rl_hir.specs.Blocks.{Pair as BlockPair}
 use Rattle.rl_hir.specs.declared.function.Pair.{Pair}
 use Rattle.rl_hir.specs.declared.function.Param.{Param}
 use Rattle.rl_hir.specs.declared.terminal.ReturnVariant.TheVariants as returns
 use Rattle.rl_hir.specs.declared.instruction.Instruction.{Instruction}
 use Rattle.rl_builder.specs.Builder.{State, started}
-use Rattle.rl_builder.specs.Order.{reached_blocks, ordered_blocks, ordered_table, order_after}
+use Rattle.rl_order.specs.Numbering.{ordered_blocks, ordered_table, order_after}
+use Rattle.rl_lower.specs.Reachable.{entry_blocks}
 use Rattle.rl_builder.specs.declared.builder.Built.{Built}
 use Rattle.rl_names.specs.Names.{Names}
 use Rattle.rl_names.specs.declared.parameters.Parameter.{Parameter}
@@ -49,6 +50,8 @@ use Rattle.rl_lower.proofs.Functions.{function_finished, function_runs_by}
 use Rattle.rl_lower.proofs.Graphs.{without_order, ordered_table_plain}
 use Rattle.rl_lower.proofs.Keeping.{added_then, keeps_then, one_unnamed, room_less}
 use Rattle.rl_lower.proofs.Parameters.{known_length, parameters_agree, parameters_given, parameters_made, state_with}
+use Rattle.rl_lower.proofs.Alone.{built_of}
+use Rattle.rl_lower.proofs.Builds.{closed_built}
 use Rattle.rl_lower.proofs.Finished.{finished_closed}
 
 -- The builder behind the parameters.
@@ -83,6 +86,13 @@ pub lowered_from : (names : Names) (parameters : List Parameter) (body : Syntax)
     → LowersBody names body (state_with (started env kinds.Block) parameters) g.state
 lowered_from names parameters body env new params built g distinct =
     subst (λ (o : State). LowersBody names body o g.state) (begun_is env parameters distinct) g.lowers
+
+-- The graph is the entry block alone.
+pub graph_is : (names : Names) (parameters : List Parameter) (body : Syntax) (env new : Environment) (params : List Param) (built : Built)
+    (g : IsGraphOf names parameters body env new params built) → AreApart parameters → built ≡ built_of (closed_off g.state)
+graph_is names parameters body env new params built g distinct =
+    closed_built names (state_with (started env kinds.Block) parameters) body g.state (begun_fresh env parameters)
+    (lowered_from names parameters body env new params built g distinct) built g.graph
 
 -- The state behind the graph.
 graph_keeps : (names : Names) (parameters : List Parameter) (body : Syntax) (env new : Environment) (params : List Param) (built : Built)
@@ -121,7 +131,7 @@ graph_refused names parameters body env new params built g distinct =
 pub graph_closed : (names : Names) (parameters : List Parameter) (body : Syntax) (env new : Environment) (params : List Param) (built : Built)
     → IsGraphOf names parameters body env new params built → AreApart parameters → IsClosed built.hir
 graph_closed names parameters body env new params built g distinct =
-    subst (λ (b : Built). IsClosed b.hir) (sym g.graph)
+    subst (λ (b : Built). IsClosed b.hir) (sym (graph_is names parameters body env new params built g distinct))
     (finished_closed (closed_off g.state) (function_finished (state_with (started env kinds.Block) parameters) g.state (begun_fresh env parameters) (lowered_from names parameters body env new params built g distinct).blocks))
 
 -- `exec_body` is the meaning of the body before its end, continued by a return of Undefined.
@@ -145,16 +155,16 @@ length_same : (xs : List Instruction) → length (map without_order xs) ≡ leng
 length_same [] = refl
 length_same (x ∷ xs) = let rest : length (map without_order xs) ≡ length xs = length_same xs in omega (arith, rest)
 
-pub table_length : (blocks : List NumberedBlock) (table : List Instruction) → length (ordered_table 1 blocks table) ≡ length table
+pub table_length : (blocks : List BlockPair) (table : List Instruction) → length (ordered_table 1 blocks table) ≡ length table
 table_length blocks table =
     sym (length_same (ordered_table 1 blocks table)) ∙ ap (λ (l : List Instruction). length l) (ordered_table_plain 1 blocks table) ∙ length_same table
 
-blocks_length : (order : ℕ) (blocks : List NumberedBlock) → length (ordered_blocks order blocks) ≡ length blocks
+blocks_length : (order : ℕ) (blocks : List BlockPair) → length (ordered_blocks order blocks) ≡ length blocks
 blocks_length order [] = refl
 blocks_length order (b ∷ blocks) =
     let rest : length (ordered_blocks (order_after order b) blocks) ≡ length blocks = blocks_length (order_after order b) blocks in omega (arith, rest)
 
-fewer : (p : NumberedBlock → Bool) (xs : List NumberedBlock) → length (filter p xs) ≤ length xs
+fewer : (p : BlockPair → Bool) (xs : List BlockPair) → length (filter p xs) ≤ length xs
 fewer p [] = omega arith
 fewer p (x ∷ xs) = by_test (fewer p xs) (p x)
   where
@@ -163,16 +173,16 @@ fewer p (x ∷ xs) = by_test (fewer p xs) (p x)
     by_test rest false = omega (arith, rest)
 
 pub graph_bounded : (names : Names) (parameters : List Parameter) (body : Syntax) (env new : Environment) (params : List Param) (built : Built)
-    → IsGraphOf names parameters body env new params built → AreApart parameters → (f : HirFunction) (count : ℕ)
+    → IsGraphOf names parameters body env new params built → AreApart parameters → (f : HirFunction (List BlockPair)) (count : ℕ)
     → f.body ≡ built.hir → f.instructions ≡ built.instructions → nodes body + 2 ≤ count → function_size f ≤ 64 * count
 graph_bounded names parameters body env new params built g distinct f count body_is instructions_is counted =
     let keeps = graph_keeps names parameters body env new params built g distinct in
     let s : State = closed_off g.state in
     let table : length s.table ≤ 0 + (4 * (nodes body + 1) + 2) = keeps.uses.instructions in
     let blocks : length s.completed ≤ 0 + (4 * (nodes body + 1) + 2) = keeps.uses.completed in
-    let instructions : length f.instructions ≡ length s.table = ap (λ (l : List Instruction). length l) (instructions_is ∙ ap (λ (b : Built). b.instructions) g.graph) ∙ table_length (reached_blocks s.entry s.completed) s.table in
-    let listed : length f.body.blocks ≡ length (reached_blocks s.entry s.completed) = ap (λ (h : Rattle.rl_hir.specs.declared.function.Hir.Hir). length h.blocks) (body_is ∙ ap (λ (b : Built). b.hir) g.graph) ∙ blocks_length 1 (reached_blocks s.entry s.completed) in
-    let kept : length (reached_blocks s.entry s.completed) ≤ length s.completed = fewer _ s.completed in
+    let instructions : length f.instructions ≡ length s.table = ap (λ (l : List Instruction). length l) (instructions_is ∙ ap (λ (b : Built). b.instructions) (graph_is names parameters body env new params built g distinct)) ∙ table_length (entry_blocks s.entry s.completed) s.table in
+    let listed : length f.body.blocks ≡ length (entry_blocks s.entry s.completed) = ap (λ (h : Hir (List BlockPair)). length h.blocks) (body_is ∙ ap (λ (b : Built). b.hir) (graph_is names parameters body env new params built g distinct)) ∙ blocks_length 1 (entry_blocks s.entry s.completed) in
+    let kept : length (entry_blocks s.entry s.completed) ≤ length s.completed = fewer _ s.completed in
     omega (arith, table, instructions, blocks, listed, kept, counted)
 
 -- Its calls.
@@ -182,17 +192,17 @@ calls_plain [] = refl
 calls_plain (x ∷ xs) = ap (λ (l : List (Option Span)). call_at x ++ l) (calls_plain xs)
 
 pub graph_calls_held : (names : Names) (parameters : List Parameter) (body : Syntax) (env new : Environment) (params : List Param) (built : Built)
-    → IsGraphOf names parameters body env new params built → AreApart parameters → (f : HirFunction)
+    → IsGraphOf names parameters body env new params built → AreApart parameters → (f : HirFunction (List BlockPair))
     → f.instructions ≡ built.instructions → calls_of f.instructions ≡ calls_in body
 graph_calls_held names parameters body env new params built g distinct f instructions_is =
     let s : State = closed_off g.state in
-    ap calls_of (instructions_is ∙ ap (λ (b : Built). b.instructions) g.graph)
-    ∙ sym (calls_plain (ordered_table 1 (reached_blocks s.entry s.completed) s.table)) ∙ ap calls_of (ordered_table_plain 1 (reached_blocks s.entry s.completed) s.table) ∙ calls_plain s.table
+    ap calls_of (instructions_is ∙ ap (λ (b : Built). b.instructions) (graph_is names parameters body env new params built g distinct))
+    ∙ sym (calls_plain (ordered_table 1 (entry_blocks s.entry s.completed) s.table)) ∙ ap calls_of (ordered_table_plain 1 (entry_blocks s.entry s.completed) s.table) ∙ calls_plain s.table
     ∙ Rattle.rl_lower.proofs.Calls.calls_same g.state.table _ refl ∙ (lowered_from names parameters body env new params built g distinct).calls
 
 -- The calls that its blocks list.
 pub graph_blocks_held : (names : Names) (parameters : List Parameter) (body : Syntax) (env new : Environment) (params : List Param) (built : Built)
-    → IsGraphOf names parameters body env new params built → AreApart parameters → (f : HirFunction) → f.body ≡ built.hir
+    → IsGraphOf names parameters body env new params built → AreApart parameters → (f : HirFunction (List BlockPair)) → f.body ≡ built.hir
     → f.instructions ≡ built.instructions → graph_calls f.instructions f.body.blocks ≡ live_in_body body
 graph_blocks_held names parameters body env new params built g distinct f body_is instructions_is =
     let s : State = closed_off g.state in
@@ -202,9 +212,9 @@ graph_blocks_held names parameters body env new params built g distinct f body_i
     let listed : IsListed begun = listed_fresh begun (begun_fresh env parameters) in
     let later : g.state.entry.0 < g.state.env.next_block = (let same : g.state.entry.0 ≡ begun.entry.0 = ap (λ (b : BlockId). b.0) lowered.reachable.entry in omega (arith, same, lowered.reachable.counted)) in
     let stands : is_reachable begun ≡ true = eq-eqb env.next_block env.next_block refl in
-    ap (λ (t : List Instruction). graph_calls t f.body.blocks) (instructions_is ∙ ap (λ (b : Built). b.instructions) g.graph)
-    ∙ ap (λ (h : Hir). graph_calls (ordered_table 1 (reached_blocks s.entry s.completed) s.table) h.blocks) (body_is ∙ ap (λ (b : Built). b.hir) g.graph)
-    ∙ graph_plain s.table (ordered_table 1 (reached_blocks s.entry s.completed) s.table) (reached_blocks s.entry s.completed) (ordered_table_plain 1 (reached_blocks s.entry s.completed) s.table) 1
+    ap (λ (t : List Instruction). graph_calls t f.body.blocks) (instructions_is ∙ ap (λ (b : Built). b.instructions) (graph_is names parameters body env new params built g distinct))
+    ∙ ap (λ (h : Hir (List BlockPair)). graph_calls (ordered_table 1 (entry_blocks s.entry s.completed) s.table) h.blocks) (body_is ∙ ap (λ (b : Built). b.hir) (graph_is names parameters body env new params built g distinct))
+    ∙ graph_plain s.table (ordered_table 1 (entry_blocks s.entry s.completed) s.table) (entry_blocks s.entry s.completed) (ordered_table_plain 1 (entry_blocks s.entry s.completed) s.table) 1
     ∙ completed_calls (with_undefined g.state) _
     ∙ (adds_value g.state _ _).held (lowered.keeps.listed listed) later ∙ ap (λ (l : List (Option Span)). entry_calls g.state ++ l) (none_where (is_reachable g.state)) ∙ append-nil (entry_calls g.state)
     ∙ lowered.reachable.held listed below
@@ -239,13 +249,13 @@ lower_refused f body names parameters env new params built w declared is distinc
 lower_runs_by : (f body : Syntax) (names : Names) (parameters : List Parameter) (env new : Environment) (params : List Param) (built : Built)
     → IsFunction f body → DeclaresAll names (params_in f) → parameters ≡ parameters_of names f → AreApart parameters
     → IsGraphOf names parameters body env new params built → refusals_of names f ≡ []
-    → (h : HirFunction) (pairs : List Pair) → h.body ≡ built.hir → h.instructions ≡ built.instructions → h.params ≡ params
+    → (h : HirFunction (List BlockPair)) (pairs : List Pair) → h.body ≡ built.hir → h.instructions ≡ built.instructions → h.params ≡ params
     → (stuck : Trace) (start : List Assignment) (arguments : List Value) (answers : List Answer)
     → trace_by stuck h pairs start arguments answers ≡ source_trace names f start arguments answers
 lower_runs_by f body names given env new params built w declared is distinct g supported h pairs body_is instructions_is params_is =
     function_runs_by begun graph.state (exec_before_end names body) (begun_fresh env parameters) (parameters_made (started env kinds.Block) parameters)
     lowered.blocks (lowered.runs (body_supported names f body w declared supported)) h pairs names f
-    (body_is ∙ ap (λ (b : Built). b.hir) graph.graph) (instructions_is ∙ ap (λ (b : Built). b.instructions) graph.graph)
+    (body_is ∙ ap (λ (b : Built). b.hir) (graph_is names parameters body env new params built graph apart)) (instructions_is ∙ ap (λ (b : Built). b.instructions) (graph_is names parameters body env new params built graph apart))
     (λ start arguments. take parameters arguments (set_all start unset))
     (λ start arguments. subst (λ (ps : List Param). Agrees begun.bindings (take parameters arguments (set_all start unset))
     (take_arguments ps arguments (set_by pairs start unset))) (sym (params_is ∙ graph.places))
@@ -271,7 +281,7 @@ lower_runs_by f body names given env new params built w declared is distinct g s
 pub lower_same_runs : (f body : Syntax) (names : Names) (parameters : List Parameter) (env new : Environment) (params : List Param) (built : Built)
     → IsFunction f body → DeclaresAll names (params_in f) → parameters ≡ parameters_of names f → AreApart parameters
     → IsGraphOf names parameters body env new params built → refusals_of names f ≡ []
-    → (h : HirFunction) (pairs : List Pair) → h.body ≡ built.hir → h.instructions ≡ built.instructions → h.params ≡ params
+    → (h : HirFunction (List BlockPair)) (pairs : List Pair) → h.body ≡ built.hir → h.instructions ≡ built.instructions → h.params ≡ params
     → SameRuns names f h pairs
 lower_same_runs f body names parameters env new params built w declared is distinct g supported h pairs body_is instructions_is params_is start arguments answers =
     lower_runs_by f body names parameters env new params built w declared is distinct g supported h pairs body_is instructions_is params_is waiting start arguments answers
@@ -279,7 +289,7 @@ lower_same_runs f body names parameters env new params built w declared is disti
 pub lower_never_stuck : (f body : Syntax) (names : Names) (parameters : List Parameter) (env new : Environment) (params : List Param) (built : Built)
     → IsFunction f body → DeclaresAll names (params_in f) → parameters ≡ parameters_of names f → AreApart parameters
     → IsGraphOf names parameters body env new params built → refusals_of names f ≡ []
-    → (h : HirFunction) (pairs : List Pair) → h.body ≡ built.hir → h.instructions ≡ built.instructions → h.params ≡ params
+    → (h : HirFunction (List BlockPair)) (pairs : List Pair) → h.body ≡ built.hir → h.instructions ≡ built.instructions → h.params ≡ params
     → NeverStuck h pairs
 lower_never_stuck f body names parameters env new params built w declared is distinct g supported h pairs body_is instructions_is params_is stuck start arguments answers =
     lower_runs_by f body names parameters env new params built w declared is distinct g supported h pairs body_is instructions_is params_is stuck start arguments answers
@@ -287,7 +297,7 @@ lower_never_stuck f body names parameters env new params built w declared is dis
 
 pub lower_bounded : (f body : Syntax) (names : Names) (parameters : List Parameter) (env new : Environment) (params : List Param) (built : Built)
     → IsFunction f body → AreApart parameters → IsGraphOf names parameters body env new params built
-    → (h : HirFunction) → h.body ≡ built.hir → h.instructions ≡ built.instructions → function_size h ≤ 64 * nodes f
+    → (h : HirFunction (List BlockPair)) → h.body ≡ built.hir → h.instructions ≡ built.instructions → function_size h ≤ 64 * nodes f
 lower_bounded f body names parameters env new params built w distinct g h body_is instructions_is =
     let counted : nodes body + 2 + 2 * length (parameters_of names f) ≤ nodes f = function_nodes names f body w in
     graph_bounded names parameters body env new params built g distinct h (nodes f) body_is instructions_is (omega (arith, counted))
@@ -320,7 +330,7 @@ lower_fn_type names parameters body env new params built distinct g =
 
 pub lower_held : (f body : Syntax) (names : Names) (parameters : List Parameter) (env new : Environment) (params : List Param) (built : Built)
     → IsFunction f body → AreApart parameters → IsGraphOf names parameters body env new params built
-    → (h : HirFunction) → h.body ≡ built.hir → h.instructions ≡ built.instructions → HoldsCalls f h
+    → (h : HirFunction (List BlockPair)) → h.body ≡ built.hir → h.instructions ≡ built.instructions → HoldsCalls f h
 lower_held f body names parameters env new params built w distinct g h body_is instructions_is = record {
   table = graph_calls_held names parameters body env new params built g distinct h instructions_is ∙ sym (function_calls f body w);
   blocks = graph_blocks_held names parameters body env new params built g distinct h body_is instructions_is ∙ sym (ap live_in_body w.is_body);

@@ -9,13 +9,13 @@ use Rattle.rl_hir.specs.declared.terminal.ReturnVariant.{ReturnVariant}
 use Rattle.rl_hir.specs.declared.terminal.ReturnVariant.TheVariants as returns
 use Rattle.rl_hir.specs.declared.function.BlockKind.{BlockKind}
 use Rattle.rl_hir.specs.declared.function.HirFunction.{HirFunction}
-use Rattle.rl_hir.specs.declared.function.NumberedBlock.{NumberedBlock}
+use Rattle.rl_hir.specs.Blocks.{Pair as BlockPair}
 use Rattle.rl_base.specs.declared.ids.BlockId.{BlockId}
 use Rattle.rl_base.specs.declared.ids.InstructionId.{InstructionId}
 use Rattle.rl_hir.specs.declared.function.Pair.{Pair}
 use Rattle.rl_builder.specs.Builder.{State, reserved, new_block, ended_by, completed_by, placeholder}
 use Rattle.rl_builder.specs.Temporaries.{temporary}
-use Rattle.rl_builder.specs.Build.{built_of}
+use Rattle.rl_lower.proofs.Alone.{built_of}
 use Rattle.rl_builder.specs.declared.builder.WipBlock.{WipBlock}
 use Rattle.rl_model.specs.declared.trace.Value.{Value}
 use Rattle.rl_model.specs.declared.trace.Value.TheVariants as value
@@ -82,13 +82,13 @@ falls_off s c cover m throws source store notes answers a none =
     (λ v after rest. returned returns.Void v) throws source store notes answers a none
     (record { goes = λ v after later notes1 answers1 a1 l is. block_returns (with_undefined s) None returns.Void (temporary s None) placeholder c cover v later notes1 answers1 is })
 
-nothing_completed : (completed : List NumberedBlock) → completed ≡ [] → (id : ℕ) → IsCompleted completed id → ⊥
+nothing_completed : (completed : List BlockPair) → completed ≡ [] → (id : ℕ) → IsCompleted completed id → ⊥
 nothing_completed completed none id k =
-    (let never : slice_get {X = NumberedBlock} [] k.place ≡ Some k.block = ap (λ (l : List NumberedBlock). slice_get l k.place) (sym none) ∙ k.found in cc)
+    (let never : slice_get {X = BlockPair} [] k.place ≡ Some k.block = ap (λ (l : List BlockPair). slice_get l k.place) (sym none) ∙ k.found in cc)
 
 distinct_fresh : (s : State) → IsFresh s → UniqueIds s.completed s.current.id.0 s.env.next_block
 distinct_fresh s fresh = record {
-  apart = subst (λ (blocks : List NumberedBlock). AreDistinct (ids_of blocks)) (sym fresh.completed) distinct_none;
+  apart = subst (λ (blocks : List BlockPair). AreDistinct (ids_of blocks)) (sym fresh.completed) distinct_none;
   open_block = λ k. nothing_completed s.completed fresh.completed s.current.id.0 k;
   below = λ id k. absurd (nothing_completed s.completed fresh.completed id k);
   current_below = fresh.below;
@@ -134,7 +134,7 @@ function_runs begun s m fresh made b r throws source store notes answers agrees 
 
 -- The function that is built has the traces of its source, whatever trace a stuck run has.
 pub function_runs_by : (begun s : State) (m : StmtMeaning) → IsFresh begun → AreMade begun → PreservesBlocks begun s
-    → RunsStatement m begun s → (f : HirFunction) (pairs : List Pair) (names : Names) (function : Syntax)
+    → RunsStatement m begun s → (f : HirFunction (List BlockPair)) (pairs : List Pair) (names : Names) (function : Syntax)
     → f.body ≡ (built_of (closed_off s)).hir → f.instructions ≡ (built_of (closed_off s)).instructions
     → (source : List Assignment → List Value → Store) →
     ((start : List Assignment) (arguments : List Value) → Agrees begun.bindings (source start arguments) (take_arguments f.params arguments (set_by pairs start unset)))
@@ -162,5 +162,5 @@ function_runs_by begun s m fresh made b r f pairs names function body_is instruc
 
     here : trace_by stuck f pairs start arguments answers ≡ limited stuck (built_of last).hir.blocks (built_of last).instructions last.entry.0 store no_notes answers
     here =
-        ap (λ (h : Hir). limited stuck h.blocks f.instructions h.entry.0 store no_notes answers) body_is
+        ap (λ (h : Hir (List BlockPair)). limited stuck h.blocks f.instructions h.entry.0 store no_notes answers) body_is
         ∙ ap (λ (l : List Instruction). limited stuck (built_of last).hir.blocks l last.entry.0 store no_notes answers) instructions_is

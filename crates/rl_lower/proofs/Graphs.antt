@@ -9,16 +9,18 @@ use Rattle.rl_hir.specs.declared.instruction.Instruction.{Instruction}
 use Rattle.rl_hir.specs.declared.terminal.Terminal.{Terminal}
 use Rattle.rl_hir.specs.declared.function.BasicBlock.{BasicBlock}
 use Rattle.rl_hir.specs.declared.function.Hir.{Hir}
-use Rattle.rl_hir.specs.declared.function.NumberedBlock.{NumberedBlock}
-use Rattle.rl_hir.specs.Terminals.{Field, Leads, MayLead, Chooses, Follows, Names, MayName, Reads, MayBind, Says, Holds, fields_of, leads, named_ids, names, with_order}
-use Rattle.rl_builder.specs.Order.{reached_blocks, ordered_at, ordered_list, order_after, ordered_block, ordered_blocks, ordered_table}
+use Rattle.rl_hir.specs.Blocks.{Pair as BlockPair, block_at, same_id}
+use Rattle.rl_hir.specs.Terminals.{fields_of, named_ids, successor_ids, with_order}
+use Rattle.rl_order.specs.Numbering.{ordered_at, ordered_list, order_after, ordered_block, ordered_blocks, ordered_table}
+use Rattle.rl_lower.specs.Reachable.{entry_blocks}
 use Rattle.rl_model.specs.declared.trace.Answer.{Answer}
 use Rattle.rl_model.specs.declared.trace.Trace.{Trace}
 use Rattle.rl_model.specs.Traces.{Store, set, set_open, threw}
-use Rattle.rl_model.specs.Closed.{successors, named, IsClosed, Reaches}
-use Rattle.rl_model.specs.Closed as closed
-use Rattle.rl_model.specs.WellFormed.{IsPredecessor}
-use Rattle.rl_model.specs.Machine.{Item, Runs, Ends, Code, Notes, Next, Act, Computes, Asks, Stops, act, block_of, item_in, code_in, executed, is_open, step}
+use Rattle.rl_model.specs.Closed.{IsClosed}
+use Rattle.rl_order.specs.Reached.{Begins, Goes, IsReached}
+use Rattle.std.specs.List.{list_any}
+use Rattle.rl_lower.proofs.Alone.{leads_none}
+use Rattle.rl_model.specs.Machine.{Item, Runs, Ends, Code, Notes, Next, Act, Computes, Asks, Stops, act, item_in, code_in, executed, is_open, step}
 use Rattle.rl_lower.specs.Simulation.{InBlock, LeavesFunction, walk}
 use Rattle.rl_lower.proofs.Asking.{asked_same}
 use Rattle.rl_lower.proofs.BlockIds.{ids_of}
@@ -26,37 +28,37 @@ use Rattle.rl_base.proofs.DistinctLists.{distinct_head, distinct_tail}
 use Rattle.rl_base.specs.Distinct.{AreDistinct}
 
 -- The numbers of blocks are distinct.
-abbrev pub Apart : List NumberedBlock → Type 0
+abbrev pub Apart : List BlockPair → Type 0
 Apart blocks = AreDistinct (ids_of blocks)
 
--- A block is found by its number.
-pub found_by : (blocks : List NumberedBlock) (place : ℕ) (b : NumberedBlock) → Apart blocks → slice_get blocks place ≡ Some b
-    → block_of blocks b.id.0 ≡ Some b.block
+-- A block is found by its id.
+pub found_by : (blocks : List BlockPair) (place : ℕ) (b : BlockPair) → Apart blocks → slice_get blocks place ≡ Some b
+    → block_at blocks b.0 ≡ Some b.1
 found_by [] place b apart e = absurd (cc)
 found_by (x ∷ blocks) zero b apart e =
     let same : x ≡ b = cc in
-    ap (λ (t : Bool). cond t (Some x.block) (block_of blocks b.id.0)) (eq-eqb x.id.0 b.id.0 (ap (λ (z : NumberedBlock). z.id.0) same))
-    ∙ ap (λ (z : NumberedBlock). Some z.block) same
-found_by (x ∷ blocks) (suc place) b apart e = elim (eqb_tells x.id.0 b.id.0) [
-  | inl t ↦ absurd (distinct_head x.id.0 (ids_of blocks) apart (record { index = place; found = again t.1 }))
-  | inr t ↦ ap (λ (c : Bool). cond c (Some x.block) (block_of blocks b.id.0)) t.0
-      ∙ found_by blocks place b (distinct_tail x.id.0 (ids_of blocks) apart) e
+    ap (λ (t : Bool). cond t (Some x.1) (block_at blocks b.0)) (eq-eqb b.0.0 x.0.0 (ap (λ (z : BlockPair). z.0.0) (sym same)))
+    ∙ ap (λ (z : BlockPair). Some z.1) same
+found_by (x ∷ blocks) (suc place) b apart e = elim (eqb_tells b.0.0 x.0.0) [
+  | inl t ↦ absurd (distinct_head x.0.0 (ids_of blocks) apart (record { index = place; found = again t.1 }))
+  | inr t ↦ ap (λ (c : Bool). cond c (Some x.1) (block_at blocks b.0)) t.0
+      ∙ found_by blocks place b (distinct_tail x.0.0 (ids_of blocks) apart) e
 ]
   where
-    again : x.id.0 ≡ b.id.0 → slice_get (ids_of blocks) place ≡ Some x.id.0
+    again : b.0.0 ≡ x.0.0 → slice_get (ids_of blocks) place ≡ Some x.0.0
     again same =
-        slice_get-map (λ (z : NumberedBlock). z.id.0) blocks place
-        ∙ ap (λ (o : Option NumberedBlock). option_map (λ z. z.id.0) o) e
-        ∙ ap (λ (n : ℕ). Some n) (sym same)
+        slice_get-map (λ (z : BlockPair). z.0.0) blocks place
+        ∙ ap (λ (o : Option BlockPair). option_map (λ z. z.0.0) o) e
+        ∙ ap (λ (n : ℕ). Some n) same
 
 -- The item at an index of a block.
-pub item_met : (table : List Instruction) (b : NumberedBlock) (place : ℕ) (item : Item) → InBlock table b place item → item_in table b.block place ≡ Some item
+pub item_met : (table : List Instruction) (b : BlockPair) (place : ℕ) (item : Item) → InBlock table b place item → item_in table b.1 place ≡ Some item
 item_met table b place (Runs i) h =
-    ap (λ (o : Option InstructionId). elim o [ Some number ↦ option_map (λ i. Runs i) (slice_get table number.0) | None ↦ if place == length b.block.instructions then Some (Ends b.block.terminal) else None ]) h.at
+    ap (λ (o : Option InstructionId). elim o [ Some number ↦ option_map (λ i. Runs i) (slice_get table number.0) | None ↦ if place == length b.1.instructions then Some (Ends b.1.terminal) else None ]) h.at
     ∙ ap (λ (o : Option Instruction). option_map (λ i. Runs i) o) h.kept
 item_met table b place (Ends t) h =
-    ap (λ (o : Option InstructionId). elim o [ Some number ↦ option_map (λ i. Runs i) (slice_get table number.0) | None ↦ if place == length b.block.instructions then Some (Ends b.block.terminal) else None ]) (slice_get_past b.block.instructions place (omega (arith, h.0)))
-    ∙ ap (λ (c : Bool). if c then Some (Ends b.block.terminal) else None) (eq-eqb place (length b.block.instructions) (sym h.0))
+    ap (λ (o : Option InstructionId). elim o [ Some number ↦ option_map (λ i. Runs i) (slice_get table number.0) | None ↦ if place == length b.1.instructions then Some (Ends b.1.terminal) else None ]) (slice_get_past b.1.instructions place (omega (arith, h.0)))
+    ∙ ap (λ (c : Bool). if c then Some (Ends b.1.terminal) else None) (eq-eqb place (length b.1.instructions) (sym h.0))
     ∙ ap (λ t. Some (Ends t)) h.1
 
 -- Items without their orders.
@@ -117,9 +119,9 @@ ordered_list_plain : (order : ℕ) (listed : List InstructionId) (table : List I
 ordered_list_plain order [] table = refl
 ordered_list_plain order (id ∷ ids) table = ordered_list_plain (order + 1) ids (ordered_at order id.0 table) ∙ ordered_at_plain order id.0 table
 
-pub ordered_table_plain : (order : ℕ) (blocks : List NumberedBlock) (table : List Instruction) → map without_order (ordered_table order blocks table) ≡ map without_order table
+pub ordered_table_plain : (order : ℕ) (blocks : List BlockPair) (table : List Instruction) → map without_order (ordered_table order blocks table) ≡ map without_order table
 ordered_table_plain order [] table = refl
-ordered_table_plain order (b ∷ blocks) table = ordered_table_plain (order_after order b) blocks (ordered_list order b.block.instructions table) ∙ ordered_list_plain order b.block.instructions table
+ordered_table_plain order (b ∷ blocks) table = ordered_table_plain (order_after order b) blocks (ordered_list order b.1.instructions table) ∙ ordered_list_plain order b.1.instructions table
 
 pub get_map : {X Y : Type 0} (f : X → Y) (xs : List X) (k : ℕ) → slice_get (map f xs) k ≡ option_map f (slice_get xs k)
 get_map f [] k = refl
@@ -150,100 +152,73 @@ item_plain table table1 block order place same = by_number (slice_get block.inst
     by_number (Some number) = listed_plain table table1 number.0 same
     by_number None = last_plain (place == length block.instructions) order block.terminal
 
--- The entry block, numbered, is among the kept blocks.
+-- The entry block, numbered, is in the graph.
 
-kept : (order entry : ℕ) (blocks : List NumberedBlock) (block : BasicBlock) → block_of blocks entry ≡ Some block → (n : ℕ) × (block_of (ordered_blocks order (filter (λ b. nat_eq b.id.0 entry) blocks)) entry ≡ Some (record block { terminal = with_order n block.terminal }))
+kept : (order : ℕ) (entry : BlockId) (blocks : List BlockPair) (block : BasicBlock) → block_at blocks entry ≡ Some block
+    → (n : ℕ) × (block_at (ordered_blocks order (entry_blocks entry blocks)) entry ≡ Some (record block { terminal = with_order n block.terminal }))
 kept order entry [] block is = absurd (cc)
-kept order entry (b ∷ blocks) block is = elim (eqb_tells b.id.0 entry) [
-  | inl t ↦ (let same : ◌≡◌ {A = Option BasicBlock} (Some b.block) (Some block) = sym (ap (λ (c : Bool). if c then Some b.block else block_of blocks entry) t.0) ∙ is in
-      let one : b.block ≡ block = cc in (
-        order + length b.block.instructions,
-        ap (λ (c : Bool). block_of (ordered_blocks order (if c then b ∷ filter (λ x. nat_eq x.id.0 entry) blocks else filter (λ x. nat_eq x.id.0 entry) blocks)) entry) t.0
-            ∙ ap (λ (c : Bool). if c then Some (ordered_block order b).block else block_of (ordered_blocks (order_after order b) (filter (λ x. nat_eq x.id.0 entry) blocks)) entry) t.0
-            ∙ ap (λ (x : BasicBlock). Some (record x { terminal = with_order (order + length b.block.instructions) x.terminal })) one,
+kept order entry (b ∷ blocks) block is = elim (eqb_tells entry.0 b.0.0) [
+  | inl t ↦ (let same : ◌≡◌ {A = Option BasicBlock} (Some b.1) (Some block) = sym (ap (λ (c : Bool). if c then Some b.1 else block_at blocks entry) t.0) ∙ is in
+      let one : b.1 ≡ block = cc in (
+        order + length b.1.instructions,
+        ap (λ (c : Bool). block_at (ordered_blocks order (if c then b ∷ entry_blocks entry blocks else entry_blocks entry blocks)) entry) t.0
+            ∙ ap (λ (c : Bool). if c then Some (ordered_block order b).1 else block_at (ordered_blocks (order_after order b) (entry_blocks entry blocks)) entry) t.0
+            ∙ ap (λ (x : BasicBlock). Some (record x { terminal = with_order (order + length x.instructions) x.terminal })) one
+            ∙ ap (λ (n : ℕ). Some (record block { terminal = with_order n block.terminal })) (ap (λ (x : BasicBlock). order + length x.instructions) (sym one)),
       ))
-  | inr t ↦ (let rest = kept order entry blocks block (sym (ap (λ (c : Bool). if c then Some b.block else block_of blocks entry) t.0) ∙ is) in
-      (rest.0, ap (λ (c : Bool). block_of (ordered_blocks order (if c then b ∷ filter (λ x. nat_eq x.id.0 entry) blocks else filter (λ x. nat_eq x.id.0 entry) blocks)) entry) t.0 ∙ rest.1))
+  | inr t ↦ (let rest = kept order entry blocks block (sym (ap (λ (c : Bool). if c then Some b.1 else block_at blocks entry) t.0) ∙ is) in
+      (rest.0, ap (λ (c : Bool). block_at (ordered_blocks order (if c then b ∷ entry_blocks entry blocks else entry_blocks entry blocks)) entry) t.0 ∙ rest.1))
 ]
 
 -- The items of the entry are the builder's, orders apart.
-pub entry_plain : (entry : BlockId) (completed : List NumberedBlock) (table : List Instruction) (block : BasicBlock) → block_of completed entry.0 ≡ Some block → (place : ℕ)
-    → plain (code_in completed table entry.0 place) ≡ plain (code_in (ordered_blocks 1 (reached_blocks entry completed)) (ordered_table 1 (reached_blocks entry completed) table) entry.0 place)
+pub entry_plain : (entry : BlockId) (completed : List BlockPair) (table : List Instruction) (block : BasicBlock) → block_at completed entry ≡ Some block → (place : ℕ)
+    → plain (code_in completed table entry.0 place) ≡ plain (code_in (ordered_blocks 1 (entry_blocks entry completed)) (ordered_table 1 (entry_blocks entry completed) table) entry.0 place)
 entry_plain entry completed table block is place =
-    let found = kept 1 entry.0 completed block is in
-    let table1 : List Instruction = ordered_table 1 (reached_blocks entry completed) table in
+    let found = kept 1 entry completed block is in
+    let table1 : List Instruction = ordered_table 1 (entry_blocks entry completed) table in
     ap (λ (o : Option BasicBlock). plain (elim o [ Some b ↦ item_in table b place | None ↦ None ])) is
-    ∙ sym (item_plain table table1 block found.0 place (ordered_table_plain 1 (reached_blocks entry completed) table))
+    ∙ sym (item_plain table table1 block found.0 place (ordered_table_plain 1 (entry_blocks entry completed) table))
     ∙ sym (ap (λ (o : Option BasicBlock). plain (elim o [ Some b ↦ item_in table1 b place | None ↦ None ])) found.1)
 
 -- A block that leaves the function leads to none, and names none.
 
-nothing_in : (ids : List ℕ) (id : ℕ) → ids ≡ [] → Contains ids id → ⊥
-nothing_in ids id none h = let empty : length ids ≡ 0 = ap (λ (l : List ℕ). length l) none in absurd (omega (arith, empty, h.1))
+names_nothing : (t : Terminal) (other : BlockId) → named_ids t ≡ [] → Contains (named_ids t) other → ⊥
+names_nothing t other none there =
+    let empty : length (named_ids t) ≡ 0 = ap (λ (l : List BlockId). length l) none in absurd (omega (arith, empty, there.1))
 
-leads_none : (fields : List Field) → names fields ≡ [] → leads fields ≡ []
-leads_none [] none = refl
-leads_none (Leads block ∷ fields) none = absurd (cc)
-leads_none (MayLead None ∷ fields) none = leads_none fields none
-leads_none (MayLead (Some block) ∷ fields) none = absurd (cc)
-leads_none (Chooses [] ∷ fields) none = leads_none fields none
-leads_none (Chooses (c ∷ cases) ∷ fields) none = absurd (cc)
-leads_none (Follows block ∷ fields) none = absurd (cc)
-leads_none (Names block ∷ fields) none = absurd (cc)
-leads_none (MayName None ∷ fields) none = leads_none fields none
-leads_none (MayName (Some block) ∷ fields) none = absurd (cc)
-leads_none (Reads place ∷ fields) none = leads_none fields none
-leads_none (MayBind place ∷ fields) none = leads_none fields none
-leads_none (Says text ∷ fields) none = leads_none fields none
-leads_none (Holds flag ∷ fields) none = leads_none fields none
-
-pub names_nothing : (t : Terminal) (other : ℕ) → named_ids t ≡ [] → Contains (named t) other → ⊥
-names_nothing t other none there = nothing_in (named t) other (ap (λ (ids : List BlockId). map (λ (id : BlockId). id.0) ids) none) there
-
-pub leads_nowhere : (t : Terminal) (other : ℕ) → named_ids t ≡ [] → Contains (successors t) other → ⊥
+leads_nowhere : (t : Terminal) (other : BlockId) → named_ids t ≡ [] → list_any (same_id other) (successor_ids t) ≡ true → ⊥
 leads_nowhere t other none there =
-    nothing_in (successors t) other (ap (λ (ids : List BlockId). map (λ (id : BlockId). id.0) ids) (leads_none (fields_of t.kind) none)) there
+    let never : false ≡ true = sym (ap (λ (ids : List BlockId). list_any (same_id other) ids) (leads_none (fields_of t.kind) none)) ∙ there in absurd (cc)
 
 -- Where the entry leaves the function, it alone is reached.
-module _ (hir : Hir) (first : BasicBlock) (is_first : block_of hir.blocks hir.entry.0 ≡ Some first) (none : named_ids first.terminal ≡ []) where
-  pub at_entry : (id : ℕ) (block : BasicBlock) → id ≡ hir.entry.0 → block_of hir.blocks id ≡ Some block → block ≡ first
+module _ (hir : Hir (List BlockPair)) (first : BasicBlock) (is_first : block_at hir.blocks hir.entry ≡ Some first) (none : named_ids first.terminal ≡ []) where
+  pub at_entry : (id : BlockId) (block : BasicBlock) → id ≡ hir.entry → block_at hir.blocks id ≡ Some block → block ≡ first
   at_entry id block at is =
-      let there : block_of hir.blocks hir.entry.0 ≡ Some block = subst (λ (n : ℕ). block_of hir.blocks n ≡ Some block) at is in
+      let there : block_at hir.blocks hir.entry ≡ Some block = subst (λ (x : BlockId). block_at hir.blocks x ≡ Some block) at is in
       let same : ◌≡◌ {A = Option BasicBlock} (Some first) (Some block) = sym is_first ∙ there in
       cc
 
   names_none : (block : BasicBlock) → block ≡ first → named_ids block.terminal ≡ []
   names_none block same = ap (λ (b : BasicBlock). named_ids b.terminal) same ∙ none
 
-  pub only_entry : (id : ℕ) → Reaches hir id → id ≡ hir.entry.0
-  only_entry id closed.entry = refl
-  only_entry id (closed.next from successor block before is there) =
+  pub only_entry : (id : BlockId) → IsReached hir.blocks hir.entry id → id ≡ hir.entry
+  only_entry _ Begins = refl
+  only_entry _ (Goes from successor block before is there) =
       absurd (leads_nowhere block.terminal successor (names_none block (at_entry from block (only_entry from before) is)) there)
 
-  pub none_precede : (other id : ℕ) → IsPredecessor hir other id → ⊥
-  none_precede other id h =
-      leads_nowhere h.block.terminal id (names_none h.block (at_entry other h.block (only_entry other h.reached) h.found)) h.leads
-
 -- The entry is a block of the graph that is built.
-pub built_entry : (entry : BlockId) (completed : List NumberedBlock) (block : BasicBlock) → block_of completed entry.0 ≡ Some block → (b : BasicBlock) × (block_of (ordered_blocks 1 (reached_blocks entry completed)) entry.0 ≡ Some b)
-built_entry entry completed block is = let found = kept 1 entry.0 completed block is in (record block { terminal = with_order found.0 block.terminal }, found.1)
+pub built_entry : (entry : BlockId) (completed : List BlockPair) (block : BasicBlock) → block_at completed entry ≡ Some block → (b : BasicBlock) × (block_at (ordered_blocks 1 (entry_blocks entry completed)) entry ≡ Some b)
+built_entry entry completed block is = let found = kept 1 entry completed block is in (record block { terminal = with_order found.0 block.terminal }, found.1)
 
-pub built_closed : (entry : BlockId) (completed : List NumberedBlock) (block : BasicBlock) → block_of completed entry.0 ≡ Some block → LeavesFunction block.terminal → IsClosed (record { entry = entry; blocks = ordered_blocks 1 (reached_blocks entry completed) })
+pub built_closed : (entry : BlockId) (completed : List BlockPair) (block : BasicBlock) → block_at completed entry ≡ Some block → LeavesFunction block.terminal → IsClosed (record { entry = entry; blocks = ordered_blocks 1 (entry_blocks entry completed) })
 built_closed entry completed block is leaves =
-    let found = kept 1 entry.0 completed block is in
-    let hir : Hir = record { entry = entry; blocks = ordered_blocks 1 (reached_blocks entry completed) } in
+    let found = kept 1 entry completed block is in
+    let hir : Hir (List BlockPair) = record { entry = entry; blocks = ordered_blocks 1 (entry_blocks entry completed) } in
     let first : BasicBlock = record block { terminal = with_order found.0 block.terminal } in
-    let alone : (id : ℕ) (b : BasicBlock) → Reaches hir id → block_of hir.blocks id ≡ Some b → LeavesFunction b.terminal =
+    let alone : (id : BlockId) (b : BasicBlock) → IsReached hir.blocks hir.entry id → block_at hir.blocks id ≡ Some b → LeavesFunction b.terminal =
     λ id b reaches there. subst (λ (x : BasicBlock). LeavesFunction x.terminal) (sym (at_entry hir first found.1 leaves.0 id b (only_entry hir first found.1 leaves.0 id reaches) there)) leaves in
     record {
       entry_block = (first, found.1);
       names = λ id other b reaches there named. absurd (names_nothing b.terminal other (alone id b reaches there).0 named);
       ends = λ id b reaches there unreachable. (alone id b reaches there).1 unreachable;
     }
-
--- No block of the graph that is built has a predecessor.
-pub built_precede : (entry : BlockId) (completed : List NumberedBlock) (block : BasicBlock) → block_of completed entry.0 ≡ Some block → LeavesFunction block.terminal
-    → (other id : ℕ) → IsPredecessor (record { entry = entry; blocks = ordered_blocks 1 (reached_blocks entry completed) }) other id → ⊥
-built_precede entry completed block is leaves =
-    let found = kept 1 entry.0 completed block is in
-    none_precede (record { entry = entry; blocks = ordered_blocks 1 (reached_blocks entry completed) }) (record block { terminal = with_order found.0 block.terminal }) found.1 leaves.0

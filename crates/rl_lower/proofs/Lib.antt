@@ -1,3 +1,4 @@
+pub mod Alone
 pub mod Answering
 pub mod Arguments
 pub mod Asking
@@ -5,6 +6,7 @@ pub mod BlockIds
 pub mod Blocks
 pub mod Bodies
 pub mod Building
+pub mod Builds
 pub mod Calls
 pub mod Closings
 pub mod Covered

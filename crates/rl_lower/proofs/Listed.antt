@@ -9,13 +9,13 @@ use Rattle.rl_base.specs.declared.ids.InstructionId.{InstructionId}
 use Rattle.rl_base.specs.declared.span.Span.{Span}
 use Rattle.rl_base.proofs.DistinctLists.{IsIn, distinct_append, distinct_apart, distinct_left, distinct_none}
 use Rattle.rl_base.proofs.DistinctLists.{distinct_push, distinct_right, in_either, in_left, in_right}
-use Rattle.rl_builder.proofs.NumberedOrders.{listed_below, numbers_below}
+use Rattle.rl_order.proofs.NumberedOrders.{listed_below, numbers_below}
 use Rattle.rl_builder.specs.Builder.{State, ended_by, completed_by}
-use Rattle.rl_builder.specs.Order.{orders_of}
+use Rattle.rl_order.specs.Numbering.{orders_of}
 use Rattle.rl_builder.specs.Temporaries.{temporary, unordered, with_value}
 use Rattle.rl_builder.specs.declared.builder.WipBlock.{WipBlock}
 use Rattle.rl_hir.specs.Numbered.{listed_in}
-use Rattle.rl_hir.specs.declared.function.NumberedBlock.{NumberedBlock}
+use Rattle.rl_hir.specs.Blocks.{Pair as BlockPair}
 use Rattle.rl_hir.specs.declared.instruction.Instruction.{Instruction}
 use Rattle.rl_hir.specs.declared.instruction.InstructionValue.{InstructionValue}
 use Rattle.rl_hir.specs.declared.terminal.Terminal.{Terminal}
@@ -26,16 +26,16 @@ abbrev pub numbers : List InstructionId → List ℕ
 numbers ids = map (λ (id : InstructionId). id.0) ids
 
 -- The block lists indices below `bound`.
-abbrev pub ListsBelow : (bound : ℕ) → NumberedBlock → Type 0
-ListsBelow bound b = AreBelow bound b.block.instructions
+abbrev pub ListsBelow : (bound : ℕ) → BlockPair → Type 0
+ListsBelow bound b = AreBelow bound b.1.instructions
 
 -- No instruction has an order.
 abbrev AreUnordered : List Instruction → Type 0
 AreUnordered table = All (λ (i : Instruction). i.order.0 ≡ 0) table
 
 -- No block has predecessors.
-abbrev pub AreUnlinked : List NumberedBlock → Type 0
-AreUnlinked blocks = All (λ (b : NumberedBlock). b.block.preds ≡ []) blocks
+abbrev pub AreUnlinked : List BlockPair → Type 0
+AreUnlinked blocks = All (λ (b : BlockPair). b.1.preds ≡ []) blocks
 
 -- The index of the instruction that comes next.
 abbrev next_index : State → InstructionId
@@ -91,17 +91,17 @@ listed_value s v span l = record {
         ∙ ap (λ (indices : List ℕ). listed_in s.completed ++ indices)
         (sym (map-append (λ (id : InstructionId). id.0) s.current.instructions (next_index s ∷ [])))
 
-pub orders_append : (xs ys : List NumberedBlock) → orders_of (xs ++ ys) ≡ orders_of xs + orders_of ys
+pub orders_append : (xs ys : List BlockPair) → orders_of (xs ++ ys) ≡ orders_of xs + orders_of ys
 orders_append [] ys = omega arith
 orders_append (x ∷ xs) ys =
     let rest : orders_of (xs ++ ys) ≡ orders_of xs + orders_of ys = orders_append xs ys in
     omega (arith, rest)
 
-listed_append : (xs ys : List NumberedBlock) → listed_in (xs ++ ys) ≡ listed_in xs ++ listed_in ys
+listed_append : (xs ys : List BlockPair) → listed_in (xs ++ ys) ≡ listed_in xs ++ listed_in ys
 listed_append [] ys = refl
 listed_append (x ∷ xs) ys =
-    ap (λ (indices : List ℕ). numbers x.block.instructions ++ indices) (listed_append xs ys)
-    ∙ sym (append_assoc (numbers x.block.instructions) (listed_in xs) (listed_in ys))
+    ap (λ (indices : List ℕ). numbers x.1.instructions ++ indices) (listed_append xs ys)
+    ∙ sym (append_assoc (numbers x.1.instructions) (listed_in xs) (listed_in ys))
 
 pub listed_completed : (s : State) (t : Terminal) (next : WipBlock) → next.instructions ≡ [] → IsListed s
     → IsListed (completed_by s t next)
@@ -116,10 +116,10 @@ listed_completed s t next none l = record {
       omega (arith, one, empty, more, l.counted);
   once = subst (λ (indices : List ℕ). AreDistinct indices) (sym same) l.once;
   unordered = l.unordered;
-  predecessors = All-push (λ (b : NumberedBlock). b.block.preds ≡ []) s.completed ended l.predecessors refl;
+  predecessors = All-push (λ (b : BlockPair). b.1.preds ≡ []) s.completed ended l.predecessors refl;
 }
   where
-    ended : NumberedBlock
+    ended : BlockPair
     ended = ended_by s.current t
 
     same : listed_in (s.completed ++ ended ∷ []) ++ numbers next.instructions ≡ all_listed s
@@ -132,50 +132,50 @@ listed_completed s t next none l = record {
 -- A builder that has neither blocks nor instructions.
 pub listed_none : (s : State) → s.completed ≡ [] → s.current.instructions ≡ [] → s.table ≡ [] → IsListed s
 listed_none s completed instructions table = record {
-  completed = subst (λ (blocks : List NumberedBlock). All (ListsBelow (length s.table)) blocks) (sym completed)
+  completed = subst (λ (blocks : List BlockPair). All (ListsBelow (length s.table)) blocks) (sym completed)
       (All-nil (ListsBelow (length s.table)));
   current = none_below (length s.table) s.current.instructions instructions;
   counted =
       let orders : orders_of s.completed ≡ 0 = ap orders_of completed in
       let listed : length s.current.instructions ≡ 0 = ap (λ (l : List InstructionId). length l) instructions in
       let rows : length s.table ≡ 0 = ap (λ (l : List Instruction). length l) table in
-      let blocks : length s.completed ≡ 0 = ap (λ (l : List NumberedBlock). length l) completed in
+      let blocks : length s.completed ≡ 0 = ap (λ (l : List BlockPair). length l) completed in
       omega (arith, orders, listed, rows, blocks);
   once = subst (λ (indices : List ℕ). AreDistinct indices) (sym nothing) distinct_none;
   unordered = subst (λ (l : List Instruction). AreUnordered l) (sym table) (All-nil (λ (i : Instruction). i.order.0 ≡ 0));
-  predecessors = subst (λ (blocks : List NumberedBlock). AreUnlinked blocks) (sym completed)
-      (All-nil (λ (b : NumberedBlock). b.block.preds ≡ []));
+  predecessors = subst (λ (blocks : List BlockPair). AreUnlinked blocks) (sym completed)
+      (All-nil (λ (b : BlockPair). b.1.preds ≡ []));
 }
   where
     nothing : all_listed s ≡ []
     nothing =
-        ap (λ (blocks : List NumberedBlock). listed_in blocks ++ numbers s.current.instructions) completed
+        ap (λ (blocks : List BlockPair). listed_in blocks ++ numbers s.current.instructions) completed
         ∙ ap (λ (ids : List InstructionId). numbers ids) instructions
 
-in_kept : (p : NumberedBlock → Bool) (blocks : List NumberedBlock) (index : ℕ) → IsIn (listed_in (filter p blocks)) index
+in_kept : (p : BlockPair → Bool) (blocks : List BlockPair) (index : ℕ) → IsIn (listed_in (filter p blocks)) index
     → IsIn (listed_in blocks) index
 in_kept p [] index h = h
 in_kept p (b ∷ blocks) index h = by_test (p b) (in_kept p blocks index) h
   where
     by_test : (t : Bool) → (IsIn (listed_in (filter p blocks)) index → IsIn (listed_in blocks) index)
         → IsIn (listed_in (cond t (b ∷ filter p blocks) (filter p blocks))) index → IsIn (listed_in (b ∷ blocks)) index
-    by_test false rest is = in_right (numbers b.block.instructions) (listed_in blocks) index (rest is)
-    by_test true rest is = elim (in_either (numbers b.block.instructions) (listed_in (filter p blocks)) index is) [
-      | inl own ↦ in_left (numbers b.block.instructions) (listed_in blocks) index own
-      | inr later ↦ in_right (numbers b.block.instructions) (listed_in blocks) index (rest later)
+    by_test false rest is = in_right (numbers b.1.instructions) (listed_in blocks) index (rest is)
+    by_test true rest is = elim (in_either (numbers b.1.instructions) (listed_in (filter p blocks)) index is) [
+      | inl own ↦ in_left (numbers b.1.instructions) (listed_in blocks) index own
+      | inr later ↦ in_right (numbers b.1.instructions) (listed_in blocks) index (rest later)
     ]
 
 -- Blocks that are kept list each index once if all do.
-pub kept_once : (p : NumberedBlock → Bool) (blocks : List NumberedBlock) → AreDistinct (listed_in blocks)
+pub kept_once : (p : BlockPair → Bool) (blocks : List BlockPair) → AreDistinct (listed_in blocks)
     → AreDistinct (listed_in (filter p blocks))
 kept_once p [] once = once
 kept_once p (b ∷ blocks) once =
-    by_test (p b) (kept_once p blocks (distinct_right (numbers b.block.instructions) (listed_in blocks) once))
+    by_test (p b) (kept_once p blocks (distinct_right (numbers b.1.instructions) (listed_in blocks) once))
   where
     by_test : (t : Bool) → AreDistinct (listed_in (filter p blocks))
         → AreDistinct (listed_in (cond t (b ∷ filter p blocks) (filter p blocks)))
     by_test false rest = rest
     by_test true rest =
-        let own : List ℕ = numbers b.block.instructions in
+        let own : List ℕ = numbers b.1.instructions in
         distinct_append own (listed_in (filter p blocks)) (distinct_left own (listed_in blocks) once) rest
         (λ index here later. distinct_apart own (listed_in blocks) once index here (in_kept p blocks index later))

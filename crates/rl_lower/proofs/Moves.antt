@@ -6,7 +6,7 @@ use Rattle.rl_base.specs.declared.span.Span.{Span}
 use Rattle.rl_hir.specs.declared.instruction.Instruction.{Instruction}
 use Rattle.rl_hir.specs.declared.instruction.InstructionValue.{InstructionValue}
 use Rattle.rl_hir.specs.declared.terminal.Terminal.{Terminal}
-use Rattle.rl_hir.specs.declared.function.NumberedBlock.{NumberedBlock}
+use Rattle.rl_hir.specs.Blocks.{Pair as BlockPair}
 use Rattle.rl_builder.specs.Builder.{State, reserved, recorded, with_temporary, pushed, ended_by, completed_by}
 use Rattle.rl_builder.specs.Temporaries.{with_value}
 use Rattle.rl_builder.specs.declared.builder.WipBlock.{WipBlock}
@@ -17,7 +17,7 @@ use Rattle.rl_model.specs.Machine.{Item, Runs, Ends, Code, Notes, Next, step}
 use Rattle.rl_lower.specs.Simulation.{IsCurrentOrCompleted, InBlock, InWip, Extends, IsContainedIn, TracesAt, TracesFrom, walk}
 use Rattle.rl_lower.proofs.Steps.{get_more, get_seam, steps_on}
 
-block_more : (table more : List Instruction) (b : NumberedBlock) (place : ℕ) (item : Item) → InBlock table b place item
+block_more : (table more : List Instruction) (b : BlockPair) (place : ℕ) (item : Item) → InBlock table b place item
     → InBlock (table ++ more) b place item
 block_more table more b place (Runs i) h =
     record { number = h.number; at = h.at; kept = get_more table more h.number.0 i h.kept }

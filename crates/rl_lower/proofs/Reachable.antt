@@ -1,5 +1,5 @@
 -- The calls that the entry block lists, move by move.
-use Rattle.std.proofs.Common.{◌≡◌, ℕ, zero, suc, ◌<◌, ◌++◌, ◌&&◌, nat_eq, Bool, true, false, if◌then◌else◌, filter, map, List, [], ◌∷◌, length, All, Option, Some, None, slice_get, refl, sym, ap, ◌∙◌, subst, arith, append-nil, append_assoc}
+use Rattle.std.proofs.Common.{◌≡◌, ℕ, zero, suc, ◌<◌, ◌++◌, ◌&&◌, Bool, true, false, if◌then◌else◌, filter, map, List, [], ◌∷◌, length, All, Option, Some, None, slice_get, refl, sym, ap, ◌∙◌, subst, arith, append-nil, append_assoc}
 use Rattle.std.proofs.lemmas.Bool.{ne_eqb}
 use Rattle.std.proofs.lemmas.List.Elements.{All-head, All-tail}
 use Rattle.rl_base.specs.declared.diagnostic.Diagnostic.{Diagnostic}
@@ -7,17 +7,17 @@ use Rattle.rl_base.specs.declared.ids.BlockId.{BlockId}
 use Rattle.rl_base.specs.declared.ids.InstructionId.{InstructionId}
 use Rattle.rl_base.specs.declared.span.Span.{Span}
 use Rattle.rl_hir.specs.declared.function.BlockKind.{BlockKind}
-use Rattle.rl_hir.specs.declared.function.NumberedBlock.{NumberedBlock}
+use Rattle.rl_hir.specs.Blocks.{Pair as BlockPair, same_id}
 use Rattle.rl_hir.specs.declared.instruction.Instruction.{Instruction}
 use Rattle.rl_hir.specs.declared.instruction.InstructionValue.{InstructionValue}
 use Rattle.rl_hir.specs.declared.terminal.Terminal.{Terminal}
 use Rattle.rl_builder.specs.Builder.{State, completed_by, ended_by, new_block, recorded, reserved}
-use Rattle.rl_builder.specs.Order.{order_after, ordered_blocks, reached_blocks}
+use Rattle.rl_order.specs.Numbering.{order_after, ordered_blocks}
 use Rattle.rl_builder.specs.Temporaries.{temporary, unordered, with_value}
 use Rattle.rl_builder.specs.declared.builder.WipBlock.{WipBlock}
 use Rattle.rl_model.specs.Held.{call_at, graph_calls, listed_calls}
 use Rattle.rl_lower.specs.Listed.{AreBelow, IsListed}
-use Rattle.rl_lower.specs.Reachable.{AddsCalls, entry_calls, is_reachable, where_reachable}
+use Rattle.rl_lower.specs.Reachable.{AddsCalls, entry_blocks, entry_calls, is_reachable, where_reachable}
 use Rattle.rl_hir.specs.declared.instruction.Place.{Place}
 use Rattle.rl_hir.specs.declared.terminal.ReturnVariant.{ReturnVariant}
 use Rattle.rl_lower.specs.Endings.{return_of, returned_from}
@@ -45,13 +45,13 @@ listed_more table more (id ∷ ids) below =
     ap (λ (o : Option Instruction). call_in o ++ listed_calls (table ++ more) ids) (get_within table more id.0 (All-head (λ (z : InstructionId). z.0 < length table) id ids below))
     ∙ ap (λ (l : Calls). call_in (slice_get table id.0) ++ l) (listed_more table more ids (All-tail (λ (z : InstructionId). z.0 < length table) id ids below))
 
-graph_more : (table more : List Instruction) (blocks : List NumberedBlock)
-    → All (λ b. AreBelow (length table) b.block.instructions) blocks
+graph_more : (table more : List Instruction) (blocks : List BlockPair)
+    → All (λ b. AreBelow (length table) b.1.instructions) blocks
     → graph_calls (table ++ more) blocks ≡ graph_calls table blocks
 graph_more table more [] below = refl
 graph_more table more (b ∷ blocks) below =
-    ap (λ (l : Calls). l ++ graph_calls (table ++ more) blocks) (listed_more table more b.block.instructions (All-head (λ (z : NumberedBlock). AreBelow (length table) z.block.instructions) b blocks below))
-    ∙ ap (λ (l : Calls). listed_calls table b.block.instructions ++ l) (graph_more table more blocks (All-tail (λ (z : NumberedBlock). AreBelow (length table) z.block.instructions) b blocks below))
+    ap (λ (l : Calls). l ++ graph_calls (table ++ more) blocks) (listed_more table more b.1.instructions (All-head (λ (z : BlockPair). AreBelow (length table) z.1.instructions) b blocks below))
+    ∙ ap (λ (l : Calls). listed_calls table b.1.instructions ++ l) (graph_more table more blocks (All-tail (λ (z : BlockPair). AreBelow (length table) z.1.instructions) b blocks below))
 
 listed_append : (table : List Instruction) (ids more : List InstructionId)
     → listed_calls table (ids ++ more) ≡ listed_calls table ids ++ listed_calls table more
@@ -59,11 +59,11 @@ listed_append table [] more = refl
 listed_append table (id ∷ ids) more =
     ap (λ (l : Calls). call_in (slice_get table id.0) ++ l) (listed_append table ids more) ∙ sym (append_assoc (call_in (slice_get table id.0)) (listed_calls table ids) (listed_calls table more))
 
-graph_append : (table : List Instruction) (blocks more : List NumberedBlock)
+graph_append : (table : List Instruction) (blocks more : List BlockPair)
     → graph_calls table (blocks ++ more) ≡ graph_calls table blocks ++ graph_calls table more
 graph_append table [] more = refl
 graph_append table (b ∷ blocks) more =
-    ap (λ (l : Calls). listed_calls table b.block.instructions ++ l) (graph_append table blocks more) ∙ sym (append_assoc (listed_calls table b.block.instructions) (graph_calls table blocks) (graph_calls table more))
+    ap (λ (l : Calls). listed_calls table b.1.instructions ++ l) (graph_append table blocks more) ∙ sym (append_assoc (listed_calls table b.1.instructions) (graph_calls table blocks) (graph_calls table more))
 
 -- The next instruction's calls are listed behind the others.
 listed_last : (table : List Instruction) (i : Instruction) (ids : List InstructionId) → AreBelow (length table) ids
@@ -92,8 +92,8 @@ adds_value s v span = record {
   held = λ listed below.
       let i : Instruction = unordered (temporary s span) v span in
       ap (λ (l : Calls). l ++ where_reachable (is_reachable s) (listed_calls (s.table ++ i ∷ []) (s.current.instructions ++ record { 0 = length s.table } ∷ [])))
-      (graph_more s.table (i ∷ []) (reached_blocks s.entry s.completed) (filtered (λ b. AreBelow (length s.table) b.block.instructions) _ s.completed listed.completed))
-      ∙ both_ways (is_reachable s) (graph_calls s.table (reached_blocks s.entry s.completed)) _ (listed_calls s.table s.current.instructions) (call_at i) (listed_last s.table i s.current.instructions listed.current);
+      (graph_more s.table (i ∷ []) (entry_blocks s.entry s.completed) (filtered (λ b. AreBelow (length s.table) b.1.instructions) _ s.completed listed.completed))
+      ∙ both_ways (is_reachable s) (graph_calls s.table (entry_blocks s.entry s.completed)) _ (listed_calls s.table s.current.instructions) (call_at i) (listed_last s.table i s.current.instructions listed.current);
 }
 
 pub none_where : (b : Bool) → where_reachable b [] ≡ []
@@ -153,26 +153,26 @@ adds_same calls others f g old new is too l =
     subst (λ (cs : Calls). AddsCalls cs g old new) is (subst (λ (b : Bool). AddsCalls calls b old new) too l)
 
 -- A block's calls are listed when it is complete.
-filter_end : (p : NumberedBlock → Bool) (xs : List NumberedBlock) (x : NumberedBlock)
+filter_end : (p : BlockPair → Bool) (xs : List BlockPair) (x : BlockPair)
     → filter p (xs ++ x ∷ []) ≡ filter p xs ++ (if p x then x ∷ [] else [])
 filter_end p [] x = refl
 filter_end p (y ∷ xs) x = by_test (filter_end p xs x) (p y)
   where
     by_test : filter p (xs ++ x ∷ []) ≡ filter p xs ++ (if p x then x ∷ [] else []) → (b : Bool) → (if b then y ∷ filter p (xs ++ x ∷ []) else filter p (xs ++ x ∷ [])) ≡ (if b then y ∷ filter p xs else filter p xs) ++ (if p x then x ∷ [] else [])
-    by_test rest true = ap (λ (l : List NumberedBlock). y ∷ l) rest
+    by_test rest true = ap (λ (l : List BlockPair). y ∷ l) rest
     by_test rest false = rest
 
-one_graph : (table : List Instruction) (b : Bool) (x : NumberedBlock)
-    → graph_calls table (if b then x ∷ [] else []) ≡ where_reachable b (listed_calls table x.block.instructions)
-one_graph table true x = append-nil (listed_calls table x.block.instructions)
+one_graph : (table : List Instruction) (b : Bool) (x : BlockPair)
+    → graph_calls table (if b then x ∷ [] else []) ≡ where_reachable b (listed_calls table x.1.instructions)
+one_graph table true x = append-nil (listed_calls table x.1.instructions)
 one_graph table false x = refl
 
 pub completed_calls : (s : State) (t : Terminal)
-    → graph_calls s.table (reached_blocks s.entry (s.completed ++ ended_by s.current t ∷ [])) ≡ entry_calls s
+    → graph_calls s.table (entry_blocks s.entry (s.completed ++ ended_by s.current t ∷ [])) ≡ entry_calls s
 completed_calls s t =
-    ap (λ (l : List NumberedBlock). graph_calls s.table l) (filter_end (λ b. nat_eq b.id.0 s.entry.0) s.completed (ended_by s.current t))
-    ∙ graph_append s.table (reached_blocks s.entry s.completed) (if is_reachable s then ended_by s.current t ∷ [] else [])
-    ∙ ap (λ (l : Calls). graph_calls s.table (reached_blocks s.entry s.completed) ++ l) (one_graph s.table (is_reachable s) (ended_by s.current t))
+    ap (λ (l : List BlockPair). graph_calls s.table l) (filter_end (λ b. same_id s.entry b.0) s.completed (ended_by s.current t))
+    ∙ graph_append s.table (entry_blocks s.entry s.completed) (if is_reachable s then ended_by s.current t ∷ [] else [])
+    ∙ ap (λ (l : Calls). graph_calls s.table (entry_blocks s.entry s.completed) ++ l) (one_graph s.table (is_reachable s) (ended_by s.current t))
 
 and_false : (b : Bool) → false ≡ b && false
 and_false true = refl
@@ -186,12 +186,12 @@ adds_completed s t next apart = record {
   counted = omega arith;
   reachable = λ below. left ∙ and_false (is_reachable s);
   held = λ listed below.
-      ap (λ (b : Bool). graph_calls s.table (reached_blocks s.entry (s.completed ++ ended_by s.current t ∷ [])) ++ where_reachable b (listed_calls s.table next.instructions)) left
+      ap (λ (b : Bool). graph_calls s.table (entry_blocks s.entry (s.completed ++ ended_by s.current t ∷ [])) ++ where_reachable b (listed_calls s.table next.instructions)) left
       ∙ append-nil _ ∙ completed_calls s t ∙ sym (ap (λ (l : Calls). entry_calls s ++ l) (none_where (is_reachable s)) ∙ append-nil (entry_calls s));
 }
   where
-    left : nat_eq next.id.0 s.entry.0 ≡ false
-    left = ne_eqb next.id.0 s.entry.0 apart
+    left : same_id s.entry next.id ≡ false
+    left = ne_eqb s.entry.0 next.id.0 (λ e. apart (sym e))
 
 -- A return, behind which a fresh block goes on.
 pub adds_returned : (s : State) (span : Option Span) (variant : ReturnVariant) (place : Place) (kind : BlockKind)
@@ -236,10 +236,10 @@ listed_plain_calls table (id ∷ ids) =
     same None = refl
     same (Some i) = refl
 
-pub graph_plain : (table table1 : List Instruction) (blocks : List NumberedBlock)
+pub graph_plain : (table table1 : List Instruction) (blocks : List BlockPair)
     → map without_order table1 ≡ map without_order table → (order : ℕ)
     → graph_calls table1 (ordered_blocks order blocks) ≡ graph_calls table blocks
 graph_plain table table1 [] same order = refl
 graph_plain table table1 (b ∷ blocks) same order =
-    ap (λ (l : Calls). l ++ graph_calls table1 (ordered_blocks (order_after order b) blocks)) (sym (listed_plain_calls table1 b.block.instructions) ∙ ap (λ (t : List Instruction). listed_calls t b.block.instructions) same ∙ listed_plain_calls table b.block.instructions)
-    ∙ ap (λ (l : Calls). listed_calls table b.block.instructions ++ l) (graph_plain table table1 blocks same (order_after order b))
+    ap (λ (l : Calls). l ++ graph_calls table1 (ordered_blocks (order_after order b) blocks)) (sym (listed_plain_calls table1 b.1.instructions) ∙ ap (λ (t : List Instruction). listed_calls t b.1.instructions) same ∙ listed_plain_calls table b.1.instructions)
+    ∙ ap (λ (l : Calls). listed_calls table b.1.instructions ++ l) (graph_plain table table1 blocks same (order_after order b))

@@ -15,7 +15,7 @@ use Rattle.rl_hir.specs.declared.function.BlockKind.TheVariants as kinds
 use Rattle.rl_hir.specs.declared.function.Hir.{Hir}
 use Rattle.rl_hir.specs.declared.function.HirFunction.{HirFunction}
 use Rattle.rl_hir.specs.declared.function.Identifier.{Identifier}
-use Rattle.rl_hir.specs.declared.function.NumberedBlock.{NumberedBlock}
+use Rattle.rl_hir.specs.Blocks.{Pair as BlockPair}
 use Rattle.rl_hir.specs.declared.function.Param.{Param}
 use Rattle.rl_hir.specs.declared.function.Param.TheVariants as given
 use Rattle.rl_hir.specs.declared.instruction.Instruction.{Instruction}
@@ -23,9 +23,11 @@ use Rattle.rl_hir.specs.declared.instruction.InstructionValue.TheVariants as val
 use Rattle.rl_hir.specs.declared.instruction.Place.{Place}
 use Rattle.rl_hir.specs.declared.instruction.PrimitiveValue.TheVariants as primitives
 use Rattle.rl_hir.specs.declared.terminal.ReturnVariant.TheVariants as returns
-use Rattle.rl_builder.specs.Build.{built_of}
+use Rattle.rl_builder.specs.Build.{IsBuilt}
+use Rattle.rl_lower.proofs.Alone.{built_of}
+use Rattle.rl_lower.proofs.Builds.{closed_built}
 use Rattle.rl_builder.specs.Builder.{State, completed_by, placeholder, started}
-use Rattle.rl_builder.specs.Order.{orders_of, reached_blocks}
+use Rattle.rl_order.specs.Numbering.{orders_of}
 use Rattle.rl_builder.specs.Temporaries.{temporary}
 use Rattle.rl_builder.specs.declared.builder.Built.{Built}
 use Rattle.rl_model.specs.Fields.{known_from, places_from}
@@ -36,7 +38,7 @@ use Rattle.rl_names.specs.declared.parameters.Parameter.{Parameter}
 use Rattle.rl_lower.specs.Endings.{closed_off, return_of, with_undefined}
 use Rattle.rl_lower.specs.Lowering.{CountersGrowBy, HasRoom, LowersBody}
 use Rattle.rl_lower.specs.Sound.{AreWritableIdentifiers, HasKnownParts, HasSmallCounters, HasWritableParts, IsSmallParameter, IsSmallTree, IsSoundGraph, IsWritableGraph, StaysSound}
-use Rattle.rl_lower.proofs.Building.{keeps_closed, orders_fit}
+use Rattle.rl_lower.proofs.Building.{IsFresh, keeps_closed, orders_fit}
 use Rattle.rl_lower.proofs.Closings.{closed_is}
 use Rattle.rl_lower.proofs.FunctionTrees.{IsFunction, function_parameters}
 use Rattle.rl_lower.proofs.Keeping.{keeps_then, room_less}
@@ -86,15 +88,15 @@ begun env parameters = state_with (started env kinds.Block) parameters
 begun_known : (env : Environment) (parameters : List Parameter) → HasKnownParts (begun env parameters)
 begun_known env parameters = record {
   table = All-nil (λ (i : Instruction). AreKnown (length (begun env parameters).env.identifiers) (instruction_places i));
-  terminals = All-nil (λ (b : NumberedBlock). AreKnown (length (begun env parameters).env.identifiers)
-      (terminal_places b.block.terminal));
+  terminals = All-nil (λ (b : BlockPair). AreKnown (length (begun env parameters).env.identifiers)
+      (terminal_places b.1.terminal));
 }
 
 begun_writable : (env : Environment) (parameters : List Parameter) → HasSmallCounters (begun env parameters)
     → HasWritableParts (begun env parameters)
 begun_writable env parameters fits = record {
   table = All-nil (λ (i : Instruction). IsWritable (listing.instruction i));
-  completed = All-nil (λ (b : NumberedBlock). IsWritable (listing.block b));
+  completed = All-nil (λ (b : BlockPair). IsWritable (listing.block b));
   current = omega (arith, fits.blocks);
   listed = All-nil (λ (id : InstructionId). id.0 ≤ largest);
 }
@@ -126,7 +128,7 @@ small_behind old new more uses room = record {
 pub graph_sound : (parameters : List Parameter) (body : Syntax) (env new : Environment) (s : State) (more : ℕ) (built : Built)
     → StaysSound (IsSmallTree body) (begun env parameters) s → CountersGrowBy (begun env parameters) (closed_off s) more
     → HasRoom (begun env parameters) more → s.entry ≡ (begun env parameters).entry
-    → 1 + orders_of (reached_blocks (closed_off s).entry (closed_off s).completed) < 2 ^ 32 → built ≡ built_of (closed_off s)
+    → 1 + orders_of (closed_off s).completed < 2 ^ 32 → built ≡ built_of (closed_off s)
     → new ≡ (closed_off s).env → IsSoundGraph parameters body env new built
 graph_sound parameters body env new s more built sound uses room entry orders graph after =
     subst (λ (b : Built). IsSoundGraph parameters body env new b) (sym graph)
@@ -165,7 +167,7 @@ graph_sound parameters body env new s more built sound uses room entry orders gr
 pub graph_sound_call : (names : Names) (parameters : List Parameter) (body : Syntax) (env new : Environment) (before s s1 s2 : State) (p : Place)
     (built : Built) → before ≡ begun env parameters → LowersBody names body before s → StaysSound (IsSmallTree body) before s
     → HasRoom (begun env parameters) (4 * (nodes body + 2)) → s1 ≡ with_undefined s → p ≡ temporary s None
-    → s2 ≡ completed_by s1 (return_of None returns.Void p) placeholder → built ≡ built_of s2 → new ≡ s2.env
+    → s2 ≡ completed_by s1 (return_of None returns.Void p) placeholder → IsBuilt s2 built → new ≡ s2.env
     → IsSoundGraph parameters body env new built
 graph_sound_call names parameters body env new before s s1 s2 p built is lowers sound room given placed ended graph after =
     graph_sound parameters body env new s (4 * (nodes body + 1) + 2) built
@@ -173,25 +175,27 @@ graph_sound_call names parameters body env new before s s1 s2 p built is lowers 
     (keeps_then (begun env parameters) s (closed_off s) (4 * (nodes body + 1)) 2 lowered.keeps (keeps_closed s)).uses
     (room_less (begun env parameters) (4 * (nodes body + 2)) (4 * (nodes body + 1) + 2) (omega arith) room)
     lowered.reachable.entry
-    (orders_fit names (begun env parameters) body s
-    (record { completed = refl; instructions = refl; table = refl; entry = refl; below = omega arith }) lowered room)
-    (graph ∙ ap built_of (closed_is s s1 s2 p given placed ended))
+    (orders_fit names (begun env parameters) body s fresh lowered room)
+    (closed_built names (begun env parameters) body s fresh lowered built (subst (λ (t : State). IsBuilt t built) (closed_is s s1 s2 p given placed ended) graph))
     (after ∙ ap (λ (t : State). t.env) (closed_is s s1 s2 p given placed ended))
   where
+    fresh : IsFresh (begun env parameters)
+    fresh = record { completed = refl; instructions = refl; table = refl; entry = refl; below = omega arith }
+
     lowered : LowersBody names body (begun env parameters) s
     lowered = subst (λ (o : State). LowersBody names body o s) is lowers
 
 -- the function
 
 pub function_places : (parameters : List Parameter) (body : Syntax) (env mid new : Environment) (built : Built) (i : Identifier)
-    (f : HirFunction) → IsSoundGraph parameters body env mid built → new.identifiers ≡ mid.identifiers ++ i ∷ []
+    (f : HirFunction (List BlockPair)) → IsSoundGraph parameters body env mid built → new.identifiers ≡ mid.identifiers ++ i ∷ []
     → f.body ≡ built.hir → f.instructions ≡ built.instructions → f.params ≡ places_from (length env.identifiers) parameters
     → f.context ≡ [] → f.returns ≡ record { identifier = record { 0 = length mid.identifiers }; span = None }
     → HasKnownPlaces (length new.identifiers) f
 function_places parameters body env mid new built i f g more body_is table_is params_are none returned = record {
   table = subst (λ (t : List Instruction). All (λ i. AreKnown (length new.identifiers) (instruction_places i)) t) (sym table_is)
       (table_more (length mid.identifiers) (length new.identifiers) built.instructions below g.table);
-  terminals = subst (λ (h : Hir). All (λ b. AreKnown (length new.identifiers) (terminal_places b.block.terminal)) h.blocks)
+  terminals = subst (λ (h : Hir (List BlockPair)). All (λ b. AreKnown (length new.identifiers) (terminal_places b.1.terminal)) h.blocks)
       (sym body_is) (terminals_more (length mid.identifiers) (length new.identifiers) built.hir.blocks below g.terminals);
   params = subst (λ (ps : List Param). AreKnown (length new.identifiers) (map param_place ps)) (sym params_are)
       (params_known (length env.identifiers) (length new.identifiers) parameters (omega (arith, g.given, longer)));
@@ -206,7 +210,7 @@ function_places parameters body env mid new built i f g more body_is table_is pa
     below : length mid.identifiers ≤ length new.identifiers
     below = omega (arith, longer)
 
-pub function_listed : (names : Names) (fn tree : Syntax) (parameters : List Parameter) (env mid : Environment) (built : Built) (f : HirFunction)
+pub function_listed : (names : Names) (fn tree : Syntax) (parameters : List Parameter) (env mid : Environment) (built : Built) (f : HirFunction (List BlockPair))
     → IsFunction fn tree → parameters ≡ parameters_of names fn → IsSoundGraph parameters tree env mid built
     → f.span ≡ Some (span_of fn) → f.name ≡ name_in fn
     → (IsSmallTree tree → All IsUtf8 f.directives) → f.body ≡ built.hir
@@ -228,8 +232,8 @@ function_listed names fn tree parameters env mid built f w are g span_is name_is
     (All-nil (λ (p : Place). IsWritable (listing.place p))))
     (subst (λ (p : Place). IsWritable (listing.place p)) (sym returned)
     (place_writable (record { identifier = record { 0 = length mid.identifiers }; span = None }) g.count tt))
-    (subst (λ (h : Hir). h.entry.0 ≤ largest) (sym body_is) graph.entry)
-    (subst (λ (h : Hir). All (λ b. IsWritable (listing.block b)) h.blocks) (sym body_is) graph.blocks)
+    (subst (λ (h : Hir (List BlockPair)). h.entry.0 ≤ largest) (sym body_is) graph.entry)
+    (subst (λ (h : Hir (List BlockPair)). All (λ b. IsWritable (listing.block b)) h.blocks) (sym body_is) graph.blocks)
     (subst (λ (t : List Instruction). All (λ i. IsWritable (listing.instruction i)) t) (sym table_is) graph.table)
 
 -- an identifier without a name

@@ -19,7 +19,7 @@ use Rattle.rl_builder.specs.declared.builder.WipBlock.{WipBlock}
 use Rattle.rl_hir.specs.declared.function.BlockKind.{BlockKind}
 use Rattle.rl_hir.specs.declared.function.BlockKind.TheVariants as kinds
 use Rattle.rl_hir.specs.declared.function.HirFunction.{HirFunction}
-use Rattle.rl_hir.specs.declared.function.NumberedBlock.{NumberedBlock}
+use Rattle.rl_hir.specs.Blocks.{Pair as BlockPair}
 use Rattle.rl_hir.specs.declared.function.ReactFunctionType.{ReactFunctionType}
 use Rattle.rl_hir.specs.declared.function.ReactFunctionType.TheVariants as types
 use Rattle.rl_hir.specs.declared.instruction.Instruction.{Instruction}
@@ -160,10 +160,10 @@ terminal_ordered : (order : ℕ) (t : Terminal) → order ≤ largest → IsWrit
     → IsWritable (listing.terminal (with_order order t))
 terminal_ordered order t fits w = (w.0, (fits, w.1.1))
 
-pub block_ordered : (order : ℕ) (b : NumberedBlock) → order ≤ largest → IsWritable (listing.block b)
-    → IsWritable (listing.block (record b { block = record b.block { terminal = with_order order b.block.terminal } }))
+pub block_ordered : (order : ℕ) (b : BlockPair) → order ≤ largest → IsWritable (listing.block b)
+    → IsWritable (listing.block (b.0, record b.1 { terminal = with_order order b.1.terminal }))
 block_ordered order b fits w =
-    ((lit< tt, refl), (w.1.0, (w.1.1.0, (w.1.1.1.0, (terminal_ordered order b.block.terminal fits w.1.1.1.1.0, w.1.1.1.1.1)))))
+    ((lit< tt, refl), (w.1.0, (w.1.1.0, (w.1.1.1.0, (terminal_ordered order b.1.terminal fits w.1.1.1.1.0, w.1.1.1.1.1)))))
 
 pub ended_writable : (wip : WipBlock) (t : Terminal) → wip.id.0 ≤ largest
     → All (λ (id : InstructionId). id.0 ≤ largest) wip.instructions → IsWritable (listing.terminal t)
@@ -190,7 +190,7 @@ pub named_writable : (name : List ℕ) (declaration : Span) (type : ℕ) → IsU
 named_writable name declaration type utf8 small fits =
     ((lit< tt, refl), (((lit< tt, refl), (utf8, tt)), (span_writable declaration small, (fits, tt))))
 
-pub function_writable : (f : HirFunction) → IsWritable (listing.optional listing.span f.span)
+pub function_writable : (f : HirFunction (List BlockPair)) → IsWritable (listing.optional listing.span f.span)
     → IsWritable (listing.optional listing.said f.name) → All IsUtf8 f.directives
     → All (λ p. IsWritable (listing.param p)) f.params → All (λ p. IsWritable (listing.place p)) f.context
     → IsWritable (listing.place f.returns) → f.body.entry.0 ≤ largest → All (λ b. IsWritable (listing.block b)) f.body.blocks

@@ -8,7 +8,7 @@ use Rattle.rl_text.specs.Notation.{IsWritable}
 use Rattle.rl_text.specs.Number.{largest}
 use Rattle.rl_hir.specs.Listing as listing
 use Rattle.rl_hir.specs.declared.function.BlockKind.{BlockKind}
-use Rattle.rl_hir.specs.declared.function.NumberedBlock.{NumberedBlock}
+use Rattle.rl_hir.specs.Blocks.{Pair as BlockPair}
 use Rattle.rl_hir.specs.declared.function.Identifier.{Identifier}
 use Rattle.rl_hir.specs.declared.instruction.Instruction.{Instruction}
 use Rattle.rl_hir.specs.declared.instruction.InstructionValue.{InstructionValue}
@@ -93,13 +93,13 @@ table_more count more table le known =
     (λ (i : Instruction). AreKnown more (instruction_places i)) (λ i k. known_more count more (instruction_places i) le k) table
     known
 
-pub terminals_more : (count more : ℕ) (blocks : List NumberedBlock) → count ≤ more
-    → All (λ b. AreKnown count (terminal_places b.block.terminal)) blocks
-    → All (λ b. AreKnown more (terminal_places b.block.terminal)) blocks
+pub terminals_more : (count more : ℕ) (blocks : List BlockPair) → count ≤ more
+    → All (λ b. AreKnown count (terminal_places b.1.terminal)) blocks
+    → All (λ b. AreKnown more (terminal_places b.1.terminal)) blocks
 terminals_more count more blocks le known =
-    All-weaker (λ (b : NumberedBlock). AreKnown count (terminal_places b.block.terminal))
-    (λ (b : NumberedBlock). AreKnown more (terminal_places b.block.terminal))
-    (λ b k. known_more count more (terminal_places b.block.terminal) le k) blocks known
+    All-weaker (λ (b : BlockPair). AreKnown count (terminal_places b.1.terminal))
+    (λ (b : BlockPair). AreKnown more (terminal_places b.1.terminal))
+    (λ b k. known_more count more (terminal_places b.1.terminal) le k) blocks known
 
 pub one_known : (count : ℕ) (p : Place) → p.identifier.0 < count → AreKnown count (p ∷ [])
 one_known count p below =
@@ -211,13 +211,13 @@ sound_completed small s t next places terminal id none = record {
   counters = grow;
   known = λ k. record {
     table = k.table;
-    terminals = All-push (λ (b : NumberedBlock). AreKnown (length s.env.identifiers) (terminal_places b.block.terminal))
+    terminals = All-push (λ (b : BlockPair). AreKnown (length s.env.identifiers) (terminal_places b.1.terminal))
         s.completed (ended_by s.current t) k.terminals places;
   };
   parts = λ holds fits w.
       let before : HasSmallCounters s = counters_before s (completed_by s t next) grow fits in record {
         table = w.table;
-        completed = All-push (λ (b : NumberedBlock). IsWritable (listing.block b)) s.completed (ended_by s.current t)
+        completed = All-push (λ (b : BlockPair). IsWritable (listing.block b)) s.completed (ended_by s.current t)
             w.completed (ended_writable s.current t w.current w.listed (terminal holds before));
         current = id before;
         listed = none_listed next.instructions none;

@@ -6,14 +6,16 @@ use Rattle.rl_text.specs.Notation.{IsWritable}
 use Rattle.rl_text.specs.Number.{largest}
 use Rattle.rl_hir.specs.Listing as listing
 use Rattle.rl_hir.specs.Terminals.{with_order}
-use Rattle.rl_hir.specs.declared.function.NumberedBlock.{NumberedBlock}
+use Rattle.rl_hir.specs.Blocks.{Pair as BlockPair}
 use Rattle.rl_hir.specs.declared.instruction.Instruction.{Instruction}
 use Rattle.rl_hir.specs.declared.terminal.Terminal.{Terminal}
-use Rattle.rl_builder.specs.Build.{built_of}
+use Rattle.rl_lower.proofs.Alone.{built_of}
 use Rattle.rl_builder.specs.Builder.{State}
-use Rattle.rl_builder.specs.Order.{order_after, ordered_at, ordered_block, ordered_blocks, ordered_list, ordered_table, orders_of, reached_blocks}
+use Rattle.rl_order.specs.Numbering.{order_after, ordered_at, ordered_block, ordered_blocks, ordered_list, ordered_table, orders_of}
+use Rattle.rl_lower.specs.Reachable.{entry_blocks}
 use Rattle.rl_model.specs.WellFormed.{AreKnown, instruction_places, terminal_places}
 use Rattle.rl_lower.specs.Sound.{HasWritableParts, IsWritableGraph}
+use Rattle.rl_lower.proofs.Building.{fewer_orders}
 use Rattle.rl_lower.proofs.SoundListing.{block_ordered, instruction_ordered}
 
 -- an instruction and a block with another order
@@ -21,8 +23,8 @@ use Rattle.rl_lower.proofs.SoundListing.{block_ordered, instruction_ordered}
 abbrev instruction_with : ℕ → Instruction → Instruction
 instruction_with order i = record i { order = record { 0 = order } }
 
-abbrev block_with : ℕ → NumberedBlock → NumberedBlock
-block_with order b = record b { block = record b.block { terminal = with_order order b.block.terminal } }
+abbrev block_with : ℕ → BlockPair → BlockPair
+block_with order b = (b.0, record b.1 { terminal = with_order order b.1.terminal })
 
 get_holds : {X : Type 0} (P : X → Type 0) (xs : List X) (place : ℕ) (x : X) → slice_get xs place ≡ Some x → All P xs → P x
 get_holds P [] place x is all = absurd (cc)
@@ -54,21 +56,21 @@ module _ (P : Instruction → Type 0) (bound : ℕ) (keeps : StaysUnderOrders P 
       ordered_list_all (order + 1) ids (ordered_at order id.0 table) (omega (arith, within))
       (ordered_at_all order id.0 table (omega (arith, within)) all)
 
-  pub ordered_table_all : (order : ℕ) (blocks : List NumberedBlock) (table : List Instruction)
+  pub ordered_table_all : (order : ℕ) (blocks : List BlockPair) (table : List Instruction)
       → order + orders_of blocks ≤ bound → All P table → All P (ordered_table order blocks table)
   ordered_table_all order [] table within all = all
   ordered_table_all order (b ∷ blocks) table within all =
-      ordered_table_all (order_after order b) blocks (ordered_list order b.block.instructions table) (omega (arith, within))
-      (ordered_list_all order b.block.instructions table (omega (arith, within)) all)
+      ordered_table_all (order_after order b) blocks (ordered_list order b.1.instructions table) (omega (arith, within))
+      (ordered_list_all order b.1.instructions table (omega (arith, within)) all)
 
-pub ordered_blocks_all : (P : NumberedBlock → Type 0) (bound : ℕ)
-    → ((order : ℕ) (b : NumberedBlock) → order ≤ bound → P b → P (block_with order b))
-    → (order : ℕ) (blocks : List NumberedBlock) → order + orders_of blocks ≤ bound → All P blocks
+pub ordered_blocks_all : (P : BlockPair → Type 0) (bound : ℕ)
+    → ((order : ℕ) (b : BlockPair) → order ≤ bound → P b → P (block_with order b))
+    → (order : ℕ) (blocks : List BlockPair) → order + orders_of blocks ≤ bound → All P blocks
     → All P (ordered_blocks order blocks)
 ordered_blocks_all P bound keeps order [] within all = all
 ordered_blocks_all P bound keeps order (b ∷ blocks) within all =
     All-cons P (ordered_block order b) (ordered_blocks (order_after order b) blocks)
-    (keeps (order + length b.block.instructions) b (omega (arith, within)) (All-head P b blocks all))
+    (keeps (order + length b.1.instructions) b (omega (arith, within)) (All-head P b blocks all))
     (ordered_blocks_all P bound keeps (order_after order b) blocks (omega (arith, within)) (All-tail P b blocks all))
 
 -- a terminal reads the same places under another order
@@ -80,25 +82,28 @@ pub built_table_known : (count : ℕ) (s : State) → All (λ i. AreKnown count 
     → All (λ i. AreKnown count (instruction_places i)) (built_of s).instructions
 built_table_known count s known =
     ordered_table_all (λ (i : Instruction). AreKnown count (instruction_places i))
-    (1 + orders_of (reached_blocks s.entry s.completed)) (λ order i within k. k) 1 (reached_blocks s.entry s.completed) s.table
+    (1 + orders_of (entry_blocks s.entry s.completed)) (λ order i within k. k) 1 (entry_blocks s.entry s.completed) s.table
     (omega arith) known
 
-pub built_terminals_known : (count : ℕ) (s : State) → All (λ b. AreKnown count (terminal_places b.block.terminal)) s.completed
-    → All (λ b. AreKnown count (terminal_places b.block.terminal)) (built_of s).hir.blocks
+pub built_terminals_known : (count : ℕ) (s : State) → All (λ b. AreKnown count (terminal_places b.1.terminal)) s.completed
+    → All (λ b. AreKnown count (terminal_places b.1.terminal)) (built_of s).hir.blocks
 built_terminals_known count s known =
-    ordered_blocks_all (λ (b : NumberedBlock). AreKnown count (terminal_places b.block.terminal))
-    (1 + orders_of (reached_blocks s.entry s.completed)) (λ order b within k. terminal_known count order b.block.terminal k) 1
-    (reached_blocks s.entry s.completed) (omega arith)
-    (All-filter _ (λ (b : NumberedBlock). AreKnown count (terminal_places b.block.terminal)) s.completed known)
+    ordered_blocks_all (λ (b : BlockPair). AreKnown count (terminal_places b.1.terminal))
+    (1 + orders_of (entry_blocks s.entry s.completed)) (λ order b within k. terminal_known count order b.1.terminal k) 1
+    (entry_blocks s.entry s.completed) (omega arith)
+    (All-filter _ (λ (b : BlockPair). AreKnown count (terminal_places b.1.terminal)) s.completed known)
 
-pub built_writable : (s : State) → s.entry.0 ≤ largest → 1 + orders_of (reached_blocks s.entry s.completed) ≤ largest
+pub built_writable : (s : State) → s.entry.0 ≤ largest → 1 + orders_of s.completed ≤ largest
     → HasWritableParts s → IsWritableGraph (built_of s)
 built_writable s entry orders w = record {
   entry = entry;
   blocks =
-      ordered_blocks_all (λ (b : NumberedBlock). IsWritable (listing.block b)) largest
-      (λ order b within k. block_ordered order b within k) 1 (reached_blocks s.entry s.completed) orders
-      (All-filter _ (λ (b : NumberedBlock). IsWritable (listing.block b)) s.completed w.completed);
+      ordered_blocks_all (λ (b : BlockPair). IsWritable (listing.block b)) largest
+      (λ order b within k. block_ordered order b within k) 1 (entry_blocks s.entry s.completed) few
+      (All-filter _ (λ (b : BlockPair). IsWritable (listing.block b)) s.completed w.completed);
   table = ordered_table_all (λ (i : Instruction). IsWritable (listing.instruction i)) largest
-      (λ order i within k. instruction_ordered order i within k) 1 (reached_blocks s.entry s.completed) s.table orders w.table;
+      (λ order i within k. instruction_ordered order i within k) 1 (entry_blocks s.entry s.completed) s.table few w.table;
 }
+  where
+    few : 1 + orders_of (entry_blocks s.entry s.completed) ≤ largest
+    few = let fewer : orders_of (entry_blocks s.entry s.completed) ≤ orders_of s.completed = fewer_orders _ s.completed in omega (arith, fewer, orders)

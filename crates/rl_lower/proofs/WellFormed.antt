@@ -1,15 +1,14 @@
 -- The graph of a function is numbered and linked.
-use Rattle.std.proofs.Common.{◌≡◌, List, length, sym, ap, ◌∙◌, subst}
+use Rattle.std.proofs.Common.{◌≡◌, List}
 use Rattle.rl_syntax.specs.Syntax.{Syntax}
-use Rattle.rl_builder.specs.Builder.{State, started}
-use Rattle.rl_builder.specs.Order.{reached_blocks}
+use Rattle.rl_builder.specs.Builder.{started}
+use Rattle.rl_hir.specs.Blocks.{HaveOwnIds, Pair as BlockPair}
 use Rattle.rl_builder.specs.declared.builder.Built.{Built}
 use Rattle.rl_hir.specs.Numbered.{IsNumbered}
 use Rattle.rl_hir.specs.declared.environment.Environment.{Environment}
 use Rattle.rl_hir.specs.declared.function.BlockKind.TheVariants as kinds
 use Rattle.rl_hir.specs.declared.function.HirFunction.{HirFunction}
 use Rattle.rl_hir.specs.declared.function.Param.{Param}
-use Rattle.rl_hir.specs.declared.instruction.Instruction.{Instruction}
 use Rattle.rl_model.specs.WellFormed.{IsLinked}
 use Rattle.rl_names.specs.Locals.{AreApart}
 use Rattle.rl_names.specs.Names.{Names}
@@ -20,8 +19,7 @@ use Rattle.rl_lower.proofs.Building.{closed_listed}
 use Rattle.rl_lower.proofs.Functions.{function_finished}
 use Rattle.rl_lower.proofs.Linked.{built_linked, built_numbered}
 use Rattle.rl_lower.proofs.Parameters.{state_with}
-use Rattle.rl_lower.proofs.FunctionGraphs.{begun_fresh, lowered_from, table_length}
-use Rattle.rl_lower.proofs.Finished.{IsFinished, finished_precede}
+use Rattle.rl_lower.proofs.FunctionGraphs.{begun_fresh, lowered_from}
 
 graph_listed : (names : Names) (parameters : List Parameter) (body : Syntax) (env new : Environment) (params : List Param) (built : Built)
     (g : IsGraphOf names parameters body env new params built) → AreApart parameters → IsListed (closed_off g.state)
@@ -29,22 +27,22 @@ graph_listed names parameters body env new params built g distinct =
     closed_listed names (state_with (started env kinds.Block) parameters) body g.state (begun_fresh env parameters)
     (lowered_from names parameters body env new params built g distinct)
 
+-- The ids of the blocks behind the body's end are distinct.
+graph_own : (names : Names) (parameters : List Parameter) (body : Syntax) (env new : Environment) (params : List Param) (built : Built)
+    (g : IsGraphOf names parameters body env new params built) → AreApart parameters → HaveOwnIds (closed_off g.state).completed
+graph_own names parameters body env new params built g distinct =
+    (function_finished (state_with (started env kinds.Block) parameters) g.state (begun_fresh env parameters)
+    (lowered_from names parameters body env new params built g distinct).blocks).apart
+
 pub graph_numbered : (names : Names) (parameters : List Parameter) (body : Syntax) (env new : Environment) (params : List Param) (built : Built)
     → IsGraphOf names parameters body env new params built → AreApart parameters → IsNumbered built.instructions built.hir.blocks
 graph_numbered names parameters body env new params built g distinct =
-    subst (λ (b : Built). IsNumbered b.instructions b.hir.blocks) (sym g.graph)
-    (built_numbered (closed_off g.state) (graph_listed names parameters body env new params built g distinct))
+    built_numbered (closed_off g.state) built (graph_own names parameters body env new params built g distinct)
+    (graph_listed names parameters body env new params built g distinct) g.graph
 
 pub graph_linked : (names : Names) (parameters : List Parameter) (body : Syntax) (env new : Environment) (params : List Param) (built : Built)
     → IsGraphOf names parameters body env new params built → AreApart parameters
-    → (f : HirFunction) → f.body ≡ built.hir → f.instructions ≡ built.instructions → IsLinked f
+    → (f : HirFunction (List BlockPair)) → f.body ≡ built.hir → f.instructions ≡ built.instructions → IsLinked f
 graph_linked names parameters body env new params built g distinct f body_is instructions_is =
-    let s : State = closed_off g.state in
-    let begun : State = state_with (started env kinds.Block) parameters in
-    let finished : IsFinished s =
-    function_finished begun g.state (begun_fresh env parameters)
-    (lowered_from names parameters body env new params built g distinct).blocks in
-    built_linked s (graph_listed names parameters body env new params built g distinct) finished.apart (finished_precede s finished) f
-    (body_is ∙ ap (λ (b : Built). b.hir) g.graph)
-    (ap (λ (l : List Instruction). length l) (instructions_is ∙ ap (λ (b : Built). b.instructions) g.graph)
-    ∙ table_length (reached_blocks s.entry s.completed) s.table)
+    built_linked (closed_off g.state) built (graph_own names parameters body env new params built g distinct)
+    (graph_listed names parameters body env new params built g distinct) g.graph f body_is instructions_is

@@ -13,7 +13,7 @@ use Rattle.rl_hir.specs.declared.terminal.ReturnVariant.TheVariants as returns
 use Rattle.rl_builder.specs.Builder.{State, started, reserved, new_block, completed_by, placeholder}
 use Rattle.rl_hir.specs.declared.function.BlockKind.{BlockKind}
 use Rattle.rl_builder.specs.Temporaries.{temporary, with_value}
-use Rattle.rl_builder.specs.Build.{built_of}
+use Rattle.rl_builder.specs.Build.{IsBuilt}
 use Rattle.rl_builder.specs.declared.builder.Built.{Built}
 use Rattle.rl_syntax.specs.Syntax.{Syntax}
 use Rattle.rl_hir.specs.declared.function.Param.{Param}
@@ -46,5 +46,5 @@ pub record IsGraphOf (names : Names) (parameters : List Parameter) (body : Synta
   pub state : State
   pub places : params ≡ places_from (length old.identifiers) parameters
   pub lowers : LowersBody names body (with_parameters (started old kinds.Block) parameters) state
-  pub graph : built ≡ built_of (closed_off state)
+  pub graph : IsBuilt (closed_off state) built
   pub after : new ≡ (closed_off state).env

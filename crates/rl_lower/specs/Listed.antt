@@ -3,7 +3,7 @@ use Rattle.std.specs.Prelude.{◌≡◌, ℕ, ◌+◌, ◌<◌, ◌++◌, List, 
 use Rattle.rl_base.specs.Distinct.{AreDistinct}
 use Rattle.rl_base.specs.declared.ids.InstructionId.{InstructionId}
 use Rattle.rl_builder.specs.Builder.{State}
-use Rattle.rl_builder.specs.Order.{orders_of}
+use Rattle.rl_order.specs.Numbering.{orders_of}
 use Rattle.rl_hir.specs.Numbered.{listed_in}
 
 -- All indices are below `bound`.
@@ -13,9 +13,9 @@ AreBelow bound ids = All (λ id. id.0 < bound) ids
 -- Blocks list indices into the instruction table, each of them once. No instruction has an order yet, and no completed block
 -- has predecessors.
 pub record IsListed (s : State) : Type 0 where
-  pub completed : All (λ b. AreBelow (length s.table) b.block.instructions) s.completed
+  pub completed : All (λ b. AreBelow (length s.table) b.1.instructions) s.completed
   pub current : AreBelow (length s.table) s.current.instructions
   pub counted : orders_of s.completed + length s.current.instructions ≡ length s.table + length s.completed
   pub once : AreDistinct (listed_in s.completed ++ map (λ id. id.0) s.current.instructions)
   pub unordered : All (λ i. i.order.0 ≡ 0) s.table
-  pub predecessors : All (λ b. b.block.preds ≡ []) s.completed
+  pub predecessors : All (λ b. b.1.preds ≡ []) s.completed

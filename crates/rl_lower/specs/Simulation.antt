@@ -3,7 +3,7 @@ use Rattle.std.specs.Prelude.{◌≡◌, ℕ, zero, suc, ◌<◌, ◌≤◌, ◌
 use Rattle.rl_base.specs.Distinct.{AreDistinct}
 use Rattle.rl_base.specs.declared.ids.InstructionId.{InstructionId}
 use Rattle.rl_hir.specs.declared.instruction.Instruction.{Instruction}
-use Rattle.rl_hir.specs.declared.function.NumberedBlock.{NumberedBlock}
+use Rattle.rl_hir.specs.Blocks.{Pair as BlockPair}
 use Rattle.rl_hir.specs.declared.function.Pair.{Pair}
 use Rattle.rl_hir.specs.Pairs.{identifier_of}
 use Rattle.rl_builder.specs.Builder.{State}
@@ -29,9 +29,9 @@ pub record Lists (table : List Instruction) (listed : List InstructionId) (place
   pub kept : slice_get table number.0 ≡ Some i
 
 -- A complete block has the item at index `place`.
-abbrev pub InBlock : List Instruction → NumberedBlock → ℕ → Item → Type 0
-InBlock table b place (Runs i) = Lists table b.block.instructions place i
-InBlock table b place (Ends t) = (length b.block.instructions ≡ place) × (b.block.terminal ≡ t)
+abbrev pub InBlock : List Instruction → BlockPair → ℕ → Item → Type 0
+InBlock table b place (Runs i) = Lists table b.1.instructions place i
+InBlock table b place (Ends t) = (length b.1.instructions ≡ place) × (b.1.terminal ≡ t)
 
 -- The block under construction has the item at index `place`. It has no terminal yet.
 abbrev pub InWip : List Instruction → List InstructionId → ℕ → Item → Type 0
@@ -41,9 +41,9 @@ InWip table listed place (Ends t) = ⊥
 -- The item is one of a complete block of the state.
 pub record InCompleted (s : State) (f : Fact) : Type 0 where
   pub place : ℕ
-  pub block : NumberedBlock
+  pub block : BlockPair
   pub found : slice_get s.completed place ≡ Some block
-  pub named : block.id.0 ≡ f.block
+  pub named : block.0.0 ≡ f.block
   pub holds : InBlock s.table block f.place f.item
 
 -- The item is one of the block under construction.
@@ -56,11 +56,11 @@ abbrev pub HasItem : State → Fact → Type 0
 HasItem s f = InCompleted s f ⊎ InCurrent s f
 
 -- A complete block has the id `id`.
-pub record IsCompleted (completed : List NumberedBlock) (id : ℕ) : Type 0 where
+pub record IsCompleted (completed : List BlockPair) (id : ℕ) : Type 0 where
   pub place : ℕ
-  pub block : NumberedBlock
+  pub block : BlockPair
   pub found : slice_get completed place ≡ Some block
-  pub named : block.id.0 ≡ id
+  pub named : block.0.0 ≡ id
 
 -- The block `id` is under construction or complete.
 abbrev pub IsCurrentOrCompleted : State → ℕ → Type 0
@@ -82,8 +82,8 @@ pub record IsContainedIn (s : State) (c : Code) : Type 0 where
   pub has : (f : Fact) → HasItem s f → c f.block f.place ≡ Some f.item
 
 -- The ids of blocks, the current one included, are distinct and below the counter `next`.
-pub record UniqueIds (completed : List NumberedBlock) (current next : ℕ) : Type 0 where
-  pub apart : AreDistinct (map (λ (b : NumberedBlock). b.id.0) completed)
+pub record UniqueIds (completed : List BlockPair) (current next : ℕ) : Type 0 where
+  pub apart : AreDistinct (map (λ (b : BlockPair). b.0.0) completed)
   pub open_block : IsCompleted completed current → ⊥
   pub below : (id : ℕ) → IsCompleted completed id → id < next
   pub current_below : current < next
@@ -93,7 +93,7 @@ abbrev pub IsOwn : ℕ → ℕ → ℕ → Type 0
 IsOwn current next id = (id ≡ current) ⊎ (next ≤ id)
 
 -- From the old to the new state only the current block and newly numbered blocks were completed, and ids stay distinct.
-pub record PreservesUniqueIds (completed0 : List NumberedBlock) (current0 next0 : ℕ) (completed : List NumberedBlock) (current next : ℕ) : Type 0 where
+pub record PreservesUniqueIds (completed0 : List BlockPair) (current0 next0 : ℕ) (completed : List BlockPair) (current next : ℕ) : Type 0 where
   pub added : (id : ℕ) → IsCompleted completed id → IsCompleted completed0 id ⊎ IsOwn current0 next0 id
   pub own : IsOwn current0 next0 current
   pub distinct : UniqueIds completed0 current0 next0 → UniqueIds completed current next
@@ -108,8 +108,8 @@ abbrev pub LeavesFunction : Terminal → Type 0
 LeavesFunction t = (named_ids t ≡ []) × (IsUnreachable t → ⊥)
 
 -- Every complete block leaves the function.
-abbrev pub AreEnded : List NumberedBlock → Type 0
-AreEnded completed = All (λ b. LeavesFunction b.block.terminal) completed
+abbrev pub AreEnded : List BlockPair → Type 0
+AreEnded completed = All (λ b. LeavesFunction b.1.terminal) completed
 
 -- The new state extends the old one, ids stay distinct, and every block that was completed leaves the function.
 pub record PreservesBlocks (old new : State) : Type 0 where

@@ -64,7 +64,7 @@ pub record CountersGrow (old new : State) : Type 0 where
 -- The places of the instruction table and of the terminals of completed blocks name identifiers that were made.
 pub record HasKnownParts (s : State) : Type 0 where
   pub table : All (λ i. AreKnown (length s.env.identifiers) (instruction_places i)) s.table
-  pub terminals : All (λ b. AreKnown (length s.env.identifiers) (terminal_places b.block.terminal)) s.completed
+  pub terminals : All (λ b. AreKnown (length s.env.identifiers) (terminal_places b.1.terminal)) s.completed
 
 -- The notation has the listings of instructions and completed blocks, and the id and the indices of the current block.
 pub record HasWritableParts (s : State) : Type 0 where
@@ -115,7 +115,7 @@ pub record IsSoundGraph (parameters : List Parameter) (body : Syntax) (old new :
   pub count : length new.identifiers ≤ largest
   pub types : new.next_type ≤ largest
   pub table : All (λ i. AreKnown (length new.identifiers) (instruction_places i)) built.instructions
-  pub terminals : All (λ b. AreKnown (length new.identifiers) (terminal_places b.block.terminal)) built.hir.blocks
+  pub terminals : All (λ b. AreKnown (length new.identifiers) (terminal_places b.1.terminal)) built.hir.blocks
   pub graph : IsSmallTree body → IsWritableGraph built
   pub identifiers : All IsSmallParameter parameters → IsSmallTree body → AreWritableIdentifiers old.identifiers
       → AreWritableIdentifiers new.identifiers

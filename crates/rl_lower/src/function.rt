@@ -46,6 +46,7 @@ use rl_base::stop::Stop;
 use rl_base::text::Text;
 use rl_builder::builder::{Built, HirBuilder, create_temporary_place};
 use rl_grammar::sort::{BindingIdentifierTree, TextTrees};
+use rl_hir::blocks::MapBlocks;
 use rl_hir::environment::Environment;
 use rl_hir::function::{BlockKind, HirFunction, Param};
 use rl_hir::instruction::{InstructionValue, Place, PrimitiveValue};
@@ -285,7 +286,7 @@ pub fn lower(
     function: FunctionNode<'_>,
     names: &FunctionNames<'_>,
     env: &mut Environment,
-) -> Result<HirFunction, Stop>
+) -> Result<HirFunction<MapBlocks>, Stop>
     requires locals { LocalsAreParameters (seen names.now) (seen_function_node function) }
     requires texts { HasTexts (seen names.now) }
     requires covered { IsCoveredFunction (seen_function_node function) }

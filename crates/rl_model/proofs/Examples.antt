@@ -8,6 +8,7 @@ use Rattle.rl_syntax.specs.declared.word.Word.TheVariants as word
 use Rattle.rl_base.specs.declared.row.Row.TheVariants as row
 use Rattle.rl_base.specs.declared.span.Span.{Span}
 use Rattle.rl_hir.specs.declared.function.BlockKind.TheVariants as kinds
+use Rattle.rl_hir.specs.Blocks.{Pair as BlockPair}
 use Rattle.rl_hir.specs.declared.function.HirFunction.{HirFunction}
 use Rattle.rl_hir.specs.declared.function.Param.TheVariants as params
 use Rattle.rl_hir.specs.declared.function.ReactFunctionType.TheVariants as types
@@ -99,7 +100,7 @@ place identifier = record { identifier = record { 0 = identifier }; span = None 
 abbrev instruction : ℕ → InstructionValue → Instruction
 instruction identifier v = record { order = record { 0 = identifier }; lvalue = place identifier; value = v; span = None }
 
-abbrev graph : HirFunction
+abbrev graph : HirFunction (List BlockPair)
 graph = record {
   span = None;
   name = None;
@@ -112,15 +113,15 @@ graph = record {
   returns = place 4;
   body = record {
     entry = record { 0 = 0 };
-    blocks = record {
-      id = record { 0 = 0 };
-      block = record {
+    blocks = (
+      record { 0 = 0 },
+      record {
         kind = kinds.Block;
         instructions = record { 0 = 0 } ∷ record { 0 = 1 } ∷ record { 0 = 2 } ∷ [];
         terminal = record { order = record { 0 = 4 }; span = None; kind = ends.Return returns.Explicit (place 3) };
         preds = [];
-      };
-    } ∷ [];
+      },
+    ) ∷ [];
   };
   instructions =
       instruction 1 (values.LoadGlobal (bindings.Global (codes "f"))) ∷
@@ -180,7 +181,7 @@ waits_for_an_answer stuck = refl
 stuck_without_block : (stuck : Trace) → trace_by stuck (record graph { body = record { entry = record { 0 = 0 }; blocks = [] } }) [] [] [] [] ≡ stuck
 stuck_without_block stuck = refl
 
-stuck_at_an_unreachable_end : (stuck : Trace) → trace_by stuck (record graph { body = record { entry = record { 0 = 0 }; blocks = record { id = record { 0 = 0 }; block = record { kind = kinds.Block; instructions = []; terminal = record { order = record { 0 = 1 }; span = None; kind = ends.Unreachable }; preds = [] } } ∷ [] } }) [] [] [] [] ≡ stuck
+stuck_at_an_unreachable_end : (stuck : Trace) → trace_by stuck (record graph { body = record { entry = record { 0 = 0 }; blocks = (record { 0 = 0 }, record { kind = kinds.Block; instructions = []; terminal = record { order = record { 0 = 1 }; span = None; kind = ends.Unreachable }; preds = [] }) ∷ [] } }) [] [] [] [] ≡ stuck
 stuck_at_an_unreachable_end stuck = refl
 
 -- `(a, b) => { f(g); return b; }`: the callee comes before its arguments, and each parameter takes its own argument

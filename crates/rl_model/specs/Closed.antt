@@ -1,19 +1,13 @@
--- Closed graphs: every block that is reached is there.
-use Rattle.std.specs.Prelude.{◌≡◌, ℕ, Some, List, [], Contains, map}
-use Rattle.rl_model.specs.Machine.{block_of}
-use Rattle.rl_hir.specs.Terminals.{named_ids, successor_ids}
+-- Closed graphs: every block that a reached block names is there.
+use Rattle.std.specs.Prelude.{◌≡◌, Some, List, Contains}
+use Rattle.rl_base.specs.declared.ids.BlockId.{BlockId}
+use Rattle.rl_hir.specs.Blocks.{Pair as BlockPair, block_at}
+use Rattle.rl_hir.specs.Terminals.{named_ids}
 use Rattle.rl_hir.specs.declared.terminal.Terminal.{Terminal}
 use Rattle.rl_hir.specs.declared.terminal.TerminalKind.TheVariants as kinds
 use Rattle.rl_hir.specs.declared.function.BasicBlock.{BasicBlock}
 use Rattle.rl_hir.specs.declared.function.Hir.{Hir}
-
--- The successors of a terminal, by block id.
-abbrev pub successors : Terminal → List ℕ
-successors terminal = map (λ id. id.0) (successor_ids terminal)
-
--- The blocks that a terminal names in any field, by block id.
-abbrev pub named : Terminal → List ℕ
-named terminal = map (λ id. id.0) (named_ids terminal)
+use Rattle.rl_order.specs.Reached.{IsReached}
 
 -- The block is never run to its end.
 abbrev pub IsUnreachable : Terminal → Type 0
@@ -22,16 +16,11 @@ IsUnreachable terminal = elim terminal.kind [
   | _ ↦ ⊥
 ]
 
-abbrev pub IsBlock : Hir → ℕ → Type 0
-IsBlock hir id = (block : BasicBlock) × (block_of hir.blocks id ≡ Some block)
-
--- The blocks that successors reach from the entry.
-pub data Reaches (hir : Hir) : ℕ → Type 0 where
-  entry : Reaches hir hir.entry.0
-  next : (id successor : ℕ) (block : BasicBlock) → Reaches hir id → block_of hir.blocks id ≡ Some block → Contains (successors block.terminal) successor → Reaches hir successor
+abbrev pub IsBlock : List BlockPair → BlockId → Type 0
+IsBlock graph id = (block : BasicBlock) × (block_at graph id ≡ Some block)
 
 -- The entry is a block of the graph, each block that a reached block names is one, and no reached block ends as unreachable.
-pub record IsClosed (hir : Hir) : Type 0 where
-  pub entry_block : IsBlock hir hir.entry.0
-  pub names : (id other : ℕ) (block : BasicBlock) → Reaches hir id → block_of hir.blocks id ≡ Some block → Contains (named block.terminal) other → IsBlock hir other
-  pub ends : (id : ℕ) (block : BasicBlock) → Reaches hir id → block_of hir.blocks id ≡ Some block → IsUnreachable block.terminal → ⊥
+pub record IsClosed (hir : Hir (List BlockPair)) : Type 0 where
+  pub entry_block : IsBlock hir.blocks hir.entry
+  pub names : (id other : BlockId) (block : BasicBlock) → IsReached hir.blocks hir.entry id → block_at hir.blocks id ≡ Some block → Contains (named_ids block.terminal) other → IsBlock hir.blocks other
+  pub ends : (id : BlockId) (block : BasicBlock) → IsReached hir.blocks hir.entry id → block_at hir.blocks id ≡ Some block → IsUnreachable block.terminal → ⊥

@@ -2,6 +2,7 @@
 use Rattle.std.specs.Prelude.{◌≡◌, ℕ, ◌+◌, Some, None, List, [], ◌∷◌, ◌++◌, All, length}
 use Rattle.rl_syntax.specs.Syntax.{Syntax, Node, Listed, Said, Pieces, Then, span_of}
 use Rattle.rl_syntax.specs.declared.word.Word.TheVariants as word
+use Rattle.rl_hir.specs.Blocks.{Pair as BlockPair}
 use Rattle.rl_hir.specs.Identifiers.{named_identifier}
 use Rattle.rl_hir.specs.Pairs.{pair}
 use Rattle.rl_hir.specs.declared.function.HirFunction.{HirFunction}
@@ -45,7 +46,7 @@ pub record AddsUnnamed (old new : List Identifier) : Type 0 where
   pub unnamed : All (λ i. i.name ≡ None) more
 
 -- The graph has the span, name, flags, directives and parameters of its function, and no context and type `Other`.
-pub record HasFieldsOf (names : Names) (function : Syntax) (f : HirFunction) : Type 0 where
+pub record HasFieldsOf (names : Names) (function : Syntax) (f : HirFunction (List BlockPair)) : Type 0 where
   pub span : f.span ≡ Some (span_of function)
   pub name : f.name ≡ name_in function
   pub fn_type : f.fn_type ≡ types.Other

@@ -2,6 +2,7 @@
 use Rattle.std.specs.Prelude.{◌≡◌, ℕ, ◌*◌, ◌≤◌, None, List, [], length}
 use Rattle.rl_syntax.specs.Syntax.{Syntax, nodes}
 use Rattle.rl_base.specs.Distinct.{AreDistinct}
+use Rattle.rl_hir.specs.Blocks.{Pair as BlockPair}
 use Rattle.rl_hir.specs.Listing.{lowered}
 use Rattle.rl_hir.specs.Numbered.{IsNumbered}
 use Rattle.rl_hir.specs.declared.function.HirFunction.{HirFunction}
@@ -24,16 +25,16 @@ use Rattle.rl_model.specs.declared.trace.Trace.{Trace}
 use Rattle.rl_model.specs.declared.trace.Value.{Value}
 
 -- The graph has the trace of its function, for every start store, arguments and answers.
-abbrev pub SameRuns : Names → Syntax → HirFunction → List Pair → Type 0
+abbrev pub SameRuns : Names → Syntax → HirFunction (List BlockPair) → List Pair → Type 0
 SameRuns names function f pairs = (start : List Assignment) (arguments : List Value) (answers : List Answer) → function_trace f pairs start arguments answers ≡ source_trace names function start arguments answers
 
 -- A run ends because it returns, throws, or finds no answer left: whatever trace a run had that ends for another cause, the
 -- runs are the same.
-abbrev pub NeverStuck : HirFunction → List Pair → Type 0
+abbrev pub NeverStuck : HirFunction (List BlockPair) → List Pair → Type 0
 NeverStuck f pairs = (stuck : Trace) (start : List Assignment) (arguments : List Value) (answers : List Answer) → trace_by stuck f pairs start arguments answers ≡ function_trace f pairs start arguments answers
 
 -- The graph of one function of a result.
-pub record IsGraph (names : Names) (function : Syntax) (l : Lowered) (f : HirFunction) : Type 0 where
+pub record IsGraph (names : Names) (function : Syntax) (l : Lowered) (f : HirFunction (List BlockPair)) : Type 0 where
   pub closed : IsClosed f.body
   pub same_runs : SameRuns names function f l.pairs
   pub never_stuck : NeverStuck f l.pairs

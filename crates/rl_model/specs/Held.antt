@@ -5,8 +5,8 @@ use Rattle.rl_base.specs.declared.ids.InstructionId.{InstructionId}
 use Rattle.rl_syntax.specs.declared.word.Word.TheVariants as word
 use Rattle.rl_syntax.specs.Syntax.{Syntax, Node, Listed, Pieces, End, Then}
 use Rattle.rl_names.specs.Functions.{body_in}
+use Rattle.rl_hir.specs.Blocks.{Pair as BlockPair}
 use Rattle.rl_hir.specs.declared.function.HirFunction.{HirFunction}
-use Rattle.rl_hir.specs.declared.function.NumberedBlock.{NumberedBlock}
 use Rattle.rl_hir.specs.declared.instruction.Instruction.{Instruction}
 use Rattle.rl_hir.specs.declared.instruction.InstructionValue.TheVariants as values
 
@@ -57,12 +57,12 @@ abbrev pub listed_calls : List Instruction → List InstructionId → List (Opti
 listed_calls table [] = []
 listed_calls table (id ∷ ids) = (elim (slice_get table id.0) [ Some i ↦ call_at i | None ↦ [] ]) ++ listed_calls table ids
 
-abbrev pub graph_calls : List Instruction → List NumberedBlock → List (Option Span)
+abbrev pub graph_calls : List Instruction → List BlockPair → List (Option Span)
 graph_calls table [] = []
-graph_calls table (b ∷ blocks) = listed_calls table b.block.instructions ++ graph_calls table blocks
+graph_calls table (b ∷ blocks) = listed_calls table b.1.instructions ++ graph_calls table blocks
 
 -- The table has one instruction for each call, in the order of the calls, and no other call; the blocks list those that are
 -- reachable, each once.
-pub record HoldsCalls (function : Syntax) (f : HirFunction) : Type 0 where
+pub record HoldsCalls (function : Syntax) (f : HirFunction (List BlockPair)) : Type 0 where
   pub table : calls_of f.instructions ≡ calls_in function
   pub blocks : graph_calls f.instructions f.body.blocks ≡ live_calls_in function

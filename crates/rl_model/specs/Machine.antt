@@ -9,13 +9,13 @@ use Rattle.rl_hir.specs.declared.instruction.InstructionValue.{InstructionValue}
 use Rattle.rl_hir.specs.declared.instruction.InstructionValue.TheVariants as values
 use Rattle.rl_hir.specs.declared.instruction.PrimitiveValue.{PrimitiveValue}
 use Rattle.rl_hir.specs.declared.instruction.PrimitiveValue.TheVariants as primitives
+use Rattle.rl_hir.specs.Blocks.{Pair as BlockPair, block_at}
 use Rattle.rl_hir.specs.Pairs.{identifier_of}
 use Rattle.rl_hir.specs.Instructions.{argument_place, argument_shape, binding_texts}
 use Rattle.rl_hir.specs.declared.terminal.Terminal.{Terminal}
 use Rattle.rl_hir.specs.declared.terminal.TerminalKind.{TerminalKind}
 use Rattle.rl_hir.specs.declared.terminal.TerminalKind.TheVariants as kinds
 use Rattle.rl_hir.specs.declared.function.BasicBlock.{BasicBlock}
-use Rattle.rl_hir.specs.declared.function.NumberedBlock.{NumberedBlock}
 use Rattle.rl_hir.specs.declared.function.Param.{Param}
 use Rattle.rl_hir.specs.declared.function.Param.TheVariants as params
 use Rattle.rl_hir.specs.declared.function.HirFunction.{HirFunction}
@@ -29,9 +29,8 @@ use Rattle.rl_model.specs.declared.trace.Event.{Event}
 use Rattle.rl_model.specs.declared.trace.Trace.{Trace}
 
 -- The block with the id `id`.
-abbrev pub block_of : List NumberedBlock → ℕ → Option BasicBlock
-block_of [] id = None
-block_of (b ∷ blocks) id = if nat_eq b.id.0 id then Some b.block else block_of blocks id
+abbrev pub block_of : List BlockPair → ℕ → Option BasicBlock
+block_of blocks id = block_at blocks (record { 0 = id })
 
 -- The item at a program point: an instruction that runs, or the terminal that ends its block.
 pub data Item : Type 0 where
@@ -49,10 +48,10 @@ item_in table block place = elim (slice_get block.instructions place) [
 abbrev pub Code : Type 0
 Code = ℕ → ℕ → Option Item
 
-abbrev pub code_in : List NumberedBlock → List Instruction → Code
+abbrev pub code_in : List BlockPair → List Instruction → Code
 code_in blocks table id place = elim (block_of blocks id) [ Some block ↦ item_in table block place | None ↦ None ]
 
-abbrev pub code_of : HirFunction → Code
+abbrev pub code_of : HirFunction (List BlockPair) → Code
 code_of f = code_in f.body.blocks f.instructions
 
 -- By block id, the last terminal run that names the block.
@@ -142,9 +141,9 @@ take_arguments (p ∷ ps) [] store = take_arguments ps [] (set store (param_iden
 take_arguments (p ∷ ps) (v ∷ arguments) store = take_arguments ps arguments (set store (param_identifier p) v)
 
 -- The number of blocks and of the instructions that they list.
-abbrev pub positions : List NumberedBlock → ℕ
+abbrev pub positions : List BlockPair → ℕ
 positions [] = 0
-positions (b ∷ blocks) = 1 + length b.block.instructions + positions blocks
+positions (b ∷ blocks) = 1 + length b.1.instructions + positions blocks
 
 -- A bound on the steps of a run: `most + 1` for each answer, and once more.
 abbrev pub steps_for : List Answer → ℕ → ℕ
@@ -154,13 +153,13 @@ steps_for (answer ∷ rest) most = most + 1 + steps_for rest most
 -- The run of a function's graph. A run that ends for another cause than that it returns, throws, or finds no answer left has
 -- the trace `stuck`: a missing block, one that ends as unreachable, or more silent steps in a row than the graph has blocks
 -- and listed instructions. So there is a bound on its steps that it does not come to.
-abbrev pub trace_by : (stuck : Trace) → HirFunction → List Pair → List Assignment → List Value → List Answer → Trace
+abbrev pub trace_by : (stuck : Trace) → HirFunction (List BlockPair) → List Pair → List Assignment → List Value → List Answer → Trace
 trace_by stuck f pairs start arguments answers =
     let most = positions f.body.blocks in
     exec stuck (code_of f) most (steps_for answers most) most f.body.entry.0 0 (take_arguments f.params arguments (set_by pairs start unset)) no_notes answers
 
 -- The run of a function's graph, which waits where it is stuck.
-abbrev pub function_trace : HirFunction → List Pair → List Assignment → List Value → List Answer → Trace
+abbrev pub function_trace : HirFunction (List BlockPair) → List Pair → List Assignment → List Value → List Answer → Trace
 function_trace f = trace_by waiting f
 
 -- The run of the marked function's graph.

@@ -1,11 +1,12 @@
 -- The size of a result.
 use Rattle.std.specs.Prelude.{ℕ, ◌+◌, List, [], ◌∷◌, length}
+use Rattle.rl_hir.specs.Blocks.{Pair as BlockPair}
 use Rattle.rl_hir.specs.declared.function.HirFunction.{HirFunction}
 use Rattle.rl_hir.specs.declared.function.InnerFunction.{InnerFunction}
 use Rattle.rl_hir.specs.declared.function.Lowered.{Lowered}
 
 -- The number of instructions in a function's table and of blocks in its graph.
-abbrev pub function_size : HirFunction → ℕ
+abbrev pub function_size : HirFunction (List BlockPair) → ℕ
 function_size f = length f.instructions + length f.body.blocks
 
 abbrev pub inner_size : List InnerFunction → ℕ

@@ -9,6 +9,7 @@ use Rattle.rl_ast.specs.Marked.{first, marked_functions}
 use Rattle.rl_ast.proofs.MarkedFunctions.{first_found, inside_few}
 use Rattle.rl_hir.specs.declared.environment.Environment.{Environment}
 use Rattle.rl_hir.specs.declared.function.Identifier.{Identifier}
+use Rattle.rl_hir.specs.Blocks.{Pair as BlockPair}
 use Rattle.rl_hir.specs.declared.function.HirFunction.{HirFunction}
 use Rattle.rl_hir.specs.declared.function.InnerFunction.{InnerFunction}
 use Rattle.rl_model.specs.Size.{function_size, inner_size}
@@ -35,7 +36,7 @@ few_nodes bytes u f spells small found =
     omega (arith, all, inside)
 
 -- A function alone is bounded in the unit's nodes if it is in its own.
-pub alone_bounded : (u f : Syntax) (h : HirFunction) → first (marked_functions u) ≡ Some f → function_size h ≤ 64 * nodes f → (inner : List InnerFunction) → inner ≡ [] → function_size h + inner_size inner ≤ 64 * nodes u
+pub alone_bounded : (u f : Syntax) (h : HirFunction (List BlockPair)) → first (marked_functions u) ≡ Some f → function_size h ≤ 64 * nodes f → (inner : List InnerFunction) → inner ≡ [] → function_size h + inner_size inner ≤ 64 * nodes u
 alone_bounded u f h found few inner none =
     let nothing : inner_size inner ≡ 0 = ap inner_size none in
     let inside : nodes f ≤ nodes u = inside_few u f (first_found u f found).0 in

@@ -1,9 +1,15 @@
-use Rattle.std.proofs.Common.{◌≡◌, ◌++◌, Some, List, ap, sym, ◌∙◌, refl, subst, length}
+use Rattle.std.proofs.Common.{◌≡◌, ◌++◌, Err, IfErr, Ok, Result, Some, List, ap, sym, ◌∙◌, refl, subst, length}
 use Rattle.rl_ast.specs.FunctionNodes.{seen_function_node}
 use Rattle.rl_ast.specs.declared.function_node.FunctionNode.{FunctionNode}
 use Rattle.rl_ast.specs.declared.function_node.FunctionNode.TheVariants as function_node
+use Rattle.rl_base.specs.declared.diagnostic.Diagnostic.{Diagnostic}
 use Rattle.rl_base.specs.declared.span.Span.{Span}
+use Rattle.rl_base.specs.declared.stop.Stop.{Stop}
+use Rattle.rl_base.specs.declared.stop.Stop.TheVariants as stops
+use Rattle.rl_model.specs.Rows.{stop_of}
+use Rattle.std.specs.Result.{IsErrAnd}
 use Rattle.rl_hir.specs.declared.environment.Environment.{Environment}
+use Rattle.rl_hir.specs.Blocks.{Pair as BlockPair}
 use Rattle.rl_hir.specs.declared.function.HirFunction.{HirFunction}
 use Rattle.rl_lower.proofs.FunctionGraphs.{graph_closed, identifiers_fit, types_fit, lower_bounded, lower_never_stuck, lower_fn_type, lower_functions, lower_held, lower_identifiers, lower_pairs, lower_refused, lower_room, lower_same_runs}
 use Rattle.rl_lower.proofs.FunctionTrees.{IsFunction, function_form}
@@ -22,7 +28,7 @@ use Rattle.rl_lower.proofs.function.lower.Goals.{After-drop-parameters-inside-2}
 use Rattle.rl_lower.proofs.function.lower.Goals as goal
 
 -- The function that is returned.
-abbrev lowered : (c : After-drop-parameters-inside-2) → HirFunction
+abbrev lowered : (c : After-drop-parameters-inside-2) → HirFunction (List BlockPair)
 lowered c = record {
   span = Some c.parts_of-parts.result.at.span;
   name = c.in_ok-own_name.field-0;
@@ -138,3 +144,20 @@ returns-clause-known c =
     function_identifiers (seen c.args.names.now) _ _ c.parts_of-parts.result.at.span _ _ _ c.create_temporary_place.new.env _ (whole_form c.args.function _ c.requires.covered c.parts_of-parts.ensures.body)
     (span_is c.args.function _ c.parts_of-parts.ensures.at)
     (c.as_slice-2.ensures ∙ c.in_ok-parameters.ensures) c.in_ok-graph.ensures.sound (ap (λ (e : Environment). e.identifiers) c.in_ok-returns.ensures.ok)
+
+pub returns-clause-span : goal.returns-clause-span
+returns-clause-span c = ap (λ (s : Span). Some s) (span_is c.args.function _ c.parts_of-parts.ensures.at)
+
+-- An error that is out of memory says no diagnostic.
+says_nothing : {X : Type 0} (r : Result X Stop) (P : Diagnostic → Type 0) → IsErrAnd r (λ e. e ≡ stops.OutOfMemory)
+    → IfErr r (λ e. (d : Diagnostic) → e ≡ stops.Diagnostic d → P d)
+says_nothing (Ok x) P h = absurd h
+says_nothing (Err e) P h = λ d is. absurd (let never : stops.OutOfMemory ≡ stops.Diagnostic d = sym h ∙ is in cc)
+
+pub returns-in_err-returns-clause-stopped : goal.returns-in_err-returns-clause-stopped
+returns-in_err-returns-clause-stopped c =
+    says_nothing c.from_residual-in_err-returns.result (λ d. stop_of (seen c.args.names.now) (seen_function_node c.args.function) ≡ Some d) c.from_residual-in_err-returns.ensures.1
+
+pub returns-in_err-own_name-clause-stopped : goal.returns-in_err-own_name-clause-stopped
+returns-in_err-own_name-clause-stopped c =
+    says_nothing c.from_residual-in_err-own_name.result (λ d. stop_of (seen c.args.names.now) (seen_function_node c.args.function) ≡ Some d) c.from_residual-in_err-own_name.ensures.1

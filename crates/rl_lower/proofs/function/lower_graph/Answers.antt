@@ -8,7 +8,7 @@ use Rattle.rl_lower.specs.Named.{IsNamed}
 use Rattle.rl_lower.specs.Lowering.{HasRoom}
 use Rattle.rl_lower.specs.Parameters.{with_parameters}
 use Rattle.rl_model.specs.Fields.{places_from}
-use Rattle.rl_lower.proofs.Closings.{listed_call, orders_call, graph_call}
+use Rattle.rl_lower.proofs.Closings.{graph_call, listed_call, orders_call, whole_call}
 use Rattle.rl_lower.proofs.Building.{IsFresh}
 use Rattle.rl_lower.proofs.Keeping.{room_behind, room_less}
 use Rattle.rl_lower.proofs.Parameters.{parameters_named}
@@ -41,6 +41,13 @@ lower_value_to_temporary-requires c =
     let count = nodes (seen_arrow_body c.args.body) in
     room_behind _ _ (4 * (count + 1)) 1 (4 * (count + 2)) (omega arith) c.in_ok-lower_body.ensures.lowered.keeps.uses
     (subst (λ (s : State). HasRoom s (4 * (count + 2))) (sym begun) (begun_room _ _ (4 * (count + 2)) c.requires.room))
+
+pub build-requires-clause-whole : goal.build-requires-clause-whole
+build-requires-clause-whole c =
+    let begun = begun_call _ _ _ _ c.requires.apart c.new-builder.ensures.state c.in_ok-params.ensures.state in
+    whole_call (seen c.args.names.now) _ (seen_arrow_body c.args.body) _ _ _ _
+    (subst IsFresh (sym begun) (begun_fresh c.args.env.now c.args.parameters.now))
+    c.in_ok-lower_body.ensures.lowered c.in_ok-value.ensures.state c.in_ok-value.ensures.place c.in_ok-terminate.ensures.state
 
 pub build-requires-clause-listed : goal.build-requires-clause-listed
 build-requires-clause-listed c =

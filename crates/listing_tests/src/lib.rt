@@ -1,0 +1,11 @@
+//! Tests of listings: each value and each terminal once, in the result of a function that is made here.
+#![tactic(auto)]
+
+#[cfg(test)]
+mod blocks;
+#[cfg(test)]
+mod function;
+#[cfg(test)]
+mod parts;
+#[cfg(test)]
+mod values;
