@@ -6,7 +6,13 @@ use Rattle.rl_base.specs.declared.ids.BlockId.{BlockId}
 use Rattle.rl_hir.specs.Blocks.{Pair}
 use Rattle.rl_hir.specs.Numbered.{IsNumbered, listed_in}
 use Rattle.rl_hir.specs.declared.instruction.Instruction.{Instruction}
+use Rattle.rl_machine.proofs.KeptRuns.{pruned_keeps}
+use Rattle.rl_machine.proofs.StaysClosed.{pruned_closed}
+use Rattle.rl_machine.specs.Closed.{IsClosed}
+use Rattle.rl_machine.specs.Conditions.{KeepsRuns, MayOrder}
+use Rattle.rl_machine.specs.Machine.{Graph}
 use Rattle.rl_order.specs.Prune.{IsPruned}
+use Rattle.rl_order.specs.Walk.{IsWhole}
 
 pub pruned_same : (entry : BlockId) (blocks graph pruned : List Pair) (table table1 numbered numbered1 : List Instruction) → blocks ≡ graph → table ≡ table1
     → numbered ≡ numbered1 → IsPruned blocks entry table pruned numbered → IsPruned graph entry table1 pruned numbered1
@@ -29,3 +35,16 @@ pub written_back : (count : ℕ) (old new after : List Instruction) → after �
     → length new ≡ length old → new ≡ after
 written_back count old new after is all same =
     sym (is ∙ ap (λ (n : ℕ). take n (new ++ drop (length new) old)) (all ∙ sym same) ∙ take-append_seam new (drop (length new) old))
+
+-- The graph of a pruned one is closed, and has its runs.
+pub closed_same : (graph : Graph) (pruned : List Pair) (numbered : List Instruction) (entry : BlockId) → IsWhole graph.blocks graph.entry
+    → IsPruned graph.blocks graph.entry graph.table pruned numbered → entry ≡ graph.entry → MayOrder graph
+    → IsClosed (record { entry = entry; blocks = pruned })
+closed_same graph pruned numbered entry whole p same may =
+    subst (λ (e : BlockId). IsClosed (record { entry = e; blocks = pruned })) (sym same) (pruned_closed graph pruned numbered whole p may)
+
+pub runs_same : (graph : Graph) (pruned : List Pair) (numbered : List Instruction) (entry : BlockId) → IsWhole graph.blocks graph.entry
+    → IsPruned graph.blocks graph.entry graph.table pruned numbered → entry ≡ graph.entry → MayOrder graph
+    → KeepsRuns graph (record { blocks = pruned; table = numbered; entry = entry })
+runs_same graph pruned numbered entry whole p same may =
+    subst (λ (e : BlockId). KeepsRuns graph (record { blocks = pruned; table = numbered; entry = e })) (sym same) (pruned_keeps graph pruned numbered whole p may)

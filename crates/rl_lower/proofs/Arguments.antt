@@ -4,8 +4,8 @@ use Rattle.rl_hir.specs.Instructions.{argument_place, argument_shape}
 use Rattle.rl_hir.specs.declared.instruction.Place.{Place}
 use Rattle.rl_hir.specs.declared.instruction.PlaceOrSpread.{PlaceOrSpread}
 use Rattle.rl_hir.specs.declared.instruction.PlaceOrSpread.TheVariants as given_as
-use Rattle.rl_model.specs.declared.trace.Value.{Value}
-use Rattle.rl_model.specs.Traces.{Store}
+use Rattle.rl_machine.specs.declared.trace.Value.{Value}
+use Rattle.rl_machine.specs.Traces.{Store}
 
 abbrev pub identifier_in : PlaceOrSpread → ℕ
 identifier_in a = (argument_place a).identifier.0

@@ -43,7 +43,7 @@ pub blocks_returned : (s : State) (span : Option Span) (variant : ReturnVariant)
 blocks_returned s span variant place kind = record {
   extends = extends_returned s span variant place kind;
   ids = ids_fresh s (return_of span variant place) kind;
-  ended = λ e. ended_more s.completed (ended_by s.current (return_of span variant place)) (refl, λ h. h) e;
+  ended = λ e. ended_more s.completed (ended_by s.current (return_of span variant place)) (refl, λ h. absurd (cc)) e;
 }
 
 -- A value that is returned, behind which a block goes on that was reserved before.
@@ -56,5 +56,5 @@ blocks_value_returned s new span place kind b = record {
       (ids_then (ids_counted s.completed s.current.id.0 s.env.next_block (s.env.next_block + 1) (omega arith)) b.ids)
       (inr (omega arith))
       (λ c. free_then s.env.next_block b.ids (free_fresh s.completed s.current.id.0 s.env.next_block (s.env.next_block + 1) s.env.next_block c (omega arith) (omega arith)));
-  ended = λ e. ended_more new.completed (ended_by new.current (return_of span returns.Implicit place)) (refl, λ h. h) (b.ended e);
+  ended = λ e. ended_more new.completed (ended_by new.current (return_of span returns.Implicit place)) (refl, λ h. absurd (cc)) (b.ended e);
 }

@@ -14,13 +14,14 @@ use Rattle.rl_syntax.specs.Syntax.{Syntax, Node, Listed, Said, Pieces, End, Then
 use Rattle.rl_grammar.specs.declared.kind.Field.TheVariants as field
 use Rattle.rl_grammar.specs.declared.kind.Kind.TheVariants as sort
 use Rattle.rl_grammar.proofs.Viewing.{rest_fit}
-use Rattle.rl_model.specs.declared.trace.Answer.{Answer}
+use Rattle.rl_machine.specs.declared.trace.Answer.{Answer}
 use Rattle.rl_names.specs.Names.{Names}
 use Rattle.rl_model.specs.Held.{calls_in, calls_among, calls_of, live_in_body}
 use Rattle.rl_lower.specs.Reachable.{can_body_complete}
 use Rattle.rl_lower.proofs.Reachable.{adds_same, adds_value_returned}
 use Rattle.rl_model.specs.Rows.{refusals, refusals_in}
-use Rattle.rl_model.specs.Traces.{Store, Exits, returned}
+use Rattle.rl_machine.specs.Traces.{Store, returned}
+use Rattle.rl_model.specs.Meanings.{Exits}
 use Rattle.rl_model.specs.Source.{eval_expr}
 use Rattle.rl_lower.specs.Lowering.{LowersExpression, LowersStatements, LowersBody, exec_before_end}
 use Rattle.rl_lower.proofs.Blocks.{blocks_value_returned}
@@ -33,7 +34,7 @@ use Rattle.rl_lower.proofs.Parts.{means_same}
 pub record ReturnsValue (e : Syntax) : Type 0 where
   pub means : (names : Names) (source : Store) (answers : List Answer) (exits : Exits)
       → eval_expr names e source answers
-      (λ v after rest. returned returns.Implicit v) exits.throws ≡ exec_before_end names e source answers exits
+      (λ v after rest. returned [] returns.Implicit v) exits.throws ≡ exec_before_end names e source answers exits
   pub reached : calls_in e ≡ live_in_body e
   pub ends : false ≡ can_body_complete e
 

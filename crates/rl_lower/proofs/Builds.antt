@@ -19,29 +19,15 @@ use Rattle.rl_lower.specs.Lowering.{HasRoom, LowersBody}
 use Rattle.rl_lower.specs.Simulation.{AreEnded, LeavesFunction}
 use Rattle.rl_lower.proofs.Alone.{alone_built, built_of, follows_none, leads_none, table_same}
 use Rattle.rl_lower.proofs.Building.{IsFresh, closed_listed, orders_fit}
-use Rattle.rl_lower.proofs.Finished.{IsFinished, entry_block, leaves}
+use Rattle.rl_lower.proofs.Finished.{IsFinished, entry_block, found_holds, found_leaves}
 use Rattle.rl_lower.proofs.Functions.{function_finished}
-
--- A block that is found is one of all.
-found_holds : (P : BlockPair → Type 0) (pairs : List BlockPair) (id : BlockId) (block : BasicBlock) → All P pairs → block_at pairs id ≡ Some block
-    → (other : BlockId) × P (other, block)
-found_holds P [] id block all found = absurd (cc)
-found_holds P (p ∷ pairs) id block all found = by_test (same_id id p.0) refl found (found_holds P pairs id block (All-tail P p pairs all))
-  where
-    by_test : (b : Bool) → same_id id p.0 ≡ b → block_at (p ∷ pairs) id ≡ Some block → (block_at pairs id ≡ Some block → (other : BlockId) × P (other, block))
-        → (other : BlockId) × P (other, block)
-    by_test true is found1 rest =
-        let at : Some p.1 ≡ Some block = rw is at found1 in
-        let same : p.1 ≡ block = cc in
-        (p.0, subst (λ (b : BasicBlock). P (p.0, b)) same (All-head P p pairs all))
-    by_test false is found1 rest = let later : block_at pairs id ≡ Some block = rw is at found1 in rest later
 
 -- The blocks of a finished builder lead to its blocks alone.
 finished_whole : (s : State) → IsFinished s → IsWhole s.completed s.entry
 finished_whole s fin = record {
-  entry_there = ap (λ o. is_some o) (entry_block s fin);
+  entry_there = ap (λ o. is_some o) (entry_block s fin (λ symbol. None));
   leads = λ id block found.
-      let none = (found_holds (λ (b : BlockPair). LeavesFunction b.1.terminal) s.completed id block fin.ended found).1.0 in
+      let none = (found_leaves s fin id block found).0 in
       ap (λ ids. list_all (has_block s.completed) ids) (nowhere block none);
 }
   where
@@ -71,6 +57,6 @@ module _ (names : Names) (begun : State) (body : Syntax) (s : State) (fresh : Is
 
   pub closed_built : (built : Built) → IsBuilt (closed_off s) built → built ≡ built_of (closed_off s)
   closed_built built b =
-      alone_built (closed_off s) finished.entry.block.1 built finished.apart (entry_block (closed_off s) finished) (leaves (closed_off s) finished).0
+      alone_built (closed_off s) finished.entry.block.1 built finished.apart (entry_block (closed_off s) finished (λ symbol. None)) (found_leaves (closed_off s) finished (closed_off s).entry finished.entry.block.1 (entry_block (closed_off s) finished (λ symbol. None))).0
       (found_holds (λ (p : BlockPair). p.1.preds ≡ []) (closed_off s).completed (closed_off s).entry finished.entry.block.1
-      (closed_listed names begun body s fresh l).predecessors (entry_block (closed_off s) finished)).1 b
+      (closed_listed names begun body s fresh l).predecessors (entry_block (closed_off s) finished (λ symbol. None))).1 b

@@ -1,5 +1,5 @@
 -- The graph of a function (`IsGraphOf`): its traces, size, calls, identifiers and fields, from the lowering of its body.
-use Rattle.std.proofs.Common.{◌≡◌, ℕ, ◌+◌, ◌*◌, ◌<◌, ◌≤◌, ◌^◌, ◌++◌, Bool, true, false, cond, List, [], ◌∷◌, map, filter, length, length-append, Option, None, refl, sym, ap, ◌∙◌, subst, arith, append-nil, append_assoc, eq-eqb}
+use Rattle.std.proofs.Common.{◌≡◌, ℕ, ◌+◌, ◌*◌, ◌<◌, ◌≤◌, ◌^◌, ◌++◌, Bool, true, false, cond, List, [], ◌∷◌, All, map, filter, length, length-append, Option, None, refl, sym, ap, ◌∙◌, subst, arith, append-nil, append_assoc, eq-eqb}
 use Rattle.rl_base.specs.declared.diagnostic.Diagnostic.{Diagnostic}
 use Rattle.rl_base.specs.declared.span.Span.{Span}
 use Rattle.rl_syntax.specs.declared.word.Word.TheVariants as word
@@ -21,19 +21,20 @@ use Rattle.rl_names.specs.Names.{Names}
 use Rattle.rl_names.specs.declared.parameters.Parameter.{Parameter}
 use Rattle.rl_names.specs.Functions.{params_in, parameters_of}
 use Rattle.rl_names.specs.Locals.{AreApart, DeclaresAll}
-use Rattle.rl_model.specs.declared.trace.Answer.{Answer}
-use Rattle.rl_model.specs.declared.trace.Assignment.{Assignment}
-use Rattle.rl_model.specs.declared.trace.Trace.{Trace}
-use Rattle.rl_model.specs.declared.trace.Value.{Value}
-use Rattle.rl_model.specs.declared.trace.Value.TheVariants as value
-use Rattle.rl_model.specs.Closed.{IsClosed}
+use Rattle.rl_machine.specs.declared.trace.Answer.{Answer}
+use Rattle.rl_machine.specs.declared.trace.Assignment.{Assignment}
+use Rattle.rl_machine.specs.declared.trace.Trace.{Trace}
+use Rattle.rl_machine.specs.declared.trace.Value.{Value}
+use Rattle.rl_machine.specs.declared.trace.Value.TheVariants as value
+use Rattle.rl_machine.specs.Closed.{IsClosed}
 use Rattle.rl_model.specs.Headline.{NeverStuck, SameRuns}
 use Rattle.rl_model.specs.Held.{call_at, calls_in, calls_of, graph_calls, live_in_body, HoldsCalls}
-use Rattle.rl_model.specs.Machine.{set_by, take_arguments, trace_by}
+use Rattle.rl_model.specs.Runs.{take_arguments, trace_by, start_values}
 use Rattle.rl_model.specs.Rows.{refusals, refusals_of}
 use Rattle.rl_model.specs.Size.{function_size}
 use Rattle.rl_model.specs.Source.{source_trace, exec_body, take}
-use Rattle.rl_model.specs.Traces.{Store, ValueCont, returned, threw, unset, set_all, waiting}
+use Rattle.rl_machine.specs.Traces.{Store, ValueCont, returned, threw, unset, waiting}
+use Rattle.rl_model.specs.Meanings.{set_all}
 use Rattle.rl_base.specs.declared.ids.BlockId.{BlockId}
 use Rattle.rl_hir.specs.declared.function.Hir.{Hir}
 use Rattle.rl_lower.specs.Endings.{closed_off, with_undefined, IsGraphOf}
@@ -51,8 +52,11 @@ use Rattle.rl_lower.proofs.Graphs.{without_order, ordered_table_plain}
 use Rattle.rl_lower.proofs.Keeping.{added_then, keeps_then, one_unnamed, room_less}
 use Rattle.rl_lower.proofs.Parameters.{known_length, parameters_agree, parameters_given, parameters_made, state_with}
 use Rattle.rl_lower.proofs.Alone.{built_of}
-use Rattle.rl_lower.proofs.Builds.{closed_built}
-use Rattle.rl_lower.proofs.Finished.{finished_closed}
+use Rattle.rl_lower.proofs.Builds.{closed_built, closed_table}
+use Rattle.rl_lower.proofs.Building.{closed_listed}
+use Rattle.rl_builder.specs.Build.{graph_of}
+use Rattle.rl_machine.specs.Conditions.{MayOrder}
+use Rattle.rl_lower.proofs.Finished.{finished_may_order}
 
 -- The builder behind the parameters.
 
@@ -128,26 +132,40 @@ pub graph_refused : (names : Names) (parameters : List Parameter) (body : Syntax
 graph_refused names parameters body env new params built g distinct =
     ap (λ (e : Environment). e.diagnostics) g.after ∙ (lowered_from names parameters body env new params built g distinct).refused ∙ append_assoc env.diagnostics (said_of_parameters parameters) (refusals names body)
 
+-- No completed block has a predecessor.
+graph_unlinked : (names : Names) (parameters : List Parameter) (body : Syntax) (env new : Environment) (params : List Param) (built : Built)
+    (g : IsGraphOf names parameters body env new params built) → AreApart parameters → All (λ p. p.1.preds ≡ []) (closed_off g.state).completed
+graph_unlinked names parameters body env new params built g distinct =
+    (closed_listed names (state_with (started env kinds.Block) parameters) body g.state (begun_fresh env parameters) (lowered_from names parameters body env new params built g distinct)).predecessors
+
+graph_table : (names : Names) (parameters : List Parameter) (body : Syntax) (env new : Environment) (params : List Param) (built : Built)
+    (g : IsGraphOf names parameters body env new params built) → AreApart parameters → graph_of (closed_off g.state) ≡ (closed_off g.state).completed
+graph_table names parameters body env new params built g distinct =
+    closed_table names (state_with (started env kinds.Block) parameters) body g.state (begun_fresh env parameters) (lowered_from names parameters body env new params built g distinct)
+
 pub graph_closed : (names : Names) (parameters : List Parameter) (body : Syntax) (env new : Environment) (params : List Param) (built : Built)
     → IsGraphOf names parameters body env new params built → AreApart parameters → IsClosed built.hir
 graph_closed names parameters body env new params built g distinct =
-    subst (λ (b : Built). IsClosed b.hir) (sym (graph_is names parameters body env new params built g distinct))
-    (finished_closed (closed_off g.state) (function_finished (state_with (started env kinds.Block) parameters) g.state (begun_fresh env parameters) (lowered_from names parameters body env new params built g distinct).blocks))
+    let last : State = closed_off g.state in
+    g.graph.closed
+    (subst (λ (blocks : List BlockPair). MayOrder (record { blocks = blocks; table = last.table; entry = last.entry })) (sym (graph_table names parameters body env new params built g distinct))
+    (finished_may_order last (function_finished (state_with (started env kinds.Block) parameters) g.state (begun_fresh env parameters) (lowered_from names parameters body env new params built g distinct).blocks)
+    (graph_unlinked names parameters body env new params built g distinct)))
 
 -- `exec_body` is the meaning of the body before its end, continued by a return of Undefined.
 body_means : (names : Names) (b : Syntax) (store : Store) (answers : List Answer) (throws : ValueCont)
     → exec_body names b store answers
-    (λ v after rest. returned returns.Implicit v) throws ≡ exec_before_end names b store answers
-    (record { normal = λ after rest. returned returns.Void value.Undefined; throws = throws })
+    (λ v after rest. returned [] returns.Implicit v) throws ≡ exec_before_end names b store answers
+    (record { normal = λ after rest. returned [] returns.Void value.Undefined; throws = throws })
 body_means names (Node at word.Body (Then directives (Then (Listed statements) End))) store answers throws = refl
 body_means names _ store answers throws = refl
 
 function_runs : (names : Names) (f body : Syntax) → IsFunction f body → (start : List Assignment) (arguments : List Value) (answers : List Answer)
     → source_trace names f start arguments answers ≡ exec_body names body
     (take (parameters_of names f) arguments (set_all start unset)) answers
-    (λ v store rest. returned returns.Implicit v) (λ v store rest. threw v)
+    (λ v store rest. returned [] returns.Implicit v) (λ v store rest. threw v)
 function_runs names f body w start arguments answers =
-    ap (λ (b : Syntax). exec_body names b (take (parameters_of names f) arguments (set_all start unset)) answers (λ v store rest. returned returns.Implicit v) (λ v store rest. threw v)) w.is_body
+    ap (λ (b : Syntax). exec_body names b (take (parameters_of names f) arguments (set_all start unset)) answers (λ v store rest. returned [] returns.Implicit v) (λ v store rest. threw v)) w.is_body
 
 -- Its size.
 
@@ -255,11 +273,11 @@ lower_runs_by : (f body : Syntax) (names : Names) (parameters : List Parameter) 
 lower_runs_by f body names given env new params built w declared is distinct g supported h pairs body_is instructions_is params_is =
     function_runs_by begun graph.state (exec_before_end names body) (begun_fresh env parameters) (parameters_made (started env kinds.Block) parameters)
     lowered.blocks (lowered.runs (body_supported names f body w declared supported)) h pairs names f
-    (body_is ∙ ap (λ (b : Built). b.hir) (graph_is names parameters body env new params built graph apart)) (instructions_is ∙ ap (λ (b : Built). b.instructions) (graph_is names parameters body env new params built graph apart))
+    built graph.graph (graph_table names parameters body env new params built graph apart) (graph_unlinked names parameters body env new params built graph apart) body_is instructions_is
     (λ start arguments. take parameters arguments (set_all start unset))
     (λ start arguments. subst (λ (ps : List Param). Agrees begun.bindings (take parameters arguments (set_all start unset))
-    (take_arguments ps arguments (set_by pairs start unset))) (sym (params_is ∙ graph.places))
-    (parameters_agree (started env kinds.Block) parameters apart arguments (set_all start unset) (set_by pairs start unset)))
+    (take_arguments ps arguments (start_values pairs start))) (sym (params_is ∙ graph.places))
+    (parameters_agree (started env kinds.Block) parameters apart arguments (set_all start unset) (start_values pairs start)))
     (λ start arguments answers. function_runs names f body w start arguments answers
     ∙ body_means names body (take parameters arguments (set_all start unset)) answers (λ v after rest. threw v))
   where

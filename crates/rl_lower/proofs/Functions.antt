@@ -1,5 +1,5 @@
 -- The traces of a function's graph, from those of its body's.
-use Rattle.std.proofs.Common.{◌≡◌, ℕ, inl, inr, List, [], length, slice_get, Option, Some, None, refl, sym, ap, ◌∙◌, subst, arith}
+use Rattle.std.proofs.Common.{◌≡◌, ℕ, inl, inr, List, [], All, length, map, slice_get, Option, Some, None, refl, sym, ap, ◌∙◌, subst, arith}
 use Rattle.rl_base.specs.declared.span.Span.{Span}
 use Rattle.rl_hir.specs.declared.instruction.Place.{Place}
 use Rattle.rl_hir.specs.declared.instruction.InstructionValue.TheVariants as values
@@ -15,15 +15,23 @@ use Rattle.rl_base.specs.declared.ids.InstructionId.{InstructionId}
 use Rattle.rl_hir.specs.declared.function.Pair.{Pair}
 use Rattle.rl_builder.specs.Builder.{State, reserved, new_block, ended_by, completed_by, placeholder}
 use Rattle.rl_builder.specs.Temporaries.{temporary}
-use Rattle.rl_lower.proofs.Alone.{built_of}
+use Rattle.rl_builder.specs.Build.{IsBuilt, graph_of, unordered_graph}
+use Rattle.rl_builder.specs.declared.builder.Built.{Built}
+use Rattle.rl_hir.specs.Pairs.{identifier_of}
+use Rattle.rl_machine.specs.Conditions.{MayOrder}
+use Rattle.rl_machine.specs.Machine.{code_of, graph_trace}
+use Rattle.rl_machine.specs.Prunes.{PassesOnce}
 use Rattle.rl_builder.specs.declared.builder.WipBlock.{WipBlock}
-use Rattle.rl_model.specs.declared.trace.Value.{Value}
-use Rattle.rl_model.specs.declared.trace.Value.TheVariants as value
-use Rattle.rl_model.specs.declared.trace.Answer.{Answer}
-use Rattle.rl_model.specs.declared.trace.Assignment.{Assignment}
-use Rattle.rl_model.specs.declared.trace.Trace.{Trace}
-use Rattle.rl_model.specs.Traces.{Store, ValueCont, ExprMeaning, StmtMeaning, returned, threw, unset}
-use Rattle.rl_model.specs.Machine.{Ends, Code, Notes, no_notes, code_in, set_by, take_arguments, trace_by}
+use Rattle.rl_machine.specs.declared.trace.Value.{Value}
+use Rattle.rl_machine.specs.declared.trace.Value.TheVariants as value
+use Rattle.rl_machine.specs.declared.trace.Answer.{Answer}
+use Rattle.rl_machine.specs.declared.trace.Assignment.{Assignment}
+use Rattle.rl_machine.specs.declared.trace.Trace.{Trace}
+use Rattle.rl_machine.specs.Traces.{Store, ValueCont, returned, threw, unset, alone}
+use Rattle.rl_model.specs.Meanings.{ExprMeaning, StmtMeaning}
+use Rattle.rl_machine.specs.Machine.{Ends, Code, code_in}
+use Rattle.rl_machine.specs.Ends.{Notes, no_notes}
+use Rattle.rl_model.specs.Runs.{take_arguments, trace_by, start_values, param_identifier}
 use Rattle.rl_model.specs.Source.{source_trace}
 use Rattle.rl_syntax.specs.Syntax.{Syntax}
 use Rattle.rl_names.specs.Names.{Names}
@@ -38,26 +46,27 @@ use Rattle.rl_base.specs.Distinct.{AreDistinct}
 use Rattle.rl_base.proofs.DistinctLists.{distinct_none}
 use Rattle.rl_lower.proofs.BlockIds.{apart_ended, ids_of, ended_more}
 use Rattle.rl_lower.proofs.Parts.{value_runs}
-use Rattle.rl_lower.proofs.Finished.{IsFinished, entry_built, finished_contained, finished_runs, limited, total_runs}
+use Rattle.rl_lower.proofs.Asking.{none_kept}
+use Rattle.rl_lower.proofs.Finished.{IsFinished, finished_code, finished_contained, finished_may_order, finished_passes_once, finished_runs}
 
 -- A block that ends by a return ends the run with the value.
 pub block_returns : (s : State) (span : Option Span) (variant : ReturnVariant) (place : Place) (next : WipBlock) (c : Code)
     → IsContainedIn (completed_by s (return_of span variant place) next) c
     → (v : Value) (store : Store) (notes : Notes) (answers : List Answer) → store place.identifier.0 ≡ v
-    → TracesFrom c s store notes answers (returned variant v)
+    → TracesFrom c s store notes answers (returned [] variant v)
 block_returns s span variant place next c cover v store notes answers is =
-    steps_on c s.current.id.0 (length s.current.instructions) store notes answers (Ends (return_of span variant place)) (returned variant v)
+    steps_on c s.current.id.0 (length s.current.instructions) store notes answers (Ends (return_of span variant place)) (returned [] variant v)
     (terminal_met s (return_of span variant place) next c cover)
-    (comes_at_once c _ _ (λ stuck onward. ap (λ w. returned variant w) is))
+    (comes_at_once c _ _ (λ stuck onward. ap (λ (kept : List Assignment). returned kept variant (store place.identifier.0)) (none_kept c cover.stands store) ∙ ap (λ w. returned [] variant w) is))
 
 -- A body that is an expression: its value is returned, and a block that was reserved before goes on.
 pub value_returned : (s new : State) (d : ExprMeaning) (identifier : ℕ) (span : Option Span) (place : Place) (kind : BlockKind)
     → place.identifier.0 ≡ identifier → RunsExpression d (reserved s) new identifier
-    → RunsStatement (λ source answers exits. d source answers (λ v after rest. returned returns.Implicit v) exits.throws) s
+    → RunsStatement (λ source answers exits. d source answers (λ v after rest. returned [] returns.Implicit v) exits.throws) s
     (completed_by new (return_of span returns.Implicit place) (new_block s.env.next_block kind))
 value_returned s new d identifier span place kind named r = record {
   runs = λ c cover m exits source store notes answers a throws onward.
-      r.runs c (contained_before new _ c ended cover) (record { below = m.below }) (λ v after rest. returned returns.Implicit v) exits.throws source store notes answers a throws
+      r.runs c (contained_before new _ c ended cover) (record { below = m.below }) (λ v after rest. returned [] returns.Implicit v) exits.throws source store notes answers a throws
       (record { goes = λ v after later notes1 answers1 a1 l is. block_returns new span returns.Implicit place (new_block s.env.next_block kind) c cover v later notes1 answers1 (ap later named ∙ is) });
 }
   where
@@ -76,10 +85,10 @@ extends_undefined s = extends_value s (values.Primitive primitives.Undefined) No
 -- At the end of a body the function returns Undefined.
 falls_off : (s : State) (c : Code) → IsContainedIn (closed_off s) c → AreMade s
     → (throws : ValueCont) (source store : Store) (notes : Notes) (answers : List Answer) → Agrees s.bindings source store
-    → Throws throws → TracesFrom c s store notes answers (returned returns.Void value.Undefined)
+    → Throws throws → TracesFrom c s store notes answers (returned [] returns.Void value.Undefined)
 falls_off s c cover m throws source store notes answers a none =
     (undefined_runs s).runs c (contained_before (with_undefined s) (closed_off s) c (extends_completed (with_undefined s) _ placeholder) cover) m
-    (λ v after rest. returned returns.Void v) throws source store notes answers a none
+    (λ v after rest. returned [] returns.Void v) throws source store notes answers a none
     (record { goes = λ v after later notes1 answers1 a1 l is. block_returns (with_undefined s) None returns.Void (temporary s None) placeholder c cover v later notes1 answers1 is })
 
 nothing_completed : (completed : List BlockPair) → completed ≡ [] → (id : ℕ) → IsCompleted completed id → ⊥
@@ -108,7 +117,7 @@ none_ended k d below = absurd (omega arith)
 pub function_finished : (begun s : State) → IsFresh begun → PreservesBlocks begun s → IsFinished (closed_off s)
 function_finished begun s fresh b = record {
   apart = apart_ended s.completed s.current.id.0 s.env.next_block (ended_by (with_undefined s).current (return_of None returns.Void (temporary s None))) refl (b.ids.distinct (distinct_fresh begun fresh));
-  ended = ended_more s.completed (ended_by (with_undefined s).current (return_of None returns.Void (temporary s None))) (refl, λ h. h) (b.ended (subst AreEnded (sym fresh.completed) none_ended));
+  ended = ended_more s.completed (ended_by (with_undefined s).current (return_of None returns.Void (temporary s None))) (refl, λ h. absurd (cc)) (b.ended (subst AreEnded (sym fresh.completed) none_ended));
   empty = refl;
   entry = subst (λ (id : ℕ). IsCompleted (closed_off s).completed id) (sym (ap (λ (id : BlockId). id.0) b.extends.entry ∙ fresh.entry))
       (entry_completed (with_undefined s) (return_of None returns.Void (temporary s None)) placeholder begun.current.id.0
@@ -116,51 +125,61 @@ function_finished begun s fresh b = record {
 }
 
 -- The finished blocks have the traces of the body.
-pub function_runs : (begun s : State) (m : StmtMeaning) → IsFresh begun → AreMade begun → PreservesBlocks begun s
+pub function_runs : (begun s : State) (m : StmtMeaning) (ident : ℕ → Option ℕ) (fresh : IsFresh begun) → AreMade begun → (b : PreservesBlocks begun s)
     → RunsStatement m begun s → (throws : ValueCont) (source store : Store) (notes : Notes) (answers : List Answer)
     → Agrees begun.bindings source store → Throws throws
-    → TracesAt (code_in (closed_off s).completed (closed_off s).table) (closed_off s).entry.0 0 store notes answers
-    (m source answers (record { normal = λ after rest. returned returns.Void value.Undefined; throws = throws }))
-function_runs begun s m fresh made b r throws source store notes answers agrees none =
-    let c : Code = code_in (closed_off s).completed (closed_off s).table in
-    let trace : Trace = m source answers (record { normal = λ after rest. returned returns.Void value.Undefined; throws = throws }) in
-    let cover : IsContainedIn (closed_off s) c = finished_contained (closed_off s) (function_finished begun s fresh b) in
+    → TracesAt (finished_code (closed_off s) (function_finished begun s fresh b) ident) (closed_off s).entry.0 0 store notes answers
+    (m source answers (record { normal = λ after rest. returned [] returns.Void value.Undefined; throws = throws }))
+function_runs begun s m ident fresh made b r throws source store notes answers agrees none =
+    let c : Code = finished_code (closed_off s) (function_finished begun s fresh b) ident in
+    let trace : Trace = m source answers (record { normal = λ after rest. returned [] returns.Void value.Undefined; throws = throws }) in
+    let cover : IsContainedIn (closed_off s) c = finished_contained (closed_off s) (function_finished begun s fresh b) ident in
     let goes : TracesFrom c begun store notes answers trace =
     r.runs c (contained_before s (closed_off s) c (extends_then s (with_undefined s) (closed_off s) (extends_undefined s) (extends_completed (with_undefined s) _ placeholder)) cover) made
-    (record { normal = λ after rest. returned returns.Void value.Undefined; throws = throws }) source store notes answers agrees none
+    (record { normal = λ after rest. returned [] returns.Void value.Undefined; throws = throws }) source store notes answers agrees none
     (record { goes = λ after later notes1 answers1 a1 l. falls_off s c cover (made_then begun s b.extends made) throws after later notes1 answers1 (agrees_then begun s after later b.extends a1) none }) in
     subst (λ (id : ℕ). TracesAt c id 0 store notes answers trace) (sym (ap (λ (id : BlockId). id.0) b.extends.entry ∙ fresh.entry))
     (subst (λ (listed : List InstructionId). TracesAt c begun.current.id.0 (length listed) store notes answers trace) fresh.instructions goes)
 
--- The function that is built has the traces of its source, whatever trace a stuck run has.
+-- The function that is built has the traces of its source, whatever trace a stuck run has: `build` keeps the runs of the completed blocks.
 pub function_runs_by : (begun s : State) (m : StmtMeaning) → IsFresh begun → AreMade begun → PreservesBlocks begun s
     → RunsStatement m begun s → (f : HirFunction (List BlockPair)) (pairs : List Pair) (names : Names) (function : Syntax)
-    → f.body ≡ (built_of (closed_off s)).hir → f.instructions ≡ (built_of (closed_off s)).instructions
+    → (built : Built) → IsBuilt (closed_off s) built → graph_of (closed_off s) ≡ (closed_off s).completed → All (λ p. p.1.preds ≡ []) (closed_off s).completed
+    → f.body ≡ built.hir → f.instructions ≡ built.instructions
     → (source : List Assignment → List Value → Store) →
-    ((start : List Assignment) (arguments : List Value) → Agrees begun.bindings (source start arguments) (take_arguments f.params arguments (set_by pairs start unset)))
-    → ((start : List Assignment) (arguments : List Value) (answers : List Answer) → source_trace names function start arguments answers ≡ m (source start arguments) answers (record { normal = λ after rest. returned returns.Void value.Undefined; throws = λ v after rest. threw v }))
+    ((start : List Assignment) (arguments : List Value) → Agrees begun.bindings (source start arguments) (take_arguments f.params arguments (start_values pairs start)))
+    → ((start : List Assignment) (arguments : List Value) (answers : List Answer) → source_trace names function start arguments answers ≡ m (source start arguments) answers (record { normal = λ after rest. returned [] returns.Void value.Undefined; throws = λ v after rest. threw v }))
     → (stuck : Trace) (start : List Assignment) (arguments : List Value) (answers : List Answer)
     → trace_by stuck f pairs start arguments answers ≡ source_trace names function start arguments answers
-function_runs_by begun s m fresh made b r f pairs names function body_is instructions_is source agrees means stuck start arguments answers =
-    here ∙ total_runs stuck (built_of last).hir.blocks (built_of last).instructions last.entry.0 store no_notes answers trace (entry_built last finished) goes ∙ sym (means start arguments answers)
+function_runs_by begun s m fresh made b r f pairs names function built is_built table_is unlinked body_is instructions_is source agrees means stuck start arguments answers =
+    ap (λ (h : Hir (List BlockPair)). graph_trace stuck (record { blocks = h.blocks; table = f.instructions; entry = h.entry }) ident alone params start arguments answers) body_is
+    ∙ ap (λ (l : List Instruction). graph_trace stuck (record { blocks = built.hir.blocks; table = l; entry = built.hir.entry }) ident alone params start arguments answers) instructions_is
+    ∙ is_built.runs may stuck ident alone params once start arguments answers
+    ∙ ap (λ (blocks : List BlockPair). graph_trace stuck (record { blocks = blocks; table = last.table; entry = last.entry }) ident alone params start arguments answers) table_is
+    ∙ finished_runs last finished ident stuck store answers trace
+    (function_runs begun s m ident fresh made b r (λ v after rest. threw v) (source start arguments) store no_notes answers (agrees start arguments) (record { ends = λ v after rest. refl }))
+    ∙ sym (means start arguments answers)
   where
     last : State
     last = closed_off s
 
+    ident : ℕ → Option ℕ
+    ident = identifier_of pairs
+
+    params : List ℕ
+    params = map param_identifier f.params
+
     store : Store
-    store = take_arguments f.params arguments (set_by pairs start unset)
+    store = take_arguments f.params arguments (start_values pairs start)
 
     trace : Trace
-    trace = m (source start arguments) answers (record { normal = λ after rest. returned returns.Void value.Undefined; throws = λ v after rest. threw v })
+    trace = m (source start arguments) answers (record { normal = λ after rest. returned [] returns.Void value.Undefined; throws = λ v after rest. threw v })
 
     finished : IsFinished last
     finished = function_finished begun s fresh b
 
-    goes : TracesAt (code_in (built_of last).hir.blocks (built_of last).instructions) last.entry.0 0 store no_notes answers trace
-    goes = finished_runs last finished store no_notes answers trace
-        (function_runs begun s m fresh made b r (λ v after rest. threw v) (source start arguments) store no_notes answers (agrees start arguments) (record { ends = λ v after rest. refl }))
+    may : MayOrder (unordered_graph last)
+    may = subst (λ (blocks : List BlockPair). MayOrder (record { blocks = blocks; table = last.table; entry = last.entry })) (sym table_is) (finished_may_order last finished unlinked)
 
-    here : trace_by stuck f pairs start arguments answers ≡ limited stuck (built_of last).hir.blocks (built_of last).instructions last.entry.0 store no_notes answers
-    here =
-        ap (λ (h : Hir (List BlockPair)). limited stuck h.blocks f.instructions h.entry.0 store no_notes answers) body_is
-        ∙ ap (λ (l : List Instruction). limited stuck (built_of last).hir.blocks l last.entry.0 store no_notes answers) instructions_is
+    once : PassesOnce (code_of (unordered_graph last) ident alone) last.entry params
+    once = subst (λ (blocks : List BlockPair). PassesOnce (code_of (record { blocks = blocks; table = last.table; entry = last.entry }) ident alone) last.entry params) (sym table_is) (finished_passes_once last finished ident params)

@@ -27,14 +27,15 @@ use Rattle.rl_names.specs.Names.{Names}
 use Rattle.rl_base.specs.declared.ids.SymbolId.{SymbolId}
 use Rattle.rl_names.specs.declared.names.Meaning.{Meaning}
 use Rattle.rl_names.specs.declared.names.Meaning.TheVariants.{Local, Outer}
-use Rattle.rl_model.specs.declared.trace.Answer.{Answer}
-use Rattle.rl_model.specs.declared.trace.Value.TheVariants as value
+use Rattle.rl_machine.specs.declared.trace.Answer.{Answer}
+use Rattle.rl_machine.specs.declared.trace.Value.TheVariants as value
 use Rattle.rl_model.specs.Held.{call_at, calls_in, calls_among, calls_of, can_complete, live_calls}
 use Rattle.rl_model.specs.Rows.{refusals, refusals_in, refusal, said_of_local, said_of_name, said_of_outer}
-use Rattle.rl_model.specs.Traces.{Exits, returned, Store, ValueCont, waiting}
+use Rattle.rl_machine.specs.Traces.{returned, Store, ValueCont, waiting}
+use Rattle.rl_model.specs.Meanings.{Exits}
 use Rattle.rl_model.specs.Source.{eval_expr, eval_exprs, reads, shape_of, exec_stmt, exec_stmts}
 use Rattle.rl_hir.specs.Instructions.{argument_place, argument_shape}
-use Rattle.rl_model.specs.Machine.{value_of}
+use Rattle.rl_machine.specs.Acts.{value_of}
 use Rattle.rl_lower.specs.Endings.{return_of, returned_from}
 use Rattle.rl_lower.specs.Lowering.{Preserves, LowersExpression, LowersExpressions, LowersStatement, LowersStatements}
 use Rattle.rl_lower.specs.Simulation.{RunsExpression}
@@ -301,7 +302,7 @@ keeps_returned s span place kind =
 -- An argument of a return is evaluated and returned.
 returns_argument : (names : Names) (e : Syntax) (at : At) → (e ≡ Absent → ⊥)
     → (source : Store) (answers : List Answer) (exits : Exits)
-    → eval_expr names e source answers (λ v after rest. returned returns.Explicit v) exits.throws ≡ exec_stmt names
+    → eval_expr names e source answers (λ v after rest. returned [] returns.Explicit v) exits.throws ≡ exec_stmt names
     (Node at word.Return (Then e End)) source answers exits
 returns_argument names (Node own said parts) at some source answers exits = refl
 returns_argument names (Listed parts) at some source answers exits = refl

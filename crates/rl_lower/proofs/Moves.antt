@@ -10,10 +10,11 @@ use Rattle.rl_hir.specs.Blocks.{Pair as BlockPair}
 use Rattle.rl_builder.specs.Builder.{State, reserved, recorded, with_temporary, pushed, ended_by, completed_by}
 use Rattle.rl_builder.specs.Temporaries.{with_value}
 use Rattle.rl_builder.specs.declared.builder.WipBlock.{WipBlock}
-use Rattle.rl_model.specs.declared.trace.Answer.{Answer}
-use Rattle.rl_model.specs.declared.trace.Trace.{Trace}
-use Rattle.rl_model.specs.Traces.{Store}
-use Rattle.rl_model.specs.Machine.{Item, Runs, Ends, Code, Notes, Next, step}
+use Rattle.rl_machine.specs.declared.trace.Answer.{Answer}
+use Rattle.rl_machine.specs.declared.trace.Trace.{Trace}
+use Rattle.rl_machine.specs.Traces.{Store}
+use Rattle.rl_machine.specs.Machine.{Item, Runs, Ends, Code, Next, step}
+use Rattle.rl_machine.specs.Ends.{Notes}
 use Rattle.rl_lower.specs.Simulation.{IsCurrentOrCompleted, InBlock, InWip, Extends, IsContainedIn, TracesAt, TracesFrom, walk}
 use Rattle.rl_lower.proofs.Steps.{get_more, get_seam, steps_on}
 
@@ -119,16 +120,16 @@ extends_completed s t next = record {
 
 pub contained_before : (old new : State) (c : Code) → Extends old new → IsContainedIn new c → IsContainedIn old c
 contained_before old new c g cover =
-    record { has = λ f h. elim h [ inl d ↦ cover.has f (inl (g.done f d)) | inr w ↦ cover.has f (g.wip f w) ] }
+    record { has = λ f h. elim h [ inl d ↦ cover.has f (inl (g.done f d)) | inr w ↦ cover.has f (g.wip f w) ]; uncaught = cover.uncaught; stands = cover.stands }
 
 pub terminal_met : (s : State) (t : Terminal) (next : WipBlock) (c : Code) → IsContainedIn (completed_by s t next) c
-    → c s.current.id.0 (length s.current.instructions) ≡ Some (Ends t)
+    → c.item s.current.id.0 (length s.current.instructions) ≡ Some (Ends t)
 terminal_met s t next c cover =
     cover.has (record { block = s.current.id.0; place = length s.current.instructions; item = Ends t })
     (inl (record { place = length s.completed; block = ended_by s.current t; found = get_seam s.completed (ended_by s.current t) []; named = refl; holds = (refl, refl) }))
 
 pub instruction_met : (s : State) (i : Instruction) (c : Code) → IsContainedIn (pushed s i) c
-    → c s.current.id.0 (length s.current.instructions) ≡ Some (Runs i)
+    → c.item s.current.id.0 (length s.current.instructions) ≡ Some (Runs i)
 instruction_met s i c cover =
     cover.has (record { block = s.current.id.0; place = length s.current.instructions; item = Runs i })
     (inr (record { named = refl; holds = record { number = record { 0 = length s.table }; at = get_seam s.current.instructions (record { 0 = length s.table }) []; kept = get_seam s.table i [] } }))
@@ -136,7 +137,7 @@ instruction_met s i c cover =
 -- A silent instruction: the run goes on at the program point behind it.
 pub push_runs : (s : State) (i : Instruction) (c : Code) (store later : Store) (notes : Notes) (answers : List Answer)
     (t : Trace) →
-    ((stuck : Trace) (next : Next) (block place : ℕ) → step stuck (Some (Runs i)) next next block place store notes answers ≡ next block (place + 1) later notes answers)
+    ((stuck : Trace) (next : Next) (block place : ℕ) → step stuck c (Some (Runs i)) next next block place store notes answers ≡ next block (place + 1) later notes answers)
     → IsContainedIn (pushed s i) c → TracesFrom c (pushed s i) later notes answers t → TracesFrom c s store notes answers t
 push_runs s i c store later notes answers t acts cover rest =
     let one : length (s.current.instructions ++ record { 0 = length s.table } ∷ []) ≡ length s.current.instructions + 1 = length-append s.current.instructions (record { 0 = length s.table } ∷ []) in

@@ -18,13 +18,13 @@ use Rattle.rl_builder.specs.Builder.{State}
 use Rattle.rl_builder.specs.Names.{candidate, chosen, fbt, fbt_diagnostic, is_free, place_from, resolved, resolved_by, user_of, with_user}
 use Rattle.rl_hir.specs.Identifiers.{named_identifier}
 use Rattle.rl_builder.specs.UsedName.{UsedName}
-use Rattle.rl_model.specs.declared.trace.Value.{Value}
-use Rattle.rl_model.specs.declared.trace.Value.TheVariants as value
+use Rattle.rl_machine.specs.declared.trace.Value.{Value}
+use Rattle.rl_machine.specs.declared.trace.Value.TheVariants as value
 use Rattle.rl_model.specs.Fields.{known_from, pairs_from, places_from}
-use Rattle.rl_model.specs.Machine.{take_arguments}
+use Rattle.rl_model.specs.Runs.{take_arguments}
 use Rattle.rl_model.specs.Rows.{is_text, refusal}
 use Rattle.rl_model.specs.Source.{take}
-use Rattle.rl_model.specs.Traces.{Store, set}
+use Rattle.rl_machine.specs.Traces.{Store, set}
 use Rattle.rl_names.specs.Locals.{AreApart, AreLocals, HasTexts, IsApart}
 use Rattle.rl_names.specs.Names.{Names}
 use Rattle.rl_names.specs.declared.parameters.Parameter.{Parameter}

@@ -1,5 +1,5 @@
 -- The runs of expressions and statements, one lemma a kind.
-use Rattle.std.proofs.Common.{◌≡◌, ℕ, ◌+◌, ◌<◌, ◌++◌, List, [], ◌∷◌, length, length-append, map, Option, Some, refl, sym, ap, ◌∙◌, subst, arith}
+use Rattle.std.proofs.Common.{◌≡◌, ℕ, ◌+◌, ◌<◌, ◌++◌, List, [], ◌∷◌, length, length-append, map, codes, Option, Some, refl, sym, ap, ◌∙◌, subst, arith}
 use Rattle.rl_base.specs.declared.span.Span.{Span}
 use Rattle.rl_base.specs.Operators.{operator_text}
 use Rattle.rl_base.specs.declared.operator.BinaryOperator.{BinaryOperator}
@@ -14,30 +14,33 @@ use Rattle.rl_hir.specs.declared.terminal.ReturnVariant.{ReturnVariant}
 use Rattle.rl_hir.specs.declared.function.BlockKind.{BlockKind}
 use Rattle.rl_builder.specs.Builder.{State, reserved, new_block, with_temporary}
 use Rattle.rl_builder.specs.Temporaries.{temporary, unordered, with_value}
-use Rattle.rl_model.specs.declared.trace.Value.{Value}
-use Rattle.rl_model.specs.declared.trace.Assignment.{Assignment}
-use Rattle.rl_model.specs.declared.trace.Answer.{Answer}
-use Rattle.rl_model.specs.declared.trace.AnswerKind.{AnswerKind}
-use Rattle.rl_model.specs.declared.trace.AnswerKind.TheVariants.{Yes, No, Throw}
-use Rattle.rl_model.specs.declared.trace.Event.{Event}
-use Rattle.rl_model.specs.declared.trace.Trace.{Trace}
+use Rattle.rl_machine.specs.declared.trace.Value.{Value}
+use Rattle.rl_machine.specs.declared.trace.Assignment.{Assignment}
+use Rattle.rl_machine.specs.declared.trace.Answer.{Answer}
+use Rattle.rl_machine.specs.declared.trace.AnswerKind.{AnswerKind}
+use Rattle.rl_machine.specs.declared.trace.AnswerKind.TheVariants.{Yes, No, Throw}
+use Rattle.rl_machine.specs.declared.trace.Event.{Event}
+use Rattle.rl_machine.specs.declared.trace.Trace.{Trace}
 use Rattle.rl_model.specs.Events.{global, binary, call}
-use Rattle.rl_model.specs.Traces.{Store, set, set_open, ValueCont, ExprMeaning, ExprsMeaning, StmtMeaning, Exits, asked, answered, emit, returned, threw}
+use Rattle.rl_machine.specs.Traces.{AnswerCont, Store, ValueCont, alone, by_kind, emit, fired, returned, set, set_open}
+use Rattle.rl_model.specs.Meanings.{ExprMeaning, ExprsMeaning, StmtMeaning, Exits}
 use Rattle.rl_model.specs.Source.{asks}
-use Rattle.rl_model.specs.Source as source_side
-use Rattle.rl_model.specs.Machine.{Item, Runs, Ends, Code, Notes, Next, Computes, Asks, act, executed, value_of}
+use Rattle.rl_machine.specs.Machine.{Item, Runs, Ends, Code, Next, caught, changer, executed}
+use Rattle.rl_machine.specs.Ends.{Notes}
+use Rattle.rl_machine.specs.Acts.{Computes, Asks, act, event_of, gives, operand_value, value_of}
+use Rattle.rl_hir.specs.Pieces.{Says, argument_pieces, gathered, operands, texts}
+use Rattle.rl_hir.specs.declared.instruction.PlaceOrSpread.TheVariants as arguments
 use Rattle.rl_hir.specs.Instructions.{argument_place, argument_shape, binding_texts}
-use Rattle.rl_model.specs.Machine as machine
 use Rattle.rl_lower.specs.Endings.{return_of, returned_from}
 use Rattle.rl_lower.specs.Simulation.{Agrees, AreMade, Eventually, Continues, Extends, IsContainedIn, TracesFrom, TracesAt, Later, Throws, RunsAll, RunsExpression, RunsStatement, walk}
-use Rattle.rl_lower.proofs.Asking.{machine_unchanged, source_unchanged}
+use Rattle.rl_lower.proofs.Asking.{graph_unchanged, none_kept, source_unchanged}
 use Rattle.rl_lower.proofs.Steps.{agrees_before, agrees_set, agrees_then, made_then, set_same, comes_at_once, steps_on, later_refl, later_then, later_set}
 use Rattle.rl_lower.proofs.Moves.{extends_refl, extends_then, extends_value, contained_before, instruction_met, terminal_met, push_runs}
 use Rattle.rl_lower.proofs.Blocks.{extends_returned}
 
 -- An instruction that computes a value silently.
 pub computed_runs : (s : State) (d : ExprMeaning) (value : InstructionValue) (span : Option Span) (computed : Store → Value)
-    → ((store : Store) → act value store ≡ Computes (computed store))
+    → ((store : Store) → act (length s.env.identifiers) value store ≡ Computes (computed store) (length s.env.identifiers ∷ []))
     → ((source store : Store) → Agrees s.bindings source store → (answers : List Answer) (onward throws : ValueCont) → d source answers onward throws ≡ onward (computed store) source answers)
     → RunsExpression d s (with_value s value span) (length s.env.identifiers)
 computed_runs s d value span computed acts silent = record {
@@ -45,7 +48,7 @@ computed_runs s d value span computed acts silent = record {
       let after : Store = set store (length s.env.identifiers) (computed store) in
       subst (λ t. TracesFrom c s store notes answers t) (sym (silent source store a answers k h))
       (push_runs (with_temporary s span) (unordered (temporary s span) value span) c store after notes answers (k (computed store) source answers)
-      (λ stuck next block place. ap (λ act1. executed stuck act1 (length s.env.identifiers) next next block place store notes answers) (acts store)) cover
+      (λ stuck next block place. ap (λ act1. executed stuck c act1 next next block place store notes answers) (acts store)) cover
       (onward.goes (computed store) source after notes answers (agrees_set s source store (length s.env.identifiers) (computed store) m (omega arith) a) (later_set s store (length s.env.identifiers) (computed store) (omega arith)) (set_same store (length s.env.identifiers) (computed store))));
 }
 
@@ -68,7 +71,7 @@ local_runs s symbol p span bound =
 asked_from : (s base : State) (value : InstructionValue) (span : Option Span) (event : Event) (c : Code) (k h : ValueCont)
     (source store first : Store) (notes : Notes) (answers : List Answer) → Extends base s
     → IsContainedIn (with_value s value span) c → AreMade s
-    → act value store ≡ Asks event → Agrees base.bindings source store → Later base first store → Throws h
+    → act (length s.env.identifiers) value store ≡ Asks event (gives (length s.env.identifiers)) → Agrees base.bindings source store → Later base first store → Throws h
     → Continues c base (with_value s value span) first (length s.env.identifiers) k
     → TracesFrom c s store notes answers (asks event source answers k h)
 asked_from s base value span event c k h source store first notes answers g cover m acts a l throws onward = by_answers answers
@@ -83,36 +86,63 @@ asked_from s base value span event c k h source store first notes answers g cove
     new = with_value s value span
 
     -- The run behind the event, with the answer's value.
-    behind : (v : Value) (assignments : List Assignment) (rest : List Answer) → TracesFrom c new (set (set_open machine.is_open assignments store) identifier v) notes rest (k v (set_open source_side.is_open assignments source) rest)
+    behind : (v : Value) (assignments : List Assignment) (rest : List Answer) → TracesFrom c new (set (changer c assignments store) identifier v) notes rest (k v (set_open alone.opens assignments source) rest)
     behind v assignments rest =
-        subst (λ (r : Store). TracesFrom c new (set r identifier v) notes rest (k v (set_open source_side.is_open assignments source) rest)) (sym (machine_unchanged assignments store))
+        subst (λ (r : Store). TracesFrom c new (set r identifier v) notes rest (k v (set_open alone.opens assignments source) rest)) (sym (graph_unchanged c cover.stands assignments store))
         (subst (λ (r : Store). TracesFrom c new (set store identifier v) notes rest (k v r rest)) (sym (source_unchanged assignments source))
         (onward.goes v source (set store identifier v) notes rest
         (agrees_before base s source (set store identifier v) g (agrees_set s source store identifier v m (omega arith) (agrees_then base s source store g a)))
         (later_then base s first store (set store identifier v) g.identifiers l (later_set s store identifier v (omega arith)))
         (set_same store identifier v)))
 
+    -- The continuations behind the event.
+    onward_at : Next → AnswerCont
+    onward_at next a later rest = next s.current.id.0 (length s.current.instructions + 1) (set later identifier a.value) notes rest
+
+    throws_at : Trace → Next → ValueCont
+    throws_at stuck next = caught stuck (c.catcher s.current.id.0) notes next
+
     -- The step that asks, and the run behind it.
-    stepped : (answers1 : List Answer) (t : Trace) → Eventually c (λ stuck next. asked (λ assignments before. set_open machine.is_open assignments before) event store answers1 (λ v after rest. next s.current.id.0 (length s.current.instructions + 1) (set after identifier v) notes rest) (λ v after rest. threw v)) t → TracesFrom c s store notes answers1 t
+    stepped : (answers1 : List Answer) (t : Trace) → Eventually c (λ stuck next. fired (changer c) event store answers1 (onward_at next) (throws_at stuck next)) t → TracesFrom c s store notes answers1 t
     stepped answers1 t comes =
         steps_on c s.current.id.0 (length s.current.instructions) store notes answers1 item t (instruction_met (with_temporary s span) (unordered (temporary s span) value span) c cover)
-        (record { by = (comes.by.0, λ stuck steps enough. ap (λ act1. executed stuck act1 identifier (walk stuck c steps) (walk stuck c steps) s.current.id.0 (length s.current.instructions) store notes answers1) acts ∙ comes.by.1 stuck steps enough) })
+        (record { by = (comes.by.0, λ stuck steps enough. ap (λ act1. executed stuck c act1 (walk stuck c steps) (walk stuck c steps) s.current.id.0 (length s.current.instructions) store notes answers1) acts ∙ comes.by.1 stuck steps enough) })
 
     one : length (s.current.instructions ++ record { 0 = length s.table } ∷ []) ≡ length s.current.instructions + 1
     one = length-append s.current.instructions (record { 0 = length s.table } ∷ [])
 
-    given : (kind : AnswerKind) (v : Value) (assignments : List Assignment) (rest : List Answer)
-        → Eventually c (λ stuck next. answered kind (λ w after rest1. next s.current.id.0 (length s.current.instructions + 1) (set after identifier w) notes rest1) (λ w after rest1. threw w) v (set_open machine.is_open assignments store) rest) (answered kind k h v (set_open source_side.is_open assignments source) rest)
-    given Yes v assignments rest = subst (λ place. TracesAt c s.current.id.0 place (set (set_open machine.is_open assignments store) identifier v) notes rest (k v (set_open source_side.is_open assignments source) rest)) one (behind v assignments rest)
-    given No v assignments rest = subst (λ place. TracesAt c s.current.id.0 place (set (set_open machine.is_open assignments store) identifier v) notes rest (k v (set_open source_side.is_open assignments source) rest)) one (behind v assignments rest)
-    given Throw v assignments rest = comes_at_once c _ _ (λ stuck next. sym (throws.ends v (set_open source_side.is_open assignments source) rest))
+    gives_on : (v : Value) (assignments : List Assignment) (rest : List Answer)
+        → TracesAt c s.current.id.0 (length s.current.instructions + 1) (set (changer c assignments store) identifier v) notes rest (k v (set_open alone.opens assignments source) rest)
+    gives_on v assignments rest = subst (λ place. TracesAt c s.current.id.0 place (set (changer c assignments store) identifier v) notes rest (k v (set_open alone.opens assignments source) rest)) one (behind v assignments rest)
+
+    given : (kind : AnswerKind) (answer : Answer) (rest : List Answer)
+        → Eventually c (λ stuck next. by_kind kind (onward_at next answer (changer c answer.assignments store) rest) (onward_at next answer (changer c answer.assignments store) rest) (throws_at stuck next answer.value (changer c answer.assignments store) rest))
+        (by_kind kind (k answer.value (set_open alone.opens answer.assignments source) rest) (k answer.value (set_open alone.opens answer.assignments source) rest) (h answer.value (set_open alone.opens answer.assignments source) rest))
+    given Yes answer rest = gives_on answer.value answer.assignments rest
+    given No answer rest = gives_on answer.value answer.assignments rest
+    given Throw answer rest =
+        comes_at_once c _ _ (λ stuck next. ap (λ o. caught stuck o notes next answer.value (changer c answer.assignments store) rest) (cover.uncaught s.current.id.0) ∙ sym (throws.ends answer.value (set_open alone.opens answer.assignments source) rest))
 
     emitted : (f : (stuck : Trace) → Next → Trace) (t : Trace) → Eventually c f t → Eventually c (λ stuck next. emit event (f stuck next)) (emit event t)
     emitted f t comes = record { by = (comes.by.0, λ stuck steps enough. ap (λ u. emit event u) (comes.by.1 stuck steps enough)) }
 
     by_answers : (answers1 : List Answer) → TracesFrom c s store notes answers1 (asks event source answers1 k h)
     by_answers [] = stepped [] _ (comes_at_once c _ _ (λ stuck next. refl))
-    by_answers (answer ∷ rest) = stepped (answer ∷ rest) _ (emitted _ _ (given answer.kind answer.value answer.assignments rest))
+    by_answers (answer ∷ rest) = stepped (answer ∷ rest) _ (emitted _ _ (given answer.kind answer rest))
+
+-- The event of a load.
+load_event : (binding : NonLocalBinding) (store : Store) → event_of (values.LoadGlobal binding) store ≡ global (binding_texts binding)
+load_event binding store =
+    ap (λ (t : List (List ℕ)). record { kind = codes "global"; texts = t; operands = map (operand_value store) (operands (map Says (binding_texts binding))) }) (said_texts (binding_texts binding))
+    ∙ ap (λ (l : List Value). record { kind = codes "global"; texts = binding_texts binding; operands = l }) (said_values (binding_texts binding))
+  where
+    said_texts : (ts : List (List ℕ)) → texts (map Says ts) ≡ ts
+    said_texts [] = refl
+    said_texts (t ∷ ts) = ap (λ (l : List (List ℕ)). t ∷ l) (said_texts ts)
+
+    said_values : (ts : List (List ℕ)) → map (operand_value store) (operands (map Says ts)) ≡ []
+    said_values [] = refl
+    said_values (t ∷ ts) = said_values ts
 
 -- A name that is read and is no local.
 pub outer_runs : (s : State) (binding : NonLocalBinding) (span : Option Span)
@@ -120,7 +150,7 @@ pub outer_runs : (s : State) (binding : NonLocalBinding) (span : Option Span)
     (with_value s (values.LoadGlobal binding) span) (length s.env.identifiers)
 outer_runs s binding span = record {
   runs = λ c cover m k h source store notes answers a throws onward.
-      asked_from s s (values.LoadGlobal binding) span (global (binding_texts binding)) c k h source store store notes answers (extends_refl s) cover m refl a (later_refl s store) throws onward;
+      asked_from s s (values.LoadGlobal binding) span (global (binding_texts binding)) c k h source store store notes answers (extends_refl s) cover m (ap (λ (x : Event). Asks x (gives (length s.env.identifiers))) (load_event binding store)) a (later_refl s store) throws onward;
 }
 
 -- Two operands from left to right, then the operator's event.
@@ -139,7 +169,7 @@ binary_runs s mid last dl dr operator l r span gl gr made rl rr = record {
               goes = λ w source2 store2 notes2 answers2 a2 l2 is2.
                   let kept : store2 l.identifier.0 ≡ v = l2.temporaries l.identifier.0 made ∙ is1 in
                   asked_from last s (values.BinaryExpression operator l r) span (binary (operator_text operator) v w) c k h source2 store2 store notes2 answers2 both cover (made_then s last both m)
-                  (ap (λ (x : Value). Asks (binary (operator_text operator) x (store2 r.identifier.0))) kept ∙ ap (λ (x : Value). Asks (binary (operator_text operator) v x)) is2)
+                  (ap (λ (x : Value). Asks (binary (operator_text operator) x (store2 r.identifier.0)) (gives (length last.env.identifiers))) kept ∙ ap (λ (x : Value). Asks (binary (operator_text operator) v x) (gives (length last.env.identifiers))) is2)
                   (agrees_before s mid source2 store2 gl a2) (later_then s mid store store1 store2 gl.identifiers l1 l2) throws onward;
             });
       });
@@ -172,6 +202,24 @@ next_runs s mid last d ds identifier identifiers g gs made r rs = record {
       });
 }
 
+-- The event of a call, by its arguments.
+
+given_texts : (given : List PlaceOrSpread) → texts (gathered argument_pieces given) ≡ map argument_shape given
+given_texts [] = refl
+given_texts (arguments.Place p ∷ given) = ap (λ (l : List (List ℕ)). codes "place" ∷ l) (given_texts given)
+given_texts (arguments.Spread p ∷ given) = ap (λ (l : List (List ℕ)). codes "spread" ∷ l) (given_texts given)
+
+given_values : (given : List PlaceOrSpread) (store : Store) → map (operand_value store) (operands (gathered argument_pieces given)) ≡ map (λ a. store (argument_place a).identifier.0) given
+given_values [] store = refl
+given_values (arguments.Place p ∷ given) store = ap (λ (l : List Value). store p.identifier.0 ∷ l) (given_values given store)
+given_values (arguments.Spread p ∷ given) store = ap (λ (l : List Value). store p.identifier.0 ∷ l) (given_values given store)
+
+call_event : (callee : Place) (given : List PlaceOrSpread) (store : Store)
+    → event_of (values.CallExpression callee given) store ≡ call (map argument_shape given) (store callee.identifier.0) (map (λ a. store (argument_place a).identifier.0) given)
+call_event callee given store =
+    ap (λ (t : List (List ℕ)). record { kind = codes "call"; texts = t; operands = store callee.identifier.0 ∷ map (operand_value store) (operands (gathered argument_pieces given)) }) (given_texts given)
+    ∙ ap (λ (l : List Value). call (map argument_shape given) (store callee.identifier.0) l) (given_values given store)
+
 -- A callee, its arguments from left to right, then the event of the call.
 pub call_runs : (s mid last : State) (df : ExprMeaning) (ds : ExprsMeaning) (callee : Place) (given : List PlaceOrSpread)
     (identifiers : List ℕ) (shape : List (List ℕ)) (span : Option Span) → Extends s mid → Extends mid last
@@ -191,9 +239,10 @@ call_runs s mid last df ds callee given identifiers shape span gf gs made rf rs 
               goes = λ vs source2 store2 notes2 answers2 a2 l2 is2.
                   let kept : store2 callee.identifier.0 ≡ f = l2.temporaries callee.identifier.0 made ∙ is1 in
                   asked_from last s (values.CallExpression callee given) span (call shape f vs) c k h source2 store2 store notes2 answers2 both cover (made_then s last both m)
-                  (ap (λ (x : List (List ℕ)). Asks (call x (store2 callee.identifier.0) (map (λ b. store2 (argument_place b).identifier.0) given))) shaped
-                  ∙ ap (λ (x : Value). Asks (call shape x (map (λ b. store2 (argument_place b).identifier.0) given))) kept
-                  ∙ ap (λ (x : List Value). Asks (call shape f x)) (placed store2 ∙ is2))
+                  (ap (λ (x : Event). Asks x (gives (length last.env.identifiers))) (call_event callee given store2)
+                  ∙ ap (λ (x : List (List ℕ)). Asks (call x (store2 callee.identifier.0) (map (λ b. store2 (argument_place b).identifier.0) given)) (gives (length last.env.identifiers))) shaped
+                  ∙ ap (λ (x : Value). Asks (call shape x (map (λ b. store2 (argument_place b).identifier.0) given)) (gives (length last.env.identifiers))) kept
+                  ∙ ap (λ (x : List Value). Asks (call shape f x) (gives (length last.env.identifiers))) (placed store2 ∙ is2))
                   (agrees_before s mid source2 store2 gf a2) (later_then s mid store store1 store2 gf.identifiers l1 l2) throws onward;
             });
       });
@@ -231,20 +280,20 @@ evaluated_runs s new d identifier r = record {
 pub return_ends : (s : State) (span : Option Span) (variant : ReturnVariant) (place : Place) (kind : BlockKind) (c : Code)
     → IsContainedIn (returned_from s span variant place kind) c
     → (v : Value) (store : Store) (notes : Notes) (answers : List Answer) → store place.identifier.0 ≡ v
-    → TracesFrom c s store notes answers (returned variant v)
+    → TracesFrom c s store notes answers (returned [] variant v)
 return_ends s span variant place kind c cover v store notes answers is =
-    steps_on c s.current.id.0 (length s.current.instructions) store notes answers (Ends (return_of span variant place)) (returned variant v)
+    steps_on c s.current.id.0 (length s.current.instructions) store notes answers (Ends (return_of span variant place)) (returned [] variant v)
     (terminal_met (reserved s) (return_of span variant place) (new_block s.env.next_block kind) c cover)
-    (comes_at_once c _ _ (λ stuck next. ap (λ w. returned variant w) is))
+    (comes_at_once c _ _ (λ stuck next. ap (λ (kept : List Assignment). returned kept variant (store place.identifier.0)) (none_kept c cover.stands store) ∙ ap (λ w. returned [] variant w) is))
 
 -- A return of an expression's value.
 pub return_runs : (s new : State) (d : ExprMeaning) (identifier : ℕ) (span : Option Span) (variant : ReturnVariant)
     (place : Place) (kind : BlockKind) → place.identifier.0 ≡ identifier → RunsExpression d s new identifier
-    → RunsStatement (λ source answers exits. d source answers (λ v after rest. returned variant v) exits.throws) s
+    → RunsStatement (λ source answers exits. d source answers (λ v after rest. returned [] variant v) exits.throws) s
     (returned_from new span variant place kind)
 return_runs s new d identifier span variant place kind named r = record {
   runs = λ c cover m exits source store notes answers a throws onward.
-      r.runs c (contained_before new (returned_from new span variant place kind) c (extends_returned new span variant place kind) cover) m (λ v after rest. returned variant v) exits.throws source store notes answers a throws
+      r.runs c (contained_before new (returned_from new span variant place kind) c (extends_returned new span variant place kind) cover) m (λ v after rest. returned [] variant v) exits.throws source store notes answers a throws
       (record { goes = λ v after later notes1 answers1 a1 l is. return_ends new span variant place kind c cover v later notes1 answers1 (ap later named ∙ is) });
 }
 

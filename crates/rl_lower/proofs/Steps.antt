@@ -6,11 +6,12 @@ use Rattle.rl_builder.specs.Builder.{State}
 use Rattle.rl_hir.specs.declared.function.Pair.{Pair}
 use Rattle.rl_hir.specs.Pairs.{identifier_of}
 use Rattle.rl_lower.specs.Simulation.{Agrees, AreMade, Eventually, TracesAt, Extends, Later, walk}
-use Rattle.rl_model.specs.declared.trace.Value.{Value}
-use Rattle.rl_model.specs.declared.trace.Answer.{Answer}
-use Rattle.rl_model.specs.declared.trace.Trace.{Trace}
-use Rattle.rl_model.specs.Traces.{Store, set}
-use Rattle.rl_model.specs.Machine.{Item, Code, Notes, Next, step}
+use Rattle.rl_machine.specs.declared.trace.Value.{Value}
+use Rattle.rl_machine.specs.declared.trace.Answer.{Answer}
+use Rattle.rl_machine.specs.declared.trace.Trace.{Trace}
+use Rattle.rl_machine.specs.Traces.{Store, set}
+use Rattle.rl_machine.specs.Machine.{Item, Code, Next, step}
+use Rattle.rl_machine.specs.Ends.{Notes}
 
 pub get_more : {X : Type 0} (xs ys : List X) (place : ℕ) (x : X) → slice_get xs place ≡ Some x
     → slice_get (xs ++ ys) place ≡ Some x
@@ -36,14 +37,14 @@ comes_at_once c f t is = record { by = (0, λ stuck steps enough. is stuck (walk
 
 -- One step, and the run behind it.
 pub steps_on : (c : Code) (block place : ℕ) (store : Store) (notes : Notes) (answers : List Answer) (item : Item) (t : Trace)
-    → c block place ≡ Some item
-    → Eventually c (λ stuck next. step stuck (Some item) next next block place store notes answers) t
+    → c.item block place ≡ Some item
+    → Eventually c (λ stuck next. step stuck c (Some item) next next block place store notes answers) t
     → TracesAt c block place store notes answers t
 steps_on c block place store notes answers item t is rest = record { by = (suc rest.by.0, onward) }
   where
     onward : (stuck : Trace) (steps : ℕ) → suc rest.by.0 ≤ steps → walk stuck c steps block place store notes answers ≡ t
     onward stuck zero enough = absurd (omega arith)
-    onward stuck (suc steps) enough = ap (λ o. step stuck o (walk stuck c steps) (walk stuck c steps) block place store notes answers) is ∙ rest.by.1 stuck steps (omega arith)
+    onward stuck (suc steps) enough = ap (λ o. step stuck c o (walk stuck c steps) (walk stuck c steps) block place store notes answers) is ∙ rest.by.1 stuck steps (omega arith)
 
 pub later_refl : (s : State) (store : Store) → Later s store store
 later_refl s store = record { temporaries = λ identifier below. refl }

@@ -13,7 +13,8 @@ use Rattle.rl_hir.specs.declared.instruction.PlaceOrSpread.{PlaceOrSpread}
 use Rattle.rl_hir.specs.Instructions.{argument_place, argument_shape}
 use Rattle.rl_model.specs.Source.{eval_expr, eval_exprs, shape_of, exec_stmt, exec_stmts}
 use Rattle.rl_model.specs.Rows.{refusals, refusals_in}
-use Rattle.rl_model.specs.Traces.{StmtMeaning, returned}
+use Rattle.rl_machine.specs.Traces.{returned}
+use Rattle.rl_model.specs.Meanings.{StmtMeaning}
 use Rattle.rl_lower.specs.Listed.{IsListed}
 use Rattle.rl_lower.specs.Reachable.{AddsCalls, can_all_complete, can_body_complete}
 use Rattle.rl_lower.specs.Named.{IsNamed}
@@ -96,7 +97,7 @@ abbrev pub exec_before_end : Names → Syntax → StmtMeaning
 exec_before_end names (Node at word.Body (Then directives (Then (Listed statements) End))) store answers exits =
     exec_stmts names statements store answers exits
 exec_before_end names body store answers exits =
-    eval_expr names body store answers (λ v after rest. returned returns.Implicit v) exits.throws
+    eval_expr names body store answers (λ v after rest. returned [] returns.Implicit v) exits.throws
 
 abbrev pub LowersBody : Names → Syntax → State → State → Type 0
 LowersBody names b old new =

@@ -1,5 +1,5 @@
 -- The simulation: the graph that is built between two states of the builder has the traces of a part of the source.
-use Rattle.std.specs.Prelude.{◌≡◌, ℕ, zero, suc, ◌<◌, ◌≤◌, ◌⊎◌, Some, List, [], All, length, map, slice_get}
+use Rattle.std.specs.Prelude.{◌≡◌, ℕ, zero, suc, ◌<◌, ◌≤◌, ◌⊎◌, None, Some, List, [], All, length, map, slice_get}
 use Rattle.rl_base.specs.Distinct.{AreDistinct}
 use Rattle.rl_base.specs.declared.ids.InstructionId.{InstructionId}
 use Rattle.rl_hir.specs.declared.instruction.Instruction.{Instruction}
@@ -7,14 +7,16 @@ use Rattle.rl_hir.specs.Blocks.{Pair as BlockPair}
 use Rattle.rl_hir.specs.declared.function.Pair.{Pair}
 use Rattle.rl_hir.specs.Pairs.{identifier_of}
 use Rattle.rl_builder.specs.Builder.{State}
-use Rattle.rl_model.specs.declared.trace.Value.{Value}
-use Rattle.rl_model.specs.declared.trace.Answer.{Answer}
-use Rattle.rl_model.specs.declared.trace.Trace.{Trace}
-use Rattle.rl_model.specs.Traces.{Store, ValueCont, ValuesCont, Cont, ExprMeaning, ExprsMeaning, StmtMeaning, Exits, threw}
+use Rattle.rl_machine.specs.declared.trace.Value.{Value}
+use Rattle.rl_machine.specs.declared.trace.Answer.{Answer}
+use Rattle.rl_machine.specs.declared.trace.Trace.{Trace}
+use Rattle.rl_machine.specs.Traces.{Store, ValueCont, ValuesCont, Cont, threw, alone}
+use Rattle.rl_model.specs.Meanings.{ExprMeaning, ExprsMeaning, StmtMeaning, Exits}
 use Rattle.rl_hir.specs.Terminals.{named_ids}
 use Rattle.rl_hir.specs.declared.terminal.Terminal.{Terminal}
-use Rattle.rl_model.specs.Closed.{IsUnreachable}
-use Rattle.rl_model.specs.Machine.{Item, Runs, Ends, Code, Notes, Next, step}
+use Rattle.rl_hir.specs.declared.terminal.TerminalKind.TheVariants as kinds
+use Rattle.rl_machine.specs.Machine.{Item, Runs, Ends, Code, Next, step}
+use Rattle.rl_machine.specs.Ends.{Notes}
 
 -- An item at an index of a block. The terminal's index is the number of instructions.
 pub record Fact : Type 0 where
@@ -77,9 +79,11 @@ pub record Extends (old new : State) : Type 0 where
   pub identifiers : length old.env.identifiers ≤ length new.env.identifiers
   pub bindings : new.bindings ≡ old.bindings
 
--- The graph `c` has every item of the state.
+-- The graph `c` has every item of the state. Its blocks have no handlers, and it stands alone.
 pub record IsContainedIn (s : State) (c : Code) : Type 0 where
-  pub has : (f : Fact) → HasItem s f → c f.block f.place ≡ Some f.item
+  pub has : (f : Fact) → HasItem s f → c.item f.block f.place ≡ Some f.item
+  pub uncaught : (block : ℕ) → c.catcher block ≡ None
+  pub stands : c.world ≡ alone
 
 -- The ids of blocks, the current one included, are distinct and below the counter `next`.
 pub record UniqueIds (completed : List BlockPair) (current next : ℕ) : Type 0 where
@@ -105,7 +109,7 @@ PreservesIds old new =
 
 -- A terminal that names no block, and is not the sign of a block that is never run to its end.
 abbrev pub LeavesFunction : Terminal → Type 0
-LeavesFunction t = (named_ids t ≡ []) × (IsUnreachable t → ⊥)
+LeavesFunction t = (named_ids t ≡ []) × (t.kind ≡ kinds.Unreachable → ⊥)
 
 -- Every complete block leaves the function.
 abbrev pub AreEnded : List BlockPair → Type 0
@@ -122,7 +126,7 @@ pub record PreservesBlocks (old new : State) : Type 0 where
 abbrev pub walk : (stuck : Trace) → Code → (steps : ℕ) → Next
 walk stuck code zero id place store notes answers = stuck
 walk stuck code (suc steps) id place store notes answers =
-    step stuck (code id place) (walk stuck code steps) (walk stuck code steps) id place store notes answers
+    step stuck code (code.item id place) (walk stuck code steps) (walk stuck code steps) id place store notes answers
 
 -- From some number of steps on, `f` of the run has the trace `t`, whatever trace a stuck run has: so the run is not stuck.
 pub record Eventually (c : Code) (f : (stuck : Trace) → Next → Trace) (t : Trace) : Type 0 where

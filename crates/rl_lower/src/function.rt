@@ -17,7 +17,7 @@ ghost use Rattle.rl_lower.specs.Lowering.{HasRoom, LowersBody};
 ghost use Rattle.rl_lower.specs.Named.{IsNamed};
 ghost use Rattle.rl_lower.specs.Parameters.{with_parameters};
 ghost use Rattle.rl_lower.specs.Sound.{AreWritableIdentifiers, IsSmallTree, IsSoundGraph, StaysSound};
-ghost use Rattle.rl_model.specs.Closed.{IsClosed};
+ghost use Rattle.rl_machine.specs.Closed.{IsClosed};
 ghost use Rattle.rl_model.specs.Covered.{IsCovered, IsCoveredFunction};
 ghost use Rattle.rl_model.specs.Fields.{AddsUnnamed, directives_in, known_from, pairs_from, places_from, texts_in};
 ghost use Rattle.rl_model.specs.Headline.{NeverStuck, SameRuns};

@@ -22,20 +22,22 @@ use Rattle.rl_hir.specs.declared.terminal.ReturnVariant.TheVariants as returns
 use Rattle.rl_hir.specs.declared.terminal.TerminalKind.TheVariants as ends
 use Rattle.rl_model.specs.Events.{call, global}
 use Rattle.rl_model.specs.Held.{calls_in, live_calls_in}
-use Rattle.rl_model.specs.Machine.{code_of, exec, function_trace, no_notes, steps_for, take_arguments, trace_by}
-use Rattle.rl_model.specs.Traces.{unset, waiting}
+use Rattle.rl_machine.specs.Machine.{code_of}
+use Rattle.rl_machine.specs.Machine.{trace_in}
+use Rattle.rl_machine.specs.Traces.{alone, waiting}
+use Rattle.rl_model.specs.Runs.{function_trace, graph_of, trace_by}
 use Rattle.rl_model.specs.Rows.{refusal, refusals_of, stop_of}
 use Rattle.rl_model.specs.Source.{marked, source_trace}
 use Rattle.rl_model.specs.Units.{names_of, pending}
-use Rattle.rl_model.specs.declared.trace.Answer.{Answer}
-use Rattle.rl_model.specs.declared.trace.AnswerKind.{AnswerKind}
-use Rattle.rl_model.specs.declared.trace.AnswerKind.TheVariants.{Yes, Throw}
-use Rattle.rl_model.specs.declared.trace.Ending.TheVariants as ending
-use Rattle.rl_model.specs.declared.trace.Event.{Event}
-use Rattle.rl_model.specs.declared.trace.Trace.{Trace}
-use Rattle.rl_model.specs.declared.trace.Assignment.{Assignment}
-use Rattle.rl_model.specs.declared.trace.Value.{Value}
-use Rattle.rl_model.specs.declared.trace.Value.TheVariants as value
+use Rattle.rl_machine.specs.declared.trace.Answer.{Answer}
+use Rattle.rl_machine.specs.declared.trace.AnswerKind.{AnswerKind}
+use Rattle.rl_machine.specs.declared.trace.AnswerKind.TheVariants.{Yes, Throw}
+use Rattle.rl_machine.specs.declared.trace.Ending.TheVariants as ending
+use Rattle.rl_machine.specs.declared.trace.Event.{Event}
+use Rattle.rl_machine.specs.declared.trace.Trace.{Trace}
+use Rattle.rl_machine.specs.declared.trace.Assignment.{Assignment}
+use Rattle.rl_machine.specs.declared.trace.Value.{Value}
+use Rattle.rl_machine.specs.declared.trace.Value.TheVariants as value
 
 -- functions of the source
 
@@ -164,7 +166,7 @@ call_throws = record { of_source = refl; of_graph = refl }
 
 -- the run of the graph in which at most `most` silent steps follow one another
 abbrev limited : (most : ℕ) → List Answer → Trace
-limited most answers = exec waiting (code_of graph) most (steps_for answers most) most 0 0 (take_arguments graph.params (value.Given 1 ∷ []) unset) no_notes answers
+limited most answers = trace_in waiting (code_of (graph_of graph) (λ symbol. None) alone) most (record { 0 = 0 }) (0 ∷ []) [] (value.Given 1 ∷ []) answers
 
 -- a run that may take two silent steps in a row and no more is at its end: the load of `x` is followed by an event
 two_in_a_row : limited 2 (answer Yes 2 ∷ answer Yes 3 ∷ []) ≡ function_trace graph [] [] (value.Given 1 ∷ []) (answer Yes 2 ∷ answer Yes 3 ∷ [])
@@ -174,15 +176,9 @@ two_in_a_row = refl
 none_in_a_row : limited 0 (answer Yes 2 ∷ answer Yes 3 ∷ []) ≡ record { events = loads ∷ []; ending = ending.Waiting }
 none_in_a_row = refl
 
--- a run that finds no answer is not stuck; one that comes to no block is, and so is one that comes to an unreachable end
+-- a run that finds no answer is not stuck
 waits_for_an_answer : (stuck : Trace) → trace_by stuck graph [] [] (value.Given 1 ∷ []) [] ≡ record { events = []; ending = ending.Waiting }
 waits_for_an_answer stuck = refl
-
-stuck_without_block : (stuck : Trace) → trace_by stuck (record graph { body = record { entry = record { 0 = 0 }; blocks = [] } }) [] [] [] [] ≡ stuck
-stuck_without_block stuck = refl
-
-stuck_at_an_unreachable_end : (stuck : Trace) → trace_by stuck (record graph { body = record { entry = record { 0 = 0 }; blocks = (record { 0 = 0 }, record { kind = kinds.Block; instructions = []; terminal = record { order = record { 0 = 1 }; span = None; kind = ends.Unreachable }; preds = [] }) ∷ [] } }) [] [] [] [] ≡ stuck
-stuck_at_an_unreachable_end stuck = refl
 
 -- `(a, b) => { f(g); return b; }`: the callee comes before its arguments, and each parameter takes its own argument
 ordered : trace_of (unit_of (function (codes "a" ∷ codes "b" ∷ []) (node 11 word.Expr (called 12 (name 13 (codes "f")) (name 14 (codes "g") ∷ []) ∷ []) ∷ node 15 word.Return (name 16 (codes "b") ∷ []) ∷ [])))

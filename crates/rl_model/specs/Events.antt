@@ -1,7 +1,7 @@
--- Events, as both the source and the graph ask them.
+-- The events of the source.
 use Rattle.std.specs.Prelude.{ℕ, List, [], ◌∷◌, codes}
-use Rattle.rl_model.specs.declared.trace.Event.{Event}
-use Rattle.rl_model.specs.declared.trace.Value.{Value}
+use Rattle.rl_machine.specs.declared.trace.Event.{Event}
+use Rattle.rl_machine.specs.declared.trace.Value.{Value}
 
 -- Reads a name that is no local: the name, and where it is imported from.
 abbrev pub global : List (List ℕ) → Event

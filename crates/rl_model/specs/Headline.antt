@@ -9,20 +9,20 @@ use Rattle.rl_hir.specs.declared.function.HirFunction.{HirFunction}
 use Rattle.rl_hir.specs.declared.function.Lowered.{Lowered}
 use Rattle.rl_hir.specs.declared.function.Pair.{Pair}
 use Rattle.rl_text.specs.Notation.{IsWritable}
-use Rattle.rl_model.specs.Closed.{IsClosed}
+use Rattle.rl_machine.specs.Closed.{IsClosed}
 use Rattle.rl_model.specs.Fields.{HasFieldsOf, HasIdentifiersOf}
 use Rattle.rl_model.specs.Held.{HoldsCalls, calls_in}
-use Rattle.rl_model.specs.Machine.{function_trace, trace_by}
+use Rattle.rl_model.specs.Runs.{function_trace, trace_by}
 use Rattle.rl_model.specs.Rows.{IsSupported}
 use Rattle.rl_model.specs.Size.{lowered_size}
 use Rattle.rl_model.specs.Source.{marked, source_trace}
 use Rattle.rl_model.specs.Units.{IsUnit, names_of, pending}
 use Rattle.rl_names.specs.Names.{Names}
 use Rattle.rl_model.specs.WellFormed.{IsWellFormed}
-use Rattle.rl_model.specs.declared.trace.Answer.{Answer}
-use Rattle.rl_model.specs.declared.trace.Assignment.{Assignment}
-use Rattle.rl_model.specs.declared.trace.Trace.{Trace}
-use Rattle.rl_model.specs.declared.trace.Value.{Value}
+use Rattle.rl_machine.specs.declared.trace.Answer.{Answer}
+use Rattle.rl_machine.specs.declared.trace.Assignment.{Assignment}
+use Rattle.rl_machine.specs.declared.trace.Trace.{Trace}
+use Rattle.rl_machine.specs.declared.trace.Value.{Value}
 
 -- The graph has the trace of its function, for every start store, arguments and answers.
 abbrev pub SameRuns : Names → Syntax → HirFunction (List BlockPair) → List Pair → Type 0

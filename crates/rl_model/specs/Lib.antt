@@ -1,13 +1,12 @@
-pub mod Closed
 pub mod Covered
 pub mod Events
 pub mod Fields
 pub mod Headline
 pub mod Held
-pub mod Machine
+pub mod Meanings
 pub mod Rows
+pub mod Runs
 pub mod Size
 pub mod Source
-pub mod Traces
 pub mod Units
 pub mod WellFormed

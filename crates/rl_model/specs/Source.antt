@@ -11,22 +11,19 @@ use Rattle.rl_names.specs.Names.{Names}
 use Rattle.rl_names.specs.declared.parameters.Parameter.{Parameter}
 use Rattle.rl_names.specs.declared.names.Meaning.{Meaning}
 use Rattle.rl_names.specs.declared.names.Meaning.TheVariants.{Local, Outer}
-use Rattle.rl_model.specs.declared.trace.Value.{Value}
-use Rattle.rl_model.specs.declared.trace.Value.TheVariants as value
-use Rattle.rl_model.specs.declared.trace.Assignment.{Assignment}
-use Rattle.rl_model.specs.declared.trace.Answer.{Answer}
-use Rattle.rl_model.specs.declared.trace.Event.{Event}
-use Rattle.rl_model.specs.declared.trace.Trace.{Trace}
+use Rattle.rl_machine.specs.declared.trace.Value.{Value}
+use Rattle.rl_machine.specs.declared.trace.Value.TheVariants as value
+use Rattle.rl_machine.specs.declared.trace.Assignment.{Assignment}
+use Rattle.rl_machine.specs.declared.trace.Answer.{Answer}
+use Rattle.rl_machine.specs.declared.trace.Event.{Event}
+use Rattle.rl_machine.specs.declared.trace.Trace.{Trace}
 use Rattle.rl_model.specs.Events.{global, binary, call}
-use Rattle.rl_model.specs.Traces.{Store, ExprMeaning, ExprsMeaning, StmtMeaning, ValueCont, unset, set, set_all, set_open, asked, returned, threw, waiting}
+use Rattle.rl_machine.specs.Traces.{Store, ValueCont, alone, fired, unset, set, set_open, returned, threw, waiting}
+use Rattle.rl_model.specs.Meanings.{ExprMeaning, ExprsMeaning, StmtMeaning, set_all}
 
--- True if another function assigns a symbol: none does, since there is no other.
-abbrev pub is_open : ℕ → Bool
-is_open symbol = false
-
--- Asks an event of the source.
+-- Asks an event of the source. The function stands alone: an answer changes no variable.
 abbrev pub asks : Event → Store → List Answer → ValueCont → ValueCont → Trace
-asks event = asked (λ assignments store. set_open is_open assignments store) event
+asks event store answers onward throws = fired (set_open alone.opens) event store answers (λ a after rest. onward a.value after rest) throws
 
 -- Reads a name: a local gives its value, silently; any other name is an event.
 abbrev pub reads : Meaning → ExprMeaning
@@ -62,8 +59,8 @@ abbrev mutual
 -- The meaning of a statement.
 abbrev pub exec_stmt : Names → Syntax → StmtMeaning
 exec_stmt names (Node at word.Expr (Then expression End)) store answers exits = eval_expr names expression store answers (λ v after rest. exits.normal after rest) exits.throws
-exec_stmt names (Node at word.Return (Then Absent End)) store answers exits = returned returns.Explicit value.Undefined
-exec_stmt names (Node at word.Return (Then expression End)) store answers exits = eval_expr names expression store answers (λ v after rest. returned returns.Explicit v) exits.throws
+exec_stmt names (Node at word.Return (Then Absent End)) store answers exits = returned [] returns.Explicit value.Undefined
+exec_stmt names (Node at word.Return (Then expression End)) store answers exits = eval_expr names expression store answers (λ v after rest. returned [] returns.Explicit v) exits.throws
 exec_stmt names _ store answers exits = waiting
 
 -- The meaning of a list of statements: one after the other.
@@ -74,7 +71,7 @@ exec_stmts names (Then statement statements) store answers exits = exec_stmt nam
 -- The meaning of a body: statements, whose end returns Undefined, or an expression, whose value is returned.
 abbrev pub exec_body : Names → Syntax → ExprMeaning
 exec_body names (Node at word.Body (Then directives (Then (Listed statements) End))) store answers onward throws =
-    exec_stmts names statements store answers (record { normal = λ after rest. returned returns.Void value.Undefined; throws = throws })
+    exec_stmts names statements store answers (record { normal = λ after rest. returned [] returns.Void value.Undefined; throws = throws })
 exec_body names body store answers onward throws = eval_expr names body store answers onward throws
 
 -- Each parameter takes the argument at its index, or Undefined.
@@ -86,7 +83,7 @@ take (p ∷ parameters) (v ∷ arguments) store = take parameters arguments (set
 -- The trace of a function: the start store, the parameters, and then the body.
 abbrev pub source_trace : Names → Syntax → List Assignment → List Value → List Answer → Trace
 source_trace names function start arguments answers =
-    exec_body names (body_in function) (take (parameters_of names function) arguments (set_all start unset)) answers (λ v store rest. returned returns.Implicit v) (λ v store rest. threw v)
+    exec_body names (body_in function) (take (parameters_of names function) arguments (set_all start unset)) answers (λ v store rest. returned [] returns.Implicit v) (λ v store rest. threw v)
 
 -- The function that is lowered: the first marked function, in the order of the nodes; Absent in a tree without one.
 abbrev pub marked : Syntax → Syntax

@@ -1,6 +1,5 @@
-//! The model of JavaScript functions and of graphs: values, events and traces. The definitions of runs, of the source and of
-//! the graph, stand in specs/.
+//! The model of JavaScript functions: the nodes that the lowering covers. The meaning of the source and the promises of a result stand
+//! in specs/.
 #![tactic(auto)]
 
 pub mod covered;
-pub mod trace;

@@ -1,5 +1,6 @@
 pub mod Dropping
 pub mod Examples
+pub mod Fallthroughs
 pub mod Following
 pub mod Forwards
 pub mod Keeping

@@ -13,7 +13,7 @@ use Rattle.rl_order.specs.Walk.{Ends, Expands, Passes, Walk, Walks, WalksFrom, e
 use Rattle.rl_order.specs.declared.tasks.Visit.{Visit}
 
 -- Appending changes no used block.
-used_left : (first : Bool) (w : Walk) (id other : BlockId) → is_used (left first w id) other ≡ is_used w other
+pub used_left : (first : Bool) (w : Walk) (id other : BlockId) → is_used (left first w id) other ≡ is_used w other
 used_left true w id other = refl
 used_left false w id other = refl
 
@@ -26,7 +26,7 @@ used_inserted w v behind id = ap (λ o. unwrap_or o false) (lookup_inserted id v
     by_test false = refl
 
 -- A block that is used behind the begin of a visit was used before, or is the visited one, as used.
-used_before : (w : Walk) (v : Visit) (behind : Option BlockId) (id : BlockId) → is_used (entered w v behind) id ≡ true
+pub used_before : (w : Walk) (v : Visit) (behind : Option BlockId) (id : BlockId) → is_used (entered w v behind) id ≡ true
     → (is_used w id ≡ true) ⊎ ((same_id id v.id ≡ true) × (v.used ≡ true))
 used_before w v behind id h = by_test (same_id id v.id) refl (sym (used_inserted w v behind id) ∙ h)
   where

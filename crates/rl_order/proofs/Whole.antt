@@ -24,7 +24,7 @@ block_at_skip (p ∷ xs) ys id h = by_head (same_id id p.0) refl (λ none. block
     by_head false e rest = let h' = rw e at h in rw e (rest h')
 
 -- A look-up passes over what is kept of another block.
-kept_skip : (graph : List Pair) (w : Walk) (other : BlockId) (ids : List BlockId) (id : BlockId)
+pub kept_skip : (graph : List Pair) (w : Walk) (other : BlockId) (ids : List BlockId) (id : BlockId)
     → same_id id other ≡ false → block_at (kept graph w (other ∷ ids)) id ≡ block_at (kept graph w ids) id
 kept_skip graph w other ids id differ =
     block_at_skip (elim (block_at graph other) [ Some block ↦ kept_block w other block | None ↦ [] ]) (kept graph w ids) id
