@@ -145,9 +145,9 @@ fn read_list(
         return Ok(None);
     }
     at.byte += 1;
-    let mut parts = List::new(alloc);
     if has_byte(bytes, at.byte, b']') {
         at.byte += 1;
+        let parts = List::new(alloc);
         return Ok(Some(Numbered::List(parts)));
     }
     if !is_part(bytes, at.byte, b']') {
@@ -156,6 +156,7 @@ fn read_list(
     let Some(first) = read_at(alloc, depth - 1, bytes, at)? else {
         return Ok(None);
     };
+    let mut parts = List::with_capacity(alloc, usual_items(bytes, at.byte))?;
     parts.push(first)?;
     let found = read_parts(alloc, depth - 1, bytes, at, b']', &mut parts)?;
     if found {
@@ -163,6 +164,14 @@ fn read_list(
     } else {
         Ok(None)
     }
+}
+
+/// Number of items for which the reader makes room in a list whose first item ends at the byte offset `end`. A list of one item
+/// has room for no more: a tree has many of these.
+fn usual_items(bytes: &[u8], end: usize) -> usize
+    requires { end ≤ length bytes.now }
+{
+    if has_byte(bytes, end, b']') { 1 } else { 4 }
 }
 
 /// Reads parts from the position `at` on, each behind a space, up to the bracket `close`. Appends them to `parts`, and moves

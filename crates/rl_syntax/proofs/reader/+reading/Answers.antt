@@ -80,7 +80,7 @@ read_list-returns-then-found-clause-found t c =
     let adds = c.in_ok-found.ensures.found c.if-found.true in
     list-read c.args.depth c.args.at.now c.args.bytes.now c.requires.opened c.in-Some.first c.push.new.self c.read_parts.new.parts c.read_at.new.at c.read_parts.new.at (omega (arith, c.if-depth-eq0.false))
     (c.is_part.ensures.yes c.if-not-is_part.false (syntax c.in-Some.first) (c.args.depth - 1) (drop c.read_at.new.at.byte c.args.bytes.now) first.begins)
-    first (c.in_ok-push.ensures.ok ∙ ap (λ (l : List Numbered). l ++ c.in-Some.first ∷ []) c.new-parts.ensures) adds
+    first (c.in_ok-push.ensures.ok ∙ ap (λ (l : List Numbered). l ++ c.in-Some.first ∷ []) c.in_ok-parts.ensures) adds
 
 pub read_node-returns-then-depth-eq0-clause-none : goal.read_node-returns-then-depth-eq0-clause-none
 read_node-returns-then-depth-eq0-clause-none t c =
