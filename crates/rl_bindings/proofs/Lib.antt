@@ -14,3 +14,5 @@ pub mod Passing
 pub mod Numbering
 pub mod Within
 pub mod Adding
+pub mod Splitting
+pub mod Keeping

@@ -1,9 +1,9 @@
 -- The walk over a tree, by the tree's form: the names that it adds, and the events that it appends.
-use Rattle.std.proofs.Common.{◌≡◌, ℕ, zero, suc, Bool, List, [], ◌∷◌, ◌++◌, map, append_assoc, append-nil, ap, sym, refl, subst, ◌∙◌}
+use Rattle.std.proofs.Common.{◌≡◌, ℕ, zero, suc, Bool, List, [], ◌∷◌, ◌++◌, map, take, drop, append_assoc, append-nil, ap, sym, refl, subst, ◌∙◌}
 use Rattle.rl_bindings.specs.Events.{events, lead, trail, sign, front, back}
 use Rattle.rl_bindings.specs.Names.{add_names, named_by, said, texts, texts_of}
 use Rattle.rl_bindings.specs.Roles.{role_of, parts_ahead, outside, below, scope_of}
-use Rattle.rl_bindings.specs.Walks.{KeepsNumbers, IsNumber, Walked, said_by, texts_ahead, texts_behind}
+use Rattle.rl_bindings.specs.Walks.{KeepsNumbers, IsNumber, Walked, said_by}
 use Rattle.rl_bindings.specs.declared.event.Bound.{Bound}
 use Rattle.rl_bindings.specs.declared.event.Event.{Event}
 use Rattle.rl_bindings.specs.declared.event.Event.TheVariants as event
@@ -46,14 +46,22 @@ walked_as n0 n1 s t o0 o1 f g same_names same_events walked = record {
   events = λ later keeps. walked.events later keeps ∙ ap (λ es. o0 ++ es) (same_events later);
 }
 
-behind_none : (ps : Pieces) → texts_behind 0 ps ≡ texts_of ps
-behind_none End = refl
-behind_none (Then p ps) = ap (λ l. texts p ++ l) (behind_none ps)
+-- The first `n` of parts in a row, and the others.
+taken : (n : ℕ) (names : List Name) (a : Above) (parts : List Numbered) → lead names n a (pieces_of (map syntax parts)) ≡ trail names 0 a (pieces_of (map syntax (take n parts)))
+taken zero names a [] = refl
+taken (suc n) names a [] = refl
+taken zero names a (part ∷ parts) = refl
+taken (suc n) names a (part ∷ parts) = ap (λ es. events names a (syntax part) ++ es) (taken n names a parts)
 
-texts_split : (n : ℕ) (ps : Pieces) → texts_ahead n ps ++ texts_behind n ps ≡ texts_of ps
-texts_split n End = refl
-texts_split zero (Then p ps) = behind_none (Then p ps)
-texts_split (suc n) (Then p ps) = append_assoc (texts p) (texts_ahead n ps) (texts_behind n ps) ∙ ap (λ l. texts p ++ l) (texts_split n ps)
+dropped : (n : ℕ) (names : List Name) (a : Above) (parts : List Numbered) → trail names n a (pieces_of (map syntax parts)) ≡ trail names 0 a (pieces_of (map syntax (drop n parts)))
+dropped zero names a parts = refl
+dropped (suc n) names a [] = refl
+dropped (suc n) names a (part ∷ parts) = dropped n names a parts
+
+texts_joined : (n : ℕ) (parts : List Numbered) → texts_of (pieces_of (map syntax (take n parts))) ++ texts_of (pieces_of (map syntax (drop n parts))) ≡ texts_of (pieces_of (map syntax parts))
+texts_joined zero parts = refl
+texts_joined (suc n) [] = refl
+texts_joined (suc n) (part ∷ parts) = append_assoc (texts (syntax part)) (texts_of (pieces_of (map syntax (take n parts)))) (texts_of (pieces_of (map syntax (drop n parts)))) ∙ ap (λ l. texts (syntax part) ++ l) (texts_joined n parts)
 
 -- A node's own name, by its role.
 own_said : (w : Word) (ps : Pieces) → named_by w ps ≡ said_by (role_of w) ps
@@ -142,58 +150,67 @@ module _ (a : Above) (tree : Syntax) (n0 : List Name) (o0 : List Event) where
   of_form : (n1 : List Name) (o1 : List Event) (form : Syntax) → tree ≡ form → Walked n0 n1 (texts form) o0 o1 (λ later. events later a form) → Walks n1 o1
   of_form n1 o1 form is walked = subst (λ s. Walked n0 n1 (texts s) o0 o1 (λ later. events later a s)) (sym is) walked
 
-  module _ (at : At) (word : Word) (ps : Pieces) (is : tree ≡ Node at word ps) where
-    pub node_maker : (r : Role) (n : ℕ) (over inner : Above) (n1 n2 n3 : List Name) (o1 o2 o3 o4 o5 : List Event)
-        → r ≡ role.Maker
-        → r ≡ role_of word
-        → n ≡ parts_ahead word
-        → over ≡ outside a word
-        → inner ≡ below a at word ps
-        → o1 ≡ o0 ++ sign r a at word
-        → Walked n0 n1 (texts_ahead n ps) o1 o2 (λ later. lead later n over ps)
-        → Walked n1 n2 (said_by r ps) o2 o3 (λ later. front later r a at ps)
-        → Walked n2 n3 (texts_behind n ps) o3 o4 (λ later. trail later n inner ps)
-        → o5 ≡ o4 ++ back r
-        → Walks n3 o5
-    node_maker r n over inner n1 n2 n3 o1 o2 o3 o4 o5 maker is_role ahead is_over is_inner signs leads fronts trails backs =
-        of_form n3 o5 (Node at word ps) is
-        (walked_as n0 n3 (texts_ahead n ps ++ (said_by r ps ++ (texts_behind n ps ++ []))) (texts (Node at word ps)) o0 o5
-        (λ later. sign r a at word ++ (lead later n over ps ++ (front later r a at ps ++ (trail later n inner ps ++ back r))))
-        (λ later. events later a (Node at word ps))
-        (ap (λ q. texts_ahead n ps ++ (said_by q ps ++ (texts_behind n ps ++ []))) maker
-        ∙ ap (λ l. texts_ahead n ps ++ l) (append-nil (texts_behind n ps))
-        ∙ texts_split n ps
-        ∙ sym (ap (λ l. l ++ texts_of ps) (own_said word ps ∙ ap (λ q. said_by q ps) (sym is_role ∙ maker))))
-        (λ later. λ i. sign (is_role i) a at word ++ (lead later (ahead i) (is_over i) ps ++ (front later (is_role i) a at ps ++ (trail later (ahead i) (is_inner i) ps ++ back (is_role i)))))
-        (walked_then n0 n0 n3 [] (texts_ahead n ps ++ (said_by r ps ++ (texts_behind n ps ++ []))) o0 o1 o5 (λ later. sign r a at word) (λ later. lead later n over ps ++ (front later r a at ps ++ (trail later n inner ps ++ back r)))
-        (appended n0 o0 o1 (sign r a at word) signs)
-        (walked_then n0 n1 n3 (texts_ahead n ps) (said_by r ps ++ (texts_behind n ps ++ [])) o1 o2 o5 (λ later. lead later n over ps) (λ later. front later r a at ps ++ (trail later n inner ps ++ back r)) leads
-        (walked_then n1 n2 n3 (said_by r ps) (texts_behind n ps ++ []) o2 o3 o5 (λ later. front later r a at ps) (λ later. trail later n inner ps ++ back r) fronts
-        (walked_then n2 n3 n3 (texts_behind n ps) [] o3 o4 o5 (λ later. trail later n inner ps) (λ later. back r) trails (appended n3 o4 o5 (back r) backs))))))
+  -- A node that makes a scope, by its parts that stand before it and those that stand in it.
+  pub node_maker : (at : At) (word : Word) (parts ahead behind : List Numbered) (r : Role) (over inner : Above) (n1 n2 n3 : List Name) (o1 o2 o3 o4 o5 : List Event)
+      → tree ≡ Node at word (pieces_of (map syntax parts))
+      → r ≡ role.Maker
+      → r ≡ role_of word
+      → over ≡ outside a word
+      → inner ≡ below a at word (pieces_of (map syntax parts))
+      → ahead ≡ take (parts_ahead word) parts
+      → behind ≡ drop (parts_ahead word) parts
+      → o1 ≡ o0 ++ sign r a at word
+      → Walked n0 n1 (texts_of (pieces_of (map syntax ahead))) o1 o2 (λ later. trail later 0 over (pieces_of (map syntax ahead)))
+      → Walked n1 n2 (said_by r (pieces_of (map syntax parts))) o2 o3 (λ later. front later r a at (pieces_of (map syntax parts)))
+      → Walked n2 n3 (texts_of (pieces_of (map syntax behind))) o3 o4 (λ later. trail later 0 inner (pieces_of (map syntax behind)))
+      → o5 ≡ o4 ++ back r
+      → Walks n3 o5
+  node_maker at word parts ahead behind r over inner n1 n2 n3 o1 o2 o3 o4 o5 is maker is_role is_over is_inner is_ahead is_behind signs leads fronts trails backs =
+      let ps = pieces_of (map syntax parts) in
+      let first = texts_of (pieces_of (map syntax ahead)) in
+      let last = texts_of (pieces_of (map syntax behind)) in
+      let joined : first ++ last ≡ texts_of ps = (λ i. texts_of (pieces_of (map syntax (is_ahead i))) ++ texts_of (pieces_of (map syntax (is_behind i)))) ∙ texts_joined (parts_ahead word) parts in
+      let is_lead : (later : List Name) → trail later 0 over (pieces_of (map syntax ahead)) ≡ lead later (parts_ahead word) (outside a word) ps = λ later. (λ i. trail later 0 (is_over i) (pieces_of (map syntax (is_ahead i)))) ∙ sym (taken (parts_ahead word) later (outside a word) parts) in
+      let is_trail : (later : List Name) → trail later 0 inner (pieces_of (map syntax behind)) ≡ trail later (parts_ahead word) (below a at word ps) ps = λ later. (λ i. trail later 0 (is_inner i) (pieces_of (map syntax (is_behind i)))) ∙ sym (dropped (parts_ahead word) later (below a at word ps) parts) in
+      of_form n3 o5 (Node at word ps) is
+      (walked_as n0 n3 (first ++ (said_by r ps ++ (last ++ []))) (texts (Node at word ps)) o0 o5
+      (λ later. sign r a at word ++ (trail later 0 over (pieces_of (map syntax ahead)) ++ (front later r a at ps ++ (trail later 0 inner (pieces_of (map syntax behind)) ++ back r))))
+      (λ later. events later a (Node at word ps))
+      (ap (λ q. first ++ (said_by q ps ++ (last ++ []))) maker
+      ∙ ap (λ l. first ++ l) (append-nil last)
+      ∙ joined
+      ∙ sym (ap (λ l. l ++ texts_of ps) (own_said word ps ∙ ap (λ q. said_by q ps) (sym is_role ∙ maker))))
+      (λ later. λ i. sign (is_role i) a at word ++ (is_lead later i ++ (front later (is_role i) a at ps ++ (is_trail later i ++ back (is_role i)))))
+      (walked_then n0 n0 n3 [] (first ++ (said_by r ps ++ (last ++ []))) o0 o1 o5 (λ later. sign r a at word) (λ later. trail later 0 over (pieces_of (map syntax ahead)) ++ (front later r a at ps ++ (trail later 0 inner (pieces_of (map syntax behind)) ++ back r)))
+      (appended n0 o0 o1 (sign r a at word) signs)
+      (walked_then n0 n1 n3 first (said_by r ps ++ (last ++ [])) o1 o2 o5 (λ later. trail later 0 over (pieces_of (map syntax ahead))) (λ later. front later r a at ps ++ (trail later 0 inner (pieces_of (map syntax behind)) ++ back r)) leads
+      (walked_then n1 n2 n3 (said_by r ps) (last ++ []) o2 o3 o5 (λ later. front later r a at ps) (λ later. trail later 0 inner (pieces_of (map syntax behind)) ++ back r) fronts
+      (walked_then n2 n3 n3 last [] o3 o4 o5 (λ later. trail later 0 inner (pieces_of (map syntax behind))) (λ later. back r) trails (appended n3 o4 o5 (back r) backs))))))
 
+  module _ (at : At) (word : Word) (ps : Pieces) (is : tree ≡ Node at word ps) where
     -- A node that makes no scope: `r` is its role, and `q` says which.
     node_other : (r q : Role) (inner : Above) (n1 n2 : List Name) (o1 o2 : List Event)
         → r ≡ q → sign q a at word ≡ [] → back q ≡ [] → (q ≡ role.Maker → ⊥)
         → r ≡ role_of word
         → inner ≡ below a at word ps
         → Walked n0 n1 (said_by r ps) o0 o1 (λ later. front later r a at ps)
-        → Walked n1 n2 (texts_behind 0 ps) o1 o2 (λ later. trail later 0 inner ps)
+        → Walked n1 n2 (texts_of ps) o1 o2 (λ later. trail later 0 inner ps)
         → Walks n2 o2
     node_other r q inner n1 n2 o1 o2 which signs backs other is_role is_inner fronts trails =
         of_form n2 o2 (Node at word ps) is
-        (walked_as n0 n2 (said_by r ps ++ texts_behind 0 ps) (texts (Node at word ps)) o0 o2 (λ later. front later r a at ps ++ trail later 0 inner ps) (λ later. events later a (Node at word ps))
-        (λ i. (sym (own_said word ps ∙ ap (λ x. said_by x ps) (sym is_role))) i ++ behind_none ps i)
+        (walked_as n0 n2 (said_by r ps ++ texts_of ps) (texts (Node at word ps)) o0 o2 (λ later. front later r a at ps ++ trail later 0 inner ps) (λ later. events later a (Node at word ps))
+        (λ i. (sym (own_said word ps ∙ ap (λ x. said_by x ps) (sym is_role))) i ++ texts_of ps)
         (λ later.
         ap (λ b. front later r a at ps ++ trail later 0 b ps) is_inner
         ∙ sym (unscoped later a at word ps r (sym is_role) (ahead_none word (λ e. other (sym which ∙ is_role ∙ e))) (ap (λ x. sign x a at word) which ∙ signs) (ap back which ∙ backs)))
-        (walked_then n0 n1 n2 (said_by r ps) (texts_behind 0 ps) o0 o1 o2 (λ later. front later r a at ps) (λ later. trail later 0 inner ps) fronts trails))
+        (walked_then n0 n1 n2 (said_by r ps) (texts_of ps) o0 o1 o2 (λ later. front later r a at ps) (λ later. trail later 0 inner ps) fronts trails))
 
     pub node_binder : (r : Role) (inner : Above) (n1 n2 : List Name) (o1 o2 : List Event)
         → r ≡ role.Binder
         → r ≡ role_of word
         → inner ≡ below a at word ps
         → Walked n0 n1 (said_by r ps) o0 o1 (λ later. front later r a at ps)
-        → Walked n1 n2 (texts_behind 0 ps) o1 o2 (λ later. trail later 0 inner ps)
+        → Walked n1 n2 (texts_of ps) o1 o2 (λ later. trail later 0 inner ps)
         → Walks n2 o2
     node_binder r inner n1 n2 o1 o2 which is_role is_inner fronts trails =
         node_other r role.Binder inner n1 n2 o1 o2 which refl refl (λ e. let f : role.Binder ≡ role.Maker = e in cc) is_role is_inner fronts trails
@@ -203,7 +220,7 @@ module _ (a : Above) (tree : Syntax) (n0 : List Name) (o0 : List Event) where
         → r ≡ role_of word
         → inner ≡ below a at word ps
         → Walked n0 n1 (said_by r ps) o0 o1 (λ later. front later r a at ps)
-        → Walked n1 n2 (texts_behind 0 ps) o1 o2 (λ later. trail later 0 inner ps)
+        → Walked n1 n2 (texts_of ps) o1 o2 (λ later. trail later 0 inner ps)
         → Walks n2 o2
     node_user r inner n1 n2 o1 o2 which is_role is_inner fronts trails =
         node_other r role.User inner n1 n2 o1 o2 which refl refl (λ e. let f : role.User ≡ role.Maker = e in cc) is_role is_inner fronts trails
@@ -212,18 +229,17 @@ module _ (a : Above) (tree : Syntax) (n0 : List Name) (o0 : List Event) where
         → r ≡ role.Plain
         → r ≡ role_of word
         → inner ≡ below a at word ps
-        → Walked n0 n1 (texts_behind 0 ps) o0 o1 (λ later. trail later 0 inner ps)
+        → Walked n0 n1 (texts_of ps) o0 o1 (λ later. trail later 0 inner ps)
         → Walks n1 o1
     node_plain r inner n1 o1 which is_role is_inner trails =
         node_other r role.Plain inner n0 n1 o0 o1 which refl refl (λ e. let f : role.Plain ≡ role.Maker = e in cc) is_role is_inner
         (subst (λ x. Walked n0 n0 (said_by x ps) o0 o0 (λ later. front later x a at ps)) (sym which) (nothing n0 o0)) trails
 
   pub list_walked : (ps : Pieces) (n1 : List Name) (o1 : List Event) → tree ≡ Listed ps
-      → Walked n0 n1 (texts_behind 0 ps) o0 o1 (λ later. trail later 0 a ps)
+      → Walked n0 n1 (texts_of ps) o0 o1 (λ later. trail later 0 a ps)
       → Walks n1 o1
   list_walked ps n1 o1 is walked =
-      of_form n1 o1 (Listed ps) is
-      (walked_as n0 n1 (texts_behind 0 ps) (texts_of ps) o0 o1 (λ later. trail later 0 a ps) (λ later. trail later 0 a ps) (behind_none ps) (λ later. refl) walked)
+      of_form n1 o1 (Listed ps) is walked
 
   pub text_walked : (text : List ℕ) → tree ≡ Said text → Walks n0 o0
   text_walked text is = of_form n0 o0 (Said text) is (nothing n0 o0)
@@ -237,23 +253,11 @@ module _ (a : Above) (tree : Syntax) (n0 : List Name) (o0 : List Event) where
   pub absent_walked : tree ≡ Absent → Walks n0 o0
   absent_walked is = of_form n0 o0 Absent is (nothing n0 o0)
 
-module _ (a : Above) (n0 : List Name) (o0 : List Event) where
-  pub lead_walked : (count n : ℕ) (parts rest : List Numbered) (tree : Numbered) (n1 n2 : List Name) (o1 o2 : List Event)
-      → count ≡ suc n
-      → parts ≡ tree ∷ rest
-      → Walked n0 n1 (texts (syntax tree)) o0 o1 (λ later. events later a (syntax tree))
-      → Walked n1 n2 (texts_ahead n (pieces_of (map syntax rest))) o1 o2 (λ later. lead later n a (pieces_of (map syntax rest)))
-      → Walked n0 n2 (texts_ahead count (pieces_of (map syntax parts))) o0 o2 (λ later. lead later count a (pieces_of (map syntax parts)))
-  lead_walked count n parts rest tree n1 n2 o1 o2 more are first others =
-      subst (λ c. Walked n0 n2 (texts_ahead c (pieces_of (map syntax parts))) o0 o2 (λ later. lead later c a (pieces_of (map syntax parts)))) (sym more)
-      (subst (λ l. Walked n0 n2 (texts_ahead (suc n) (pieces_of (map syntax l))) o0 o2 (λ later. lead later (suc n) a (pieces_of (map syntax l)))) (sym are)
-      (walked_then n0 n1 n2 (texts (syntax tree)) (texts_ahead n (pieces_of (map syntax rest))) o0 o1 o2 (λ later. events later a (syntax tree)) (λ later. lead later n a (pieces_of (map syntax rest))) first others))
-
 -- The walk over `rest` from `n1` and `o1` on is the end of the walk over `all` from `n0` and `o0` on.
 pub record IsLeft (a : Above) (n0 : List Name) (o0 : List Event) (all : List Numbered) (n1 : List Name) (o1 : List Event) (rest : List Numbered) : Type 0 where
   pub at : (n2 : List Name) (o2 : List Event)
-      → Walked n1 n2 (texts_behind 0 (pieces_of (map syntax rest))) o1 o2 (λ later. trail later 0 a (pieces_of (map syntax rest)))
-      → Walked n0 n2 (texts_behind 0 (pieces_of (map syntax all))) o0 o2 (λ later. trail later 0 a (pieces_of (map syntax all)))
+      → Walked n1 n2 (texts_of (pieces_of (map syntax rest))) o1 o2 (λ later. trail later 0 a (pieces_of (map syntax rest)))
+      → Walked n0 n2 (texts_of (pieces_of (map syntax all))) o0 o2 (λ later. trail later 0 a (pieces_of (map syntax all)))
 
 module _ (a : Above) (n0 : List Name) (o0 : List Event) (all : List Numbered) where
   pub left_all : IsLeft a n0 o0 all n0 o0 all
@@ -266,16 +270,16 @@ module _ (a : Above) (n0 : List Name) (o0 : List Event) (all : List Numbered) wh
   left_less n1 n2 o1 o2 rest more tree is left walked = record {
     at = λ n3 o3 further.
         left.at n3 o3
-        (subst (λ l. Walked n1 n3 (texts_behind 0 (pieces_of (map syntax l))) o1 o3 (λ later. trail later 0 a (pieces_of (map syntax l)))) (sym is)
-        (walked_then n1 n2 n3 (texts (syntax tree)) (texts_behind 0 (pieces_of (map syntax more))) o1 o2 o3 (λ later. events later a (syntax tree)) (λ later. trail later 0 a (pieces_of (map syntax more))) walked further));
+        (subst (λ l. Walked n1 n3 (texts_of (pieces_of (map syntax l))) o1 o3 (λ later. trail later 0 a (pieces_of (map syntax l)))) (sym is)
+        (walked_then n1 n2 n3 (texts (syntax tree)) (texts_of (pieces_of (map syntax more))) o1 o2 o3 (λ later. events later a (syntax tree)) (λ later. trail later 0 a (pieces_of (map syntax more))) walked further));
   }
 
   pub left_none : (n1 : List Name) (o1 : List Event) (rest : List Numbered)
       → rest ≡ [] → IsLeft a n0 o0 all n1 o1 rest
-      → Walked n0 n1 (texts_behind 0 (pieces_of (map syntax all))) o0 o1 (λ later. trail later 0 a (pieces_of (map syntax all)))
+      → Walked n0 n1 (texts_of (pieces_of (map syntax all))) o0 o1 (λ later. trail later 0 a (pieces_of (map syntax all)))
   left_none n1 o1 rest none left =
       left.at n1 o1
-      (subst (λ l. Walked n1 n1 (texts_behind 0 (pieces_of (map syntax l))) o1 o1 (λ later. trail later 0 a (pieces_of (map syntax l)))) (sym none) (nothing n1 o1))
+      (subst (λ l. Walked n1 n1 (texts_of (pieces_of (map syntax l))) o1 o1 (λ later. trail later 0 a (pieces_of (map syntax l)))) (sym none) (nothing n1 o1))
 
 -- A whole walk, which begins without names and events.
 module _ (a : Above) (tree : Syntax) (n1 : List Name) (o1 : List Event) (walked : Walked [] n1 (texts tree) [] o1 (λ later. events later a tree)) where

@@ -1,11 +1,11 @@
 -- Walks over a tree that number its names as they come to them. Names are only added, so a number that a name has stays.
-use Rattle.std.specs.Prelude.{◌≡◌, ℕ, zero, suc, Some, List, [], ◌++◌}
-use Rattle.rl_bindings.specs.Names.{number_of, numbered, add_names, said, texts}
+use Rattle.std.specs.Prelude.{◌≡◌, ℕ, Some, List, [], ◌++◌}
+use Rattle.rl_bindings.specs.Names.{number_of, numbered, add_names, said}
 use Rattle.rl_bindings.specs.declared.event.Event.{Event}
 use Rattle.rl_bindings.specs.declared.names.Name.{Name}
 use Rattle.rl_bindings.specs.declared.role.Role.{Role}
 use Rattle.rl_bindings.specs.declared.role.Role.TheVariants as role
-use Rattle.rl_syntax.specs.Syntax.{Pieces, End, Then}
+use Rattle.rl_syntax.specs.Syntax.{Pieces}
 
 -- The number that a name has among `names` it has among `later` too.
 pub record KeepsNumbers (names later : List Name) : Type 0 where
@@ -27,15 +27,3 @@ said_by role.Binder parts = said parts
 said_by role.User parts = said parts
 said_by role.Maker parts = []
 said_by role.Plain parts = []
-
--- The names that the first `n` of parts in a row say.
-abbrev pub texts_ahead : (n : ℕ) → Pieces → List (List ℕ)
-texts_ahead n End = []
-texts_ahead zero (Then piece pieces) = []
-texts_ahead (suc n) (Then piece pieces) = texts piece ++ texts_ahead n pieces
-
--- The names that parts in a row say, the first `n` aside.
-abbrev pub texts_behind : (n : ℕ) → Pieces → List (List ℕ)
-texts_behind n End = []
-texts_behind zero (Then piece pieces) = texts piece ++ texts_behind zero pieces
-texts_behind (suc n) (Then piece pieces) = texts_behind n pieces

@@ -7,6 +7,7 @@ ghost use Rattle.rl_bindings.specs.NameRules.{is_passing};
 ghost use Rattle.rl_bindings.specs.NameRules as rules;
 ghost use Rattle.rl_bindings.specs.Tables as tables;
 ghost use Rattle.rl_bindings.specs.Names.{names_in};
+ghost use Rattle.rl_rules.specs.Following.{keeps_all};
 ghost use Rattle.rl_syntax.specs.Syntax.{syntax};
 ghost use Rattle.std.specs.List.{list_any};
 
@@ -15,7 +16,7 @@ use crate::names::Name;
 use crate::resolve::{Declaration, Reference, resolve_all};
 use crate::rules::{check_all, is_var, lexical_of};
 use crate::symbol_table::SymbolTable;
-use crate::walk::events_of;
+use crate::walk::walk;
 use rl_ast::unit::Unit;
 use rl_base::error::OutOfMemory;
 use rl_base::list::List;
@@ -98,6 +99,8 @@ pub struct Bindings {
     pub references: List<Reference>,
     /// The least of the rules B2 to B5 that the unit breaks. `None` if it breaks none of them.
     pub least_broken_name_rule: Option<u8>,
+    /// True if the unit keeps the rules B1 and B6 to B9.
+    pub keeps_other_rules: bool,
 }
 
 impl Bindings {
@@ -112,21 +115,24 @@ impl Bindings {
         ensures references { IfOk result (λ b. b.references ≡ tables.references_in (syntax unit.now.tree)) }
         ensures declarations_within { IfOk result (λ b. All (λ d. IfSome d.symbol (λ k. k < length b.symbols)) b.declarations) }
         ensures references_within { IfOk result (λ b. All (λ r. IfSome r.symbol (λ k. k < length b.symbols)) b.references) }
+        ensures kept { IfOk result (λ b. b.keeps_other_rules ≡ keeps_all (syntax unit.now.tree)) }
         ensures least_broken { IfOk result (λ b. b.least_broken_name_rule ≡ tables.least_broken (syntax unit.now.tree)) }
     {
-        let (names, events) = events_of(alloc, unit.nodes.len(), &unit.tree)?;
+        let walked = walk(alloc, unit.nodes.len(), &unit.tree)?;
+        let events = walked.events;
         let found = check_all(alloc, &events)?;
         let passing = passes(alloc, &events)?;
         let broken = least(found.clashed, passing, found.repeated, found.shared);
         let resolved = resolve_all(alloc, &found.symbols, &events)?;
         let scopes = scopes_of(alloc, &events)?;
         Ok(Bindings {
-            names,
+            names: walked.names,
             scopes,
             symbols: found.symbols,
             declarations: found.declarations,
             references: resolved.references,
             least_broken_name_rule: broken,
+            keeps_other_rules: walked.kept,
         })
     }
 }

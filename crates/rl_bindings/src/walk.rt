@@ -1,9 +1,16 @@
-//! Events of a tree's nodes, in the order of the text, and the names that they declare and use.
+//! One walk over a tree: the events of its nodes in the order of the text, the names that they declare and use, and the rules that do
+//! not speak of names.
 
-ghost use Rattle.std.specs.Prelude.{◌≡◌, ◌++◌, map, IfOk, OnOk};
-ghost use Rattle.rl_bindings.specs.Events.{events, lead, trail, sign, front, back, top};
-ghost use Rattle.rl_bindings.specs.Names.{names_in, texts};
-ghost use Rattle.rl_bindings.specs.Walks.{Walked, said_by, texts_ahead, texts_behind};
+ghost use Rattle.std.specs.Prelude.{◌≡◌, ◌+◌, ◌^◌, ◌<◌, ◌≤◌, ◌++◌, take, drop, length, map, IfOk, OnOk};
+ghost use Rattle.rl_bindings.specs.Events.{events, trail, sign, front, back, top};
+ghost use Rattle.rl_bindings.specs.Names.{names_in, texts, texts_of};
+ghost use Rattle.rl_bindings.specs.Roles as roles;
+ghost use Rattle.rl_bindings.specs.Walks.{Walked, said_by};
+ghost use Rattle.rl_rules.specs.Following.{followed, keeps_all, node_passes};
+ghost use Rattle.rl_rules.specs.Following as rules;
+ghost use Rattle.rl_rules.specs.Marks.{bodies, bodies_among};
+ghost use Rattle.rl_rules.specs.Walks.{passes, parts_pass, items_pass};
+ghost use Rattle.rl_syntax.specs.Sizes.{size_of};
 ghost use Rattle.rl_syntax.specs.Syntax.{pieces_of, syntax};
 
 use crate::event::{BindKind, Bound, Event, Place, ScopeEntry};
@@ -14,9 +21,13 @@ use crate::role::{
 use rl_base::error::OutOfMemory;
 use rl_base::ids::ScopeId;
 use rl_base::name_table::NameTable;
+use rl_rules::following::{Context, is_kept, outermost, part_below, test_node};
 use rl_syntax::numbered::{At, Numbered};
 use rl_syntax::word::Word;
 use std::alloc::Global;
+
+/// The largest number of slots for names.
+const MOST_SLOTS: usize = 16_777_216;
 
 /// Appends the scope that a node makes, if it makes one. On `OutOfMemory`, an allocation failed.
 fn push_sign(
@@ -97,7 +108,25 @@ fn push_back(out: &mut Vec<Event>, role: Role) -> Result<(), OutOfMemory>
     }
 }
 
-/// Appends the events of a tree, by what stands above it, and adds its names. On `OutOfMemory`, an allocation failed.
+/// The parts of a node that stand before the scope that it makes, and the others.
+#[tactic(auto, using(crate::proofs::Splitting::split_past, crate::proofs::Splitting::taken_less, crate::proofs::Splitting::dropped_less))]
+fn split_parts(word: Word, parts: &[Numbered]) -> (&[Numbered], &[Numbered])
+    ensures ahead { result.0.now ≡ take (roles.parts_ahead word) parts.now }
+    ensures behind { result.1.now ≡ drop (roles.parts_ahead word) parts.now }
+    ensures within { length result.0.now + length result.1.now ≡ length parts.now }
+    ensures fewer_ahead { size_of (pieces_of (map syntax result.0.now)) ≤ size_of (pieces_of (map syntax parts.now)) }
+    ensures fewer_behind { size_of (pieces_of (map syntax result.1.now)) ≤ size_of (pieces_of (map syntax parts.now)) }
+{
+    let count = parts_ahead(word);
+    if count <= parts.len() {
+        parts.split_at(count)
+    } else {
+        (parts, &[])
+    }
+}
+
+/// Appends the events of a tree, by what stands above it, and adds its names. Tests its nodes by the rules B1 and B6 to B9: `kept`
+/// is what is known of these, and `context` the tree's context. On `OutOfMemory`, an allocation failed.
 #[cycle(walking)]
 #[inline(always)]
 #[tactic(auto, using(rl_syntax::proofs::Layers::by_layer))]
@@ -105,44 +134,59 @@ fn push_events(
     alloc: Global,
     out: &mut Vec<Event>,
     names: &mut NameTable<Name>,
+    kept: &mut Option<bool>,
     above: Above,
+    context: Context,
     tree: &Numbered,
 ) -> Result<(), OutOfMemory>
-    ensures { OnOk result (Walked names.old names.new (texts (syntax tree.now)) out.old.items out.new.items (λ later. events later above (syntax tree.now))) }
+    ensures walked { OnOk result (Walked names.old names.new (texts (syntax tree.now)) out.old.items out.new.items (λ later. events later above (syntax tree.now))) }
+    ensures kept { OnOk result (kept.new ≡ followed kept.old (passes node_passes rules.part_below context (syntax tree.now)) (bodies (syntax tree.now))) }
 {
     match tree {
         Numbered::Node(at, word, parts) => {
             let role = role_of(*word);
             let parts = parts.as_slice();
             let inner = below(above, *at, *word, parts);
+            *kept = test_node(*kept, context, *word, parts);
             match role {
                 Role::Maker => {
-                    let count = parts_ahead(*word);
+                    let outer = outside(above, *word);
+                    let (ahead, behind) = split_parts(*word, parts);
                     push_sign(out, role, above, *at, *word)?;
-                    push_lead(alloc, out, names, count, outside(above, *word), parts)?;
+                    push_parts(alloc, out, names, kept, outer, context, *word, 0, ahead)?;
                     push_front(alloc, out, names, role, above, *at, parts)?;
-                    push_trail(alloc, out, names, count, inner, parts)?;
+                    push_parts(
+                        alloc,
+                        out,
+                        names,
+                        kept,
+                        inner,
+                        context,
+                        *word,
+                        ahead.len(),
+                        behind,
+                    )?;
                     push_back(out, role)?;
                     Ok(())
                 }
                 Role::Binder => {
                     push_front(alloc, out, names, role, above, *at, parts)?;
-                    push_all(alloc, out, names, inner, parts)?;
+                    push_parts(alloc, out, names, kept, inner, context, *word, 0, parts)?;
                     Ok(())
                 }
                 Role::User => {
                     push_front(alloc, out, names, role, above, *at, parts)?;
-                    push_all(alloc, out, names, inner, parts)?;
+                    push_parts(alloc, out, names, kept, inner, context, *word, 0, parts)?;
                     Ok(())
                 }
                 Role::Plain => {
-                    push_all(alloc, out, names, inner, parts)?;
+                    push_parts(alloc, out, names, kept, inner, context, *word, 0, parts)?;
                     Ok(())
                 }
             }
         }
         Numbered::List(parts) => {
-            push_all(alloc, out, names, above, parts.as_slice())?;
+            push_all(alloc, out, names, kept, above, context, parts.as_slice())?;
             Ok(())
         }
         Numbered::Text(_) => Ok(()),
@@ -152,84 +196,75 @@ fn push_events(
     }
 }
 
-/// Appends the events of the first `count` of parts in a row, and adds their names. On `OutOfMemory`, an allocation failed.
+/// As `push_events`, for parts in a row of a node of the word `word`, whose context is `context`. The first of them is its part at
+/// the index `start`. On `OutOfMemory`, an allocation failed.
 #[cycle(walking)]
-fn push_lead(
+fn push_parts(
     alloc: Global,
     out: &mut Vec<Event>,
     names: &mut NameTable<Name>,
-    count: usize,
+    kept: &mut Option<bool>,
     above: Above,
+    context: Context,
+    word: Word,
+    start: usize,
     parts: &[Numbered],
 ) -> Result<(), OutOfMemory>
-    ensures { OnOk result (Walked names.old names.new (texts_ahead count (pieces_of (map syntax parts.now))) out.old.items out.new.items (λ later. lead later count above (pieces_of (map syntax parts.now)))) }
+    requires { start + length parts.now < 2 ^ 64 }
+    ensures walked { OnOk result (Walked names.old names.new (texts_of (pieces_of (map syntax parts.now))) out.old.items out.new.items (λ later. trail later 0 above (pieces_of (map syntax parts.now)))) }
+    ensures kept { OnOk result (kept.new ≡ followed kept.old (parts_pass node_passes rules.part_below context word start (pieces_of (map syntax parts.now))) (bodies_among (pieces_of (map syntax parts.now)))) }
 {
-    match parts {
-        [first, rest @ ..] => {
-            if count == 0 {
-                Ok(())
-            } else {
-                push_events(alloc, out, names, above, first)?;
-                push_lead(alloc, out, names, count - 1, above, rest)?;
-                Ok(())
-            }
-        }
-        [] => Ok(()),
+    'parts: for (index, part) in parts.iter().enumerate() {
+        let inner = part_below(context, word, start + index);
+        push_events(alloc, out, names, kept, above, inner, part)?;
     }
+    Ok(())
 }
 
-/// Appends the events of parts in a row, the first `count` aside, and adds their names. On `OutOfMemory`, an allocation failed.
-#[cycle(walking)]
-fn push_trail(
-    alloc: Global,
-    out: &mut Vec<Event>,
-    names: &mut NameTable<Name>,
-    count: usize,
-    above: Above,
-    parts: &[Numbered],
-) -> Result<(), OutOfMemory>
-    ensures { OnOk result (Walked names.old names.new (texts_behind count (pieces_of (map syntax parts.now))) out.old.items out.new.items (λ later. trail later count above (pieces_of (map syntax parts.now)))) }
-{
-    if count == 0 {
-        push_all(alloc, out, names, above, parts)?;
-        return Ok(());
-    }
-    match parts {
-        [_, rest @ ..] => {
-            push_trail(alloc, out, names, count - 1, above, rest)?;
-            Ok(())
-        }
-        [] => Ok(()),
-    }
-}
-
-/// Appends the events of trees in a row, and adds their names. On `OutOfMemory`, an allocation failed.
+/// As `push_events`, for the items of a list. On `OutOfMemory`, an allocation failed.
 #[cycle(walking)]
 fn push_all(
     alloc: Global,
     out: &mut Vec<Event>,
     names: &mut NameTable<Name>,
+    kept: &mut Option<bool>,
     above: Above,
+    context: Context,
     trees: &[Numbered],
 ) -> Result<(), OutOfMemory>
-    ensures { OnOk result (Walked names.old names.new (texts_behind 0 (pieces_of (map syntax trees.now))) out.old.items out.new.items (λ later. trail later 0 above (pieces_of (map syntax trees.now)))) }
+    ensures walked { OnOk result (Walked names.old names.new (texts_of (pieces_of (map syntax trees.now))) out.old.items out.new.items (λ later. trail later 0 above (pieces_of (map syntax trees.now)))) }
+    ensures kept { OnOk result (kept.new ≡ followed kept.old (items_pass node_passes rules.part_below context (pieces_of (map syntax trees.now))) (bodies_among (pieces_of (map syntax trees.now)))) }
 {
     'trees: for tree in trees {
-        push_events(alloc, out, names, above, tree)?;
+        push_events(alloc, out, names, kept, above, context, tree)?;
     }
     Ok(())
 }
 
-/// The names of a unit's tree, each once, in the order in which they come first, and its events. `nodes` is about the number of
-/// nodes of the tree. On `OutOfMemory`, an allocation failed.
-#[tactic(auto, using(crate::proofs::Walking::all_named, crate::proofs::Walking::all_walked))]
-pub fn events_of(
-    alloc: Global,
-    nodes: usize,
-    tree: &Numbered,
-) -> Result<(NameTable<Name>, Vec<Event>), OutOfMemory>
-    ensures names { IfOk result (λ found. found.0 ≡ names_in (syntax tree.now)) }
-    ensures events { IfOk result (λ found. found.1.items ≡ events found.0 top (syntax tree.now)) }
+/// The names of a tree, its events, and what a walk over it knows of the rules.
+#[derive(Drop)]
+pub struct Found {
+    /// The names, each once, in the order in which they come first.
+    pub names: NameTable<Name>,
+    /// The events, in the order of the text.
+    pub events: Vec<Event>,
+    /// True if the tree keeps the rules B1 and B6 to B9.
+    pub kept: bool,
+}
+
+/// Number of slots for the names of a tree with about `nodes` nodes. Names that end in numbers share fewer places among a power of
+/// two than among other numbers of slots, where the places of neighbours are often the same.
+fn slots_for(nodes: usize) -> usize {
+    nodes.min(MOST_SLOTS).next_power_of_two()
+}
+
+/// The names of a unit's tree, its events, and whether it keeps the rules B1 and B6 to B9. `nodes` is about the number of nodes of
+/// the tree. On `OutOfMemory`, an allocation failed.
+#[tactic(auto, using(crate::proofs::Walking::all_named, crate::proofs::Walking::all_walked, rl_rules::proofs::KeptOn::kept_whole))]
+pub fn walk(alloc: Global, nodes: usize, tree: &Numbered) -> Result<Found, OutOfMemory>
+    ensures names { IfOk result (λ found. found.names ≡ names_in (syntax tree.now)) }
+    ensures events { IfOk result (λ found. found.events.items ≡ events found.names top (syntax tree.now)) }
+    ensures kept { IfOk result (λ found. found.kept ≡ keeps_all (syntax tree.now)) }
 {
     let above = Above {
         scope: ScopeId(0),
@@ -237,8 +272,21 @@ pub fn events_of(
         kind: BindKind::Var,
         place: Place::Inner,
     };
-    let mut names = NameTable::with_slots(alloc, nodes)?;
-    let mut out = Vec::with_capacity(alloc, nodes)?;
-    push_events(alloc, &mut out, &mut names, above, tree)?;
-    Ok((names, out))
+    let mut names = NameTable::with_slots(alloc, slots_for(nodes))?;
+    let mut events = Vec::with_capacity(alloc, nodes)?;
+    let mut kept = Some(false);
+    push_events(
+        alloc,
+        &mut events,
+        &mut names,
+        &mut kept,
+        above,
+        outermost(),
+        tree,
+    )?;
+    Ok(Found {
+        names,
+        events,
+        kept: is_kept(kept),
+    })
 }

@@ -8,11 +8,11 @@ use Rattle.rl_rules.specs.Finding.{found_behind}
 use Rattle.rl_rules.specs.Marks.{is_one_true, bodies, bodies_among}
 
 -- The result of the search behind one more list, from its result before the list.
-abbrev then_found : Option Bool → List Bool → Option Bool
+abbrev pub then_found : Option Bool → List Bool → Option Bool
 then_found None bodies = None
 then_found (Some found) bodies = found_behind found bodies
 
-appended : (found : Bool) (before after : List Bool) → found_behind found (before ++ after) ≡ then_found (found_behind found before) after
+pub appended : (found : Bool) (before after : List Bool) → found_behind found (before ++ after) ≡ then_found (found_behind found before) after
 appended found [] after = refl
 appended false (true ∷ before) after = appended true before after
 appended false (false ∷ before) after = refl

@@ -1,5 +1,6 @@
 mod AllForms
 mod Counts
+pub mod KeptOn
 mod Found
 mod FoundIf
 mod Together

@@ -2,6 +2,7 @@ pub mod Both
 pub mod Chains
 pub mod Declarations
 pub mod Finding
+pub mod Following
 pub mod Forms
 pub mod Marks
 pub mod Pieces

@@ -17,7 +17,7 @@ use crate::variables::Variables;
 use rl_syntax::numbered::Numbered;
 
 /// Rules B6 to B9 together.
-type AllForms = Both<Chains, Both<Variables, Both<Declarations, Forms>>>;
+pub(crate) type AllForms = Both<Chains, Both<Variables, Both<Declarations, Forms>>>;
 
 /// True of a tree that keeps rule B1 and each of the rules B6 to B9, as `keeps_mark`, `keeps_chains`, `keeps_variables`,
 /// `keeps_declarations` and `keeps_forms` say, in one walk.

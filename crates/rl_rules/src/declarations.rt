@@ -14,7 +14,7 @@ use rl_syntax::word::Word;
 
 /// The place of a node, by what may be declared there.
 #[derive(Clone, Copy)]
-pub(crate) enum Place {
+pub enum Place {
     /// The list of a program.
     Program,
     /// The list of a block, a body, a case or a static block, or the head of a `for`, `forin` or `forof`.

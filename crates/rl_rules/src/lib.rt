@@ -6,6 +6,7 @@ mod both;
 pub mod chains;
 pub mod declarations;
 mod finding;
+pub mod following;
 pub mod forms;
 pub mod marks;
 pub mod pieces;

@@ -3,6 +3,7 @@
 ghost use Rattle.std.specs.Prelude.{◌≡◌, ℕ, None, Some, map, IfOk, IfErr};
 ghost use Rattle.rl_bindings.specs.Names.{names_in};
 ghost use Rattle.rl_bindings.specs.Tables.{declarations_in, references_in, scopes_in, symbols_in};
+ghost use Rattle.rl_rules.specs.Following.{keeps_all};
 ghost use Rattle.rl_rules.specs.Marks as marks;
 ghost use Rattle.rl_semantic.specs.Imports.{imports_in, seen};
 ghost use Rattle.rl_semantic.specs.Rules as spec;
@@ -14,7 +15,6 @@ use rl_ast::unit::Unit;
 use rl_base::error::OutOfMemory;
 use rl_base::list::List;
 use rl_bindings::bindings::Bindings;
-use rl_rules::all::keeps_all;
 use rl_rules::chains::keeps_chains;
 use rl_rules::declarations::keeps_declarations;
 use rl_rules::forms::keeps_forms;
@@ -77,13 +77,14 @@ fn least(marked: bool, named: Option<u8>, formed: Option<u8>) -> Option<u8>
     }
 }
 
-/// The least of the rules B1 to B9 that a tree breaks, if `named` is the least rule on names that it breaks. One walk tells if B1
-/// and B6 to B9 are kept; a walk for each finds the least only if one is not.
+/// The least of the rules B1 to B9 that a tree breaks, if `named` is the least rule on names that it breaks, and `kept` says that it
+/// keeps B1 and B6 to B9. A walk for each of these finds the least only if one is not kept.
 #[tactic(auto, using(crate::proofs::Kept::all_kept))]
-fn least_broken(tree: &Numbered, named: Option<u8>) -> Option<u8>
+fn least_broken(tree: &Numbered, named: Option<u8>, kept: bool) -> Option<u8>
+    requires { kept ≡ keeps_all (syntax tree.now) }
     ensures { result ≡ spec.least (marks.keeps_mark (syntax tree.now)) named (spec.least_broken_form (syntax tree.now)) }
 {
-    if keeps_all(tree) {
+    if kept {
         return named;
     }
     least(keeps_mark(tree), named, least_broken_form(tree))
@@ -117,7 +118,7 @@ impl<'u> Semantic<'u> {
     {
         let bindings = Bindings::of(alloc, unit)?;
         let named = bindings.least_broken_name_rule;
-        if let Some(rule) = least_broken(&unit.tree, named) {
+        if let Some(rule) = least_broken(&unit.tree, named, bindings.keeps_other_rules) {
             return Err(RuleError::Malformed(rule));
         }
         let imports = imports_of(alloc, unit)?;

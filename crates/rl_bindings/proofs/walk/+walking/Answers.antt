@@ -1,60 +1,89 @@
-use Rattle.std.proofs.Common.{◌≡◌, ◌+◌, ◌-◌, ◌∷◌, length, map, drop, take, ap, sym, ◌∙◌, arith}
+use Rattle.std.proofs.Common.{◌≡◌, ◌+◌, ◌-◌, ◌∷◌, length, map, drop, take, ap, sym, refl, ◌∙◌, arith}
 use Rattle.std.proofs.Math.ListN.{drop_of_length-le}
-use Rattle.std.proofs.lemmas.List.{take_all, length-drop}
+use Rattle.rl_bindings.proofs.Keeping.{part_on, item_on, parts_end, items_end, node_kept, split_kept}
+use Rattle.rl_bindings.specs.Roles.{parts_ahead}
 use Rattle.rl_bindings.proofs.Steps.{drop_step}
-use Rattle.rl_bindings.proofs.Walking.{node_is, list_is, node_maker, node_binder, node_user, node_plain, list_walked, text_walked, number_walked, flag_walked, absent_walked, lead_walked, left_less, left_none}
+use Rattle.rl_bindings.proofs.Walking.{node_is, list_is, node_maker, node_binder, node_user, node_plain, list_walked, text_walked, number_walked, flag_walked, absent_walked, left_less, left_none}
 use Rattle.rl_syntax.specs.Sizes.{size, size_of}
 use Rattle.rl_syntax.specs.Syntax.{pieces_of, syntax}
 use Rattle.rl_syntax.proofs.Layers.{syntax_text, syntax_number, syntax_flag, syntax_absent}
 use Rattle.rl_bindings.proofs.walk.+walking.Goals as goal
 
-pub push_events-returns-in_ok-push_back-in-Maker : goal.push_events-returns-in_ok-push_back-in-Maker
-push_events-returns-in_ok-push_back-in-Maker t c =
-    node_maker c.args.above (syntax c.args.tree.now) c.args.names.now c.args.out.now.items c.in-Node.at c.in-Node.word (pieces_of (map syntax c.as_slice-parts.result.now))
+pub push_events-returns-in_ok-push_back-in-Maker-clause-walked : goal.push_events-returns-in_ok-push_back-in-Maker-clause-walked
+push_events-returns-in_ok-push_back-in-Maker-clause-walked t c =
+    node_maker c.args.above (syntax c.args.tree.now) c.args.names.now c.args.out.now.items c.in-Node.at c.in-Node.word c.as_slice-parts.result.now c.split_parts.result.0.now c.split_parts.result.1.now
+    c.role_of-role.result c.outside-outer.result c.below-inner.result c.push_parts.new.names c.push_front.new.names c.push_parts-in-Maker.new.names
+    c.push_sign.new.out.items c.push_parts.new.out.items c.push_front.new.out.items c.push_parts-in-Maker.new.out.items c.push_back.new.out.items
     (node_is c.args.tree.now c.in-Node.at c.in-Node.word c.in-Node.parts c.as_slice-parts.result.now c.in-Node.is c.as_slice-parts.ensures)
-    c.role_of-role.result c.parts_ahead-count.result c.outside.result c.below-inner.result
-    c.push_lead.new.names c.push_front.new.names c.push_trail.new.names
-    c.push_sign.new.out.items c.push_lead.new.out.items c.push_front.new.out.items c.push_trail.new.out.items c.push_back.new.out.items
-    c.in-Maker.is c.role_of-role.ensures c.parts_ahead-count.ensures c.outside.ensures c.below-inner.ensures
-    c.in_ok-push_sign-in-Maker.ensures c.in_ok-push_lead-in-Maker.ensures c.in_ok-push_front-in-Maker.ensures c.in_ok-push_trail-in-Maker.ensures c.in_ok-push_back-in-Maker.ensures
+    c.in-Maker.is c.role_of-role.ensures c.outside-outer.ensures c.below-inner.ensures c.split_parts.ensures.ahead c.split_parts.ensures.behind
+    c.in_ok-push_sign-in-Maker.ensures c.in_ok-push_parts-in-Maker.ensures.walked c.in_ok-push_front-in-Maker.ensures c.in_ok-push_parts-in-Maker-2.ensures.walked c.in_ok-push_back-in-Maker.ensures
 
-pub push_events-returns-in_ok-push_all-in-Binder : goal.push_events-returns-in_ok-push_all-in-Binder
-push_events-returns-in_ok-push_all-in-Binder t c =
+pub push_events-returns-in_ok-push_back-in-Maker-clause-kept : goal.push_events-returns-in_ok-push_back-in-Maker-clause-kept
+push_events-returns-in_ok-push_back-in-Maker-clause-kept t c =
+    node_kept (syntax c.args.tree.now) c.in-Node.at c.in-Node.word c.as_slice-parts.result.now c.args.context c.args.kept.now c.test_node.result c.push_parts-in-Maker.new.kept
+    (node_is c.args.tree.now c.in-Node.at c.in-Node.word c.in-Node.parts c.as_slice-parts.result.now c.in-Node.is c.as_slice-parts.ensures)
+    c.test_node.ensures
+    (split_kept c.test_node.result c.push_parts.new.kept c.push_parts-in-Maker.new.kept c.args.context c.in-Node.word (parts_ahead c.in-Node.word) (length c.split_parts.result.0.now) c.as_slice-parts.result.now c.split_parts.result.0.now c.split_parts.result.1.now
+    c.split_parts.ensures.ahead c.split_parts.ensures.behind refl c.in_ok-push_parts-in-Maker.ensures.kept c.in_ok-push_parts-in-Maker-2.ensures.kept)
+
+pub push_events-returns-in_ok-push_parts-in-Binder-clause-walked : goal.push_events-returns-in_ok-push_parts-in-Binder-clause-walked
+push_events-returns-in_ok-push_parts-in-Binder-clause-walked t c =
     node_binder c.args.above (syntax c.args.tree.now) c.args.names.now c.args.out.now.items c.in-Node.at c.in-Node.word (pieces_of (map syntax c.as_slice-parts.result.now))
     (node_is c.args.tree.now c.in-Node.at c.in-Node.word c.in-Node.parts c.as_slice-parts.result.now c.in-Node.is c.as_slice-parts.ensures)
-    c.role_of-role.result c.below-inner.result c.push_front-in-Binder.new.names c.push_all.new.names c.push_front-in-Binder.new.out.items c.push_all.new.out.items
-    c.in-Binder.is c.role_of-role.ensures c.below-inner.ensures c.in_ok-push_front-in-Binder.ensures c.in_ok-push_all-in-Binder.ensures
+    c.role_of-role.result c.below-inner.result c.push_front-in-Binder.new.names c.push_parts-in-Binder.new.names c.push_front-in-Binder.new.out.items c.push_parts-in-Binder.new.out.items
+    c.in-Binder.is c.role_of-role.ensures c.below-inner.ensures c.in_ok-push_front-in-Binder.ensures c.in_ok-push_parts-in-Binder.ensures.walked
 
-pub push_events-returns-in_ok-push_all-in-User : goal.push_events-returns-in_ok-push_all-in-User
-push_events-returns-in_ok-push_all-in-User t c =
+pub push_events-returns-in_ok-push_parts-in-User-clause-walked : goal.push_events-returns-in_ok-push_parts-in-User-clause-walked
+push_events-returns-in_ok-push_parts-in-User-clause-walked t c =
     node_user c.args.above (syntax c.args.tree.now) c.args.names.now c.args.out.now.items c.in-Node.at c.in-Node.word (pieces_of (map syntax c.as_slice-parts.result.now))
     (node_is c.args.tree.now c.in-Node.at c.in-Node.word c.in-Node.parts c.as_slice-parts.result.now c.in-Node.is c.as_slice-parts.ensures)
-    c.role_of-role.result c.below-inner.result c.push_front-in-User.new.names c.push_all-in-User.new.names c.push_front-in-User.new.out.items c.push_all-in-User.new.out.items
-    c.in-User.is c.role_of-role.ensures c.below-inner.ensures c.in_ok-push_front-in-User.ensures c.in_ok-push_all-in-User.ensures
+    c.role_of-role.result c.below-inner.result c.push_front-in-User.new.names c.push_parts-in-User.new.names c.push_front-in-User.new.out.items c.push_parts-in-User.new.out.items
+    c.in-User.is c.role_of-role.ensures c.below-inner.ensures c.in_ok-push_front-in-User.ensures c.in_ok-push_parts-in-User.ensures.walked
 
-pub push_events-returns-in_ok-push_all-in-Plain : goal.push_events-returns-in_ok-push_all-in-Plain
-push_events-returns-in_ok-push_all-in-Plain t c =
+pub push_events-returns-in_ok-push_parts-in-Plain-clause-walked : goal.push_events-returns-in_ok-push_parts-in-Plain-clause-walked
+push_events-returns-in_ok-push_parts-in-Plain-clause-walked t c =
     node_plain c.args.above (syntax c.args.tree.now) c.args.names.now c.args.out.now.items c.in-Node.at c.in-Node.word (pieces_of (map syntax c.as_slice-parts.result.now))
     (node_is c.args.tree.now c.in-Node.at c.in-Node.word c.in-Node.parts c.as_slice-parts.result.now c.in-Node.is c.as_slice-parts.ensures)
-    c.role_of-role.result c.below-inner.result c.push_all-in-Plain.new.names c.push_all-in-Plain.new.out.items
-    c.in-Plain.is c.role_of-role.ensures c.below-inner.ensures c.in_ok-push_all-in-Plain.ensures
+    c.role_of-role.result c.below-inner.result c.push_parts-in-Plain.new.names c.push_parts-in-Plain.new.out.items
+    c.in-Plain.is c.role_of-role.ensures c.below-inner.ensures c.in_ok-push_parts-in-Plain.ensures.walked
 
-pub push_events-returns-in_ok-push_all-in-List : goal.push_events-returns-in_ok-push_all-in-List
-push_events-returns-in_ok-push_all-in-List t c =
-    list_walked c.args.above (syntax c.args.tree.now) c.args.names.now c.args.out.now.items (pieces_of (map syntax c.as_slice.result.now)) c.push_all-in-List.new.names c.push_all-in-List.new.out.items
-    (list_is c.args.tree.now c.in-List.parts c.as_slice.result.now c.in-List.is c.as_slice.ensures) c.in_ok-push_all-in-List.ensures
+pub push_events-returns-in_ok-push_parts-in-Plain-clause-kept : goal.push_events-returns-in_ok-push_parts-in-Plain-clause-kept
+push_events-returns-in_ok-push_parts-in-Plain-clause-kept t c =
+    node_kept (syntax c.args.tree.now) c.in-Node.at c.in-Node.word c.as_slice-parts.result.now c.args.context c.args.kept.now c.test_node.result c.push_parts-in-Plain.new.kept
+    (node_is c.args.tree.now c.in-Node.at c.in-Node.word c.in-Node.parts c.as_slice-parts.result.now c.in-Node.is c.as_slice-parts.ensures)
+    c.test_node.ensures c.in_ok-push_parts-in-Plain.ensures.kept
 
-pub push_events-returns-in-Text : goal.push_events-returns-in-Text
-push_events-returns-in-Text t c = text_walked c.args.above (syntax c.args.tree.now) c.args.names.now c.args.out.now.items _ (ap syntax c.in-Text.is ∙ syntax_text _)
+pub push_events-returns-in-Text-clause-walked : goal.push_events-returns-in-Text-clause-walked
+push_events-returns-in-Text-clause-walked t c = text_walked c.args.above (syntax c.args.tree.now) c.args.names.now c.args.out.now.items _ (ap syntax c.in-Text.is ∙ syntax_text _)
 
-pub push_events-returns-in-Number : goal.push_events-returns-in-Number
-push_events-returns-in-Number t c = number_walked c.args.above (syntax c.args.tree.now) c.args.names.now c.args.out.now.items _ (ap syntax c.in-Number.is ∙ syntax_number _)
+pub push_events-returns-in-Number-clause-walked : goal.push_events-returns-in-Number-clause-walked
+push_events-returns-in-Number-clause-walked t c = number_walked c.args.above (syntax c.args.tree.now) c.args.names.now c.args.out.now.items _ (ap syntax c.in-Number.is ∙ syntax_number _)
 
-pub push_events-returns-in-Flag : goal.push_events-returns-in-Flag
-push_events-returns-in-Flag t c = flag_walked c.args.above (syntax c.args.tree.now) c.args.names.now c.args.out.now.items _ (ap syntax c.in-Flag.is ∙ syntax_flag _)
+pub push_events-returns-in-Flag-clause-walked : goal.push_events-returns-in-Flag-clause-walked
+push_events-returns-in-Flag-clause-walked t c = flag_walked c.args.above (syntax c.args.tree.now) c.args.names.now c.args.out.now.items _ (ap syntax c.in-Flag.is ∙ syntax_flag _)
 
-pub push_events-returns-in-Absent : goal.push_events-returns-in-Absent
-push_events-returns-in-Absent t c = absent_walked c.args.above (syntax c.args.tree.now) c.args.names.now c.args.out.now.items (ap syntax c.in-Absent.is ∙ syntax_absent)
+pub push_events-returns-in-Absent-clause-walked : goal.push_events-returns-in-Absent-clause-walked
+push_events-returns-in-Absent-clause-walked t c = absent_walked c.args.above (syntax c.args.tree.now) c.args.names.now c.args.out.now.items (ap syntax c.in-Absent.is ∙ syntax_absent)
+
+pub push_parts-parts-preserved : goal.push_parts-parts-preserved
+push_parts-parts-preserved t c =
+    let parts = c.args.parts.now in
+    let i = c.parts.index in
+    let part = c.index-parts-index.result in
+    let step : drop i parts ≡ part ∷ drop (i + 1) parts = drop_step parts i part c.parts-test.true c.index-parts-index.is in
+    let more = pieces_of (map syntax (drop (i + 1) parts)) in
+    record {
+      walked = left_less c.args.above c.args.names.now c.args.out.now.items parts c.parts.names c.push_events.new.names c.parts.out.items c.push_events.new.out.items (drop i parts) (drop (i + 1) parts) part step c.parts.invariant.walked c.in_ok-push_events.ensures.walked;
+      kept = part_on c.args.kept.now c.parts.kept c.push_events.new.kept c.args.context c.part_below-inner.result c.args.word c.args.start i (c.args.start + (i + 1)) part parts (drop i parts) (drop (i + 1) parts) c.part_below-inner.ensures (omega arith) step c.parts.invariant.kept c.in_ok-push_events.ensures.kept;
+      fewer =
+          let is : size_of (pieces_of (map syntax (drop i parts))) ≡ size (syntax part) + size_of more + 1 = ap (λ l. size_of (pieces_of (map syntax l))) step in
+          omega (arith, is, c.parts.invariant.fewer);
+    }
+
+pub push_parts-returns-clause-walked : goal.push_parts-returns-clause-walked
+push_parts-returns-clause-walked t c =
+    left_none c.args.above c.args.names.now c.args.out.now.items c.args.parts.now c.parts.names c.parts.out.items (drop c.parts.index c.args.parts.now)
+    (drop_of_length-le c.args.parts.now c.parts-test.false) c.parts.invariant.walked
 
 pub push_all-trees-preserved : goal.push_all-trees-preserved
 push_all-trees-preserved t c =
@@ -64,23 +93,14 @@ push_all-trees-preserved t c =
     let step : drop i trees ≡ tree ∷ drop (i + 1) trees = drop_step trees i tree c.trees-test.true c.tree-item.is in
     let more = pieces_of (map syntax (drop (i + 1) trees)) in
     record {
-      walked = left_less c.args.above c.args.names.now c.args.out.now.items trees c.trees.names c.push_events.new.names c.trees.out.items c.push_events.new.out.items (drop i trees) (drop (i + 1) trees) tree step c.trees.invariant.walked c.in_ok-push_events.ensures;
+      walked = left_less c.args.above c.args.names.now c.args.out.now.items trees c.trees.names c.push_events.new.names c.trees.out.items c.push_events.new.out.items (drop i trees) (drop (i + 1) trees) tree step c.trees.invariant.walked c.in_ok-push_events.ensures.walked;
+      kept = item_on c.args.kept.now c.trees.kept c.push_events.new.kept c.args.context tree trees (drop i trees) (drop (i + 1) trees) step c.trees.invariant.kept c.in_ok-push_events.ensures.kept;
       fewer =
           let is : size_of (pieces_of (map syntax (drop i trees))) ≡ size (syntax tree) + size_of more + 1 = ap (λ l. size_of (pieces_of (map syntax l))) step in
           omega (arith, is, c.trees.invariant.fewer);
     }
 
-pub push_all-returns : goal.push_all-returns
-push_all-returns t c =
+pub push_all-returns-clause-walked : goal.push_all-returns-clause-walked
+push_all-returns-clause-walked t c =
     left_none c.args.above c.args.names.now c.args.out.now.items c.args.trees.now c.trees.names c.trees.out.items (drop c.trees.tree-index c.args.trees.now)
     (drop_of_length-le c.args.trees.now c.trees-test.false) c.trees.invariant.walked
-
-pub push_lead-returns-in_ok-push_lead-in-len1-up : goal.push_lead-returns-in_ok-push_lead-in-len1-up
-push_lead-returns-in_ok-push_lead-in-len1-up t c =
-    let parts = c.args.parts.now in
-    let first = c.first-item.result in
-    let rest = take (length parts - 1) (drop 1 parts) in
-    let whole : rest ≡ drop 1 parts = take_all (length parts - 1) (drop 1 parts) (let e = length-drop 1 parts in omega (arith, e)) in
-    lead_walked c.args.above c.args.names.now c.args.out.now.items c.args.count (c.args.count - 1) parts rest first c.push_events.new.names c.push_lead.new.names c.push_events.new.out.items c.push_lead.new.out.items
-    (omega (arith, c.if-count-eq0.false)) (drop_step parts 0 first (omega (arith, c.in-len1-up.len_at_least)) c.first-item.is ∙ sym (ap (λ l. first ∷ l) whole))
-    c.in_ok-push_events-in-len1-up.ensures c.in_ok-push_lead-in-len1-up.ensures

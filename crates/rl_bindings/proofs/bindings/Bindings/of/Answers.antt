@@ -13,30 +13,30 @@ use Rattle.rl_bindings.proofs.bindings.Bindings.of.Goals as goal
 
 pub returns-clause-scopes : goal.returns-clause-scopes
 returns-clause-scopes c =
-    scopes_made (syntax c.args.unit.now.tree) c.in_ok-names.names c.in_ok-names.events.items c.in_ok-found.found c.in_ok-names.ensures.names c.in_ok-names.ensures.events
+    scopes_made (syntax c.args.unit.now.tree) c.in_ok-walked.walked.names c.in_ok-walked.walked.events.items c.in_ok-found.found c.in_ok-walked.ensures.names c.in_ok-walked.ensures.events
     (c.in_ok-found.ensures ∙ ap (steps start) c.deref.ensures.value)
     c.in_ok-scopes.scopes (c.in_ok-scopes.ensures ∙ ap scopes_of c.deref-4.ensures.value)
 
 pub returns-clause-symbols : goal.returns-clause-symbols
 returns-clause-symbols c =
-    symbols_made (syntax c.args.unit.now.tree) c.in_ok-names.names c.in_ok-names.events.items c.in_ok-found.found c.in_ok-names.ensures.names c.in_ok-names.ensures.events
+    symbols_made (syntax c.args.unit.now.tree) c.in_ok-walked.walked.names c.in_ok-walked.walked.events.items c.in_ok-found.found c.in_ok-walked.ensures.names c.in_ok-walked.ensures.events
     (c.in_ok-found.ensures ∙ ap (steps start) c.deref.ensures.value)
 
 pub returns-clause-declarations : goal.returns-clause-declarations
 returns-clause-declarations c =
-    declarations_made (syntax c.args.unit.now.tree) c.in_ok-names.names c.in_ok-names.events.items c.in_ok-found.found c.in_ok-names.ensures.names c.in_ok-names.ensures.events
+    declarations_made (syntax c.args.unit.now.tree) c.in_ok-walked.walked.names c.in_ok-walked.walked.events.items c.in_ok-found.found c.in_ok-walked.ensures.names c.in_ok-walked.ensures.events
     (c.in_ok-found.ensures ∙ ap (steps start) c.deref.ensures.value)
 
 pub returns-clause-references : goal.returns-clause-references
 returns-clause-references c =
-    references_made (syntax c.args.unit.now.tree) c.in_ok-names.names c.in_ok-names.events.items c.in_ok-found.found c.in_ok-names.ensures.names c.in_ok-names.ensures.events
+    references_made (syntax c.args.unit.now.tree) c.in_ok-walked.walked.names c.in_ok-walked.walked.events.items c.in_ok-found.found c.in_ok-walked.ensures.names c.in_ok-walked.ensures.events
     (c.in_ok-found.ensures ∙ ap (steps start) c.deref.ensures.value)
     c.in_ok-resolved.resolved.references
     (c.in_ok-resolved.ensures.references ∙ ap (λ e. references (resolved c.in_ok-found.found.symbols e)) c.deref-3.ensures.value)
 
 pub returns-clause-least_broken : goal.returns-clause-least_broken
 returns-clause-least_broken c =
-    broken_made (syntax c.args.unit.now.tree) c.in_ok-names.names c.in_ok-names.events.items c.in_ok-found.found c.in_ok-names.ensures.names c.in_ok-names.ensures.events
+    broken_made (syntax c.args.unit.now.tree) c.in_ok-walked.walked.names c.in_ok-walked.walked.events.items c.in_ok-found.found c.in_ok-walked.ensures.names c.in_ok-walked.ensures.events
     (c.in_ok-found.ensures ∙ ap (steps start) c.deref.ensures.value)
     c.in_ok-passing.passing c.least-broken.result
     (c.in_ok-passing.ensures ∙ ap (λ e. list_any (is_passing (lexical_steps [] e)) (resolved (lexical_steps [] e) e)) c.deref-2.ensures.value)
@@ -48,7 +48,7 @@ returns-clause-declared c =
 
 pub returns-clause-declarations_within : goal.returns-clause-declarations_within
 returns-clause-declarations_within c =
-    found_within (syntax c.args.unit.now.tree) c.in_ok-names.names c.in_ok-names.events.items c.in_ok-found.found c.in_ok-names.ensures.names c.in_ok-names.ensures.events
+    found_within (syntax c.args.unit.now.tree) c.in_ok-walked.walked.names c.in_ok-walked.walked.events.items c.in_ok-found.found c.in_ok-walked.ensures.names c.in_ok-walked.ensures.events
     (c.in_ok-found.ensures ∙ ap (steps start) c.deref.ensures.value)
 
 pub returns-clause-references_within : goal.returns-clause-references_within
