@@ -2,5 +2,4 @@ mod AllForms
 mod Counts
 pub mod KeptOn
 mod Found
-mod FoundIf
 mod Together

@@ -5,12 +5,18 @@ ghost use Rattle.rl_rules.specs.Following as spec;
 ghost use Rattle.rl_rules.specs.Marks.{body_of};
 ghost use Rattle.rl_syntax.specs.Syntax.{pieces_of, syntax};
 
-use crate::all::AllForms;
-use crate::declarations::Place;
+use crate::both::Both;
+use crate::chains::Chains;
+use crate::declarations::{Declarations, Place};
+use crate::forms::Forms;
 use crate::marks::find_at;
+use crate::variables::Variables;
 use crate::walk::Rule;
 use rl_syntax::numbered::Numbered;
 use rl_syntax::word::Word;
+
+/// Rules B6 to B9 together.
+type AllForms = Both<Chains, Both<Variables, Both<Declarations, Forms>>>;
 
 /// The context of a node for the rules B6 to B9: what they ask of the nodes above it.
 pub type Context = (bool, (bool, (Place, ())));

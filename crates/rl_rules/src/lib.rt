@@ -1,11 +1,9 @@
 //! Rules of units that do not speak of names. Most are a test of every node, in the context that the nodes above it make.
 #![tactic(auto)]
 
-pub mod all;
 mod both;
 pub mod chains;
 pub mod declarations;
-mod finding;
 pub mod following;
 pub mod forms;
 pub mod marks;
