@@ -1,6 +1,10 @@
 -- Items by keys that are numbers: the items of each key, in order.
-use Rattle.std.specs.Prelude.{ℕ, ◌≡◌, if◌then◌else◌, nat_eq, nat_lt, slice_get, slice_set, List, [], ◌∷◌, ◌++◌, replicate}
+use Rattle.std.specs.Prelude.{ℕ, ◌+◌, ◌≡◌, if◌then◌else◌, nat_eq, nat_lt, slice_get, slice_set, List, [], ◌∷◌, ◌++◌, replicate}
 use Rattle.rl_semantic.specs.Items.{of_item}
+
+-- The larger of `most` and the number above a key, if the key is below `count`; else `most`.
+abbrev pub further : (most count key : ℕ) → ℕ
+further most count key = if nat_lt key count then (if nat_lt most (key + 1) then key + 1 else most) else most
 
 module _ {T : Type 0} where
   -- The items with a key, in order.
@@ -11,6 +15,11 @@ module _ {T : Type 0} where
   -- As `those`, for keys below `count`. None for any other key.
   abbrev pub those_below : (count key : ℕ) → List (ℕ × T) → List T
   those_below count key pairs = if nat_lt key count then those key pairs else []
+
+  -- Number above the keys that are below `count`: `most` if that is more, or there are none.
+  abbrev pub keys_used : (most count : ℕ) → List (ℕ × T) → ℕ
+  keys_used most count [] = most
+  keys_used most count (pair ∷ pairs) = keys_used (further most count pair.0) count pairs
 
   abbrev pub itself : List T → List T
   itself items = items

@@ -43,7 +43,24 @@ fn tabled<T: Copy>(
     Ok(List::from_vec(table))
 }
 
-/// The table that has for each key below `count` the items of that key. On `OutOfMemory`, an allocation failed.
+/// Number above the keys of pairs that are below `count`; 0 if there are none.
+fn keys_used<T: Copy>(count: usize, pairs: &[(usize, T)]) -> usize
+    ensures { result ≡ spec.keys_used 0 count pairs.now }
+{
+    let mut most = 0;
+    for pair in pairs {
+        if pair.0 < count {
+            let next = pair.0 + 1;
+            if most < next {
+                most = next;
+            }
+        }
+    }
+    most
+}
+
+/// The table that has for each key below `count` the items of that key. It takes memory for the keys up to the largest of the pairs
+/// alone. On `OutOfMemory`, an allocation failed.
 #[tactic(auto, using(crate::proofs::Filling::are_buckets))]
 pub fn buckets<T: Copy>(
     alloc: Global,
@@ -52,7 +69,7 @@ pub fn buckets<T: Copy>(
 ) -> Result<List<List<T>>, OutOfMemory>
     ensures { IfOk result (λ table. spec.AreBuckets table count pairs.now) }
 {
-    let table = tabled(alloc, count, pairs)?;
+    let table = tabled(alloc, keys_used(count, pairs), pairs)?;
     Ok(table)
 }
 
