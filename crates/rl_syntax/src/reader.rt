@@ -171,7 +171,7 @@ fn read_list(
 fn usual_items(bytes: &[u8], end: usize) -> usize
     requires { end ≤ length bytes.now }
 {
-    if has_byte(bytes, end, b']') { 1 } else { 4 }
+    if has_byte(bytes, end, b']') { 1 } else { 2 }
 }
 
 /// Reads parts from the position `at` on, each behind a space, up to the bracket `close`. Appends them to `parts`, and moves
