@@ -1,11 +1,10 @@
 -- What a walk knows of the rules that do not speak of names, by the tree's form.
-use Rattle.std.proofs.Common.{◌≡◌, ℕ, zero, suc, ◌+◌, Bool, true, ◌&&◌, Option, List, [], ◌∷◌, ◌++◌, length, map, take, drop, append_assoc, append-nil, ap, sym, refl, ◌∙◌, arith}
-use Rattle.rl_bindings.proofs.Steps.{drop_step}
+use Rattle.std.proofs.Common.{◌≡◌, ℕ, zero, suc, ◌+◌, Bool, true, Option, List, [], ◌∷◌, length, map, take, drop, ap, sym, refl, ◌∙◌, arith}
 use Rattle.rl_rules.specs.Following.{Context, followed, node_passes, part_below}
 use Rattle.rl_rules.specs.Marks.{body_of, bodies, bodies_among}
 use Rattle.rl_rules.specs.Walks.{passes, parts_pass, items_pass}
 use Rattle.rl_rules.proofs.KeptOn.{followed_none, followed_then}
-use Rattle.rl_syntax.specs.Syntax.{Syntax, Node, Listed, Said, Count, Flag, Absent, Pieces, End, Then, pieces_of, syntax}
+use Rattle.rl_syntax.specs.Syntax.{Syntax, Node, pieces_of, syntax}
 use Rattle.rl_syntax.specs.declared.numbered.At.{At}
 use Rattle.rl_syntax.specs.declared.numbered.Numbered.{Numbered}
 use Rattle.rl_syntax.specs.declared.word.Word.{Word}

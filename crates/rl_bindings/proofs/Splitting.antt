@@ -1,8 +1,8 @@
 -- A list in two parts, by how many items stand in the first.
-use Rattle.std.proofs.Common.{◌≡◌, ◌≤◌, ◌<◌, ◌+◌, [], ◌∷◌, ℕ, zero, suc, List, length, map, take, drop, sym, ap, subst, arith}
+use Rattle.std.proofs.Common.{◌≡◌, ◌≤◌, ◌<◌, [], ◌∷◌, ℕ, zero, suc, List, length, map, take, drop, sym, subst, arith}
 use Rattle.std.proofs.Math.ListN.{drop_of_length-le}
 use Rattle.std.proofs.lemmas.List.{take_all}
-use Rattle.rl_syntax.specs.Sizes.{size, size_of}
+use Rattle.rl_syntax.specs.Sizes.{size_of}
 use Rattle.rl_syntax.specs.Syntax.{pieces_of, syntax}
 use Rattle.rl_syntax.specs.declared.numbered.Numbered.{Numbered}
 

@@ -91,7 +91,7 @@ pub struct Bound {
     /// Its span, a half-open byte range in the unit's text.
     pub span: Span,
     /// The number of the name: its index in the unit's names.
-    pub name: usize,
+    pub name: u32,
     /// The scope that the name is bound in.
     pub scope: ScopeId,
     /// The kind of the declaration.
@@ -112,5 +112,5 @@ pub enum Event {
     /// A name is declared.
     Bind(Bound),
     /// The `id` node uses the name with this number.
-    Use(NodeId, usize),
+    Use(NodeId, u32),
 }

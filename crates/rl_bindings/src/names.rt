@@ -73,20 +73,23 @@ pub(crate) fn said(parts: &[Numbered]) -> Option<&Text>
 }
 
 /// Adds the name that a `bind` or `id` node with these parts says, if it is new, and returns its number; 0 where the parts say
-/// none. On `OutOfMemory`, an allocation failed.
+/// none. On `OutOfMemory`, an allocation failed, or the number would not fit a `u32`.
 #[tactic(auto, using(crate::proofs::Adding::none_numbered, crate::proofs::Adding::text_numbered))]
 pub(crate) fn add_said(
     alloc: Global,
     names: &mut NameTable<Name>,
     parts: &[Numbered],
-) -> Result<usize, OutOfMemory>
+) -> Result<u32, OutOfMemory>
     ensures names { OnOk result (names.new ≡ add_names names.old (said (pieces_of (map syntax parts.now)))) }
     ensures number { IfOk result (λ number. IsNumber names.new (said (pieces_of (map syntax parts.now))) number) }
 {
     match said(parts) {
         Some(text) => {
             let number = find_or_add(alloc, names, text)?;
-            Ok(number)
+            match u32::try_from(number) {
+                Ok(number) => Ok(number),
+                Err(_) => Err(OutOfMemory),
+            }
         }
         None => Ok(0),
     }

@@ -30,7 +30,7 @@ pub struct Reference {
     /// The `id` node.
     pub node: NodeId,
     /// The number of the name: its index in the unit's names.
-    pub name: usize,
+    pub name: u32,
     /// The symbol that the name resolves to, by its index. `None` for a name that no scope around binds: a global.
     pub symbol: Option<usize>,
 }
@@ -113,10 +113,10 @@ fn enter(
     'links: while let Some(number) = next {
         let symbol = &symbols[number];
         saved.push(Entry {
-            name: symbol.name,
-            symbol: look(env, symbol.name),
+            name: symbol.name as usize,
+            symbol: look(env, symbol.name as usize),
         })?;
-        write(env, symbol.name, table.binding_of(number, symbol));
+        write(env, symbol.name as usize, table.binding_of(number, symbol));
         next = look(&links.earlier, number);
     }
     Ok(())
@@ -208,11 +208,11 @@ fn run(
                 }
             }
             Event::Bind(bound) => {
-                let symbol = look(env, bound.name);
+                let symbol = look(env, bound.name as usize);
                 passing = passing || is_passing(symbols, bound, symbol);
             }
             Event::Use(node, name) => {
-                let symbol = look(env, *name);
+                let symbol = look(env, *name as usize);
                 found.push(Reference {
                     node: *node,
                     name: *name,
@@ -227,21 +227,18 @@ fn run(
     })
 }
 
-/// Number above the largest name of symbols: the length of a list that has a place for each; 0 without symbols. On
-/// `OutOfMemory`, it would not fit a `usize`.
-fn count_names(symbols: &[Bound]) -> Result<usize, OutOfMemory>
-    ensures { IfOk result (λ count. count ≡ machine.count_names 0 symbols.now) }
+/// Number above the largest name of symbols: the length of a list that has a place for each; 0 without symbols.
+fn count_names(symbols: &[Bound]) -> usize
+    ensures { result ≡ machine.count_names 0 symbols.now }
 {
     let mut most = 0;
     for symbol in symbols {
-        let Some(next) = symbol.name.checked_add(1) else {
-            return Err(OutOfMemory);
-        };
+        let next = symbol.name as usize + 1;
         if most < next {
             most = next;
         }
     }
-    Ok(most)
+    most
 }
 
 /// Number above the largest scope of symbols: the length of a list that has a place for each; 0 without symbols.
@@ -280,6 +277,6 @@ pub fn resolve_all(
     ensures passing { IfOk result (λ r. r.passing ≡ list_any (rules.is_passing table.now) (machine.resolved table.now events.now)) }
 {
     let links = links_of(alloc, table.as_slice())?;
-    let mut env = blank_symbols(alloc, count_names(table.as_slice())?)?;
+    let mut env = blank_symbols(alloc, count_names(table.as_slice()))?;
     run(alloc, table, &links, &mut env, events)
 }

@@ -189,7 +189,7 @@ fn other_symbol(symbols: &SymbolTable, bound: &Bound) -> Option<usize>
 {
     let own = is_own(bound.kind);
     if own || is_type(bound.kind) {
-        symbols.find(!own, bound.scope, bound.name)
+        symbols.find(!own, bound.scope, bound.name as usize)
     } else {
         None
     }

@@ -111,7 +111,7 @@ impl SymbolTable {
     {
         let _ = &self.numbers;
         if is_own(symbol.kind) {
-            self.binding(symbol.scope, symbol.name)
+            self.binding(symbol.scope, symbol.name as usize)
         } else {
             Some(number)
         }
@@ -150,7 +150,7 @@ impl SymbolTable {
 fn key_of(bound: &Bound) -> SymbolKey
     ensures { result ≡ key_of bound.now }
 {
-    (bound.name, bound.scope.0, is_own(bound.kind))
+    (bound.name as usize, bound.scope.0, is_own(bound.kind))
 }
 
 /// The place of a key among `count` slots. 0 if there are none.

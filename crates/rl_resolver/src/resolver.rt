@@ -159,7 +159,7 @@ impl<'s> ScopeResolver<'s> {
         ensures { result.now ≡ spec.symbol_name self.now.semantic.now.bindings.names self.now.semantic.now.bindings.symbols symbol.0 }
     {
         match self.symbol(symbol) {
-            Some(bound) => match self.semantic.bindings.names.as_slice().get(bound.name) {
+            Some(bound) => match self.semantic.bindings.names.as_slice().get(bound.name as usize) {
                 Some(name) => name.text.as_str(),
                 None => "",
             },
@@ -235,7 +235,7 @@ impl<'s> ScopeResolver<'s> {
                 .semantic
                 .bindings
                 .symbols
-                .binding(bound.scope, bound.name)
+                .binding(bound.scope, bound.name as usize)
             {
                 Some(number) => {
                     if number == symbol.0 as usize {

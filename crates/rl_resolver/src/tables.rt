@@ -78,7 +78,7 @@ fn push_bound(
 ) -> Result<(), OutOfMemory>
     ensures { OnOk result (pairs.new ≡ pairs.old ++ spec.bound_pair symbols.now number bound) }
 {
-    match symbols.binding(bound.scope, bound.name) {
+    match symbols.binding(bound.scope, bound.name as usize) {
         Some(found) => {
             if found == number as usize {
                 pairs.push((bound.scope.0 as usize, SymbolId(number)))?;
@@ -176,7 +176,7 @@ fn push_unresolved(
     match reference.symbol {
         Some(_) => Ok(()),
         None => {
-            pairs.push((reference.name, reference.node))?;
+            pairs.push((reference.name as usize, reference.node))?;
             Ok(())
         }
     }

@@ -1,9 +1,9 @@
-use Rattle.std.proofs.Common.{◌≡◌, ◌+◌, ◌-◌, ◌∷◌, length, map, drop, take, ap, sym, refl, ◌∙◌, arith}
+use Rattle.std.proofs.Common.{◌≡◌, ◌+◌, ◌∷◌, length, map, drop, ap, refl, ◌∙◌, arith}
 use Rattle.std.proofs.Math.ListN.{drop_of_length-le}
-use Rattle.rl_bindings.proofs.Keeping.{part_on, item_on, parts_end, items_end, node_kept, split_kept}
+use Rattle.rl_bindings.proofs.Keeping.{part_on, item_on, node_kept, split_kept}
 use Rattle.rl_bindings.specs.Roles.{parts_ahead}
 use Rattle.rl_bindings.proofs.Steps.{drop_step}
-use Rattle.rl_bindings.proofs.Walking.{node_is, list_is, node_maker, node_binder, node_user, node_plain, list_walked, text_walked, number_walked, flag_walked, absent_walked, left_less, left_none}
+use Rattle.rl_bindings.proofs.Walking.{node_is, node_maker, node_binder, node_user, node_plain, text_walked, number_walked, flag_walked, absent_walked, left_less, left_none}
 use Rattle.rl_syntax.specs.Sizes.{size, size_of}
 use Rattle.rl_syntax.specs.Syntax.{pieces_of, syntax}
 use Rattle.rl_syntax.proofs.Layers.{syntax_text, syntax_number, syntax_flag, syntax_absent}
