@@ -84,7 +84,7 @@ abbrev unit : List Syntax → Syntax
 unit ps = placed 0 0 0 (node word.Unit (list [] ∷ node word.Program (list ps ∷ []) ∷ []))
 
 abbrev bindings : Syntax → Bindings
-bindings u = record { names = names_in u; scopes = scopes_in u; symbols = symbols_in u; declarations = declarations_in u; references = references_in u; least_broken_name_rule = None }
+bindings u = record { names = names_in u; scopes = scopes_in u; symbols = symbols_in u; declarations = declarations_in u; references = references_in u; least_broken_name_rule = None; keeps_other_rules = true }
 
 abbrev sites_of_marked : Syntax → List Site
 sites_of_marked u = of_item [] sites_in (first (marked_functions u))
