@@ -20,3 +20,4 @@ pub mod Stack
 pub mod Totals
 pub mod Used
 pub mod Whole
+pub mod WholeGraphs

@@ -1,5 +1,5 @@
 -- The evaluation orders of instructions and terminals.
-use Rattle.std.specs.Prelude.{ℕ, ◌+◌, Some, None, List, [], ◌∷◌, length, slice_get, slice_set}
+use Rattle.std.specs.Prelude.{ℕ, ◌+◌, ◌<◌, ◌^◌, All, Some, None, List, [], ◌∷◌, length, slice_get, slice_set}
 use Rattle.rl_base.specs.declared.ids.InstructionId.{InstructionId}
 use Rattle.rl_hir.specs.Blocks.{Pair}
 use Rattle.rl_hir.specs.Terminals.{with_order}
@@ -40,3 +40,8 @@ ordered_table order (p ∷ pairs) table = ordered_table (order_after order p) pa
 abbrev pub orders_of : List Pair → ℕ
 orders_of [] = 0
 orders_of (p ∷ pairs) = length p.1.instructions + 1 + orders_of pairs
+
+-- Listed instructions lie in a table of this length, and there is an order below 2^32 for each instruction and terminal.
+pub record HaveOrders (table : ℕ) (pairs : List Pair) : Type 0 where
+  pub within : All (λ (p : Pair). All (λ (id : InstructionId). id.0 < table) p.1.instructions) pairs
+  pub room : 1 + orders_of pairs < 2 ^ 32

@@ -1,6 +1,7 @@
 //! The order of blocks, and the passes that are made over a graph.
 #![tactic(auto)]
 
+pub mod checks;
 pub mod numbering;
 pub mod order;
 pub mod places;

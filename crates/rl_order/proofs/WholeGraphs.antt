@@ -1,0 +1,114 @@
+-- The tests of a whole graph, and of the room for its orders.
+use Rattle.std.proofs.Common.{◌≡◌, ℕ, zero, suc, ◌+◌, ◌<◌, ◌≤◌, ◌^◌, Bool, true, false, ◌&&◌, true≢false, List, [], ◌∷◌, Some, All, length, take, drop, slice_get, get_or, refl, ap, sym, ◌∙◌, subst, arith}
+use Rattle.std.proofs.lemmas.List.Elements.{All-get_or, All-more}
+use Rattle.std.proofs.lemmas.List.Folds.{list_all-append, list_all_more}
+use Rattle.std.proofs.lemmas.List.{drop_all, take_all}
+use Rattle.std.proofs.lemmas.Map.Entries.{place_from_lookup}
+use Rattle.std.proofs.lemmas.Option.{get_or_from_slice_get, slice_get_within}
+use Rattle.std.specs.List.{list_all}
+use Rattle.rl_base.proofs.DistinctLists.{distinct_tail}
+use Rattle.rl_base.specs.declared.ids.BlockId.{BlockId}
+use Rattle.rl_base.specs.declared.ids.InstructionId.{InstructionId}
+use Rattle.rl_hir.specs.Blocks.{Pair, HaveOwnIds, block_at, ids, same_id}
+use Rattle.rl_hir.specs.Terminals.{fallthrough, listed_id, successor_ids}
+use Rattle.rl_hir.specs.declared.function.BasicBlock.{BasicBlock}
+use Rattle.rl_order.proofs.Dropping.{drop_pair}
+use Rattle.rl_order.proofs.Ordering.{same_self}
+use Rattle.rl_order.proofs.SourceLists.{apart, id_at}
+use Rattle.rl_order.specs.Numbering.{HaveOrders, orders_of}
+use Rattle.rl_order.specs.Walk.{IsWhole, has_block, leads_to}
+
+-- A look-up finds the block at a place under its id.
+block_there : (graph : List Pair) (place : ℕ) (p : Pair) → HaveOwnIds graph → slice_get graph place ≡ Some p → block_at graph p.0 ≡ Some p.1
+block_there [] place p own at = absurd (cc)
+block_there (q ∷ graph) zero p own at =
+    let same : q ≡ p = cc in
+    subst (λ (r : Pair). block_at (q ∷ graph) r.0 ≡ Some r.1) same (let self = same_self q.0 in rw self refl)
+block_there (q ∷ graph) (suc place) p own at =
+    let other = apart q graph place p.0 own (id_at graph place p at) (same_id p.0 q.0) refl in
+    rw other (block_there graph place p (distinct_tail q.0.0 (ids graph) own) at)
+
+both : (a b : Bool) → (a && b) ≡ true → (a ≡ true) × (b ≡ true)
+both true b h = (refl, h)
+both false b h = absurd (true≢false (sym h))
+
+in_all : (test : Pair → Bool) (pairs : List Pair) (place : ℕ) (p : Pair) → list_all test pairs ≡ true → slice_get pairs place ≡ Some p → test p ≡ true
+in_all test [] place p all at = absurd (cc)
+in_all test (q ∷ pairs) zero p all at =
+    let same : q ≡ p = cc in subst (λ (r : Pair). test r ≡ true) same (both (test q) (list_all test pairs) all).0
+in_all test (q ∷ pairs) (suc place) p all at = in_all test pairs place p (both (test q) (list_all test pairs) all).1 at
+
+-- What a block leads to is there if its fallthrough and its successors are.
+pub both_parts : (graph : List Pair) (block : BasicBlock) (behind ahead : Bool) → behind ≡ list_all (has_block graph) (listed_id (fallthrough block.terminal))
+    → ahead ≡ list_all (has_block graph) (successor_ids block.terminal) → (behind && ahead) ≡ list_all (has_block graph) (leads_to block)
+both_parts graph block behind ahead b a =
+    rw (b, a) (sym (list_all-append (has_block graph) (listed_id (fallthrough block.terminal)) (successor_ids block.terminal)))
+
+-- True if each block to which the block leads is there.
+abbrev pub inside : List Pair → Pair → Bool
+inside graph p = list_all (has_block graph) (leads_to p.1)
+
+pub one_more_inside : (graph : List Pair) (place : ℕ) (p : Pair) → slice_get graph place ≡ Some p → inside graph p ≡ true
+    → list_all (inside graph) (take place graph) ≡ true → list_all (inside graph) (take (place + 1) graph) ≡ true
+one_more_inside graph place p at this before =
+    let read : get_or graph place p ≡ p = get_or_from_slice_get graph place p p at in
+    list_all_more (inside graph) graph place p (slice_get_within graph place p at)
+    ∙ ap (λ (b : Bool). b && inside graph (get_or graph place p)) before
+    ∙ ap (inside graph) read ∙ this
+
+-- A graph whose blocks all lead inside is whole if its entry is there.
+pub all_inside : (graph : List Pair) (entry : BlockId) (place : ℕ) → length graph ≤ place
+    → list_all (inside graph) (take place graph) ≡ true → has_block graph entry ≡ true → IsWhole graph entry
+all_inside graph entry place end all there =
+    record {
+      entry_there = there;
+      leads = λ id block at.
+          let found = place_from_lookup (same_id id) graph block at in
+          in_all (inside graph) graph found.0 (found.1, block) (ap (list_all (inside graph)) (sym (take_all place graph end)) ∙ all) found.2;
+    }
+
+-- A graph with a block that leads outside is not whole.
+pub not_inside : (graph : List Pair) (entry : BlockId) (place : ℕ) (p : Pair) → HaveOwnIds graph → slice_get graph place ≡ Some p → inside graph p ≡ false → IsWhole graph entry → ⊥
+not_inside graph entry place p own at outside whole =
+    true≢false (sym (whole.leads p.0 p.1 (block_there graph place p own at)) ∙ outside)
+
+-- Listed instructions lie in a table of this length.
+abbrev pub Within : ℕ → Pair → Type 0
+Within table p = All (λ (id : InstructionId). id.0 < table) p.1.instructions
+
+module _ (table : ℕ) (graph : List Pair) (place : ℕ) (p : Pair) (at : slice_get graph place ≡ Some p) (listed : List InstructionId) (is : listed ≡ p.1.instructions) where
+  within_place : Within table p → All (λ (id : InstructionId). id.0 < table) listed
+  within_place h = subst (λ (ids : List InstructionId). All (λ (id : InstructionId). id.0 < table) ids) (sym is) h
+
+  place_within : All (λ (id : InstructionId). id.0 < table) listed → Within table p
+  place_within h = subst (λ (ids : List InstructionId). All (λ (id : InstructionId). id.0 < table) ids) is h
+
+  orders_taken : orders_of (drop place graph) ≡ length listed + 1 + orders_of (drop (place + 1) graph)
+  orders_taken = rw is (ap orders_of (drop_pair graph place p at))
+
+  pub one_more_within : All (λ (id : InstructionId). id.0 < table) listed → All (Within table) (take place graph) → All (Within table) (take (place + 1) graph)
+  one_more_within this before =
+      All-more (Within table) graph place p (slice_get_within graph place p at) before
+      (subst (Within table) (sym (get_or_from_slice_get graph place p p at)) (place_within this))
+
+  pub one_more_order : (next : ℕ) → next + orders_of (drop place graph) ≡ 1 + orders_of graph → next + (length listed + 1) + orders_of (drop (place + 1) graph) ≡ 1 + orders_of graph
+  one_more_order next sum = let taken = orders_taken in omega (arith, taken, sum)
+
+  -- Instructions outside the table rule it out that all are within.
+  pub not_within : (All (λ (id : InstructionId). id.0 < table) listed → ⊥) → HaveOrders table graph → ⊥
+  not_within none have =
+      none (within_place (subst (Within table) (get_or_from_slice_get graph place p p at) (All-get_or (Within table) graph place p (slice_get_within graph place p at) have.within)))
+
+  -- Too many instructions rule it out that there is an order for each.
+  pub no_room : (next : ℕ) → next + orders_of (drop place graph) ≡ 1 + orders_of graph → 2 ^ 32 ≤ next + (length listed + 1) → HaveOrders table graph → ⊥
+  no_room next sum full have = let taken = orders_taken in let room = have.room in omega (arith, taken, sum, full, room)
+
+-- At the end of the blocks all were looked at.
+pub all_orders : (table : ℕ) (graph : List Pair) (place next : ℕ) → length graph ≤ place → All (Within table) (take place graph)
+    → next + orders_of (drop place graph) ≡ 1 + orders_of graph → next < 2 ^ 32 → HaveOrders table graph
+all_orders table graph place next end within sum room =
+    let none : orders_of (drop place graph) ≡ 0 = ap orders_of (drop_all place graph end) in
+    record {
+      within = subst (All (Within table)) (take_all place graph end) within;
+      room = omega (arith, none, sum, room);
+    }

@@ -1,0 +1,11 @@
+use Rattle.std.proofs.Common.{◌≡◌, ◌+◌, All, drop, take}
+use Rattle.rl_order.proofs.WholeGraphs.{Within}
+use Rattle.rl_order.specs.Numbering.{orders_of}
+use Rattle.rl_order.proofs.checks.has_orders.Given as goal
+
+abbrev pub invariant-loop-place : goal.invariant-loop-place
+invariant-loop-place g l =
+    record {
+      within : All (Within l.table) (take l.place (g.B.Blocks.pairs l.hir.blocks));
+      room : l.next + orders_of (drop l.place (g.B.Blocks.pairs l.hir.blocks)) ≡ 1 + orders_of (g.B.Blocks.pairs l.hir.blocks);
+    }
