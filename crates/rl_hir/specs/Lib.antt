@@ -1,4 +1,5 @@
 pub mod Blocks
+pub mod IdHashes
 pub mod Identifiers
 pub mod Instructions
 pub mod Listing

@@ -6,8 +6,8 @@ ghost use Rattle.rl_base.specs.declared.ids.BlockId.{BlockId};
 ghost use Rattle.rl_hir.specs.Blocks.{HaveOwnIds, block_at, with_block, with_block_at, without_block};
 ghost use Rattle.rl_hir.specs.declared.function.BasicBlock.{BasicBlock};
 
+use crate::block_sets::{BlockMap, new_map};
 use crate::function::BasicBlock;
-use indexmap::IndexMap;
 use rl_base::error::OutOfMemory;
 use rl_base::ids::BlockId;
 use std::alloc::Global;
@@ -58,7 +58,7 @@ pub trait Blocks: Drop {
 /// behind it.
 #[derive(Drop)]
 pub struct MapBlocks {
-    map: IndexMap<BlockId, BasicBlock>,
+    map: BlockMap<BasicBlock>,
 }
 
 impl Model for MapBlocks {
@@ -80,7 +80,7 @@ impl Blocks for MapBlocks {
     #[tactic(auto, using(crate::proofs::OwnIds::none))]
     fn empty(alloc: Global) -> MapBlocks {
         MapBlocks {
-            map: IndexMap::new(alloc),
+            map: new_map(alloc),
         }
     }
 

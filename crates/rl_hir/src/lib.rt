@@ -3,6 +3,7 @@
 #![tactic(auto)]
 
 pub mod binding;
+pub mod block_sets;
 pub mod blocks;
 mod ends;
 pub mod environment;

@@ -5,9 +5,9 @@ ghost use Rattle.std.specs.Map.{keys_of, values_of};
 ghost use Rattle.rl_hir.specs.Blocks.{HaveOwnIds, with_block_at};
 ghost use Rattle.rl_hir.specs.declared.function.BasicBlock.{BasicBlock};
 
-use indexmap::IndexSet;
 use rl_base::error::OutOfMemory;
 use rl_base::ids::BlockId;
+use rl_hir::block_sets::{BlockSet, new_set};
 use rl_hir::blocks::Blocks;
 use rl_hir::function::BasicBlock;
 use std::alloc::Global;
@@ -26,11 +26,11 @@ pub fn take_block<B: Blocks>(blocks: &mut B, place: usize) -> BasicBlock
 }
 
 /// The ids of the blocks, in block order, so that a look-up by id gives a place. On `OutOfMemory`, an allocation failed.
-pub fn place_index<B: Blocks>(alloc: Global, blocks: &B) -> Result<IndexSet<BlockId>, OutOfMemory>
+pub fn place_index<B: Blocks>(alloc: Global, blocks: &B) -> Result<BlockSet, OutOfMemory>
     ensures keys { IfOk result (λ places. places.keys ≡ keys_of (B.pairs blocks.now)) }
     ensures distinct { HaveOwnIds (B.pairs blocks.now) }
 {
-    let mut places = IndexSet::new(alloc);
+    let mut places = new_set(alloc);
     for place in 0..blocks.len() {
         let (id, _) = blocks.at(place);
         places.insert(id)?;

@@ -5,10 +5,10 @@ ghost use Rattle.rl_order.specs.Predecessors.{IsMarked, PredecessorsReached, Wal
 ghost use Rattle.rl_order.specs.Walked.{Goes, left_of, trail_of, with_lists, with_source, worklist};
 
 use crate::places::{place_index, take_block};
-use indexmap::IndexSet;
 use rl_base::error::OutOfMemory;
 use rl_base::ids::BlockId;
 use rl_base::list::List;
+use rl_hir::block_sets::{BlockSet, new_set};
 use rl_hir::blocks::Blocks;
 use rl_hir::function::{BasicBlock, Hir};
 use rl_hir::terminal::{Terminal, each_terminal_successor};
@@ -27,7 +27,7 @@ pub struct Edge {
 #[derive(Drop)]
 struct Walk {
     /// The blocks that were visited.
-    seen: IndexSet<BlockId>,
+    seen: BlockSet,
     /// The edges that were followed, in this order.
     edges: Vec<Edge>,
     /// The edges that are left; the last one is followed next.
@@ -35,11 +35,11 @@ struct Walk {
 }
 
 /// The successors of a terminal, each once, in order. On `OutOfMemory`, an allocation failed.
-fn distinct_successors(alloc: Global, terminal: &Terminal) -> Result<IndexSet<BlockId>, OutOfMemory>
+fn distinct_successors(alloc: Global, terminal: &Terminal) -> Result<BlockSet, OutOfMemory>
     ensures { IfOk result (λ ids. ids.keys ≡ distinct_ids terminal.now) }
 {
     let successors = each_terminal_successor(alloc, terminal)?;
-    let mut distinct = IndexSet::new(alloc);
+    let mut distinct = new_set(alloc);
     for id in successors.as_slice() {
         distinct.insert(*id)?;
     }
@@ -92,7 +92,7 @@ fn walk_along<B: Blocks>(
     ensures { IfOk result (λ edges. WalksAlong (B.pairs blocks.now) entry edges.items) }
 {
     let mut walk = Walk {
-        seen: IndexSet::new(alloc),
+        seen: new_set(alloc),
         edges: Vec::new(alloc),
         left: Vec::new(alloc),
     };

@@ -10,10 +10,10 @@ ghost use Rattle.rl_order.specs.TrySteps.{has_alone};
 
 use crate::places::{place_index, take_block};
 use crate::removals::is_there;
-use indexmap::IndexSet;
 use rl_base::error::OutOfMemory;
 use rl_base::ids::{BlockId, EvaluationOrder};
 use rl_base::list::List;
+use rl_hir::block_sets::{BlockSet, new_set};
 use rl_hir::blocks::Blocks;
 use rl_hir::function::Hir;
 use rl_hir::terminal::{GotoVariant, Terminal, TerminalKind};
@@ -146,7 +146,7 @@ fn has_alone<B: Blocks>(blocks: &B, id: BlockId, only: BlockId) -> bool
 }
 
 /// Lists an id, once, if it is lost. On `OutOfMemory`, an allocation failed.
-fn note_lost(lost: &mut IndexSet<BlockId>, id: BlockId, is_lost: bool) -> Result<(), OutOfMemory>
+fn note_lost(lost: &mut BlockSet, id: BlockId, is_lost: bool) -> Result<(), OutOfMemory>
     ensures { OnOk result (lost.new.keys ≡ (if is_lost then insert_key same_id lost.old.keys id else lost.old.keys)) }
 {
     if is_lost {
@@ -156,11 +156,7 @@ fn note_lost(lost: &mut IndexSet<BlockId>, id: BlockId, is_lost: bool) -> Result
 }
 
 /// Keeps the blocks that are not lost, in order. Nothing changes if none is. On `OutOfMemory`, an allocation failed, blocks are lost.
-fn keep_rest<B: Blocks>(
-    alloc: Global,
-    blocks: &mut B,
-    lost: &IndexSet<BlockId>,
-) -> Result<(), OutOfMemory>
+fn keep_rest<B: Blocks>(alloc: Global, blocks: &mut B, lost: &BlockSet) -> Result<(), OutOfMemory>
     ensures { OnOk result (B.pairs blocks.new ≡ kept lost.now.keys (B.pairs blocks.old)) }
 {
     if lost.is_empty() {
@@ -184,8 +180,8 @@ fn keep_rest<B: Blocks>(
 fn drop_try<B: Blocks>(
     alloc: Global,
     blocks: &mut B,
-    places: &IndexSet<BlockId>,
-    lost: &mut IndexSet<BlockId>,
+    places: &BlockSet,
+    lost: &mut BlockSet,
     dead: DeadTry,
 ) -> Result<(), OutOfMemory>
     requires places { places.now.keys ≡ keys_of (B.pairs blocks.old) }
@@ -220,7 +216,7 @@ pub fn remove_unnecessary_try_catch<B: Blocks>(
         return Ok(());
     }
     let places = place_index(alloc, &hir.blocks)?;
-    let mut lost = IndexSet::new(alloc);
+    let mut lost = new_set(alloc);
     for dead in tries.as_slice() {
         drop_try(alloc, &mut hir.blocks, &places, &mut lost, *dead)?;
     }

@@ -4,9 +4,9 @@ ghost use Rattle.std.specs.Prelude.{◌≡◌, ◌++◌, [], IfNone, OnOk, optio
 ghost use Rattle.rl_order.specs.Walk.{appended, entered, is_first, is_noted, is_passed, is_used, nothing};
 
 use crate::tasks::Visit;
-use indexmap::{IndexMap, IndexSet};
 use rl_base::error::OutOfMemory;
 use rl_base::ids::BlockId;
+use rl_hir::block_sets::{BlockMap, BlockSet, new_map, new_set};
 use std::alloc::Global;
 use std::marker::Model;
 
@@ -14,8 +14,8 @@ use std::marker::Model;
 /// visit has ended, in the order of these ends.
 #[derive(Drop)]
 pub(crate) struct Walked {
-    seen: IndexMap<BlockId, bool>,
-    noted: IndexSet<BlockId>,
+    seen: BlockMap<bool>,
+    noted: BlockSet,
     appended: Vec<BlockId>,
 }
 
@@ -33,8 +33,8 @@ impl Walked {
         ensures { result ≡ nothing }
     {
         Walked {
-            seen: IndexMap::new(alloc),
-            noted: IndexSet::new(alloc),
+            seen: new_map(alloc),
+            noted: new_set(alloc),
             appended: Vec::new(alloc),
         }
     }

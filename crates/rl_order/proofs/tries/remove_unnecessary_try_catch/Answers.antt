@@ -12,7 +12,7 @@ loop-dead-init g c =
     let graph : List Pair = g.B.Blocks.pairs c.args.hir.now.blocks in
     record {
       rest =
-          ap (λ (l : List BlockId). fold (λ (b : List Pair) (d : DeadTry). without_try d b) (kept l graph) c.as_slice-dead-items.result.now) c.new-lost.ensures.empty
+          ap (λ (l : List BlockId). fold (λ (b : List Pair) (d : DeadTry). without_try d b) (kept l graph) c.as_slice-dead-items.result.now) c.new_set-lost.ensures
           ∙ ap (λ (b : List Pair). fold (λ (b : List Pair) (d : DeadTry). without_try d b) b c.as_slice-dead-items.result.now) (kept_all graph)
           ∙ ap (λ (t : List DeadTry). fold (λ (b : List Pair) (d : DeadTry). without_try d b) graph t) (c.as_slice-dead-items.ensures.value ∙ c.in_ok-tries.ensures);
       entry = refl;
