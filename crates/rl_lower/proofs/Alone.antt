@@ -1,22 +1,21 @@
 -- The graph that is built of an entry block which leads nowhere: that block alone.
-use Rattle.std.proofs.Common.{◌≡◌, ℕ, zero, suc, ◌+◌, ◌++◌, inl, inr, Bool, true, false, if◌then◌else◌, List, [], ◌∷◌, Option, Some, None, fold, length, map, reverse, slice_get, refl, sym, ap, ◌∙◌, subst, append-nil, append_assoc, eq-eqb}
+use Rattle.std.proofs.Common.{◌≡◌, ℕ, zero, suc, ◌+◌, ◌++◌, inl, inr, Bool, true, false, List, [], ◌∷◌, Some, None, fold, length, map, reverse, slice_get, refl, sym, ap, ◌∙◌, subst, append-nil, append_assoc, eq-eqb}
 use Rattle.indexmap.specs.IndexSet.{insert_all}
 use Rattle.std.specs.Option.{option_to_list}
 use Rattle.rl_base.proofs.DistinctLists.{IsIn, distinct_head, distinct_tail, in_either, in_head, in_none, in_tail}
 use Rattle.rl_base.specs.declared.ids.BlockId.{BlockId}
 use Rattle.rl_hir.specs.Blocks.{HaveOwnIds, Pair, block_at, ids, same_id, with_block}
-use Rattle.rl_hir.specs.Terminals.{Field, Leads, MayLead, Chooses, Follows, Names, MayName, Reads, MayBind, Says, Holds, fallthrough, fields_of, follows, leads, named_ids, names, successor_ids, with_order}
+use Rattle.rl_hir.specs.Terminals.{Field, Leads, MayLead, Chooses, Follows, Names, MayName, Reads, MayBind, Says, Holds, fallthrough, fields_of, follows, leads, named_ids, names, with_order}
 use Rattle.rl_hir.specs.declared.function.BasicBlock.{BasicBlock}
-use Rattle.rl_hir.specs.declared.instruction.Instruction.{Instruction}
 use Rattle.rl_hir.specs.declared.terminal.TerminalKind.{TerminalKind}
 use Rattle.rl_hir.specs.declared.terminal.TerminalKind.TheVariants as kinds
 use Rattle.rl_order.proofs.Following.{one_id}
 use Rattle.rl_order.proofs.Whole.{order_same}
 use Rattle.rl_order.specs.Numbering.{ordered_blocks, ordered_table}
 use Rattle.rl_order.specs.Predecessors.{Ends as WalkEnds, Follows as WalksOn, Trail, IsMarked, edges_from, entry_edges, with_predecessors}
-use Rattle.rl_order.specs.Prune.{IsPruned, cleaned}
+use Rattle.rl_order.specs.Prune.{cleaned}
 use Rattle.rl_order.specs.Removals.{dead_try, is_there, live_do_while, live_for, with_kinds, without_dead_do_whiles, without_dead_tries, without_try, without_unreachable_updates}
-use Rattle.rl_order.specs.Walk.{Ends, Expands, IsOrdered, Walk, WalksFrom, appended, entered, kept, nothing, visit}
+use Rattle.rl_order.specs.Walk.{Ends, Expands, IsOrdered, Walk, appended, entered, kept, nothing, visit}
 use Rattle.rl_order.specs.declared.predecessors.Edge.{Edge}
 use Rattle.rl_builder.specs.Build.{IsBuilt, graph_of, table_of}
 use Rattle.rl_builder.specs.Builder.{State}

@@ -1,22 +1,19 @@
 -- A builder that was closed off can be built, and its graph is its entry block.
-use Rattle.std.proofs.Common.{◌≡◌, ◌+◌, ◌*◌, ◌<◌, ◌^◌, Bool, true, false, Some, None, is_some, List, [], ◌∷◌, ◌++◌, All, length, slice_get, refl, sym, ap, ◌∙◌, subst, arith}
+use Rattle.std.proofs.Common.{◌≡◌, ◌+◌, ◌*◌, ◌<◌, ◌^◌, None, is_some, List, [], ◌++◌, All, length, sym, ap, ◌∙◌, subst}
 use Rattle.std.specs.List.{list_all}
-use Rattle.std.proofs.lemmas.List.Elements.{All-head, All-tail}
-use Rattle.rl_base.specs.declared.ids.BlockId.{BlockId}
-use Rattle.rl_hir.specs.Blocks.{HaveOwnIds, Pair as BlockPair, block_at, same_id}
+use Rattle.rl_hir.specs.Blocks.{Pair as BlockPair}
 use Rattle.rl_hir.specs.Terminals.{fields_of, listed_id, named_ids, successor_ids}
 use Rattle.rl_hir.specs.declared.function.BasicBlock.{BasicBlock}
 use Rattle.rl_order.specs.Numbering.{orders_of}
 use Rattle.rl_order.specs.Walk.{IsWhole, has_block, leads_to}
-use Rattle.rl_builder.specs.Build.{IsBuilt, graph_of, table_of}
+use Rattle.rl_builder.specs.Build.{IsBuilt, graph_of}
 use Rattle.rl_builder.specs.Builder.{State}
 use Rattle.rl_builder.specs.declared.builder.Built.{Built}
 use Rattle.rl_syntax.specs.Syntax.{Syntax, nodes}
 use Rattle.rl_names.specs.Names.{Names}
 use Rattle.rl_lower.specs.Endings.{closed_off}
-use Rattle.rl_lower.specs.Listed.{AreBelow, IsListed}
+use Rattle.rl_lower.specs.Listed.{AreBelow}
 use Rattle.rl_lower.specs.Lowering.{HasRoom, LowersBody}
-use Rattle.rl_lower.specs.Simulation.{AreEnded, LeavesFunction}
 use Rattle.rl_lower.proofs.Alone.{alone_built, built_of, follows_none, leads_none, table_same}
 use Rattle.rl_lower.proofs.Building.{IsFresh, closed_listed, orders_fit}
 use Rattle.rl_lower.proofs.Finished.{IsFinished, entry_block, found_holds, found_leaves}

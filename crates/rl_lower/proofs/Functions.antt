@@ -27,9 +27,9 @@ use Rattle.rl_machine.specs.declared.trace.Value.TheVariants as value
 use Rattle.rl_machine.specs.declared.trace.Answer.{Answer}
 use Rattle.rl_machine.specs.declared.trace.Assignment.{Assignment}
 use Rattle.rl_machine.specs.declared.trace.Trace.{Trace}
-use Rattle.rl_machine.specs.Traces.{Store, ValueCont, returned, threw, unset, alone}
+use Rattle.rl_machine.specs.Traces.{Store, ValueCont, returned, threw, alone}
 use Rattle.rl_model.specs.Meanings.{ExprMeaning, StmtMeaning}
-use Rattle.rl_machine.specs.Machine.{Ends, Code, code_in}
+use Rattle.rl_machine.specs.Machine.{Ends, Code}
 use Rattle.rl_machine.specs.Ends.{Notes, no_notes}
 use Rattle.rl_model.specs.Runs.{take_arguments, trace_by, start_values, param_identifier}
 use Rattle.rl_model.specs.Source.{source_trace}

@@ -1,8 +1,7 @@
 -- The runs of a graph from a block that leads nowhere: they stay in the block, and no bound on steps stops them.
 use Rattle.std.proofs.Common.{◌≡◌, ℕ, zero, suc, ◌+◌, ◌<◌, ◌≤◌, Bool, true, false, ◌&&◌, ◌||◌, if◌then◌else◌, List, [], ◌∷◌, Option, Some, None, refl, ap, sym, ◌∙◌, arith}
 use Rattle.std.proofs.lemmas.Bool.{ne_eqb}
-use Rattle.std.specs.Prelude.{nat_eq, length}
-use Rattle.rl_base.specs.declared.ids.BlockId.{BlockId}
+use Rattle.std.specs.Prelude.{nat_eq}
 use Rattle.rl_hir.specs.Terminals.{fields_of, names}
 use Rattle.rl_hir.specs.declared.instruction.Instruction.{Instruction}
 use Rattle.rl_hir.specs.declared.terminal.Terminal.{Terminal}
@@ -12,8 +11,8 @@ use Rattle.rl_machine.proofs.Following.{fired_same}
 use Rattle.rl_machine.specs.Acts.{Act, Computes, Asks, Opens, Steps, act, landed, set_each}
 use Rattle.rl_machine.specs.Ends.{leaving, no_notes}
 use Rattle.rl_machine.specs.Machine.{Code, Item, Runs, Ends, Next, caught, changer, exec, executed, left, no_way, step}
-use Rattle.rl_machine.specs.Prunes.{Point, exec_once, is_passed, same_point}
-use Rattle.rl_machine.specs.Traces.{Store, threw}
+use Rattle.rl_machine.specs.Prunes.{Point, exec_once, is_passed}
+use Rattle.rl_machine.specs.Traces.{Store}
 use Rattle.rl_machine.specs.declared.trace.Answer.{Answer}
 use Rattle.rl_machine.specs.declared.trace.Trace.{Trace}
 use Rattle.rl_lower.specs.Simulation.{walk}

@@ -1,5 +1,5 @@
 -- The machine, tried on small graphs: a branch, a switch, loops, a `try`, and runs that cannot go on.
-use Rattle.std.proofs.Common.{◌≡◌, ℕ, true, false, Option, Some, None, List, [], ◌∷◌, codes, refl}
+use Rattle.std.proofs.Common.{◌≡◌, ℕ, true, Some, None, List, [], ◌∷◌, codes, refl}
 use Rattle.rl_base.specs.declared.ids.BlockId.{BlockId}
 use Rattle.rl_base.specs.declared.operator.LogicalOperator.{LogicalOperator}
 use Rattle.rl_base.specs.declared.operator.LogicalOperator.TheVariants as logical
@@ -15,7 +15,6 @@ use Rattle.rl_hir.specs.declared.instruction.NonLocalBinding.TheVariants as bind
 use Rattle.rl_hir.specs.declared.instruction.Pattern.TheVariants as patterns
 use Rattle.rl_hir.specs.declared.instruction.Place.{Place}
 use Rattle.rl_hir.specs.declared.instruction.PrimitiveValue.TheVariants as primitives
-use Rattle.rl_hir.specs.declared.terminal.Case.{Case}
 use Rattle.rl_hir.specs.declared.terminal.GotoVariant.TheVariants as gotos
 use Rattle.rl_hir.specs.declared.terminal.ReturnVariant.TheVariants as returns
 use Rattle.rl_hir.specs.declared.terminal.TerminalKind.{TerminalKind}
@@ -29,7 +28,6 @@ use Rattle.rl_machine.specs.declared.trace.Ending.{Ending}
 use Rattle.rl_machine.specs.declared.trace.Ending.TheVariants as ending
 use Rattle.rl_machine.specs.declared.trace.Event.{Event}
 use Rattle.rl_machine.specs.declared.trace.Trace.{Trace}
-use Rattle.rl_machine.specs.declared.trace.Value.{Value}
 use Rattle.rl_machine.specs.declared.trace.Value.TheVariants as value
 
 -- graphs: identifier 0 is the parameter, and instruction `n` of the table gives identifier `n + 1`

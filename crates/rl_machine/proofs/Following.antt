@@ -5,14 +5,13 @@ use Rattle.std.proofs.lemmas.Bool.{ne_eqb}
 use Rattle.std.specs.Prelude.{cond, nat_eq}
 use Rattle.rl_base.specs.declared.ids.BlockId.{BlockId}
 use Rattle.rl_base.specs.declared.ids.IdentifierId.{IdentifierId}
-use Rattle.rl_hir.specs.declared.instruction.Instruction.{Instruction}
 use Rattle.rl_hir.specs.declared.instruction.InstructionValue.{InstructionValue}
 use Rattle.rl_hir.specs.declared.instruction.Place.{Place}
 use Rattle.rl_hir.specs.declared.terminal.Case.{Case}
-use Rattle.rl_machine.specs.Acts.{Act, Computes, Asks, Opens, Steps, act, landed, set_each, Landing}
+use Rattle.rl_machine.specs.Acts.{Act, Computes, Asks, Opens, Steps, act, landed, set_each}
 use Rattle.rl_machine.specs.Ends.{Leaving, Goes, Tests, Reads, Compares, Returns, Throws, Stops, Note, Connects, Chooses, Chains, Loops, Enumerates, Iterates, Catches, Passes, Notes, noted, all_noted, leaving, Choice, Truthy, Nullish, Straight, Nowhere, exit_of}
-use Rattle.rl_machine.specs.Machine.{Code, Item, Runs, Ends, Next, changer, caught, caught_at, set_where, opened, step_to, exit_at, executed, at, branched, choice_at, compared, default_case, or_default, at_default, tried, left, step}
-use Rattle.rl_machine.specs.Prunes.{IsStep, ReadsNote, NoneRead, ExitsKept, Each, LeavesIn, StaysIn, LeavesAs, Stays, Unnoted, Becomes, Prunes}
+use Rattle.rl_machine.specs.Machine.{Code, Item, Runs, Ends, Next, changer, caught, caught_at, set_where, opened, step_to, exit_at, executed, branched, choice_at, compared, default_case, or_default, at_default, tried, left, step}
+use Rattle.rl_machine.specs.Prunes.{IsStep, NoneRead, ExitsKept, Each, LeavesIn, StaysIn, LeavesAs, Stays, Unnoted, Becomes}
 use Rattle.rl_machine.specs.Traces.{Store, set, Changer, Cont, ValueCont, AnswerCont, by_kind, emit, asked, fired, tested, stepped, truthy, nullish, matches}
 use Rattle.rl_machine.specs.declared.trace.Value.{Value}
 use Rattle.rl_machine.specs.declared.trace.Answer.{Answer}

@@ -1,9 +1,9 @@
 -- The blocks of a graph through the passes: each keeps its instructions, and the kind of its terminal is that which the removals give.
-use Rattle.std.proofs.Common.{◌≡◌, ℕ, zero, suc, ◌+◌, Bool, true, false, not, ◌&&◌, ◌||◌, cond, if◌then◌else◌, Option, Some, None, List, [], ◌∷◌, ◌++◌, map, filter, fold, refl, sym, ap, ◌∙◌, subst, arith, eq-eqb, eqb-true, slice_get}
+use Rattle.std.proofs.Common.{◌≡◌, ℕ, Bool, true, false, not, ◌&&◌, cond, if◌then◌else◌, Option, Some, None, List, [], ◌∷◌, ◌++◌, map, filter, fold, refl, sym, ap, ◌∙◌, subst, eq-eqb, eqb-true}
 use Rattle.std.specs.Prelude.{nat_eq, is_some}
 use Rattle.std.specs.Option.{option_to_list}
 use Rattle.rl_base.specs.Distinct.{AreDistinct}
-use Rattle.rl_base.proofs.DistinctLists.{IsIn, distinct_head, distinct_tail, in_head, in_tail, in_none}
+use Rattle.rl_base.proofs.DistinctLists.{IsIn, distinct_head, distinct_tail, in_head, in_tail}
 use Rattle.rl_base.specs.declared.ids.BlockId.{BlockId}
 use Rattle.rl_base.specs.declared.ids.InstructionId.{InstructionId}
 use Rattle.rl_hir.specs.Blocks.{HaveOwnIds, Pair, block_at, ids, same_id}

@@ -1,5 +1,5 @@
 -- The ordering of a graph and the passes over it keep its runs.
-use Rattle.std.proofs.Common.{◌≡◌, ℕ, zero, suc, ◌+◌, ◌≤◌, Bool, true, false, cond, if◌then◌else◌, Option, Some, None, List, [], ◌∷◌, ◌++◌, length, map, reverse, slice_get, refl, sym, ap, ◌∙◌, subst, arith, true≢false, eq-eqb, ◌||◌}
+use Rattle.std.proofs.Common.{◌≡◌, ℕ, zero, suc, Bool, true, false, if◌then◌else◌, Option, Some, None, List, [], ◌∷◌, ◌++◌, length, reverse, slice_get, refl, sym, ap, ◌∙◌, subst, arith, true≢false, eq-eqb, ◌||◌}
 use Rattle.std.specs.Prelude.{nat_eq, is_some}
 use Rattle.std.specs.Option.{option_map}
 use Rattle.rl_base.specs.declared.ids.BlockId.{BlockId}
@@ -12,7 +12,6 @@ use Rattle.std.specs.List.{list_any}
 use Rattle.rl_hir.specs.declared.function.BasicBlock.{BasicBlock}
 use Rattle.rl_hir.specs.declared.instruction.Instruction.{Instruction}
 use Rattle.rl_hir.specs.declared.instruction.InstructionValue.{InstructionValue}
-use Rattle.rl_hir.specs.declared.instruction.Place.{Place}
 use Rattle.rl_hir.specs.declared.terminal.GotoVariant.TheVariants as gotos
 use Rattle.rl_hir.specs.declared.terminal.Terminal.{Terminal}
 use Rattle.rl_hir.specs.declared.terminal.TerminalKind.{TerminalKind}
@@ -29,8 +28,8 @@ use Rattle.rl_order.proofs.Ordering.{walked_good}
 use Rattle.rl_order.proofs.Whole.{ends_reached}
 use Rattle.rl_order.specs.Own.{AreOwn}
 use Rattle.rl_order.specs.Prune.{IsPruned}
-use Rattle.rl_order.specs.Reached.{IsReached, Begins, KeepsReached}
-use Rattle.rl_order.specs.Removals.{dead_try, is_there, live_do_while, live_for, without_dead_do_whiles, without_dead_tries, without_unreachable_updates}
+use Rattle.rl_order.specs.Reached.{Begins, KeepsReached}
+use Rattle.rl_order.specs.Removals.{dead_try, is_there, without_dead_do_whiles, without_dead_tries, without_unreachable_updates}
 use Rattle.rl_order.specs.Walk.{IsOrdered, IsWhole, Walk, emptied, is_noted, is_used, kept, kept_block}
 use Rattle.rl_order.specs.declared.predecessors.Edge.{Edge}
 use Rattle.rl_machine.proofs.Found.{Found, NoPreds, found_passed, passed_blocks, passed_kind, there_tested, there_updated, with_dead}

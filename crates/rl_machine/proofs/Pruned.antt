@@ -1,13 +1,9 @@
 -- Pruned codes have the same runs, and a bound on silent steps in a row that is large enough changes none.
-use Rattle.std.proofs.Common.{◌≡◌, ℕ, zero, suc, ◌+◌, ◌-◌, ◌<◌, ◌≤◌, Bool, true, false, ◌&&◌, if◌then◌else◌, Option, Some, None, List, [], ◌∷◌, length, refl, sym, ap, ◌∙◌, subst, arith}
-use Rattle.std.specs.Prelude.{nat_eq}
-use Rattle.std.specs.List.{list_any}
+use Rattle.std.proofs.Common.{◌≡◌, ℕ, zero, suc, ◌+◌, ◌-◌, ◌<◌, ◌≤◌, Bool, true, false, if◌then◌else◌, Option, Some, None, List, [], ◌∷◌, length, refl, sym, ap, ◌∙◌, subst, arith}
 use Rattle.rl_base.specs.declared.ids.BlockId.{BlockId}
-use Rattle.rl_hir.specs.declared.instruction.Instruction.{Instruction}
-use Rattle.rl_hir.specs.declared.terminal.Terminal.{Terminal}
 use Rattle.rl_machine.specs.Ends.{Notes, no_notes, leaving}
-use Rattle.rl_machine.specs.Machine.{Code, Item, Runs, Ends, Next, exec, exit_at, no_way, start_store, step, steps_for, trace_in}
-use Rattle.rl_machine.specs.Prunes.{Becomes, Stays, StaysIn, Prunes, Point, PassesOnce, exec_once, is_passed}
+use Rattle.rl_machine.specs.Machine.{Code, Item, Runs, Ends, Next, exec, no_way, start_store, step, steps_for, trace_in}
+use Rattle.rl_machine.specs.Prunes.{Becomes, Stays, Prunes, Point, PassesOnce, exec_once, is_passed}
 use Rattle.rl_machine.specs.Traces.{Store}
 use Rattle.rl_machine.specs.declared.trace.Answer.{Answer}
 use Rattle.rl_machine.specs.declared.trace.Assignment.{Assignment}

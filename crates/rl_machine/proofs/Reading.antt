@@ -9,16 +9,15 @@ use Rattle.rl_hir.specs.Blocks.{Pair, block_at, same_id}
 use Rattle.rl_hir.specs.Terminals.{fallthrough, fields_of, leads, listed_id, successor_ids}
 use Rattle.rl_hir.specs.declared.function.BasicBlock.{BasicBlock}
 use Rattle.rl_hir.specs.declared.instruction.Instruction.{Instruction}
-use Rattle.rl_hir.specs.declared.instruction.Place.{Place}
 use Rattle.rl_hir.specs.declared.terminal.Case.{Case}
 use Rattle.rl_hir.specs.declared.terminal.Terminal.{Terminal}
 use Rattle.rl_hir.specs.declared.terminal.TerminalKind.{TerminalKind}
 use Rattle.rl_hir.specs.declared.terminal.TerminalKind.TheVariants as kinds
-use Rattle.rl_machine.specs.Conditions.{EndsAs, MayOrder, Reached, ReadsAt, ByBranch, ByThrow, ByStep, StepsAt}
+use Rattle.rl_machine.specs.Conditions.{EndsAs, MayOrder, Reached, ReadsAt, ByBranch, ByThrow, StepsAt}
 use Rattle.rl_machine.specs.Machine.{Graph}
-use Rattle.rl_machine.specs.Ends.{catcher_of, exit_of, leaving, Chooses, Chains, Connects, Enumerates, Iterates, Loops, Passes, Catches, bound}
-use Rattle.rl_machine.specs.Machine.{Item, Runs, Ends, block_of, catcher_at, item_at, item_by, item_in}
-use Rattle.rl_machine.specs.Prunes.{Each, LeavesIn, ReadsNote, StaysIn}
+use Rattle.rl_machine.specs.Ends.{catcher_of, exit_of, leaving, Enumerates, Iterates, Loops}
+use Rattle.rl_machine.specs.Machine.{Item, Runs, Ends, block_of, catcher_at, item_at, item_by}
+use Rattle.rl_machine.specs.Prunes.{Each, LeavesIn, StaysIn}
 use Rattle.rl_order.specs.Reached.{IsReached, Goes, Begins}
 use Rattle.rl_order.specs.Walk.{IsWhole, has_block, leads_to}
 

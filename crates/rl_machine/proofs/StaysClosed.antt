@@ -1,10 +1,10 @@
 -- The ordering and the passes make a closed graph.
-use Rattle.std.proofs.Common.{◌≡◌, ℕ, zero, suc, ◌<◌, Bool, true, false, if◌then◌else◌, Option, Some, None, List, [], ◌∷◌, ◌++◌, Contains, length, map, reverse, refl, sym, ap, ◌∙◌, subst, arith, true≢false}
+use Rattle.std.proofs.Common.{◌≡◌, ℕ, zero, suc, ◌<◌, Bool, true, false, if◌then◌else◌, Option, Some, None, List, [], ◌∷◌, ◌++◌, Contains, length, map, refl, sym, ap, ◌∙◌, subst, arith}
 use Rattle.std.specs.Prelude.{is_some, slice_index_or}
 use Rattle.std.specs.List.{list_any}
 use Rattle.rl_base.specs.declared.ids.BlockId.{BlockId}
 use Rattle.rl_hir.specs.Blocks.{HaveOwnIds, Pair, block_at, same_id}
-use Rattle.rl_hir.specs.Terminals.{fallthrough, fields_of, follows, leads, listed_id, named_ids, names, successor_ids}
+use Rattle.rl_hir.specs.Terminals.{fallthrough, fields_of, follows, leads, listed_id, names}
 use Rattle.rl_hir.specs.declared.function.BasicBlock.{BasicBlock}
 use Rattle.rl_hir.specs.declared.instruction.Instruction.{Instruction}
 use Rattle.rl_hir.specs.declared.terminal.Case.{Case}
@@ -15,15 +15,15 @@ use Rattle.rl_machine.specs.Closed.{IsBlock, IsClosed}
 use Rattle.rl_machine.specs.Conditions.{EndsAs, MayOrder, Reached}
 use Rattle.rl_machine.specs.Machine.{Graph}
 use Rattle.rl_machine.specs.Prunes.{Each}
-use Rattle.rl_machine.proofs.Found.{Found, NoPreds, found_passed, passed_blocks, passed_kind, there_tested, there_updated, with_dead}
+use Rattle.rl_machine.proofs.Found.{NoPreds, found_passed, passed_blocks, passed_kind, there_tested, there_updated, with_dead}
 use Rattle.rl_machine.proofs.KeptRuns.{no_preds_ordered, own_ordered}
 use Rattle.rl_machine.proofs.Reading.{any_first, any_later, each_of, any_left, leads_on, led, reached_there}
 use Rattle.rl_order.proofs.Fallthroughs.{fallthrough_there}
 use Rattle.rl_order.proofs.Whole.{ends_reached}
 use Rattle.rl_order.specs.Prune.{IsPruned}
 use Rattle.rl_order.specs.Reached.{IsReached, Begins, Goes, KeepsReached}
-use Rattle.rl_order.specs.Removals.{dead_try, is_there, live_do_while, live_for, live_update, without_dead_do_whiles, without_unreachable_updates}
-use Rattle.rl_order.specs.Walk.{IsWhole, has_block}
+use Rattle.rl_order.specs.Removals.{dead_try, is_there, live_update, without_dead_do_whiles, without_unreachable_updates}
+use Rattle.rl_order.specs.Walk.{IsWhole}
 use Rattle.rl_order.specs.declared.predecessors.Edge.{Edge}
 
 each_contains : (is_so : ℕ → Type 0) (bs : List BlockId) (b : BlockId) → Each is_so bs → Contains bs b → is_so b.0

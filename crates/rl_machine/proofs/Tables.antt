@@ -1,5 +1,5 @@
 -- The numbering of an instruction table leaves what its instructions do.
-use Rattle.std.proofs.Common.{◌≡◌, ℕ, zero, suc, ◌+◌, Option, Some, None, List, [], ◌∷◌, length, slice_get, slice_set, refl, sym, ap, ◌∙◌}
+use Rattle.std.proofs.Common.{◌≡◌, ℕ, zero, suc, ◌+◌, Option, Some, None, List, [], ◌∷◌, slice_get, slice_set, refl, sym, ap, ◌∙◌}
 use Rattle.std.specs.Option.{option_map}
 use Rattle.rl_base.specs.declared.ids.IdentifierId.{IdentifierId}
 use Rattle.rl_base.specs.declared.ids.InstructionId.{InstructionId}

@@ -1,6 +1,6 @@
 -- The effects of instructions: a table over all values.
-use Rattle.std.specs.Prelude.{ℕ, Option, Some, None, List, [], ◌∷◌, map, codes}
-use Rattle.rl_hir.specs.Pieces.{Operand, Use, Key, Piece, operands, texts}
+use Rattle.std.specs.Prelude.{ℕ, List, [], ◌∷◌, map, codes}
+use Rattle.rl_hir.specs.Pieces.{Operand, Use, Key, operands, texts}
 use Rattle.rl_hir.specs.Values.{Form, Silent, Asks as Asking, Assigns, form_of}
 use Rattle.rl_hir.specs.declared.instruction.InstructionKind.{InstructionKind}
 use Rattle.rl_hir.specs.declared.instruction.InstructionKind.TheVariants as kinds

@@ -3,7 +3,6 @@ use Rattle.std.specs.Prelude.{◌≡◌, Some, List, Contains}
 use Rattle.rl_base.specs.declared.ids.BlockId.{BlockId}
 use Rattle.rl_hir.specs.Blocks.{Pair, block_at}
 use Rattle.rl_hir.specs.Terminals.{named_ids}
-use Rattle.rl_hir.specs.declared.terminal.TerminalKind.{TerminalKind}
 use Rattle.rl_hir.specs.declared.terminal.TerminalKind.TheVariants as kinds
 use Rattle.rl_hir.specs.declared.function.BasicBlock.{BasicBlock}
 use Rattle.rl_hir.specs.declared.function.Hir.{Hir}

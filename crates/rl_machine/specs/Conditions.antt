@@ -1,7 +1,7 @@
 -- The conditions under which the ordering of a graph and the passes over it keep its runs.
 use Rattle.std.specs.Prelude.{◌≡◌, ℕ, Option, Some, List, [], ◌∷◌}
 use Rattle.rl_base.specs.declared.ids.BlockId.{BlockId}
-use Rattle.rl_hir.specs.Blocks.{Pair, block_at}
+use Rattle.rl_hir.specs.Blocks.{block_at}
 use Rattle.rl_hir.specs.Terminals.{fields_of, follows}
 use Rattle.rl_hir.specs.declared.function.BasicBlock.{BasicBlock}
 use Rattle.rl_hir.specs.declared.instruction.Instruction.{Instruction}

@@ -1,9 +1,8 @@
 -- Changes of a graph that keep its runs: blocks that no run comes to are dropped, and notes that no run reads are no longer left.
-use Rattle.std.specs.Prelude.{◌≡◌, ℕ, zero, suc, nat_eq, ◌⊎◌, Bool, ◌&&◌, if◌then◌else◌, Option, Some, None, List, [], ◌∷◌, map}
+use Rattle.std.specs.Prelude.{◌≡◌, ℕ, zero, suc, nat_eq, Bool, ◌&&◌, if◌then◌else◌, Option, Some, None, List, [], ◌∷◌, map}
 use Rattle.std.specs.List.{list_any}
 use Rattle.rl_base.specs.declared.ids.BlockId.{BlockId}
 use Rattle.rl_hir.specs.declared.instruction.Instruction.{Instruction}
-use Rattle.rl_hir.specs.declared.terminal.Case.{Case}
 use Rattle.rl_machine.specs.Acts.{Act, Computes, Asks, Opens, Steps, act}
 use Rattle.rl_machine.specs.Ends.{Leaving, Goes, Tests, Reads, Compares, Returns, Throws, Stops, Note, no_notes, exit_of, leaving}
 use Rattle.rl_machine.specs.Machine.{Code, Item, Runs, Ends, Next, no_way, start_store, step}

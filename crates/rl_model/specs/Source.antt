@@ -1,5 +1,5 @@
 -- The meaning of a function of the source, by recursion over syntax (ECMA-262, sections 13 to 15, as far as they are covered).
-use Rattle.std.specs.Prelude.{ℕ, Bool, false, List, [], ◌∷◌, if◌then◌else◌, unwrap_or, codes}
+use Rattle.std.specs.Prelude.{ℕ, List, [], ◌∷◌, if◌then◌else◌, unwrap_or, codes}
 use Rattle.rl_text.specs.Numeral.{is_numeral, number_of}
 use Rattle.rl_hir.specs.declared.terminal.ReturnVariant.TheVariants as returns
 use Rattle.rl_syntax.specs.declared.word.Word.TheVariants as word
