@@ -1,5 +1,5 @@
 -- The fallthrough of a reached block is among the ordered blocks.
-use Rattle.std.proofs.Common.{◌≡◌, Bool, true, false, cond, ◌||◌, if◌then◌else◌, ◌⊎◌, inl, inr, true≢false, Option, Some, None, is_some, unwrap_or, List, [], ◌∷◌, ◌++◌, map, reverse, refl, sym, ap, ◌∙◌, subst}
+use Rattle.std.proofs.Common.{◌≡◌, Bool, true, false, cond, ◌||◌, if◌then◌else◌, ◌⊎◌, inl, inr, true≢false, Option, Some, None, is_some, List, [], ◌∷◌, ◌++◌, map, reverse, refl, sym, ap, ◌∙◌, subst}
 use Rattle.std.proofs.lemmas.List.Folds.{list_any-append}
 use Rattle.std.specs.List.{list_any}
 use Rattle.std.specs.Map.{lookup}
@@ -13,7 +13,7 @@ use Rattle.rl_order.proofs.Seen.{lookup_inserted}
 use Rattle.rl_order.proofs.Used.{reached_used, used_before, used_left}
 use Rattle.rl_order.proofs.Whole.{kept_skip}
 use Rattle.rl_order.specs.Reached.{IsReached}
-use Rattle.rl_order.specs.Walk.{Ends, Expands, IsOrdered, Passes, Walk, Walks, WalksFrom, emptied, entered, has_block, is_first, is_noted, is_passed, is_used, kept, kept_block, left, nothing, visit, visits_from, with_noted}
+use Rattle.rl_order.specs.Walk.{Ends, Expands, IsOrdered, Passes, Walk, Walks, WalksFrom, entered, has_block, is_first, is_noted, is_passed, is_used, kept, left, nothing, visit, visits_from, with_noted}
 use Rattle.rl_order.specs.declared.tasks.Visit.{Visit}
 
 some_after : (b used : Bool) (o : Option Bool) → is_some o ≡ true → is_some (cond b (Some used) o) ≡ true
@@ -127,11 +127,12 @@ module _ (graph : List Pair) (id behind : BlockId) (block : BasicBlock) (there :
           let one : block ≡ other = cc in
           let falls1 : fallthrough other.terminal ≡ Some behind = ap (λ (q : BasicBlock). fallthrough q.terminal) (sym one) ∙ falls in
           let noted : is_noted (entered w v (fallthrough other.terminal)) behind ≡ true =
-              ap (λ o. list_any (same_id behind) (with_noted v.used o w.noted)) falls1 ∙ ap (λ b. list_any (same_id behind) (with_noted b (Some behind) w.noted)) u ∙ key_there behind w.noted in
+          ap (λ o. list_any (same_id behind) (with_noted v.used o w.noted)) falls1 ∙ ap (λ b. list_any (same_id behind) (with_noted b (Some behind) w.noted)) u ∙ key_there behind w.noted in
           let first : visits_from v.used other ≡ visit false behind ∷ map (visit v.used) (reverse (successor_ids other.terminal)) =
-              ap (λ o. map (visit false) (listed_id o) ++ map (visit v.used) (reverse (successor_ids other.terminal))) falls1 in
-          (noted_more graph (visits_from v.used other) (entered w v (fallthrough other.terminal)) inner within behind noted,
-          first_seen graph (visit false behind) (map (visit v.used) (reverse (successor_ids other.terminal))) (visits_from v.used other) (entered w v (fallthrough other.terminal)) inner first within)
+          ap (λ o. map (visit false) (listed_id o) ++ map (visit v.used) (reverse (successor_ids other.terminal))) falls1 in (
+            noted_more graph (visits_from v.used other) (entered w v (fallthrough other.terminal)) inner within behind noted,
+            first_seen graph (visit false behind) (map (visit v.used) (reverse (successor_ids other.terminal))) (visits_from v.used other) (entered w v (fallthrough other.terminal)) inner first within,
+          )
 
       by_entered : (is_used w id ≡ true) ⊎ ((same_id id v.id ≡ true) × (v.used ≡ true)) → (is_used w id ≡ true) ⊎ ((is_noted end behind ≡ true) × (is_seen end behind ≡ true))
       by_entered (inl before) = inl before

@@ -11,7 +11,7 @@ use Rattle.rl_order.specs.Numbering.{order_after, ordered_blocks}
 use Rattle.rl_order.specs.Own.{AreOwn}
 use Rattle.rl_order.specs.Predecessors.{with_predecessors}
 use Rattle.rl_order.specs.Prune.{cleaned}
-use Rattle.rl_order.specs.Removals.{dead_tries, ended_by_goto, is_lost, is_there, live_do_while, live_for, with_changed, with_kinds, without_dead_do_whiles, without_dead_tries, without_predecessor, without_try, without_unreachable_updates}
+use Rattle.rl_order.specs.Removals.{dead_tries, ended_by_goto, is_lost, is_there, live_do_while, live_for, with_changed, with_kinds, without_dead_do_whiles, without_predecessor, without_try, without_unreachable_updates}
 use Rattle.rl_order.specs.Walk.{Walk, emptied, is_noted, is_used, kept, kept_block}
 use Rattle.rl_order.specs.declared.predecessors.Edge.{Edge}
 use Rattle.rl_order.specs.declared.tries.DeadTry.{DeadTry}
