@@ -43,19 +43,45 @@ pub fn push_instruction(
     push_value(alloc, &instruction.value, line)
 }
 
-/// Appends `ORDER: return $VALUE`, or `to bbID bbID ..` for another terminal: the blocks to which it may lead.
+/// The word of a terminal in listings.
+fn terminal_word(kind: &TerminalKind) -> &'static str {
+    match kind {
+        TerminalKind::Goto { .. } => "goto",
+        TerminalKind::If { .. } => "if",
+        TerminalKind::Branch { .. } => "branch",
+        TerminalKind::Switch { .. } => "switch",
+        TerminalKind::Logical { .. } => "logical",
+        TerminalKind::Ternary { .. } => "ternary",
+        TerminalKind::Optional { .. } => "optional",
+        TerminalKind::Sequence { .. } => "sequence",
+        TerminalKind::Label { .. } => "label",
+        TerminalKind::Try { .. } => "try",
+        TerminalKind::While { .. } => "while",
+        TerminalKind::DoWhile { .. } => "dowhile",
+        TerminalKind::For { .. } => "for",
+        TerminalKind::ForIn { .. } => "forin",
+        TerminalKind::ForOf { .. } => "forof",
+        TerminalKind::MaybeThrow { .. } => "maybethrow",
+        TerminalKind::Return { .. } => "return",
+        TerminalKind::Throw { .. } => "throw",
+        TerminalKind::Unreachable => "unreachable",
+    }
+}
+
+/// Appends `ORDER: WORD`, and behind it ` $VALUE` for what is returned or thrown, or ` bbID bbID ..` for the blocks to which the
+/// terminal may lead.
 pub fn push_terminal(
     alloc: Global,
     terminal: &Terminal,
     line: &mut String,
 ) -> Result<(), OutOfMemory> {
-    if let TerminalKind::Return { value, .. } = &terminal.kind {
-        let order = terminal.order.0;
-        let returned = value.identifier.0;
-        write!(line, "{order}: return ${returned}")?;
-        return Ok(());
+    let order = terminal.order.0;
+    let word = terminal_word(&terminal.kind);
+    write!(line, "{order}: {word}")?;
+    if let TerminalKind::Return { value, .. } | TerminalKind::Throw { value } = &terminal.kind {
+        let value = value.identifier.0;
+        write!(line, " ${value}")?;
     }
-    line.push_str("to")?;
     for successor in each_terminal_successor(alloc, terminal)?.as_slice() {
         let to = successor.0;
         write!(line, " bb{to}")?;

@@ -5,6 +5,8 @@ mod draw;
 mod label;
 mod run;
 #[cfg(test)]
+mod terminals;
+#[cfg(test)]
 mod tests;
 
 use rl_base::streams::{StdIn, StdOut};
