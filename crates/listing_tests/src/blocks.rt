@@ -40,7 +40,7 @@ fn add(
     kind: BlockKind,
     end: TerminalKind,
 ) -> Result<(), OutOfMemory> {
-    let id = BlockId(blocks.len() as u32);
+    let id = BlockId(u32::try_from(blocks.len()).unwrap_or(u32::MAX));
     let terminal = Terminal {
         order: EvaluationOrder(9),
         span: None,
