@@ -159,7 +159,13 @@ impl<'s> ScopeResolver<'s> {
         ensures { result.now ≡ spec.symbol_name self.now.semantic.now.bindings.names self.now.semantic.now.bindings.symbols symbol.0 }
     {
         match self.symbol(symbol) {
-            Some(bound) => match self.semantic.bindings.names.as_slice().get(bound.name as usize) {
+            Some(bound) => match self
+                .semantic
+                .bindings
+                .names
+                .as_slice()
+                .get(bound.name as usize)
+            {
                 Some(name) => name.text.as_str(),
                 None => "",
             },
