@@ -1,6 +1,6 @@
 -- A result is read back from its tree, so no two results have one tree. Where a tree is no result's, what is read does
 -- not matter.
-use Rattle.std.proofs.Common.{◌≡◌, ℕ, if◌then◌else◌, Option, List, [], ◌∷◌, codes, refl, sym, ap, ◌∙◌}
+use Rattle.std.proofs.Common.{◌≡◌, ℕ, if◌then◌else◌, Option, List, [], ◌∷◌, codes, refl, sym, ap, ◌∙◌, arith}
 use Rattle.std.specs.Str.{bytes_eq}
 use Rattle.rl_base.proofs.ClosedTexts.{value_of as written_value, value_back}
 use Rattle.rl_base.specs.FoundOperators.{logical_operators_found}
@@ -140,25 +140,8 @@ ended order span kind = record { order = order; span = span; kind = kind }
 
 end-back : (order : EvaluationOrder) (at : Option Span) (kind : TerminalKind) → end_of (spec.terminal (ended order at kind)) ≡ kind
 unfolding end_of end_readers block_id_of
-end-back order at (ends.Goto b v) = λ i. ends.Goto b (goto_variant-back v i)
-end-back order at (ends.If p c a f) = λ i. ends.If (place-back p i) c a f
-end-back order at (ends.Branch p c a f) = λ i. ends.Branch (place-back p i) c a f
-end-back order at (ends.Switch p cs f) = λ i. ends.Switch (place-back p i) (list-back spec.case case_of case-back cs i) f
-end-back order at (ends.Logical o t f) = λ i. ends.Logical (logical-back o i) t f
-end-back order at (ends.Ternary t f) = refl
-end-back order at (ends.Optional o t f) = refl
-end-back order at (ends.Sequence b f) = refl
-end-back order at (ends.Label b f) = refl
-end-back order at (ends.Try b p h f) = λ i. ends.Try b (places-back p i) h f
-end-back order at (ends.While t l f) = refl
-end-back order at (ends.DoWhile l t f) = refl
-end-back order at (ends.For n t u l f) = λ i. ends.For n t (ids-back u i) l f
-end-back order at (ends.ForIn n l f) = refl
-end-back order at (ends.ForOf n t l f) = refl
-end-back order at (ends.MaybeThrow b h) = λ i. ends.MaybeThrow b (ids-back h i)
-end-back order at (ends.Return v p) = λ i. ends.Return (return_variant-back v i) (place-back p i)
-end-back order at (ends.Throw p) = λ i. ends.Throw (place-back p i)
 end-back order at ends.Unreachable = refl
+end-back order at _ = grind (arith, place-back, places-back, ids-back, logical-back, goto_variant-back, return_variant-back, list-back spec.case case_of case-back)
 
 terminal_of : Tree → Terminal
 terminal_of tree = record { order = record { 0 = number_of (part 0 tree) }; span = spans_of (part 1 tree); kind = end_of tree }

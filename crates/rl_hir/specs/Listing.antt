@@ -1,6 +1,7 @@
 -- Listings: results as trees of the notation. `[X]` stands for a list of such trees, SPAN and NAME may be absent (`-`).
 use Rattle.std.specs.Prelude.{◌≡◌, ℕ, List, [], ◌∷◌, map, codes}
-use Rattle.rl_text.specs.Notation.{Tree, Said, Count, Flag, spelling}
+use Rattle.rl_text.specs.Notation.{Tree, Node, Said, Count, Flag, Parts, Then, spelling}
+use Rattle.rl_text.specs.Raw.{parts_of}
 use Rattle.rl_base.specs.declared.ids.BlockId.{BlockId}
 use Rattle.rl_base.specs.declared.ids.InstructionId.{InstructionId}
 use Rattle.rl_hir.specs.Blocks.{Pair as BlockPair}
@@ -47,9 +48,12 @@ field (MayBind p) = optional place p
 field (Says text) = Said text
 field (Holds flag) = Flag flag
 
--- `(WORD ORDER SPAN FIELD ..)`
+-- `(WORD ORDER SPAN FIELD ..)`, with the order and the span of `t`
+abbrev pub ended : (word : List ℕ) → (t : Terminal) → (fields : Parts) → Tree
+ended word t fields = Node word (Then (Count t.order.0) (Then (optional span t.span) fields))
+
 abbrev pub terminal : Terminal → Tree
-terminal t = node (terminal_word t.kind) (Count t.order.0 ∷ optional span t.span ∷ map field (fields_of t.kind))
+terminal t = ended (terminal_word t.kind) t (parts_of (map field (fields_of t.kind)))
 
 abbrev pub block_kind : BlockKind → List ℕ
 block_kind kinds.Block = codes "block"

@@ -13,4 +13,5 @@ pub mod listing;
 pub mod pieces;
 pub mod symbol_set;
 pub mod terminal;
+mod terminal_table;
 mod values;

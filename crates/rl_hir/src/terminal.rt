@@ -1,9 +1,10 @@
 //! Terminals: the ends of blocks, and the blocks to which they lead.
 
-ghost use Rattle.std.specs.Prelude.{◌≡◌, IfOk, map};
+ghost use Rattle.std.specs.Prelude.{◌≡◌, ◌++◌, IfOk, OnOk, map};
 ghost use Rattle.rl_hir.specs.Terminals.{fallthrough, successor_ids, unreachable};
 
 use crate::instruction::Place;
+use crate::terminal_table::with_terminals;
 use rl_base::error::OutOfMemory;
 use rl_base::ids::{BlockId, EvaluationOrder};
 use rl_base::list::List;
@@ -169,15 +170,42 @@ pub enum ReturnVariant {
     Void,
 }
 
-/// The block of each case, in order. On `OutOfMemory`, an allocation failed.
-fn case_blocks(alloc: Global, cases: &[Case]) -> Result<Vec<BlockId>, OutOfMemory>
-    ensures { IfOk result (λ ids. ids.items ≡ map (λ c. c.block) cases.now) }
+/// Appends the block of each case, in order. On `OutOfMemory`, an allocation failed, and `ids` may hold some of them.
+fn add_cases(ids: &mut Vec<BlockId>, cases: &[Case]) -> Result<(), OutOfMemory>
+    ensures { OnOk result (ids.new.items ≡ ids.old.items ++ map (λ c. c.block) cases.now) }
 {
-    let mut ids = Vec::with_capacity(alloc, cases.len())?;
+    ids.reserve(cases.len())?;
     for case in cases {
         ids.push(case.block)?;
     }
-    Ok(ids)
+    Ok(())
+}
+
+/// Appends the blocks to which a field may lead.
+macro_rules! add_led {
+    ($ids:ident leads $block:ident) => {
+        $ids.push(*$block)?;
+    };
+    ($ids:ident may_lead $block:ident) => {
+        if let Some(block) = $block {
+            $ids.push(*block)?;
+        }
+    };
+    ($ids:ident chooses $cases:ident) => {
+        add_cases(&mut $ids, $cases.as_slice())?;
+    };
+    ($ids:ident $tells:ident $field:ident) => {};
+}
+
+/// Appends the blocks to which a terminal may lead.
+macro_rules! add_all_led {
+    (($ids:ident, $kind:expr) $($name:ident $word:literal ($($tells:ident $field:ident),*))*) => {
+        match $kind {
+            $(TerminalKind::$name { $($field,)* } => {
+                $(add_led!($ids $tells $field);)*
+            })*
+        }
+    };
 }
 
 /// The ids of the blocks to which a terminal may lead, in the original's order (`eachTerminalSuccessor`). A fallthrough is
@@ -189,45 +217,30 @@ pub fn each_terminal_successor(
     ensures { IfOk result (λ ids. ids.items ≡ successor_ids terminal.now) }
 {
     let mut ids = Vec::new(alloc);
-    match &terminal.kind {
-        TerminalKind::Goto { block, .. } => ids.push(*block)?,
-        TerminalKind::If {
-            consequent,
-            alternate,
-            ..
-        }
-        | TerminalKind::Branch {
-            consequent,
-            alternate,
-            ..
-        } => {
-            ids.push(*consequent)?;
-            ids.push(*alternate)?;
-        }
-        TerminalKind::Switch { cases, .. } => return case_blocks(alloc, cases.as_slice()),
-        TerminalKind::Logical { test, .. }
-        | TerminalKind::Ternary { test, .. }
-        | TerminalKind::Optional { test, .. }
-        | TerminalKind::While { test, .. } => ids.push(*test)?,
-        TerminalKind::Sequence { block, .. }
-        | TerminalKind::Label { block, .. }
-        | TerminalKind::Try { block, .. } => ids.push(*block)?,
-        TerminalKind::DoWhile { loop_block, .. } => ids.push(*loop_block)?,
-        TerminalKind::For { init, .. }
-        | TerminalKind::ForIn { init, .. }
-        | TerminalKind::ForOf { init, .. } => ids.push(*init)?,
-        TerminalKind::MaybeThrow {
-            continuation,
-            handler,
-        } => {
-            ids.push(*continuation)?;
-            if let Some(handler) = handler {
-                ids.push(*handler)?;
-            }
-        }
-        TerminalKind::Return { .. } | TerminalKind::Throw { .. } | TerminalKind::Unreachable => {}
-    }
+    with_terminals!(add_all_led(ids, &terminal.kind));
     Ok(ids)
+}
+
+/// The block of the first field that follows, if there is one.
+macro_rules! followed {
+    () => {
+        None
+    };
+    (follows $block:ident $($rest:tt)*) => {
+        Some(*$block)
+    };
+    ($tells:ident $field:ident $(, $($rest:tt)*)?) => {
+        followed!($($($rest)*)?)
+    };
+}
+
+/// The block behind the construct that a terminal opens.
+macro_rules! followed_of {
+    (($kind:expr) $($name:ident $word:literal ($($tells:ident $field:ident),*))*) => {
+        match $kind {
+            $(TerminalKind::$name { $($field,)* } => followed!($($tells $field),*),)*
+        }
+    };
 }
 
 /// The id of the block that stands behind the construct which a terminal opens, if it opens one
@@ -235,27 +248,7 @@ pub fn each_terminal_successor(
 pub fn terminal_fallthrough(terminal: &Terminal) -> Option<BlockId>
     ensures { result ≡ fallthrough terminal.now }
 {
-    match &terminal.kind {
-        TerminalKind::If { fallthrough, .. }
-        | TerminalKind::Branch { fallthrough, .. }
-        | TerminalKind::Switch { fallthrough, .. }
-        | TerminalKind::Logical { fallthrough, .. }
-        | TerminalKind::Ternary { fallthrough, .. }
-        | TerminalKind::Optional { fallthrough, .. }
-        | TerminalKind::Sequence { fallthrough, .. }
-        | TerminalKind::Label { fallthrough, .. }
-        | TerminalKind::Try { fallthrough, .. }
-        | TerminalKind::While { fallthrough, .. }
-        | TerminalKind::DoWhile { fallthrough, .. }
-        | TerminalKind::For { fallthrough, .. }
-        | TerminalKind::ForIn { fallthrough, .. }
-        | TerminalKind::ForOf { fallthrough, .. } => Some(*fallthrough),
-        TerminalKind::Goto { .. }
-        | TerminalKind::MaybeThrow { .. }
-        | TerminalKind::Return { .. }
-        | TerminalKind::Throw { .. }
-        | TerminalKind::Unreachable => None,
-    }
+    with_terminals!(followed_of(&terminal.kind))
 }
 
 impl Terminal {
@@ -282,152 +275,32 @@ impl Terminal {
     }
 }
 
+/// A copy of a field.
+macro_rules! copied {
+    ($alloc:ident chooses $cases:ident) => {
+        $cases.copy($alloc)?
+    };
+    ($alloc:ident $tells:ident $field:ident) => {
+        *$field
+    };
+}
+
+/// A copy of a terminal.
+macro_rules! copy_of {
+    (($alloc:ident, $kind:expr) $($name:ident $word:literal ($($tells:ident $field:ident),*))*) => {
+        match $kind {
+            $(TerminalKind::$name { $($field,)* } => TerminalKind::$name {
+                $($field: copied!($alloc $tells $field),)*
+            },)*
+        }
+    };
+}
+
 impl TerminalKind {
     /// A copy in memory of its own. On `OutOfMemory` an allocation failed.
     pub fn copy(&self, alloc: Global) -> Result<TerminalKind, OutOfMemory>
         ensures { IfOk result (λ copy. copy ≡ self.now) }
     {
-        Ok(match self {
-            TerminalKind::Goto { block, variant } => TerminalKind::Goto {
-                block: *block,
-                variant: *variant,
-            },
-            TerminalKind::If {
-                test,
-                consequent,
-                alternate,
-                fallthrough,
-            } => TerminalKind::If {
-                test: *test,
-                consequent: *consequent,
-                alternate: *alternate,
-                fallthrough: *fallthrough,
-            },
-            TerminalKind::Branch {
-                test,
-                consequent,
-                alternate,
-                fallthrough,
-            } => TerminalKind::Branch {
-                test: *test,
-                consequent: *consequent,
-                alternate: *alternate,
-                fallthrough: *fallthrough,
-            },
-            TerminalKind::Switch {
-                test,
-                cases,
-                fallthrough,
-            } => TerminalKind::Switch {
-                test: *test,
-                cases: cases.copy(alloc)?,
-                fallthrough: *fallthrough,
-            },
-            TerminalKind::Logical {
-                operator,
-                test,
-                fallthrough,
-            } => TerminalKind::Logical {
-                operator: *operator,
-                test: *test,
-                fallthrough: *fallthrough,
-            },
-            TerminalKind::Ternary { test, fallthrough } => TerminalKind::Ternary {
-                test: *test,
-                fallthrough: *fallthrough,
-            },
-            TerminalKind::Optional {
-                optional,
-                test,
-                fallthrough,
-            } => TerminalKind::Optional {
-                optional: *optional,
-                test: *test,
-                fallthrough: *fallthrough,
-            },
-            TerminalKind::Sequence { block, fallthrough } => TerminalKind::Sequence {
-                block: *block,
-                fallthrough: *fallthrough,
-            },
-            TerminalKind::Label { block, fallthrough } => TerminalKind::Label {
-                block: *block,
-                fallthrough: *fallthrough,
-            },
-            TerminalKind::Try {
-                block,
-                handler_binding,
-                handler,
-                fallthrough,
-            } => TerminalKind::Try {
-                block: *block,
-                handler_binding: *handler_binding,
-                handler: *handler,
-                fallthrough: *fallthrough,
-            },
-            TerminalKind::While {
-                test,
-                loop_block,
-                fallthrough,
-            } => TerminalKind::While {
-                test: *test,
-                loop_block: *loop_block,
-                fallthrough: *fallthrough,
-            },
-            TerminalKind::DoWhile {
-                loop_block,
-                test,
-                fallthrough,
-            } => TerminalKind::DoWhile {
-                loop_block: *loop_block,
-                test: *test,
-                fallthrough: *fallthrough,
-            },
-            TerminalKind::For {
-                init,
-                test,
-                update,
-                loop_block,
-                fallthrough,
-            } => TerminalKind::For {
-                init: *init,
-                test: *test,
-                update: *update,
-                loop_block: *loop_block,
-                fallthrough: *fallthrough,
-            },
-            TerminalKind::ForIn {
-                init,
-                loop_block,
-                fallthrough,
-            } => TerminalKind::ForIn {
-                init: *init,
-                loop_block: *loop_block,
-                fallthrough: *fallthrough,
-            },
-            TerminalKind::ForOf {
-                init,
-                test,
-                loop_block,
-                fallthrough,
-            } => TerminalKind::ForOf {
-                init: *init,
-                test: *test,
-                loop_block: *loop_block,
-                fallthrough: *fallthrough,
-            },
-            TerminalKind::MaybeThrow {
-                continuation,
-                handler,
-            } => TerminalKind::MaybeThrow {
-                continuation: *continuation,
-                handler: *handler,
-            },
-            TerminalKind::Return { variant, value } => TerminalKind::Return {
-                variant: *variant,
-                value: *value,
-            },
-            TerminalKind::Throw { value } => TerminalKind::Throw { value: *value },
-            TerminalKind::Unreachable => TerminalKind::Unreachable,
-        })
+        Ok(with_terminals!(copy_of(alloc, self)))
     }
 }

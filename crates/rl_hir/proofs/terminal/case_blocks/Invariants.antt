@@ -1,5 +1,0 @@
-use Rattle.std.proofs.Common.{◌≡◌, map, take}
-use Rattle.rl_hir.proofs.terminal.case_blocks.Given as goal
-
-abbrev pub invariant-loop-case : goal.invariant-loop-case
-invariant-loop-case l = l.ids.items ≡ map (λ c. c.block) (take l.case-index l.cases)
