@@ -23,16 +23,15 @@ use Rattle.rl_order.specs.Numbering.{ordered_blocks, orders_of}
 use Rattle.rl_order.specs.Predecessors.{IsMarked, LeadsTo, PredecessorsReached, sources, with_predecessors}
 use Rattle.rl_order.specs.Prune.{IsPruned, cleaned}
 use Rattle.rl_order.specs.Reached.{Begins, Goes, IsReached}
+use Rattle.rl_order.specs.Removals.{without_dead_do_whiles, without_dead_tries, without_unreachable_updates}
 use Rattle.rl_order.specs.Walk.{IsOrdered}
 use Rattle.rl_order.specs.declared.predecessors.Edge.{Edge}
 
--- The blocks that are kept count no more than those of the graph.
-pub left_total : (count : List InstructionId → ℕ) → IsLeast count → (graph : List Pair) (entry : BlockId) (ordered : List Pair)
-    → IsOrdered graph entry ordered → total count (cleaned ordered) ≤ total count graph
-left_total count least graph entry ordered o =
-    let kept : total count ordered ≤ total count graph = subst (λ (pairs : List Pair). total count pairs ≤ total count graph) (sym o.blocks) (kept_total count least graph o.end _ (walked_good graph entry o.end o.walk).own) in
-    let first : total count (cleaned ordered) ≤ total count ordered = cleaned_total count ordered in
-    omega (arith, kept, first)
+-- The blocks in their order count no more than those of the graph.
+pub order_total : (count : List InstructionId → ℕ) → IsLeast count → (graph : List Pair) (entry : BlockId) (ordered : List Pair)
+    → IsOrdered graph entry ordered → total count ordered ≤ total count graph
+order_total count least graph entry ordered o =
+    subst (λ (pairs : List Pair). total count pairs ≤ total count graph) (sym o.blocks) (kept_total count least graph o.end _ (walked_good graph entry o.end o.walk).own)
 
 -- The number of blocks.
 
@@ -52,13 +51,17 @@ orders_total : (pairs : List Pair) → orders_of pairs ≡ total places pairs
 orders_total [] = refl
 orders_total (p ∷ pairs) = let rest : orders_of pairs ≡ total places pairs = orders_total pairs in omega (arith, rest)
 
-pub left_orders : (graph : List Pair) (entry : BlockId) (ordered : List Pair) → IsOrdered graph entry ordered
-    → orders_of (cleaned ordered) ≤ orders_of graph
-left_orders graph entry ordered o =
-    let fewer : total places (cleaned ordered) ≤ total places graph = left_total places (λ ids. omega arith) graph entry ordered o in
-    let before = orders_total graph in
-    let behind = orders_total (cleaned ordered) in
+fewer_orders : (pairs left : List Pair) → total places left ≤ total places pairs → orders_of left ≤ orders_of pairs
+fewer_orders pairs left fewer =
+    let before = orders_total pairs in
+    let behind = orders_total left in
     omega (arith, fewer, before, behind)
+
+pub ordered_orders : (graph : List Pair) (entry : BlockId) (ordered : List Pair) → IsOrdered graph entry ordered → orders_of ordered ≤ orders_of graph
+ordered_orders graph entry ordered o = fewer_orders graph ordered (order_total places (λ ids. omega arith) graph entry ordered o)
+
+pub cleaned_orders : (ordered : List Pair) → orders_of (cleaned ordered) ≤ orders_of ordered
+cleaned_orders ordered = fewer_orders ordered (cleaned ordered) (cleaned_total places ordered)
 
 -- The instructions that lie outside of the table.
 
@@ -103,12 +106,18 @@ total_past bound [] none = All-nil (ListsWithin bound)
 total_past bound (p ∷ pairs) none =
     All-cons (ListsWithin bound) p pairs (none_past bound p.1.instructions (omega (arith, none))) (total_past bound pairs (omega (arith, none)))
 
-pub left_within : (bound : ℕ) (graph : List Pair) (entry : BlockId) (ordered : List Pair) → IsOrdered graph entry ordered
-    → All (λ p. All (λ id. id.0 < bound) p.1.instructions) graph → All (λ p. All (λ id. id.0 < bound) p.1.instructions) (cleaned ordered)
-left_within bound graph entry ordered o all =
-    let fewer : total (past bound) (cleaned ordered) ≤ total (past bound) graph = left_total (past bound) (λ ids. omega arith) graph entry ordered o in
-    let none = past_total bound graph all in
-    total_past bound (cleaned ordered) (omega (arith, fewer, none))
+fewer_past : (bound : ℕ) (pairs left : List Pair) → total (past bound) left ≤ total (past bound) pairs → All (ListsWithin bound) pairs → All (ListsWithin bound) left
+fewer_past bound pairs left fewer all =
+    let none = past_total bound pairs all in
+    total_past bound left (omega (arith, fewer, none))
+
+pub ordered_within : (bound : ℕ) (graph : List Pair) (entry : BlockId) (ordered : List Pair) → IsOrdered graph entry ordered
+    → All (λ p. All (λ id. id.0 < bound) p.1.instructions) graph → All (λ p. All (λ id. id.0 < bound) p.1.instructions) ordered
+ordered_within bound graph entry ordered o all = fewer_past bound graph ordered (order_total (past bound) (λ ids. omega arith) graph entry ordered o) all
+
+pub cleaned_within : (bound : ℕ) (ordered : List Pair) → All (λ p. All (λ id. id.0 < bound) p.1.instructions) ordered
+    → All (λ p. All (λ id. id.0 < bound) p.1.instructions) (cleaned ordered)
+cleaned_within bound ordered all = fewer_past bound ordered (cleaned ordered) (cleaned_total (past bound) ordered) all
 
 -- The places where an instruction is listed.
 
@@ -172,17 +181,32 @@ listed_total n (p ∷ pairs) =
     let both = times_append n (map (λ id. id.0) p.1.instructions) (listed_in pairs) in
     omega (arith, rest, both)
 
-pub left_once : (graph : List Pair) (entry : BlockId) (ordered : List Pair) → IsOrdered graph entry ordered
-    → AreDistinct (listed_in graph) → AreDistinct (listed_in (cleaned ordered))
-left_once graph entry ordered o distinct = times_distinct (listed_in (cleaned ordered)) few
+fewer_times : (pairs left : List Pair) → ((n : ℕ) → total (times_of n) left ≤ total (times_of n) pairs) → AreDistinct (listed_in pairs) → AreDistinct (listed_in left)
+fewer_times pairs left fewer distinct = times_distinct (listed_in left) few
   where
-    few : (n : ℕ) → times n (listed_in (cleaned ordered)) ≤ 1
+    few : (n : ℕ) → times n (listed_in left) ≤ 1
     few n =
-        let fewer : total (times_of n) (cleaned ordered) ≤ total (times_of n) graph = left_total (times_of n) (λ ids. omega arith) graph entry ordered o in
-        let before = listed_total n graph in
-        let behind = listed_total n (cleaned ordered) in
-        let once : times n (listed_in graph) ≤ 1 = distinct_times (listed_in graph) distinct n in
-        omega (arith, fewer, before, behind, once)
+        let less : total (times_of n) left ≤ total (times_of n) pairs = fewer n in
+        let before = listed_total n pairs in
+        let behind = listed_total n left in
+        let once : times n (listed_in pairs) ≤ 1 = distinct_times (listed_in pairs) distinct n in
+        omega (arith, less, before, behind, once)
+
+pub ordered_once : (graph : List Pair) (entry : BlockId) (ordered : List Pair) → IsOrdered graph entry ordered
+    → AreDistinct (listed_in graph) → AreDistinct (listed_in ordered)
+ordered_once graph entry ordered o once = fewer_times graph ordered (λ n. order_total (times_of n) (λ ids. omega arith) graph entry ordered o) once
+
+pub cleaned_once : (ordered : List Pair) → AreDistinct (listed_in ordered) → AreDistinct (listed_in (cleaned ordered))
+cleaned_once ordered once = fewer_times ordered (cleaned ordered) (λ n. cleaned_total (times_of n) ordered) once
+
+-- The blocks behind the removals, one after the other.
+pub cleaned_by : (pairs updated tested left : List Pair) → updated ≡ without_unreachable_updates pairs → tested ≡ without_dead_do_whiles updated
+    → left ≡ without_dead_tries tested → left ≡ cleaned pairs
+cleaned_by pairs updated tested left u t l = l ∙ ap without_dead_tries (t ∙ ap without_dead_do_whiles u)
+
+pub marked_same : (graph graph1 marked : List Pair) (entry entry1 : BlockId) → graph ≡ graph1 → entry ≡ entry1 → IsMarked graph entry marked → IsMarked graph1 entry1 marked
+marked_same graph graph1 marked entry entry1 same at m =
+    subst (λ (pairs : List Pair). IsMarked pairs entry1 marked) same (subst (λ (id : BlockId). IsMarked graph id marked) at m)
 
 -- Predecessors change no order and no listed instruction.
 
@@ -265,10 +289,11 @@ own_predecessors graph marked entry m =
 pub pruned_total : (count : List InstructionId → ℕ) → IsLeast count → (graph : List Pair) (entry : BlockId) (table : List Instruction) (pruned : List Pair) (numbered : List Instruction)
     → IsPruned graph entry table pruned numbered → total count pruned ≤ total count graph
 pruned_total count least graph entry table pruned numbered p =
-    let left : total count (cleaned p.ordered) ≤ total count graph = left_total count least graph entry p.ordered p.order in
+    let kept : total count p.ordered ≤ total count graph = order_total count least graph entry p.ordered p.order in
+    let left : total count (cleaned p.ordered) ≤ total count p.ordered = cleaned_total count p.ordered in
     let ordered = ordered_total count 1 (cleaned p.ordered) in
     let marked : total count pruned ≡ total count (ordered_blocks 1 (cleaned p.ordered)) = ap (λ (pairs : List Pair). total count pairs) p.marked.blocks ∙ marked_total count p.marked.edges (ordered_blocks 1 (cleaned p.ordered)) in
-    omega (arith, left, ordered, marked)
+    omega (arith, kept, left, ordered, marked)
 
 pub pruned_size : (graph : List Pair) (entry : BlockId) (table : List Instruction) (pruned : List Pair) (numbered : List Instruction)
     → IsPruned graph entry table pruned numbered → length pruned ≤ length graph
@@ -281,6 +306,4 @@ pruned_size graph entry table pruned numbered p =
 pub pruned_within : (bound : ℕ) (graph : List Pair) (entry : BlockId) (table : List Instruction) (pruned : List Pair) (numbered : List Instruction)
     → IsPruned graph entry table pruned numbered → All (λ p. All (λ id. id.0 < bound) p.1.instructions) graph → All (λ p. All (λ id. id.0 < bound) p.1.instructions) pruned
 pruned_within bound graph entry table pruned numbered p all =
-    let fewer : total (past bound) pruned ≤ total (past bound) graph = pruned_total (past bound) (λ ids. omega arith) graph entry table pruned numbered p in
-    let none = past_total bound graph all in
-    total_past bound pruned (omega (arith, fewer, none))
+    fewer_past bound graph pruned (pruned_total (past bound) (λ ids. omega arith) graph entry table pruned numbered p) all

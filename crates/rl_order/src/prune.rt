@@ -4,9 +4,9 @@ ghost use Rattle.std.specs.Prelude.{◌≡◌, ◌+◌, ◌*◌, ◌<◌, ◌≤
 ghost use Rattle.rl_base.specs.Distinct.{AreDistinct};
 ghost use Rattle.rl_hir.specs.Blocks.{HaveOwnIds};
 ghost use Rattle.rl_hir.specs.Numbered.{IsNumbered, listed_in};
-ghost use Rattle.rl_order.specs.Numbering.{orders_of};
-ghost use Rattle.rl_order.specs.Predecessors.{PredecessorsReached};
-ghost use Rattle.rl_order.specs.Prune.{IsPruned};
+ghost use Rattle.rl_order.specs.Numbering.{ordered_blocks, ordered_table, orders_of};
+ghost use Rattle.rl_order.specs.Predecessors.{IsMarked, PredecessorsReached};
+ghost use Rattle.rl_order.specs.Prune.{IsPruned, cleaned};
 ghost use Rattle.rl_order.specs.Walk.{IsWhole};
 
 use crate::numbering::mark_instruction_ids;
@@ -29,9 +29,36 @@ fn tell_own_ids<B: Blocks>(blocks: &B)
     let _ = blocks.len();
 }
 
-/// A graph in its order, without what names dropped blocks, with evaluation orders from 1 for its terminals and for the instructions of
-/// `table`, and with the predecessors of its blocks. Counts the steps of the ordering. On `OutOfMemory` an allocation failed, and
-/// instructions may have got orders.
+/// The passes behind the ordering: takes out what names missing blocks, gives evaluation orders from 1 to terminals and to the
+/// instructions of `table`, and marks the predecessors of blocks. On `OutOfMemory` an allocation failed, and some of the passes
+/// may be made.
+pub fn clean<B: Blocks>(
+    alloc: Global,
+    hir: &mut Hir<B>,
+    table: &mut [Instruction],
+) -> Result<(), OutOfMemory>
+    requires within { All (λ p. All (λ id. id.0 < length table.old) p.1.instructions) (B.pairs hir.old.blocks) }
+    requires room { 1 + orders_of (B.pairs hir.old.blocks) < 2 ^ 32 }
+    ensures entry { hir.new.entry ≡ hir.old.entry }
+    ensures marked { OnOk result (IsMarked (ordered_blocks 1 (cleaned (B.pairs hir.old.blocks))) hir.old.entry (B.pairs hir.new.blocks)) }
+    ensures orders { OnOk result (table.new ≡ ordered_table 1 (cleaned (B.pairs hir.old.blocks)) table.old) }
+    ensures distinct { OnOk result (HaveOwnIds (B.pairs hir.new.blocks)) }
+    ensures numbered { OnOk result (AreDistinct (listed_in (B.pairs hir.old.blocks)) → All (λ i. i.order.0 ≡ 0) table.old → IsNumbered table.new (B.pairs hir.new.blocks)) }
+    ensures predecessors { OnOk result (PredecessorsReached (B.pairs hir.new.blocks) hir.new.entry (B.pairs hir.new.blocks)) }
+    ensures length { length table.new ≡ length table.old }
+{
+    remove_unreachable_for_updates(hir);
+    remove_dead_do_while_statements(hir);
+    remove_unnecessary_try_catch(alloc, hir)?;
+    mark_instruction_ids(hir, table);
+    mark_predecessors(alloc, hir)?;
+    tell_own_ids(&hir.blocks);
+    Ok(())
+}
+
+/// A graph in its order, without what names dropped blocks, with evaluation orders from 1 for its terminals and for the
+/// instructions of `table`, and with the predecessors of its blocks. Counts the steps of the ordering. On `OutOfMemory` an
+/// allocation failed, and instructions may have got orders.
 pub fn prune<B: Blocks, L: Ledger>(
     alloc: Global,
     hir: &Hir<B>,
@@ -54,11 +81,6 @@ pub fn prune<B: Blocks, L: Ledger>(
         entry: hir.entry,
         blocks,
     };
-    remove_unreachable_for_updates(&mut pruned);
-    remove_dead_do_while_statements(&mut pruned);
-    remove_unnecessary_try_catch(alloc, &mut pruned)?;
-    mark_instruction_ids(&mut pruned, table);
-    mark_predecessors(alloc, &mut pruned)?;
-    tell_own_ids(&pruned.blocks);
+    clean(alloc, &mut pruned, table)?;
     Ok(pruned)
 }
