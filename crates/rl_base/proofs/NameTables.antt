@@ -149,23 +149,46 @@ module _ {X : Type 0} (name_of : X → List ℕ) where
       (λ name. added name ∙ ap (λ o. if is_key bytes_eq o name then Some other else get_by_text before name) got))
 
   -- An item that is added among those that share a place, or is not.
-  pub among : (slots : List Slot) (before after : BTreeMap (String Global) ℕ) (items added : List X) (item : X) (r : Result Bool OutOfMemory) → IsIndex name_of slots before items → slot_at slots (place_of (length slots) (name_of item)) ≡ slot.Many
-      → IfOk r (λ is_new. is_new ≡ not (is_some (get_by_text before (name_of item))))
-      → IfOk r (λ is_new. added ≡ (if is_new then items ++ item ∷ [] else items))
-      → IfOk r (λ is_new. is_new ≡ true → (name : List ℕ) → get_by_text after name ≡ (if bytes_eq (name_of item) name then Some (length items) else get_by_text before name))
-      → IfOk r (λ is_new. is_new ≡ false → IsUnchanged before after)
+  pub among : (slots : List Slot) (before after : BTreeMap (String Global) ℕ) (items added : List X) (item : X) (r : Result (ℕ × Bool) OutOfMemory) → IsIndex name_of slots before items → slot_at slots (place_of (length slots) (name_of item)) ≡ slot.Many
+      → IfOk r (λ found. found.1 ≡ not (is_some (get_by_text before (name_of item))))
+      → IfOk r (λ found. added ≡ (if found.1 then items ++ item ∷ [] else items))
+      → IfOk r (λ found. found.1 ≡ true → (name : List ℕ) → get_by_text after name ≡ (if bytes_eq (name_of item) name then Some (length items) else get_by_text before name))
+      → IfOk r (λ found. found.1 ≡ false → IsUnchanged before after)
       → OnErr r (added ≡ items) → OnErr r (IsUnchanged before after) → IsIndex name_of slots after added
-  among slots before after items added item (Ok true) index many is_new grown more stays same unchanged =
+  among slots before after items added item (Ok (n, true)) index many is_new grown more stays same unchanged =
       let new : index_named name_of items (name_of item) ≡ None = by_slot slots before items (name_of item) slot.Many index many ∙ none_known (get_by_text before (name_of item)) (sym is_new) in
       subst (λ (l : List X). IsIndex name_of slots after l) (sym grown)
       (subst (λ ks. IsSlotted bytes_eq (place_of (length slots)) slots ks (get_by_text after) (index_named name_of (items ++ item ∷ []))) (sym (map_push items item))
       (push_many bytes_eq (place_of (length slots)) (place_same (length slots)) slots (map name_of items) (get_by_text before) (get_by_text after) (index_named name_of items) (index_named name_of (items ++ item ∷ [])) (name_of item) (length items) index many (more refl) (pushed items item new)))
-  among slots before after items added item (Ok false) index many is_new grown more stays same unchanged =
+  among slots before after items added item (Ok (n, false)) index many is_new grown more stays same unchanged =
       subst (λ (l : List X). IsIndex name_of slots after l) (sym grown)
       (many_same bytes_eq (place_of (length slots)) slots (map name_of items) (get_by_text before) (get_by_text after) (index_named name_of items) index (λ name. ap (lookup _) (stays refl)))
   among slots before after items added item (Err e) index many is_new grown more stays same unchanged =
       subst (λ (l : List X). IsIndex name_of slots after l) (sym same)
       (many_same bytes_eq (place_of (length slots)) slots (map name_of items) (get_by_text before) (get_by_text after) (index_named name_of items) index (λ name. ap (lookup _) unchanged))
+
+  -- The index of an appended item is the last.
+  pub pushed_last : (items : List X) (item : X) → index_named name_of items (name_of item) ≡ None → index_named name_of (items ++ item ∷ []) (name_of item) ≡ Some (length items)
+  pushed_last items item new =
+      pushed items item new (name_of item)
+      ∙ ap (λ (b : Bool). if b then Some (length items) else index_named name_of items (name_of item)) ((bytes_eq-Decides (name_of item) (name_of item)).1 refl)
+
+  -- The index of the item that was added among those that share a place, or was there.
+  pub found_among : (slots : List Slot) (before : BTreeMap (String Global) ℕ) (items added : List X) (item : X) (r : Result (ℕ × Bool) OutOfMemory) → IsIndex name_of slots before items → slot_at slots (place_of (length slots) (name_of item)) ≡ slot.Many
+      → IfOk r (λ found. Some found.0 ≡ (if found.1 then Some (length items) else get_by_text before (name_of item)))
+      → IfOk r (λ found. found.1 ≡ not (is_some (get_by_text before (name_of item))))
+      → IfOk r (λ found. added ≡ (if found.1 then items ++ item ∷ [] else items))
+      → IfOk r (λ found. index_named name_of added (name_of item) ≡ Some found.0)
+  found_among slots before items added item (Ok (n, true)) index many at is_new grown =
+      let new : index_named name_of items (name_of item) ≡ None = by_slot slots before items (name_of item) slot.Many index many ∙ none_known (get_by_text before (name_of item)) (sym is_new) in
+      ap (λ (l : List X). index_named name_of l (name_of item)) grown ∙ pushed_last items item new ∙ sym at
+  found_among slots before items added item (Ok (n, false)) index many at is_new grown =
+      ap (λ (l : List X). index_named name_of l (name_of item)) grown ∙ by_slot slots before items (name_of item) slot.Many index many ∙ sym at
+  found_among slots before items added item (Err e) index many at is_new grown = tt
+
+  pub found_inside : (items : List X) (name : List ℕ) (r : Result (ℕ × Bool) OutOfMemory) → IfOk r (λ found. index_named name_of items name ≡ Some found.0) → IfOk r (λ found. found.0 < length items)
+  found_inside items name (Ok found) at = found-within (Some found.0) items name (sym at)
+  found_inside items name (Err e) at = tt
 
   -- The slot that is read is that of the name.
   pub slot_known : (count place : ℕ) (slots seen : List Slot) (name : List ℕ) (s : Slot) → s ≡ slot_at seen place → seen ≡ slots → place ≡ place_of count name → count ≡ length slots → slot_at slots (place_of (length slots) name) ≡ s

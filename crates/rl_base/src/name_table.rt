@@ -1,6 +1,6 @@
 //! Lists of items with names, and look-up by name.
 
-ghost use Rattle.std.specs.Prelude.{◌≡◌, ◌<◌, ◌++◌, ◌∷◌, [], ℕ, List, true, false, not, if◌then◌else◌, Some, is_some, length, map, slice_get, IfSome, IfOk, OnOk, OnErr};
+ghost use Rattle.std.specs.Prelude.{◌≡◌, ◌<◌, ◌++◌, ◌∷◌, [], ℕ, List, true, false, not, if◌then◌else◌, Some, None, is_some, length, map, slice_get, IfSome, IfOk, OnOk, OnErr};
 ghost use Rattle.std.specs.BTreeMap.{Updates, IsUnchanged, get_by_text};
 ghost use Rattle.std.specs.Option.{option_copied};
 ghost use Rattle.std.specs.String.{string_cmp, string_bytes};
@@ -126,17 +126,32 @@ impl<T: Named> NameTable<T> {
         ensures items { IfOk result (λ is_new. self.new ≡ (if is_new then self.old ++ item ∷ [] else self.old)) }
         ensures err { OnErr result (self.new ≡ self.old) }
     {
+        let (_, is_new) = self.find_or_insert(alloc, item)?;
+        Ok(is_new)
+    }
+
+    /// The index of the item that has the name of `item`, and true if that is `item`, which is appended where its name is new. An
+    /// item that is not appended is dropped, and nothing has changed then. It takes one look-up. On `OutOfMemory`, an allocation
+    /// failed, and nothing has changed.
+    pub fn find_or_insert(&mut self, alloc: Global, item: T) -> Result<(usize, bool), OutOfMemory>
+        ensures index { IfOk result (λ found. index_named T.name self.new (T.name item) ≡ Some found.0) }
+        ensures is_new { IfOk result (λ found. found.1 ≡ not (is_some (index_named T.name self.old (T.name item)))) }
+        ensures items { IfOk result (λ found. self.new ≡ (if found.1 then self.old ++ item ∷ [] else self.old)) }
+        ensures within { IfOk result (λ found. found.0 < length self.new) }
+        ensures last { IfOk result (λ found. found.1 ≡ true → found.0 ≡ length self.old) }
+        ensures err { OnErr result (self.new ≡ self.old) }
+    {
         let place = place_of(self.slots.len(), item.name());
         match slot_at(self.slots.as_slice(), place) {
             Slot::Empty => {
                 let index = self.items.len();
                 self.items.push(item)?;
                 self.slots[place] = Slot::One(index);
-                Ok(true)
+                Ok((index, true))
             }
             Slot::One(other) => {
                 if is_named(self.items.as_slice(), other, item.name()) {
-                    return Ok(false);
+                    return Ok((other, false));
                 }
                 add_other(alloc, self.items.as_slice(), &mut self.indices, other)?;
                 self.slots[place] = Slot::Many;
@@ -174,18 +189,19 @@ fn add_other<T: Named>(
     Ok(())
 }
 
-/// Appends an item and gives its index to the map, unless the map has its name, and returns true if it does. On `OutOfMemory`, an
-/// allocation failed, and nothing has changed.
+/// Appends an item and gives its index to the map, unless the map has its name. Returns the index of the item that has the name,
+/// and true if that is the new one. On `OutOfMemory`, an allocation failed, and nothing has changed.
 fn insert_among<T: Named>(
     alloc: Global,
     items: &mut Vec<T>,
     indices: &mut BTreeMap<String, usize>,
     item: T,
-) -> Result<bool, OutOfMemory>
-    ensures is_new { IfOk result (λ is_new. is_new ≡ not (is_some (get_by_text indices.old (T.name item)))) }
-    ensures items { IfOk result (λ is_new. items.new.items ≡ (if is_new then items.old.items ++ item ∷ [] else items.old.items)) }
-    ensures added { IfOk result (λ is_new. is_new ≡ true → (name : List ℕ) → get_by_text indices.new name ≡ (if bytes_eq (T.name item) name then Some (length items.old.items) else get_by_text indices.old name)) }
-    ensures stays { IfOk result (λ is_new. is_new ≡ false → IsUnchanged indices.old indices.new) }
+) -> Result<(usize, bool), OutOfMemory>
+    ensures index { IfOk result (λ found. Some found.0 ≡ (if found.1 then Some (length items.old.items) else get_by_text indices.old (T.name item))) }
+    ensures is_new { IfOk result (λ found. found.1 ≡ not (is_some (get_by_text indices.old (T.name item)))) }
+    ensures items { IfOk result (λ found. items.new.items ≡ (if found.1 then items.old.items ++ item ∷ [] else items.old.items)) }
+    ensures added { IfOk result (λ found. found.1 ≡ true → (name : List ℕ) → get_by_text indices.new name ≡ (if bytes_eq (T.name item) name then Some (length items.old.items) else get_by_text indices.old name)) }
+    ensures stays { IfOk result (λ found. found.1 ≡ false → IsUnchanged indices.old indices.new) }
     ensures err_items { OnErr result (items.new.items ≡ items.old.items) }
     ensures err { OnErr result (IsUnchanged indices.old indices.new) }
 {
@@ -193,30 +209,32 @@ fn insert_among<T: Named>(
     let index = items.len();
     // With room for the item, nothing fails once its name is in the index.
     items.reserve(1)?;
-    if !insert_if_new(indices, name, index)? {
-        return Ok(false);
+    match insert_if_new(indices, name, index)? {
+        Some(known) => Ok((known, false)),
+        None => {
+            items.push(item)?;
+            Ok((index, true))
+        }
     }
-    items.push(item)?;
-    Ok(true)
 }
 
-/// Gives `index` to a name that has no index yet and returns true, or returns false if it has one, and changes nothing. On
-/// `OutOfMemory`, an allocation failed, and nothing has changed.
+/// Gives `index` to a name that has no index yet. Returns the index that it has already, which stays. On `OutOfMemory`, an
+/// allocation failed, and nothing has changed.
 fn insert_if_new(
     indices: &mut BTreeMap<String, usize>,
     name: String,
     index: usize,
-) -> Result<bool, OutOfMemory>
-    ensures is_new { IfOk result (λ is_new. is_new ≡ not (is_some (get_by_text indices.old (string_bytes name)))) }
-    ensures added { IfOk result (λ is_new. is_new ≡ true → Updates string_cmp indices.old indices.new name (Some index)) }
-    ensures stays { IfOk result (λ is_new. is_new ≡ false → IsUnchanged indices.old indices.new) }
+) -> Result<Option<usize>, OutOfMemory>
+    ensures known { IfOk result (λ known. known ≡ get_by_text indices.old (string_bytes name)) }
+    ensures added { IfOk result (λ known. known ≡ None → Updates string_cmp indices.old indices.new name (Some index)) }
+    ensures stays { IfOk result (λ known. is_some known ≡ true → IsUnchanged indices.old indices.new) }
     ensures err { OnErr result (IsUnchanged indices.old indices.new) }
 {
     match indices.entry(name)? {
         Entry::Vacant(entry) => {
             entry.insert(index);
-            Ok(true)
+            Ok(None)
         }
-        Entry::Occupied(_) => Ok(false),
+        Entry::Occupied(entry) => Ok(Some(*entry.get())),
     }
 }
