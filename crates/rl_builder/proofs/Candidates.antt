@@ -115,7 +115,11 @@ pub chosen-free : (used : List UsedName) (symbol : ℕ) (name : List ℕ) → le
 unfolding chosen
 chosen-free used symbol name small = (free_place-first used symbol name small).free
 
--- after as many candidates as there are used names, the next one is chosen
-pub chosen-last : (used : List UsedName) (symbol : ℕ) (name : List ℕ) (place : ℕ) → length used < 2 ^ 64 → place ≡ length used → AllTaken used symbol name place → candidate name place ≡ chosen used symbol name
-chosen-last used symbol name place small end taken =
-    chosen-first used symbol name place small (subst (λ last. IsFirstFree used symbol name last) (sym end) (last-free used symbol name small (λ before less. taken before (omega arith))))
+-- a name that is free is chosen itself
+pub chosen-own : (used : List UsedName) (symbol : ℕ) (name : List ℕ) → IsFree used symbol name → chosen used symbol name ≡ name
+unfolding chosen
+chosen-own used symbol name free = by (length used)
+  where
+    by : (count : ℕ) → candidate name (place_from used symbol name 0 count) ≡ name
+    by zero = refl
+    by (suc count) = ap (λ (test : Bool). candidate name (cond test 0 (place_from used symbol name (0 + 1) count))) free

@@ -1,4 +1,7 @@
+pub mod Apart
 pub mod Candidates
+pub mod Merging
 pub mod NameEntries
 pub mod NameLaws
+pub mod NameSearches
 pub mod Pruned

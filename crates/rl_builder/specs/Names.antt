@@ -2,7 +2,6 @@
 -- symbol, if it has one, and `declaration` the span of the symbol's declaration.
 use Rattle.std.specs.Prelude.{◌≡◌, ℕ, zero, suc, ◌+◌, ◌<◌, Bool, true, false, ◌&&◌, nat_eq, if◌then◌else◌, List, [], ◌∷◌, ◌++◌, length, codes, slice_get}
 use Rattle.std.specs.Prelude.{Option, Some, None}
-use Rattle.std.specs.Fmt.{decimal}
 use Rattle.std.specs.Option.{option_map_or}
 use Rattle.std.specs.Str.{bytes_eq}
 use Rattle.rl_base.specs.Reserved.{is_reserved}
@@ -18,22 +17,13 @@ use Rattle.rl_hir.specs.declared.function.IdentifierName.{IdentifierName}
 use Rattle.rl_hir.specs.declared.function.IdentifierName.TheVariants as names
 use Rattle.rl_hir.specs.declared.function.Pair.{Pair}
 use Rattle.rl_builder.specs.Builder.{State}
+pub use Rattle.rl_builder.specs.UsedName.{user_of, candidate}
 use Rattle.rl_builder.specs.UsedName.{UsedName}
-
--- The symbol that has a name.
-abbrev pub user_of : List UsedName → List ℕ → Option ℕ
-user_of [] name = None
-user_of (u ∷ used) name = if bytes_eq name u.name then Some u.symbol else user_of used name
 
 -- The entries with `name` given to `symbol`: in the entry that the name has, or in a new one at the end.
 abbrev pub with_user : List UsedName → List ℕ → ℕ → List UsedName
 with_user [] name symbol = record { name = name; symbol = symbol } ∷ []
 with_user (u ∷ used) name symbol = if bytes_eq name u.name then record u { symbol = symbol } ∷ used else u ∷ with_user used name symbol
-
--- The candidates for a symbol's name, by index from 0: `name`, `name_0`, `name_1` ..
-abbrev pub candidate : List ℕ → ℕ → List ℕ
-candidate name zero = name
-candidate name (suc k) = name ++ codes "_" ++ decimal k
 
 -- True if no symbol but `symbol` has the name.
 abbrev pub is_free : List UsedName → ℕ → List ℕ → Bool

@@ -1,5 +1,7 @@
--- Entries of the maps of a builder.
-use Rattle.std.specs.Prelude.{ℕ, List}
+-- Entries of the maps of a builder, and the look-up of a name.
+use Rattle.std.specs.Prelude.{ℕ, zero, suc, if◌then◌else◌, Option, Some, None, List, [], ◌∷◌, ◌++◌, codes}
+use Rattle.std.specs.Fmt.{decimal}
+use Rattle.std.specs.Str.{bytes_eq}
 use Rattle.rl_base.specs.declared.ids.IdentifierId.{IdentifierId}
 use Rattle.rl_base.specs.declared.ids.SymbolId.{SymbolId}
 use Rattle.rl_hir.specs.declared.function.Pair.{Pair}
@@ -17,3 +19,13 @@ pair_of entry = record { symbol = entry.0; identifier = entry.1 }
 -- An entry of the table of names.
 abbrev pub used_name_of : NameUser → UsedName
 used_name_of user = record { name = user.name; symbol = user.symbol.0 }
+
+-- The symbol that has a name.
+abbrev pub user_of : List UsedName → List ℕ → Option ℕ
+user_of [] name = None
+user_of (u ∷ used) name = if bytes_eq name u.name then Some u.symbol else user_of used name
+
+-- The candidates for a symbol's name, by index from 0: `name`, `name_0`, `name_1` ..
+abbrev pub candidate : List ℕ → ℕ → List ℕ
+candidate name zero = name
+candidate name (suc k) = name ++ codes "_" ++ decimal k

@@ -1,67 +1,77 @@
-use Rattle.std.proofs.Common.{◌≡◌, ◌<◌, ◌^◌, Bool, true, false, if◌then◌else◌, List, length, map, sym, ap, subst, ◌∙◌, add-one, append_assoc, below_more, arith}
-use Rattle.std.proofs.lemmas.List.{length-map}
-use Rattle.rl_builder.specs.Names.{candidate, is_free, with_user, IsFree}
+use Rattle.std.proofs.Common.{◌≡◌, ◌+◌, Bool, true, false, if◌then◌else◌, Some, List, ℕ, get_or, map, sym, ap, subst, ◌∙◌}
+use Rattle.rl_builder.specs.Names.{is_free, with_user, AllTaken}
+use Rattle.rl_builder.specs.NameSearch.{name_at, IsSearched}
 use Rattle.rl_builder.specs.UsedName.{UsedName, used_name_of}
-use Rattle.rl_builder.proofs.Candidates.{chosen-first, chosen-free, chosen-last}
+use Rattle.rl_builder.proofs.Candidates.{chosen-own}
+use Rattle.rl_builder.proofs.NameSearches.{searched-inserted, searched-named, searched-claimed, taken-first}
 use Rattle.rl_builder.proofs.names.UsedNames.claim.Goals as goal
 
-pub returns-then-branch-clause-free : goal.returns-then-branch-clause-free
-returns-then-branch-clause-free c =
-    ap (λ (l : List UsedName). is_free l c.args.symbol.0 c.loop-index.candidate) (sym c.loop-index.invariant.same)
-    ∙ sym c.in_ok-claim_candidate.ensures.free ∙ c.if-branch.true
+pub invariant_of-self-then-is_own : goal.invariant_of-self-then-is_own
+invariant_of-self-then-is_own c =
+    let used = map used_name_of c.self.inside.users in
+    let numbers = c.self.inside.numbers.items in
+    let owners = c.insert.new.self.keys in
+    let name = c.in_ok-copy.field-0 in
+    let named = c.in_ok-entry.ensures.used ∙ ap (λ (b : Bool). if b then with_user used name c.args.symbol.0 else used) c.if-is_own.true in
+    subst (λ (l : List UsedName). IsSearched l numbers owners) (sym named)
+    (searched-named used numbers owners name c.args.symbol.0
+    (searched-inserted used numbers c.self.inside.owners.keys owners c.args.symbol c.self.invariant c.in_ok-is_nameless.ensures.updates.0)
+    c.in_ok-is_nameless.ensures.updates.1)
 
-pub returns-then-branch-clause-chosen : goal.returns-then-branch-clause-chosen
-returns-then-branch-clause-chosen c =
+pub returns-then-is_own-clause-chosen : goal.returns-then-is_own-clause-chosen
+returns-then-is_own-clause-chosen c =
     let used = c.args.self.now in
-    let index = c.loop-index.index-counter in
-    let view : length (map used_name_of c.self.inside.users) ≡ length used = ap length c.self.view_is in
-    let small : length used < 2 ^ 64 = omega (arith, view, length-map c.self.inside.users used_name_of, c.len-index-end.ensures, c.len-index-end.type_inv) in
-    let free = ap (is_free used c.args.symbol.0) (sym c.loop-index.invariant.next) ∙ returns-then-branch-clause-free c in
-    c.loop-index.invariant.next ∙ chosen-first used c.args.symbol.0 c.args.name.now index small (record { free = free; taken = c.loop-index.invariant.taken })
+    let symbol = c.args.symbol.0 in
+    let text : c.in_ok-copy.field-0 ≡ c.args.name.now = c.in_ok-copy.ensures ∙ c.in_ok-own.ensures in
+    let free : is_free used symbol c.args.name.now ≡ true =
+    ap (is_free used symbol) (sym text)
+    ∙ ap (λ (l : List UsedName). is_free l symbol c.in_ok-copy.field-0) (sym c.self.view_is)
+    ∙ sym c.in_ok-entry.ensures.free ∙ c.if-is_own.true in
+    c.in_ok-own.ensures ∙ sym (chosen-own used symbol c.args.name.now free)
 
-pub returns-then-branch-clause-used : goal.returns-then-branch-clause-used
-returns-then-branch-clause-used c =
-    c.in_ok-claim_candidate.ensures.used
-    ∙ ap (λ (b : Bool). if b then with_user c.loop-index.self c.loop-index.candidate c.args.symbol.0 else c.loop-index.self) c.if-branch.true
-    ∙ ap (λ (l : List UsedName). with_user l c.loop-index.candidate c.args.symbol.0) c.loop-index.invariant.same
+pub claim_numbered-requires : goal.claim_numbered-requires
+claim_numbered-requires c =
+    let used = map used_name_of c.self.inside.users in
+    let numbers = c.self.inside.numbers.items in
+    let symbol = c.args.symbol.0 in
+    let name = c.args.name.now in
+    let entry = c.in_ok-entry.entry in
+    let first = c.first_number-first.result in
+    let nameless = c.in_ok-is_nameless.is_nameless in
+    let text : c.in_ok-copy.field-0 ≡ name = c.in_ok-copy.ensures ∙ c.in_ok-own.ensures in
+    let same : map used_name_of c.claim_candidate.new.users ≡ used =
+    c.in_ok-entry.ensures.used ∙ ap (λ (b : Bool). if b then with_user used c.in_ok-copy.field-0 symbol else used) c.if-is_own.false in
+    let named : name_at used entry ≡ Some name = ap (λ (l : List UsedName). name_at l entry) (sym same) ∙ c.in_ok-entry.ensures.named ∙ ap (λ n. Some n) text in
+    let taken : is_free used symbol name ≡ false = ap (is_free used symbol) (sym text) ∙ sym c.in_ok-entry.ensures.free ∙ c.if-is_own.false in
+    let start : first ≡ (if nameless then get_or numbers entry 0 else 0) = c.first_number-first.ensures ∙ ap (λ (l : List ℕ). if nameless then get_or l entry 0 else 0) c.as_slice.ensures.value in
+    subst (λ (l : List UsedName). AllTaken l symbol name (first + 1)) (sym same)
+    (taken-first used numbers c.self.inside.owners.keys symbol entry first name nameless c.self.invariant c.in_ok-is_nameless.ensures.added named taken start)
 
-pub loop-index-preserved : goal.loop-index-preserved
-loop-index-preserved c =
-    let used = c.args.self.now in
-    let index = c.loop-index.index-counter in
-    let taken : is_free used c.args.symbol.0 (candidate c.args.name.now index) ≡ false =
-    ap (is_free used c.args.symbol.0) (sym c.loop-index.invariant.next)
-    ∙ ap (λ (l : List UsedName). is_free l c.args.symbol.0 c.loop-index.candidate) (sym c.loop-index.invariant.same)
-    ∙ sym c.in_ok-claim_candidate.ensures.free ∙ c.if-branch.false in
-    record {
-      next = rw (add-one, append_assoc) (c.new-candidate.ensures ∙ c.in_ok-format.ensures.ok);
-      taken = below_more _ _ c.loop-index.invariant.taken taken;
-      same = c.in_ok-claim_candidate.ensures.used
-          ∙ ap (λ (b : Bool). if b then with_user c.loop-index.self c.loop-index.candidate c.args.symbol.0 else c.loop-index.self) c.if-branch.false
-          ∙ c.loop-index.invariant.same;
-    }
+pub invariant_of-self-in_err-raise_number : goal.invariant_of-self-in_err-raise_number
+invariant_of-self-in_err-raise_number c =
+    let used = map used_name_of c.self.inside.users in
+    let owners = c.insert.new.self.keys in
+    let numbers = c.self.inside.numbers.items in
+    let same : map used_name_of c.claim_candidate.new.users ≡ used =
+    c.in_ok-entry.ensures.used ∙ ap (λ (b : Bool). if b then with_user used c.in_ok-copy.field-0 c.args.symbol.0 else used) c.if-is_own.false in
+    let searched : IsSearched (map used_name_of c.claim_candidate.new.users) numbers owners = subst (λ (l : List UsedName). IsSearched l numbers owners) (sym same)
+    (searched-inserted used numbers c.self.inside.owners.keys owners c.args.symbol c.self.invariant c.in_ok-is_nameless.ensures.updates.0) in
+    subst (λ (l : List UsedName). IsSearched l c.raise_number.new.numbers.items owners) (sym c.in_ok-number.ensures.used)
+    (subst (λ (l : List ℕ). IsSearched (with_user (map used_name_of c.claim_candidate.new.users) c.in_ok-number.text c.args.symbol.0) l owners) (sym c.in_err-raise_number.ensures.err)
+    (searched-named (map used_name_of c.claim_candidate.new.users) numbers owners c.in_ok-number.text c.args.symbol.0 searched c.in_ok-is_nameless.ensures.updates.1))
 
-pub returns-clause-chosen : goal.returns-clause-chosen
-returns-clause-chosen c =
-    let used = c.args.self.now in
-    let view : length (map used_name_of c.self.inside.users) ≡ length used = ap length c.self.view_is in
-    let count = length-map c.self.inside.users used_name_of in
-    let small : length used < 2 ^ 64 = omega (arith, view, count, c.len-index-end.ensures, c.len-index-end.type_inv) in
-    let end : c.loop-index.index-counter ≡ length used = omega (arith, view, count, c.len-index-end.ensures) in
-    c.loop-index.invariant.next ∙ chosen-last used c.args.symbol.0 c.args.name.now c.loop-index.index-counter small end c.loop-index.invariant.taken
-
-pub returns-clause-free : goal.returns-clause-free
-returns-clause-free c =
-    let used = c.args.self.now in
-    let view : length (map used_name_of c.self.inside.users) ≡ length used = ap length c.self.view_is in
-    let small : length used < 2 ^ 64 = omega (arith, view, length-map c.self.inside.users used_name_of, c.len-index-end.ensures, c.len-index-end.type_inv) in
-    subst (λ text. IsFree used c.args.symbol.0 text) (sym (returns-clause-chosen c)) (chosen-free used c.args.symbol.0 c.args.name.now small)
-
-pub returns-clause-used : goal.returns-clause-used
-returns-clause-used c =
-    let free : c.in_ok-claim_candidate-2.field-0 ≡ true = c.in_ok-claim_candidate-2.ensures.free
-    ∙ ap (λ (l : List UsedName). is_free l c.args.symbol.0 c.loop-index.candidate) c.loop-index.invariant.same
-    ∙ returns-clause-free c in
-    c.in_ok-claim_candidate-2.ensures.used
-    ∙ ap (λ (b : Bool). if b then with_user c.loop-index.self c.loop-index.candidate c.args.symbol.0 else c.loop-index.self) free
-    ∙ ap (λ (l : List UsedName). with_user l c.loop-index.candidate c.args.symbol.0) c.loop-index.invariant.same
+pub invariant_of-self-2 : goal.invariant_of-self-2
+invariant_of-self-2 c =
+    let used = map used_name_of c.self.inside.users in
+    let owners = c.insert.new.self.keys in
+    let numbers = c.self.inside.numbers.items in
+    let text : c.in_ok-copy.field-0 ≡ c.args.name.now = c.in_ok-copy.ensures ∙ c.in_ok-own.ensures in
+    let same : map used_name_of c.claim_candidate.new.users ≡ used =
+    c.in_ok-entry.ensures.used ∙ ap (λ (b : Bool). if b then with_user used c.in_ok-copy.field-0 c.args.symbol.0 else used) c.if-is_own.false in
+    let searched : IsSearched (map used_name_of c.claim_candidate.new.users) numbers owners = subst (λ (l : List UsedName). IsSearched l numbers owners) (sym same)
+    (searched-inserted used numbers c.self.inside.owners.keys owners c.args.symbol c.self.invariant c.in_ok-is_nameless.ensures.updates.0) in
+    subst (λ (l : List UsedName). IsSearched l c.raise_number.new.numbers.items owners) (sym c.in_ok-number.ensures.used)
+    (searched-claimed (map used_name_of c.claim_candidate.new.users) numbers c.raise_number.new.numbers.items owners c.args.symbol.0 c.in_ok-entry.entry c.in_ok-number.number c.args.name.now c.in_ok-number.text searched
+    c.in_ok-is_nameless.ensures.updates.1
+    (c.in_ok-entry.ensures.named ∙ ap (λ n. Some n) text)
+    c.in_ok-number.ensures.first c.in_ok-number.ensures.text c.in_ok-raise_number.ensures.raised)
