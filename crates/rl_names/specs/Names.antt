@@ -98,10 +98,22 @@ names_by at nodes imports names scopes symbols declarations references = record 
   declaration = λ symbol. first_bind symbols symbol;
 }
 
+-- The ids of no node.
+abbrev pub no_at : At
+no_at = record { id = record { 0 = 0 }; end = record { 0 = 0 }; scope = record { 0 = 0 }; reference = record { 0 = 0 }; span = record { start = 0; end = 0 } }
+
 -- The ids of a node. Those of no node for any other tree.
 abbrev pub at_of : Syntax → At
 at_of (Node at w parts) = at
-at_of _ = record { id = record { 0 = 0 }; end = record { 0 = 0 }; scope = record { 0 = 0 }; reference = record { 0 = 0 }; span = record { start = 0; end = 0 } }
+at_of _ = no_at
+
+-- The ids of a node of the table. Those of no node for an id that is no node's.
+abbrev pub at_in : List NodeEntry → NodeId → At
+at_in nodes node = of_item no_at (λ n. n.at) (slice_get nodes node.0)
+
+-- The ids of the node that makes a scope. Those of no node for a number that is no scope's.
+abbrev pub scope_at : List NodeEntry → List ScopeEntry → (scope : ℕ) → At
+scope_at nodes scopes scope = of_item no_at (λ s. at_in nodes s.node) (slice_get scopes scope)
 
 -- The names of a unit, in the lowering of one of its functions.
 abbrev pub function_names : (unit function : Syntax) → Names

@@ -13,13 +13,14 @@ use rl_ast::binding::{BindingIdentifier, IdentifierReference};
 use rl_ast::function_node::FunctionNode;
 use rl_base::boxed::Boxed;
 use rl_base::error::OutOfMemory;
-use rl_base::ids::{NodeId, ScopeId, SymbolId};
+use rl_base::ids::{NodeId, ReferenceId, ScopeId, SymbolId};
 use rl_base::span::Span;
 use rl_base::text::Text;
 use rl_bindings::event::{BindKind, Bound};
 use rl_hir::instruction::{ImportSpecifier, NonLocalBinding};
 use rl_resolver::resolver::ScopeResolver;
 use rl_semantic::imports::{ImportBindingKind, ImportEntry};
+use rl_syntax::nodes::NodeEntry;
 use rl_syntax::numbered::At;
 use std::alloc::Global;
 
@@ -96,6 +97,25 @@ fn import_binding(
     }
 }
 
+/// The ids of no node.
+const NO_NODE: At = At {
+    id: NodeId(0),
+    end: NodeId(0),
+    scope: ScopeId(0),
+    reference: ReferenceId(0),
+    span: Span { start: 0, end: 0 },
+};
+
+/// Ids and span of a node. Those of no node for an id that is no node's.
+fn at_in(nodes: &[NodeEntry], node: NodeId) -> At
+    ensures { result ≡ spec.at_in nodes.now node }
+{
+    match nodes.get(node.0 as usize) {
+        Some(entry) => entry.at,
+        None => NO_NODE,
+    }
+}
+
 impl<'s> FunctionNames<'s> {
     /// The names of the unit that `resolver` is of, in the lowering of the function.
     pub fn of(resolver: &'s ScopeResolver<'s>, function: FunctionNode<'_>) -> FunctionNames<'s>
@@ -105,6 +125,19 @@ impl<'s> FunctionNames<'s> {
         let function = match function {
             FunctionNode::Function(function) => function.at,
             FunctionNode::Arrow(arrow) => arrow.at,
+        };
+        FunctionNames { resolver, function }
+    }
+
+    /// The names of the unit that `resolver` is of, in the lowering of the function that makes the scope.
+    pub fn in_scope(resolver: &'s ScopeResolver<'s>, scope: ScopeId) -> FunctionNames<'s>
+        ensures resolver { result.resolver.now ≡ resolver.now }
+        ensures function { result.function ≡ spec.scope_at resolver.now.semantic.now.nodes.now resolver.now.semantic.now.bindings.scopes scope.0 }
+    {
+        let nodes = resolver.semantic.nodes;
+        let function = match resolver.semantic.bindings.scopes.get(scope.0 as usize) {
+            Some(entry) => at_in(nodes, entry.node),
+            None => NO_NODE,
         };
         FunctionNames { resolver, function }
     }
