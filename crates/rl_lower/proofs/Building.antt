@@ -18,7 +18,7 @@ use Rattle.rl_lower.proofs.Keeping.{keeps_then, keeps_value, keeps_completed}
 use Rattle.rl_lower.proofs.Listed.{listed_none}
 
 -- The moves that close off a body.
-pub keeps_closed : (s : State) → Preserves s (closed_off s) 2
+pub keeps_closed : {names : Names} (s : State) → Preserves names s (closed_off s) 2
 keeps_closed s =
     keeps_then s (with_undefined s) (closed_off s) 1 1 (keeps_value s (values.Primitive primitives.Undefined) None) (keeps_completed (with_undefined s) (return_of None returns.Void (temporary s None)) placeholder refl)
 
@@ -52,13 +52,13 @@ fewer_orders p (x ∷ xs) = let rest : orders_of (filter p xs) ≤ orders_of xs 
 
 pub closed_listed : (names : Names) (begun : State) (body : Syntax) (s : State) → IsFresh begun
     → LowersBody names body begun s → IsListed (closed_off s)
-closed_listed names begun body s fresh l = (keeps_closed s).listed (l.keeps.listed (listed_fresh begun fresh))
+closed_listed names begun body s fresh l = (keeps_closed {names = names} s).listed (l.keeps.listed (listed_fresh begun fresh))
 
 pub orders_fit : (names : Names) (begun : State) (body : Syntax) (s : State) → IsFresh begun
     → LowersBody names body begun s → HasRoom begun (4 * (nodes body + 2))
     → 1 + orders_of (closed_off s).completed < 2 ^ 32
 orders_fit names begun body s fresh l room =
-    let keeps : Preserves begun (closed_off s) (4 * (nodes body + 1) + 2) = keeps_then begun s (closed_off s) (4 * (nodes body + 1)) 2 l.keeps (keeps_closed s) in
+    let keeps : Preserves names begun (closed_off s) (4 * (nodes body + 1) + 2) = keeps_then begun s (closed_off s) (4 * (nodes body + 1)) 2 l.keeps (keeps_closed s) in
     let counted : orders_of (closed_off s).completed + 0 ≡ length (closed_off s).table + length (closed_off s).completed = (closed_listed names begun body s fresh l).counted in
     let table : length (closed_off s).table ≤ length begun.table + (4 * (nodes body + 1) + 2) = keeps.uses.instructions in
     let blocks : length (closed_off s).completed ≤ length begun.completed + (4 * (nodes body + 1) + 2) = keeps.uses.completed in

@@ -23,7 +23,7 @@ use Rattle.rl_machine.specs.declared.trace.Answer.{Answer}
 use Rattle.rl_machine.specs.declared.trace.Trace.{Trace}
 use Rattle.rl_lower.proofs.Graphs.{Apart, found_by, item_met}
 use Rattle.rl_lower.proofs.NeverStuck.{LeadsNowhere, exec_walks, passes_once}
-use Rattle.rl_lower.specs.Simulation.{AreEnded, Fact, HasItem, InCompleted, InWip, IsCompleted, IsContainedIn, LeavesFunction, TracesAt}
+use Rattle.rl_lower.specs.Simulation.{AreEnded, CoversNames, Fact, HasItem, InCompleted, InWip, IsCompleted, IsContainedIn, LeavesFunction, TracesAt}
 
 -- Every block is complete, ids are distinct, and the entry is one of them.
 pub record IsFinished (s : State) : Type 0 where
@@ -123,9 +123,9 @@ module _ (s : State) (fin : IsFinished s) (ident : ℕ → Option ℕ) where
       by_block None is = refl
       by_block (Some b) is = none_caught b.terminal.kind (found_leaves s fin (record { 0 = block }) b is).0
 
-  -- The graph has all items of the builder.
-  pub finished_contained : IsContainedIn s finished_code
-  finished_contained = record { has = has; uncaught = uncaught; stands = refl }
+  -- The graph has all items of the builder, and its names if they are final.
+  pub finished_contained : CoversNames s.env.pairs (length s.env.identifiers) ident → IsContainedIn s finished_code
+  finished_contained covers = record { has = has; uncaught = uncaught; stands = refl; names = covers }
     where
       of_block : (f : Fact) (d : InCompleted s f) → finished_code.item f.block f.place ≡ Some f.item
       of_block f d =

@@ -1,5 +1,5 @@
 -- The graph of a function (`IsGraphOf`): its traces, size, calls, identifiers and fields, from the lowering of its body.
-use Rattle.std.proofs.Common.{◌≡◌, ℕ, ◌+◌, ◌*◌, ◌<◌, ◌≤◌, ◌^◌, ◌++◌, Bool, true, false, cond, List, [], ◌∷◌, All, map, filter, length, length-append, Option, None, refl, sym, ap, ◌∙◌, subst, arith, append-nil, append_assoc, eq-eqb}
+use Rattle.std.proofs.Common.{◌≡◌, ℕ, ◌+◌, ◌*◌, ◌<◌, ◌≤◌, ◌^◌, ◌++◌, Bool, true, false, cond, List, [], ◌∷◌, All, map, filter, length, length-append, slice_get, Option, Some, None, refl, sym, ap, ◌∙◌, subst, arith, append-nil, append_assoc, eq-eqb}
 use Rattle.rl_base.specs.declared.diagnostic.Diagnostic.{Diagnostic}
 use Rattle.rl_base.specs.declared.span.Span.{Span}
 use Rattle.rl_syntax.specs.declared.word.Word.TheVariants as word
@@ -7,13 +7,13 @@ use Rattle.rl_syntax.specs.Syntax.{Syntax, Node, Listed, End, Then, nodes}
 use Rattle.rl_hir.specs.declared.environment.Environment.{Environment}
 use Rattle.rl_hir.specs.declared.function.BlockKind.TheVariants as kinds
 use Rattle.rl_hir.specs.declared.function.HirFunction.{HirFunction}
-use Rattle.rl_hir.specs.declared.function.Identifier.{Identifier}
+use Rattle.rl_hir.specs.Pairs.{identifier_of}
 use Rattle.rl_hir.specs.Blocks.{Pair as BlockPair}
 use Rattle.rl_hir.specs.declared.function.Pair.{Pair}
 use Rattle.rl_hir.specs.declared.function.Param.{Param}
 use Rattle.rl_hir.specs.declared.terminal.ReturnVariant.TheVariants as returns
 use Rattle.rl_hir.specs.declared.instruction.Instruction.{Instruction}
-use Rattle.rl_builder.specs.Builder.{State, started}
+use Rattle.rl_builder.specs.Builder.{State, one_identifier_more, started, with_temporary}
 use Rattle.rl_order.specs.Numbering.{ordered_blocks, ordered_table, order_after}
 use Rattle.rl_lower.specs.Reachable.{entry_blocks}
 use Rattle.rl_builder.specs.declared.builder.Built.{Built}
@@ -42,15 +42,19 @@ use Rattle.rl_lower.specs.Listed.{IsListed}
 use Rattle.rl_lower.specs.Reachable.{entry_calls, is_reachable, where_reachable}
 use Rattle.rl_lower.proofs.Reachable.{completed_calls, graph_plain, adds_value, none_where}
 use Rattle.rl_lower.specs.Lowering.{HasRoom, Preserves, LowersBody, exec_before_end}
-use Rattle.rl_model.specs.Fields.{AddsUnnamed, known_from, pairs_from}
-use Rattle.rl_lower.specs.Simulation.{Agrees}
+use Rattle.rl_model.specs.Fields.{AreGiven, ArePairs}
+use Rattle.rl_lower.specs.Simulation.{Agrees, CoversNames, Extends, HasSoundNames}
 use Rattle.rl_lower.specs.Parameters.{said_of_parameters, with_parameters}
 use Rattle.rl_lower.proofs.Building.{IsFresh, keeps_closed, listed_fresh}
 use Rattle.rl_lower.proofs.FunctionTrees.{IsFunction, function_calls, function_nodes, function_refusals}
-use Rattle.rl_lower.proofs.Functions.{function_finished, function_runs_by}
+use Rattle.rl_lower.proofs.FinalNames.{sound_covers}
+use Rattle.rl_lower.proofs.Functions.{extends_closed, function_finished, function_runs_by}
+use Rattle.rl_lower.proofs.GivenNames.{pairs_told, parameters_kept, parameters_pairs, parameters_sound}
 use Rattle.rl_lower.proofs.Graphs.{without_order, ordered_table_plain}
-use Rattle.rl_lower.proofs.Keeping.{added_then, keeps_then, one_unnamed, room_less}
-use Rattle.rl_lower.proofs.Parameters.{known_length, parameters_agree, parameters_given, parameters_made, state_with}
+use Rattle.rl_lower.proofs.Keeping.{keeps_named, keeps_then, named_pairs, room_less}
+use Rattle.rl_lower.proofs.Moves.{extends_temporary, extends_then}
+use Rattle.rl_lower.proofs.Parameters.{known_from, known_length, pair_found, parameters_given, state_with}
+use Rattle.rl_lower.proofs.StartStores.{agrees_start, agrees_taken}
 use Rattle.rl_lower.proofs.Alone.{built_of}
 use Rattle.rl_lower.proofs.Builds.{closed_built, closed_table}
 use Rattle.rl_lower.proofs.Building.{closed_listed}
@@ -101,9 +105,21 @@ graph_is names parameters body env new params built g distinct =
 -- The state behind the graph.
 graph_keeps : (names : Names) (parameters : List Parameter) (body : Syntax) (env new : Environment) (params : List Param) (built : Built)
     (g : IsGraphOf names parameters body env new params built) → AreApart parameters
-    → Preserves (state_with (started env kinds.Block) parameters) (closed_off g.state) (4 * (nodes body + 1) + 2)
+    → Preserves names (state_with (started env kinds.Block) parameters) (closed_off g.state) (4 * (nodes body + 1) + 2)
 graph_keeps names parameters body env new params built g distinct =
     keeps_then (state_with (started env kinds.Block) parameters) g.state (closed_off g.state) (4 * (nodes body + 1)) 2 (lowered_from names parameters body env new params built g distinct).keeps (keeps_closed g.state)
+
+graph_extends : (names : Names) (parameters : List Parameter) (body : Syntax) (env new : Environment) (params : List Param) (built : Built)
+    (g : IsGraphOf names parameters body env new params built) → AreApart parameters
+    → Extends (state_with (started env kinds.Block) parameters) (closed_off g.state)
+graph_extends names parameters body env new params built g distinct =
+    extends_then (state_with (started env kinds.Block) parameters) g.state (closed_off g.state) (lowered_from names parameters body env new params built g distinct).blocks.extends (extends_closed g.state)
+
+-- Names are sound, where the environment had no pairs before.
+graph_names : (names : Names) (parameters : List Parameter) (body : Syntax) (env new : Environment) (params : List Param) (built : Built)
+    (g : IsGraphOf names parameters body env new params built) → AreApart parameters → env.pairs ≡ [] → HasSoundNames (closed_off g.state)
+graph_names names parameters body env new params built g distinct none =
+    (graph_extends names parameters body env new params built g distinct).sound (parameters_sound (started env kinds.Block) parameters none distinct)
 
 pub identifiers_fit : (names : Names) (parameters : List Parameter) (body : Syntax) (env new : Environment) (params : List Param) (built : Built)
     → IsGraphOf names parameters body env new params built → AreApart parameters
@@ -265,19 +281,19 @@ lower_refused f body names parameters env new params built w declared is distinc
     ∙ ap (λ (l : List Diagnostic). env.diagnostics ++ l) (sym (function_refusals names f body w declared))
 
 lower_runs_by : (f body : Syntax) (names : Names) (parameters : List Parameter) (env new : Environment) (params : List Param) (built : Built)
-    → IsFunction f body → DeclaresAll names (params_in f) → parameters ≡ parameters_of names f → AreApart parameters
+    → IsFunction f body → DeclaresAll names (params_in f) → parameters ≡ parameters_of names f → AreApart parameters → env.pairs ≡ []
     → IsGraphOf names parameters body env new params built → refusals_of names f ≡ []
-    → (h : HirFunction (List BlockPair)) (pairs : List Pair) → h.body ≡ built.hir → h.instructions ≡ built.instructions → h.params ≡ params
+    → (h : HirFunction (List BlockPair)) (pairs : List Pair) → pairs ≡ new.pairs → h.body ≡ built.hir → h.instructions ≡ built.instructions → h.params ≡ params
     → (stuck : Trace) (start : List Assignment) (arguments : List Value) (answers : List Answer)
     → trace_by stuck h pairs start arguments answers ≡ source_trace names f start arguments answers
-lower_runs_by f body names given env new params built w declared is distinct g supported h pairs body_is instructions_is params_is =
-    function_runs_by begun graph.state (exec_before_end names body) (begun_fresh env parameters) (parameters_made (started env kinds.Block) parameters)
-    lowered.blocks (lowered.runs (body_supported names f body w declared supported)) h pairs names f
+lower_runs_by f body names given env new params built w declared is distinct none g supported h pairs final body_is instructions_is params_is =
+    function_runs_by begun graph.state (exec_before_end names body) (begun_fresh env parameters) sound
+    lowered.blocks (lowered.runs (body_supported names f body w declared supported)) h pairs covers names f
     built graph.graph (graph_table names parameters body env new params built graph apart) (graph_unlinked names parameters body env new params built graph apart) body_is instructions_is
     (λ start arguments. take parameters arguments (set_all start unset))
-    (λ start arguments. subst (λ (ps : List Param). Agrees begun.bindings (take parameters arguments (set_all start unset))
+    (λ start arguments. subst (λ (ps : List Param). Agrees ident (take parameters arguments (set_all start unset))
     (take_arguments ps arguments (start_values pairs start))) (sym (params_is ∙ graph.places))
-    (parameters_agree (started env kinds.Block) parameters apart arguments (set_all start unset) (start_values pairs start)))
+    (agrees_taken ident covers.one (length env.identifiers) parameters arguments (set_all start unset) (start_values pairs start) given_so (agrees_start ident covers.one start)))
     (λ start arguments answers. function_runs names f body w start arguments answers
     ∙ body_means names body (take parameters arguments (set_all start unset)) answers (λ v after rest. threw v))
   where
@@ -296,22 +312,41 @@ lower_runs_by f body names given env new params built w declared is distinct g s
     lowered : LowersBody names body begun graph.state
     lowered = lowered_from names parameters body env new params built graph apart
 
+    sound : HasSoundNames begun
+    sound = parameters_sound (started env kinds.Block) parameters none apart
+
+    ident : ℕ → Option ℕ
+    ident symbol = identifier_of pairs symbol
+
+    covers : CoversNames (closed_off graph.state).env.pairs (length (closed_off graph.state).env.identifiers) ident
+    covers =
+        subst (λ (l : List Pair). CoversNames (closed_off graph.state).env.pairs (length (closed_off graph.state).env.identifiers) (λ symbol. identifier_of l symbol))
+        (sym (final ∙ ap (λ (e : Environment). e.pairs) graph.after))
+        (sound_covers (closed_off graph.state) (graph_names names parameters body env new params built graph apart none))
+
+    -- A parameter has its identifier in the end.
+    given_so : (place : ℕ) (p : Parameter) → slice_get parameters place ≡ Some p → ident p.symbol.0 ≡ Some (length env.identifiers + place)
+    given_so place p there =
+        covers.kept p.symbol.0 (length env.identifiers + place)
+        ((graph_extends names parameters body env new params built graph apart).names.kept p.symbol.0 (length env.identifiers + place)
+        (sym (sound.same p.symbol.0) ∙ pair_found (length env.identifiers) parameters place p apart there))
+
 pub lower_same_runs : (f body : Syntax) (names : Names) (parameters : List Parameter) (env new : Environment) (params : List Param) (built : Built)
-    → IsFunction f body → DeclaresAll names (params_in f) → parameters ≡ parameters_of names f → AreApart parameters
+    → IsFunction f body → DeclaresAll names (params_in f) → parameters ≡ parameters_of names f → AreApart parameters → env.pairs ≡ []
     → IsGraphOf names parameters body env new params built → refusals_of names f ≡ []
-    → (h : HirFunction (List BlockPair)) (pairs : List Pair) → h.body ≡ built.hir → h.instructions ≡ built.instructions → h.params ≡ params
+    → (h : HirFunction (List BlockPair)) (pairs : List Pair) → pairs ≡ new.pairs → h.body ≡ built.hir → h.instructions ≡ built.instructions → h.params ≡ params
     → SameRuns names f h pairs
-lower_same_runs f body names parameters env new params built w declared is distinct g supported h pairs body_is instructions_is params_is start arguments answers =
-    lower_runs_by f body names parameters env new params built w declared is distinct g supported h pairs body_is instructions_is params_is waiting start arguments answers
+lower_same_runs f body names parameters env new params built w declared is distinct none g supported h pairs final body_is instructions_is params_is start arguments answers =
+    lower_runs_by f body names parameters env new params built w declared is distinct none g supported h pairs final body_is instructions_is params_is waiting start arguments answers
 
 pub lower_never_stuck : (f body : Syntax) (names : Names) (parameters : List Parameter) (env new : Environment) (params : List Param) (built : Built)
-    → IsFunction f body → DeclaresAll names (params_in f) → parameters ≡ parameters_of names f → AreApart parameters
+    → IsFunction f body → DeclaresAll names (params_in f) → parameters ≡ parameters_of names f → AreApart parameters → env.pairs ≡ []
     → IsGraphOf names parameters body env new params built → refusals_of names f ≡ []
-    → (h : HirFunction (List BlockPair)) (pairs : List Pair) → h.body ≡ built.hir → h.instructions ≡ built.instructions → h.params ≡ params
+    → (h : HirFunction (List BlockPair)) (pairs : List Pair) → pairs ≡ new.pairs → h.body ≡ built.hir → h.instructions ≡ built.instructions → h.params ≡ params
     → NeverStuck h pairs
-lower_never_stuck f body names parameters env new params built w declared is distinct g supported h pairs body_is instructions_is params_is stuck start arguments answers =
-    lower_runs_by f body names parameters env new params built w declared is distinct g supported h pairs body_is instructions_is params_is stuck start arguments answers
-    ∙ sym (lower_same_runs f body names parameters env new params built w declared is distinct g supported h pairs body_is instructions_is params_is start arguments answers)
+lower_never_stuck f body names parameters env new params built w declared is distinct none g supported h pairs final body_is instructions_is params_is stuck start arguments answers =
+    lower_runs_by f body names parameters env new params built w declared is distinct none g supported h pairs final body_is instructions_is params_is stuck start arguments answers
+    ∙ sym (lower_same_runs f body names parameters env new params built w declared is distinct none g supported h pairs final body_is instructions_is params_is start arguments answers)
 
 pub lower_bounded : (f body : Syntax) (names : Names) (parameters : List Parameter) (env new : Environment) (params : List Param) (built : Built)
     → IsFunction f body → AreApart parameters → IsGraphOf names parameters body env new params built
@@ -325,21 +360,27 @@ pub lower_functions : (names : Names) (parameters : List Parameter) (body : Synt
 lower_functions names parameters body env new params built distinct g =
     ap (λ (e : Environment). e.functions) g.after ∙ (graph_keeps names parameters body env new params built g distinct).functions
 
-pub lower_pairs : (names : Names) (parameters : List Parameter) (body : Syntax) (env new : Environment) (params : List Param) (built : Built)
-    → AreApart parameters → IsGraphOf names parameters body env new params built
-    → new.pairs ≡ env.pairs ++ pairs_from (length env.identifiers) parameters
-lower_pairs names parameters body env new params built distinct g =
-    ap (λ (e : Environment). e.pairs) g.after ∙ (graph_keeps names parameters body env new params built g distinct).pairs
+-- The pairs behind the graph and one identifier more, that of the returned place.
+pub lower_pairs : (names : Names) (parameters : List Parameter) (body : Syntax) (env new last : Environment) (params : List Param)
+    (built : Built) (span : Option Span) → AreApart parameters → All (λ p. names.name p.symbol.0 ≡ p.name) parameters → env.pairs ≡ []
+    → IsGraphOf names parameters body env new params built → last ≡ one_identifier_more new span → ArePairs names last.identifiers last.pairs
+lower_pairs names parameters body env new last params built span distinct own none g more =
+    subst (λ (e : Environment). ArePairs names e.identifiers e.pairs) (sym (more ∙ ap (λ (e : Environment). one_identifier_more e span) g.after))
+    (pairs_told names (with_temporary (closed_off g.state) span)
+    ((extends_temporary (closed_off g.state) span).sound (graph_names names parameters body env new params built g distinct none))
+    (named_pairs names (closed_off g.state).env.identifiers _ (closed_off g.state).env.pairs
+    ((graph_keeps names parameters body env new params built g distinct).pairs (parameters_pairs (started env kinds.Block) names parameters none own))))
 
--- The identifiers behind the graph and one more without a name, that of the returned place.
-pub lower_identifiers : (names : Names) (parameters : List Parameter) (body : Syntax) (env new last : Environment) (params : List Param)
-    (built : Built) (i : Identifier) → AreApart parameters → IsGraphOf names parameters body env new params built
-    → last.identifiers ≡ new.identifiers ++ i ∷ [] → i.name ≡ None
-    → AddsUnnamed (env.identifiers ++ known_from env.next_type parameters) last.identifiers
-lower_identifiers names parameters body env new last params built i distinct g more none =
-    added_then (env.identifiers ++ known_from env.next_type parameters) new.identifiers last.identifiers
-    (subst (λ (e : Environment). AddsUnnamed (env.identifiers ++ known_from env.next_type parameters) e.identifiers) (sym g.after) (graph_keeps names parameters body env new params built g distinct).identifiers)
-    (record { more = i ∷ []; added = more; unnamed = one_unnamed i none })
+-- The identifiers of parameters there.
+pub lower_given : (names : Names) (parameters : List Parameter) (body : Syntax) (env new last : Environment) (params : List Param)
+    (built : Built) (span : Option Span) → AreApart parameters → env.pairs ≡ []
+    → IsGraphOf names parameters body env new params built → last ≡ one_identifier_more new span
+    → AreGiven last.identifiers last.pairs (length env.identifiers) env.next_type parameters
+lower_given names parameters body env new last params built span distinct none g more =
+    subst (λ (e : Environment). AreGiven e.identifiers e.pairs (length env.identifiers) env.next_type parameters) (sym (more ∙ ap (λ (e : Environment). one_identifier_more e span) g.after))
+    (parameters_kept (started env kinds.Block) parameters _ _ _ none distinct (graph_extends names parameters body env new params built g distinct).names
+    (λ identifier known is named. keeps_named (closed_off g.state).env.identifiers _ identifier known
+    ((graph_keeps names parameters body env new params built g distinct).identifiers identifier known is named) named))
 
 pub lower_fn_type : (names : Names) (parameters : List Parameter) (body : Syntax) (env new : Environment) (params : List Param) (built : Built)
     → AreApart parameters → IsGraphOf names parameters body env new params built → new.fn_type ≡ env.fn_type

@@ -37,10 +37,10 @@ use Rattle.rl_syntax.specs.Syntax.{Syntax}
 use Rattle.rl_names.specs.Names.{Names}
 use Rattle.rl_hir.specs.declared.function.Hir.{Hir}
 use Rattle.rl_hir.specs.declared.instruction.Instruction.{Instruction}
-use Rattle.rl_lower.specs.Simulation.{Agrees, AreMade, IsCompleted, IsCurrentOrCompleted, Extends, IsContainedIn, UniqueIds, AreEnded, PreservesBlocks, TracesAt, TracesFrom, Throws, RunsExpression, RunsStatement}
+use Rattle.rl_lower.specs.Simulation.{Agrees, CoversNames, IsCompleted, IsCurrentOrCompleted, Extends, HasSoundNames, IsContainedIn, UniqueIds, AreEnded, PreservesBlocks, TracesAt, TracesFrom, Throws, RunsExpression, RunsStatement}
 use Rattle.rl_lower.specs.Endings.{return_of, with_undefined, closed_off}
 use Rattle.rl_lower.proofs.Building.{IsFresh}
-use Rattle.rl_lower.proofs.Steps.{agrees_then, made_then, get_seam, comes_at_once, steps_on}
+use Rattle.rl_lower.proofs.Steps.{get_seam, comes_at_once, steps_on}
 use Rattle.rl_lower.proofs.Moves.{extends_then, extends_value, extends_completed, contained_before, terminal_met}
 use Rattle.rl_base.specs.Distinct.{AreDistinct}
 use Rattle.rl_base.proofs.DistinctLists.{distinct_none}
@@ -66,7 +66,7 @@ pub value_returned : (s new : State) (d : ExprMeaning) (identifier : ℕ) (span 
     (completed_by new (return_of span returns.Implicit place) (new_block s.env.next_block kind))
 value_returned s new d identifier span place kind named r = record {
   runs = λ c cover m exits source store notes answers a throws onward.
-      r.runs c (contained_before new _ c ended cover) (record { below = m.below }) (λ v after rest. returned [] returns.Implicit v) exits.throws source store notes answers a throws
+      r.runs c (contained_before new _ c ended cover) m (λ v after rest. returned [] returns.Implicit v) exits.throws source store notes answers a throws
       (record { goes = λ v after later notes1 answers1 a1 l is. block_returns new span returns.Implicit place (new_block s.env.next_block kind) c cover v later notes1 answers1 (ap later named ∙ is) });
 }
   where
@@ -82,9 +82,12 @@ undefined_runs s =
 extends_undefined : (s : State) → Extends s (with_undefined s)
 extends_undefined s = extends_value s (values.Primitive primitives.Undefined) None
 
+pub extends_closed : (s : State) → Extends s (closed_off s)
+extends_closed s = extends_then s (with_undefined s) (closed_off s) (extends_undefined s) (extends_completed (with_undefined s) _ placeholder)
+
 -- At the end of a body the function returns Undefined.
-falls_off : (s : State) (c : Code) → IsContainedIn (closed_off s) c → AreMade s
-    → (throws : ValueCont) (source store : Store) (notes : Notes) (answers : List Answer) → Agrees s.bindings source store
+falls_off : (s : State) (c : Code) → IsContainedIn (closed_off s) c → HasSoundNames s
+    → (throws : ValueCont) (source store : Store) (notes : Notes) (answers : List Answer) → Agrees c.ident source store
     → Throws throws → TracesFrom c s store notes answers (returned [] returns.Void value.Undefined)
 falls_off s c cover m throws source store notes answers a none =
     (undefined_runs s).runs c (contained_before (with_undefined s) (closed_off s) c (extends_completed (with_undefined s) _ placeholder) cover) m
@@ -125,39 +128,41 @@ function_finished begun s fresh b = record {
 }
 
 -- The finished blocks have the traces of the body.
-pub function_runs : (begun s : State) (m : StmtMeaning) (ident : ℕ → Option ℕ) (fresh : IsFresh begun) → AreMade begun → (b : PreservesBlocks begun s)
-    → RunsStatement m begun s → (throws : ValueCont) (source store : Store) (notes : Notes) (answers : List Answer)
-    → Agrees begun.bindings source store → Throws throws
+pub function_runs : (begun s : State) (m : StmtMeaning) (ident : ℕ → Option ℕ) (fresh : IsFresh begun) → HasSoundNames begun → (b : PreservesBlocks begun s)
+    → CoversNames (closed_off s).env.pairs (length (closed_off s).env.identifiers) ident → RunsStatement m begun s → (throws : ValueCont) (source store : Store) (notes : Notes) (answers : List Answer)
+    → Agrees ident source store → Throws throws
     → TracesAt (finished_code (closed_off s) (function_finished begun s fresh b) ident) (closed_off s).entry.0 0 store notes answers
     (m source answers (record { normal = λ after rest. returned [] returns.Void value.Undefined; throws = throws }))
-function_runs begun s m ident fresh made b r throws source store notes answers agrees none =
+function_runs begun s m ident fresh sound b covers r throws source store notes answers agrees none =
     let c : Code = finished_code (closed_off s) (function_finished begun s fresh b) ident in
     let trace : Trace = m source answers (record { normal = λ after rest. returned [] returns.Void value.Undefined; throws = throws }) in
-    let cover : IsContainedIn (closed_off s) c = finished_contained (closed_off s) (function_finished begun s fresh b) ident in
+    let cover : IsContainedIn (closed_off s) c = finished_contained (closed_off s) (function_finished begun s fresh b) ident covers in
     let goes : TracesFrom c begun store notes answers trace =
-    r.runs c (contained_before s (closed_off s) c (extends_then s (with_undefined s) (closed_off s) (extends_undefined s) (extends_completed (with_undefined s) _ placeholder)) cover) made
+    r.runs c (contained_before s (closed_off s) c (extends_closed s) cover) sound
     (record { normal = λ after rest. returned [] returns.Void value.Undefined; throws = throws }) source store notes answers agrees none
-    (record { goes = λ after later notes1 answers1 a1 l. falls_off s c cover (made_then begun s b.extends made) throws after later notes1 answers1 (agrees_then begun s after later b.extends a1) none }) in
+    (record { goes = λ after later notes1 answers1 a1 l. falls_off s c cover (b.extends.sound sound) throws after later notes1 answers1 a1 none }) in
     subst (λ (id : ℕ). TracesAt c id 0 store notes answers trace) (sym (ap (λ (id : BlockId). id.0) b.extends.entry ∙ fresh.entry))
     (subst (λ (listed : List InstructionId). TracesAt c begun.current.id.0 (length listed) store notes answers trace) fresh.instructions goes)
 
 -- The function that is built has the traces of its source, whatever trace a stuck run has: `build` keeps the runs of the completed blocks.
-pub function_runs_by : (begun s : State) (m : StmtMeaning) → IsFresh begun → AreMade begun → PreservesBlocks begun s
-    → RunsStatement m begun s → (f : HirFunction (List BlockPair)) (pairs : List Pair) (names : Names) (function : Syntax)
+pub function_runs_by : (begun s : State) (m : StmtMeaning) → IsFresh begun → HasSoundNames begun → PreservesBlocks begun s
+    → RunsStatement m begun s → (f : HirFunction (List BlockPair)) (pairs : List Pair)
+    → CoversNames (closed_off s).env.pairs (length (closed_off s).env.identifiers) (λ symbol. identifier_of pairs symbol)
+    → (names : Names) (function : Syntax)
     → (built : Built) → IsBuilt (closed_off s) built → graph_of (closed_off s) ≡ (closed_off s).completed → All (λ p. p.1.preds ≡ []) (closed_off s).completed
     → f.body ≡ built.hir → f.instructions ≡ built.instructions
     → (source : List Assignment → List Value → Store) →
-    ((start : List Assignment) (arguments : List Value) → Agrees begun.bindings (source start arguments) (take_arguments f.params arguments (start_values pairs start)))
+    ((start : List Assignment) (arguments : List Value) → Agrees (λ symbol. identifier_of pairs symbol) (source start arguments) (take_arguments f.params arguments (start_values pairs start)))
     → ((start : List Assignment) (arguments : List Value) (answers : List Answer) → source_trace names function start arguments answers ≡ m (source start arguments) answers (record { normal = λ after rest. returned [] returns.Void value.Undefined; throws = λ v after rest. threw v }))
     → (stuck : Trace) (start : List Assignment) (arguments : List Value) (answers : List Answer)
     → trace_by stuck f pairs start arguments answers ≡ source_trace names function start arguments answers
-function_runs_by begun s m fresh made b r f pairs names function built is_built table_is unlinked body_is instructions_is source agrees means stuck start arguments answers =
+function_runs_by begun s m fresh sound b r f pairs covers names function built is_built table_is unlinked body_is instructions_is source agrees means stuck start arguments answers =
     ap (λ (h : Hir (List BlockPair)). graph_trace stuck (record { blocks = h.blocks; table = f.instructions; entry = h.entry }) ident alone params start arguments answers) body_is
     ∙ ap (λ (l : List Instruction). graph_trace stuck (record { blocks = built.hir.blocks; table = l; entry = built.hir.entry }) ident alone params start arguments answers) instructions_is
     ∙ is_built.runs may stuck ident alone params once start arguments answers
     ∙ ap (λ (blocks : List BlockPair). graph_trace stuck (record { blocks = blocks; table = last.table; entry = last.entry }) ident alone params start arguments answers) table_is
     ∙ finished_runs last finished ident stuck store answers trace
-    (function_runs begun s m ident fresh made b r (λ v after rest. threw v) (source start arguments) store no_notes answers (agrees start arguments) (record { ends = λ v after rest. refl }))
+    (function_runs begun s m ident fresh sound b covers r (λ v after rest. threw v) (source start arguments) store no_notes answers (agrees start arguments) (record { ends = λ v after rest. refl }))
     ∙ sym (means start arguments answers)
   where
     last : State

@@ -1,6 +1,6 @@
 -- The builder's moves preserve the state (`Preserves`): bounds on counters, lists of ids, names, and the environment's fields.
-use Rattle.std.proofs.Common.{◌≡◌, ℕ, zero, suc, ◌+◌, ◌≤◌, ◌++◌, List, [], ◌∷◌, All, length-append, append-nil, append_assoc, Option, None, slice_get, refl, sym, ap, ◌∙◌, subst, arith}
-use Rattle.std.proofs.lemmas.List.Elements.{All-append}
+use Rattle.std.proofs.lemmas.List.Elements.{All-push}
+use Rattle.std.proofs.Common.{◌≡◌, ℕ, ◌+◌, ◌≤◌, ◌++◌, List, [], ◌∷◌, All, length, length-append, Option, Some, None, slice_get, refl, sym, ap, ◌∙◌, subst, arith}
 use Rattle.rl_base.specs.declared.diagnostic.Diagnostic.{Diagnostic}
 use Rattle.rl_base.specs.declared.span.Span.{Span}
 use Rattle.rl_hir.specs.declared.instruction.InstructionValue.{InstructionValue}
@@ -8,12 +8,16 @@ use Rattle.rl_hir.specs.declared.terminal.Terminal.{Terminal}
 use Rattle.rl_builder.specs.Builder.{State, reserved, completed_by, recorded}
 use Rattle.rl_builder.specs.Temporaries.{with_value}
 use Rattle.rl_builder.specs.declared.builder.WipBlock.{WipBlock}
-use Rattle.rl_hir.specs.Pairs.{identifier_of}
+use Rattle.rl_hir.specs.Identifiers.{named_identifier}
+use Rattle.rl_hir.specs.Pairs.{identifier_of, pair}
 use Rattle.rl_hir.specs.declared.function.Identifier.{Identifier}
 use Rattle.rl_hir.specs.declared.function.Pair.{Pair}
 use Rattle.rl_names.specs.Names.{Names}
-use Rattle.rl_lower.specs.Lowering.{HasRoom, CountersGrowBy, Preserves}
-use Rattle.rl_model.specs.Fields.{AddsUnnamed}
+use Rattle.rl_builder.specs.Names.{chosen, free_place, resolved, resolved_by}
+use Rattle.rl_builder.proofs.NameLaws.{OneMore-resolved, identifier_of-append_some, name_of-append, name_of-last}
+use Rattle.rl_lower.specs.Listed.{IsListed}
+use Rattle.rl_lower.specs.Lowering.{HasNamedPairs, HasRoom, CountersGrowBy, KeepsNamed, Preserves}
+use Rattle.rl_model.specs.Fields.{IsNamedPair}
 use Rattle.rl_lower.specs.Named.{IsNamed}
 use Rattle.rl_lower.proofs.Listed.{listed_completed, listed_value}
 use Rattle.rl_lower.proofs.Steps.{get_more}
@@ -47,29 +51,21 @@ named_more names s new more bindings identifiers n = record {
       };
 }
 
--- Identifiers without a name.
-none_unnamed : All (λ (i : Identifier). i.name ≡ None) []
-none_unnamed place default within = absurd (omega arith)
+-- Identifiers that come later change no name.
+pub keeps_named : (identifiers more : List Identifier) → KeepsNamed identifiers (identifiers ++ more)
+keeps_named identifiers more identifier known is named = get_more identifiers more identifier known is
 
-pub one_unnamed : (i : Identifier) → i.name ≡ None → All (λ (j : Identifier). j.name ≡ None) (i ∷ [])
-one_unnamed i none zero default within = none
-one_unnamed i none (suc place) default within = absurd (omega arith)
+pub named_pairs : (names : Names) (identifiers more : List Identifier) (pairs : List Pair) → All (IsNamedPair names identifiers) pairs
+    → All (IsNamedPair names (identifiers ++ more)) pairs
+named_pairs names identifiers more pairs all place default within =
+    let here = all place default within in
+    record { index = here.index; named = name_of-append identifiers more _ _ here.named }
 
-pub none_added : (identifiers : List Identifier) → AddsUnnamed identifiers identifiers
-none_added identifiers = record { more = []; added = sym (append-nil identifiers); unnamed = none_unnamed }
-
-pub added_then : (old mid new : List Identifier) → AddsUnnamed old mid → AddsUnnamed mid new → AddsUnnamed old new
-added_then old mid new a b = record {
-  more = a.more ++ b.more;
-  added = b.added ∙ ap (λ (l : List Identifier). l ++ b.more) a.added ∙ append_assoc old a.more b.more;
-  unnamed = All-append (λ (i : Identifier). i.name ≡ None) a.more b.more a.unnamed b.unnamed;
-}
-
-pub keeps_refl : (s : State) → Preserves s s 0
+pub keeps_refl : {names : Names} (s : State) → Preserves names s s 0
 keeps_refl s =
-    record { uses = record { blocks = omega arith; types = omega arith; identifiers = omega arith; instructions = omega arith; completed = omega arith }; listed = λ l. l; named = λ names n. n; identifiers = none_added s.env.identifiers; pairs = refl; functions = refl; fn_type = refl }
+    record { uses = record { blocks = omega arith; types = omega arith; identifiers = omega arith; instructions = omega arith; completed = omega arith }; listed = λ l. l; named = λ n. n; identifiers = λ identifier known is named. is; pairs = λ p. p; functions = refl; fn_type = refl }
 
-pub keeps_then : (a b c : State) (m n : ℕ) → Preserves a b m → Preserves b c n → Preserves a c (m + n)
+pub keeps_then : {names : Names} (a b c : State) (m n : ℕ) → Preserves names a b m → Preserves names b c n → Preserves names a c (m + n)
 keeps_then a b c m n j k = record {
   uses = record {
     blocks = omega (arith, j.uses.blocks, k.uses.blocks);
@@ -79,14 +75,14 @@ keeps_then a b c m n j k = record {
     completed = omega (arith, j.uses.completed, k.uses.completed);
   };
   listed = λ l. k.listed (j.listed l);
-  named = λ names n. k.named names (j.named names n);
-  identifiers = added_then a.env.identifiers b.env.identifiers c.env.identifiers j.identifiers k.identifiers;
-  pairs = k.pairs ∙ j.pairs;
+  named = λ n. k.named (j.named n);
+  identifiers = λ identifier known is named. k.identifiers identifier known (j.identifiers identifier known is named) named;
+  pairs = λ p. k.pairs (j.pairs p);
   functions = k.functions ∙ j.functions;
   fn_type = k.fn_type ∙ j.fn_type;
 }
 
-pub keeps_more : (a b : State) (m n : ℕ) → m ≤ n → Preserves a b m → Preserves a b n
+pub keeps_more : {names : Names} (a b : State) (m n : ℕ) → m ≤ n → Preserves names a b m → Preserves names a b n
 keeps_more a b m n le k = record {
   uses = record {
     blocks = omega (arith, le, k.uses.blocks);
@@ -103,36 +99,114 @@ keeps_more a b m n le k = record {
   fn_type = k.fn_type;
 }
 
-pub keeps_value : (s : State) (v : InstructionValue) (span : Option Span) → Preserves s (with_value s v span) 1
-keeps_value s v span = record {
+pub keeps_value : {names : Names} (s : State) (v : InstructionValue) (span : Option Span) → Preserves names s (with_value s v span) 1
+keeps_value {names} s v span = record {
   uses = record { blocks = omega arith; types = omega arith; identifiers = simp length-append (omega arith); instructions = simp length-append (omega arith); completed = omega arith };
   listed = listed_value s v span;
-  named = λ names n. named_more names s (with_value s v span) _ refl refl n;
-  identifiers = record { more = _; added = refl; unnamed = one_unnamed _ refl };
-  pairs = refl;
+  named = λ n. named_more names s (with_value s v span) _ refl refl n;
+  identifiers = keeps_named s.env.identifiers _;
+  pairs = λ p. named_pairs names s.env.identifiers _ s.env.pairs p;
   functions = refl;
   fn_type = refl;
 }
 
-pub keeps_reserved : (s : State) → Preserves s (reserved s) 1
-keeps_reserved s =
-    record { uses = record { blocks = omega arith; types = omega arith; identifiers = omega arith; instructions = omega arith; completed = omega arith }; listed = λ l. record { completed = l.completed; current = l.current; counted = l.counted; once = l.once; unordered = l.unordered; predecessors = l.predecessors }; named = λ names n. named_same names s _ refl refl n; identifiers = none_added s.env.identifiers; pairs = refl; functions = refl; fn_type = refl }
+pub listed_reserved : (s : State) → IsListed s → IsListed (reserved s)
+listed_reserved s l =
+    record { completed = l.completed; current = l.current; counted = l.counted; once = l.once; unordered = l.unordered; predecessors = l.predecessors }
 
-pub keeps_recorded : (s : State) (d : Diagnostic) → Preserves s (recorded s d) 0
-keeps_recorded s d =
-    record { uses = record { blocks = omega arith; types = omega arith; identifiers = omega arith; instructions = omega arith; completed = omega arith }; listed = λ l. record { completed = l.completed; current = l.current; counted = l.counted; once = l.once; unordered = l.unordered; predecessors = l.predecessors }; named = λ names n. named_same names s _ refl refl n; identifiers = none_added s.env.identifiers; pairs = refl; functions = refl; fn_type = refl }
+pub uses_reserved : (s : State) → CountersGrowBy s (reserved s) 1
+uses_reserved s = record { blocks = omega arith; types = omega arith; identifiers = omega arith; instructions = omega arith; completed = omega arith }
 
-pub keeps_completed : (s : State) (t : Terminal) (next : WipBlock) → next.instructions ≡ []
-    → Preserves s (completed_by s t next) 1
-keeps_completed s t next none = record {
+pub keeps_reserved : {names : Names} (s : State) → Preserves names s (reserved s) 1
+keeps_reserved {names} s = record {
+  uses = uses_reserved s;
+  listed = listed_reserved s;
+  named = λ n. named_same names s _ refl refl n;
+  identifiers = λ identifier known is named. is;
+  pairs = λ p. p;
+  functions = refl;
+  fn_type = refl;
+}
+
+pub listed_recorded : (s : State) (d : Diagnostic) → IsListed s → IsListed (recorded s d)
+listed_recorded s d l =
+    record { completed = l.completed; current = l.current; counted = l.counted; once = l.once; unordered = l.unordered; predecessors = l.predecessors }
+
+pub keeps_recorded : {names : Names} (s : State) (d : Diagnostic) → Preserves names s (recorded s d) 0
+keeps_recorded {names} s d = record {
+  uses = record { blocks = omega arith; types = omega arith; identifiers = omega arith; instructions = omega arith; completed = omega arith };
+  listed = listed_recorded s d;
+  named = λ n. named_same names s _ refl refl n;
+  identifiers = λ identifier known is named. is;
+  pairs = λ p. p;
+  functions = refl;
+  fn_type = refl;
+}
+
+pub keeps_completed : {names : Names} (s : State) (t : Terminal) (next : WipBlock) → next.instructions ≡ []
+    → Preserves names s (completed_by s t next) 1
+keeps_completed {names} s t next none = record {
   uses = record { blocks = omega arith; types = omega arith; identifiers = omega arith; instructions = omega arith; completed = simp length-append (omega arith) };
   listed = listed_completed s t next none;
-  named = λ names n. named_same names s _ refl refl n;
-  identifiers = none_added s.env.identifiers;
-  pairs = refl;
+  named = λ n. named_same names s _ refl refl n;
+  identifiers = λ identifier known is named. is;
+  pairs = λ p. p;
   functions = refl;
   fn_type = refl;
 }
+
+-- A symbol is resolved under its own name: it gets an identifier, named by a candidate, unless it has one.
+
+named_last : (names : Names) (s : State) (symbol : ℕ) (declaration : Span) → HasNamedPairs names s
+    → HasNamedPairs names (resolved_by None s (names.name symbol) symbol declaration)
+unfolding chosen
+named_last names s symbol declaration all =
+    All-push (IsNamedPair names (s.env.identifiers ++ made ∷ [])) s.env.pairs (pair symbol (length s.env.identifiers))
+    (named_pairs names s.env.identifiers (made ∷ []) s.env.pairs all)
+    (record { index = free_place s.used_names symbol (names.name symbol); named = name_of-last s.env.identifiers made })
+  where
+    made : Identifier
+    made = named_identifier (chosen s.used_names symbol (names.name symbol)) declaration s.env.next_type
+
+module _ (names : Names) (s : State) (symbol : ℕ) (declaration : Span) where
+  named_by : (known : Option ℕ) → IsNamed names s → IsNamed names (resolved_by known s (names.name symbol) symbol declaration)
+  named_by (Some known) n = record {
+    texts = n.texts;
+    each = λ reference name local is.
+        let h = n.each reference name local is in
+        record { identifier = h.identifier; bound = h.bound; known = h.known; made = h.made; named = h.named };
+  }
+  named_by None n = record {
+    texts = n.texts;
+    each = λ reference name local is.
+        let h = n.each reference name local is in record {
+          identifier = h.identifier;
+          bound = identifier_of-append_some s.bindings (pair symbol (length s.env.identifiers) ∷ []) local.0 h.identifier h.bound;
+          known = h.known;
+          made = get_more s.env.identifiers _ h.identifier h.known h.made;
+          named = h.named;
+        };
+  }
+
+  stays_by : (known : Option ℕ) → KeepsNamed s.env.identifiers (resolved_by known s (names.name symbol) symbol declaration).env.identifiers
+  stays_by (Some known) identifier i is named = is
+  stays_by None identifier i is named = get_more s.env.identifiers _ identifier i is
+
+  pairs_by : (known : Option ℕ) → HasNamedPairs names s → HasNamedPairs names (resolved_by known s (names.name symbol) symbol declaration)
+  pairs_by (Some known) all = all
+  pairs_by None all = named_last names s symbol declaration all
+
+  pub keeps_resolved : Preserves names s (resolved s (names.name symbol) symbol declaration) 1
+  keeps_resolved =
+      let one = OneMore-resolved s (names.name symbol) symbol declaration in record {
+        uses = record { blocks = omega arith; types = one.types; identifiers = one.identifiers; instructions = omega arith; completed = omega arith };
+        listed = λ l. record { completed = l.completed; current = l.current; counted = l.counted; once = l.once; unordered = l.unordered; predecessors = l.predecessors };
+        named = named_by (identifier_of s.bindings symbol);
+        identifiers = stays_by (identifier_of s.bindings symbol);
+        pairs = pairs_by (identifier_of s.bindings symbol);
+        functions = refl;
+        fn_type = refl;
+      }
 
 -- Room for more is room for less.
 pub room_less : (s : State) (m n : ℕ) → n ≤ m → HasRoom s m → HasRoom s n
@@ -156,4 +230,4 @@ room_behind old new m n k le u r = record {
 
 pub room_reserved : (s later : State) (n k : ℕ) → 1 + n ≤ k → later ≡ reserved s → HasRoom s k → HasRoom later n
 room_reserved s later n k le moved r =
-    room_behind s later 1 n k le (subst (λ (o : State). CountersGrowBy s o 1) (sym moved) (keeps_reserved s).uses) r
+    room_behind s later 1 n k le (subst (λ (o : State). CountersGrowBy s o 1) (sym moved) (uses_reserved s)) r

@@ -10,10 +10,12 @@ pub mod Builds
 pub mod Calls
 pub mod Closings
 pub mod Covered
+pub mod FinalNames
 pub mod Finished
 pub mod FunctionGraphs
 pub mod FunctionTrees
 pub mod Functions
+pub mod GivenNames
 pub mod Graphs
 pub mod Keeping
 pub mod Linked
@@ -32,5 +34,6 @@ pub mod SoundListing
 pub mod SoundMoves
 pub mod SoundOrders
 pub mod SoundTrees
+pub mod StartStores
 pub mod Steps
 pub mod WellFormed

@@ -41,7 +41,8 @@ use Rattle.rl_lower.specs.Lowering.{Preserves, LowersExpression, LowersExpressio
 use Rattle.rl_lower.specs.Simulation.{RunsExpression}
 use Rattle.rl_lower.proofs.Blocks.{blocks_refl, blocks_then, blocks_value, blocks_recorded, blocks_returned}
 use Rattle.rl_lower.proofs.Calls.{added_then, calls_more, calls_same, nothing_added}
-use Rattle.rl_lower.proofs.Keeping.{keeps_refl, keeps_then, keeps_more, keeps_value, keeps_reserved, keeps_recorded, keeps_completed}
+use Rattle.rl_lower.proofs.Keeping.{keeps_refl, keeps_then, keeps_more, keeps_value, keeps_reserved, keeps_recorded, keeps_completed, listed_recorded}
+use Rattle.rl_lower.proofs.Listed.{listed_value}
 use Rattle.rl_lower.specs.Reachable.{can_all_complete}
 use Rattle.rl_lower.proofs.Reachable.{adds_value, adds_refl, adds_recorded, adds_then, adds_same, adds_returned}
 use Rattle.rl_lower.proofs.Parts.{value_runs, local_runs, outer_runs, binary_runs, call_runs, none_run, next_runs, same_runs, means_same, evaluated_runs, return_runs, nothing_runs, sequence_runs}
@@ -60,7 +61,6 @@ leaf_lowered : (names : Names) (e : Syntax) (s : State) (v : InstructionValue) (
 leaf_lowered names e s v span one silent no_call none run = record {
   keeps = keeps_more s _ 1 (4 * nodes e) (omega (arith, one)) (keeps_value s v span);
   blocks = blocks_value s v span;
-  made = simp length-append (omega arith);
   refused = nothing_added s.env.diagnostics (refusals names e) none;
   calls = calls_same s.table (unordered (temporary s span) v span) no_call ∙ nothing_added (calls_of s.table) (calls_in e) silent;
   reachable = adds_same _ _ true true s _ (no_call ∙ sym silent) refl (adds_value s v span);
@@ -74,10 +74,9 @@ refused_lowered : (names : Names) (e : Syntax) (d : Diagnostic) (s : State) (v :
 refused_lowered names e d s v span one silent no_call says = record {
   keeps = keeps_more s _ 1 (4 * nodes e) (omega (arith, one)) (keeps_then s (recorded s d) _ 0 1 (keeps_recorded s d) (keeps_value (recorded s d) v span));
   blocks = blocks_then s (recorded s d) _ (blocks_recorded s d) (blocks_value (recorded s d) v span);
-  made = simp length-append (omega arith);
   refused = ap (λ (l : List Diagnostic). s.env.diagnostics ++ l) (sym says);
   calls = calls_same s.table (unordered (temporary s span) v span) no_call ∙ nothing_added (calls_of s.table) (calls_in e) silent;
-  reachable = adds_same _ _ true true s _ (no_call ∙ sym silent) refl (adds_then [] _ true true s (recorded s d) _ (adds_recorded s d) (adds_value (recorded s d) v span) (keeps_recorded s d).listed);
+  reachable = adds_same _ _ true true s _ (no_call ∙ sym silent) refl (adds_then [] _ true true s (recorded s d) _ (adds_recorded s d) (adds_value (recorded s d) v span) (listed_recorded s d));
   runs = λ supported. absurd (never (sym says ∙ supported));
 }
   where
@@ -195,7 +194,6 @@ pub parenthesized_call : (names : Names) (tree e : Syntax) (at : At) (s new : St
 parenthesized_call names tree e at s new identifier is l = subst (λ (t : Syntax). LowersExpression names t s new identifier) (sym is) (record {
   keeps = keeps_more s new (4 * nodes e) _ (omega arith) l.keeps;
   blocks = l.blocks;
-  made = l.made;
   refused = l.refused ∙ ap (λ (ds : List Diagnostic). s.env.diagnostics ++ ds) (sym (append-nil (refusals names e)));
   calls = l.calls ∙ ap (λ (cs : List (Option Span)). calls_of s.table ++ cs) (sym (append-nil (calls_in e)));
   reachable = adds_same (calls_in e) _ true true s new (sym (append-nil (calls_in e))) refl l.reachable;
@@ -213,7 +211,6 @@ binary_call names tree left right at operator l r s mid last new span place is l
     expression_call names tree whole s new _ place _ is moved placed (record {
       keeps = keeps_more s _ (4 * nodes left + (4 * nodes right + 1)) _ (omega arith) (keeps_then s mid _ (4 * nodes left) (4 * nodes right + 1) ll.keeps (keeps_then mid last _ (4 * nodes right) 1 lr.keeps (keeps_value last (values.BinaryExpression operator l r) span)));
       blocks = blocks_then s last _ (blocks_then s mid last ll.blocks lr.blocks) (blocks_value last (values.BinaryExpression operator l r) span);
-      made = simp length-append (omega arith);
       refused = added_then (refusals names left) (refusals names right ++ []) _ _ _ ll.refused (lr.refused ∙ ap (λ (ds : List Diagnostic). mid.env.diagnostics ++ ds) (sym (append-nil (refusals names right))));
       calls = calls_same last.table (unordered (temporary last span) (values.BinaryExpression operator l r) span) refl
           ∙ added_then (calls_in left) (calls_in right ++ []) _ _ _ ll.calls (lr.calls ∙ ap (λ (cs : List (Option Span)). calls_of mid.table ++ cs) (sym (append-nil (calls_in right))));
@@ -221,7 +218,7 @@ binary_call names tree left right at operator l r s mid last new span place is l
           (adds_then (calls_in left ++ calls_in right) _ true true s last _ (adds_then (calls_in left) (calls_in right) true true s mid last ll.reachable lr.reachable ll.keeps.listed) (adds_value last (values.BinaryExpression operator l r) span) (λ listed. lr.keeps.listed (ll.keeps.listed listed)));
       runs = λ supported. (let none = append_none (refusals names left) (refusals names right ++ []) supported in
           same_runs s _ (eval_expr names whole) _ (length last.env.identifiers) (λ source answers onward throws. refl)
-          (binary_runs s mid last (eval_expr names left) (eval_expr names right) operator l r span ll.blocks.extends lr.blocks.extends ll.made (ll.runs none.0) (lr.runs (sym (append-nil (refusals names right)) ∙ none.1))));
+          (binary_runs s mid last (eval_expr names left) (eval_expr names right) operator l r span ll.blocks.extends lr.blocks.extends (ll.runs none.0) (lr.runs (sym (append-nil (refusals names right)) ∙ none.1))));
     })
   where
     whole : Syntax
@@ -232,7 +229,6 @@ pub none_given : (names : Names) (s : State) → LowersExpressions names End s s
 none_given names s = record {
   keeps = keeps_refl s;
   blocks = blocks_refl s;
-  made = λ k d below. absurd (omega arith);
   refused = sym (append-nil s.env.diagnostics);
   calls = sym (append-nil (calls_of s.table));
   reachable = adds_refl s;
@@ -245,12 +241,11 @@ pub next_given : (names : Names) (e : Syntax) (es : Pieces) (s mid last : State)
 next_given names e es s mid last identifier identifiers l m = record {
   keeps = keeps_more s last (4 * nodes e + 4 * nodes_of es) _ (omega arith) (keeps_then s mid last (4 * nodes e) (4 * nodes_of es) l.keeps m.keeps);
   blocks = blocks_then s mid last l.blocks m.blocks;
-  made = All-cons (λ i. i < length last.env.identifiers) identifier identifiers (omega (arith, l.made, m.blocks.extends.identifiers)) m.made;
   refused = added_then (refusals names e) (refusals_in names es) _ _ _ l.refused m.refused;
   calls = added_then (calls_in e) (calls_among es) _ _ _ l.calls m.calls;
   reachable = adds_then (calls_in e) (calls_among es) true true s mid last l.reachable m.reachable l.keeps.listed;
   runs = λ supported. (let none = append_none (refusals names e) (refusals_in names es) supported in
-      next_runs s mid last (eval_expr names e) (eval_exprs names es) identifier identifiers l.blocks.extends m.blocks.extends l.made (l.runs none.0) (m.runs none.1));
+      next_runs s mid last (eval_expr names e) (eval_exprs names es) identifier identifiers l.blocks.extends m.blocks.extends (l.runs none.0) (m.runs none.1));
 }
 
 -- A callee, its arguments, and the call.
@@ -266,7 +261,6 @@ call_call names tree callee arguments at f given identifiers s mid last new plac
     expression_call names tree whole s new _ place _ is moved placed (record {
       keeps = keeps_more s _ (4 * nodes callee + (4 * nodes_of arguments + 1)) _ (omega arith) (keeps_then s mid _ (4 * nodes callee) (4 * nodes_of arguments + 1) lf.keeps (keeps_then mid last _ (4 * nodes_of arguments) 1 la.keeps (keeps_value last (values.CallExpression f given) (Some at.span))));
       blocks = blocks_then s last _ (blocks_then s mid last lf.blocks la.blocks) (blocks_value last (values.CallExpression f given) (Some at.span));
-      made = simp length-append (omega arith);
       refused = added_then (refusals names callee) (refusals_in names arguments ++ []) _ _ _ lf.refused (la.refused ∙ ap (λ (ds : List Diagnostic). mid.env.diagnostics ++ ds) (sym (append-nil (refusals_in names arguments))));
       calls = calls_more last.table (unordered (temporary last (Some at.span)) (values.CallExpression f given) (Some at.span))
           ∙ ap (λ (cs : List (Option Span)). cs ++ Some at.span ∷ []) (added_then (calls_in callee) (calls_among arguments ++ []) _ _ _ lf.calls (la.calls ∙ ap (λ (cs : List (Option Span)). calls_of mid.table ++ cs) (sym (append-nil (calls_among arguments)))))
@@ -275,7 +269,7 @@ call_call names tree callee arguments at f given identifiers s mid last new plac
           (adds_then (calls_in callee ++ calls_among arguments) _ true true s last _ (adds_then (calls_in callee) (calls_among arguments) true true s mid last lf.reachable la.reachable lf.keeps.listed) (adds_value last (values.CallExpression f given) (Some at.span)) (λ listed. la.keeps.listed (lf.keeps.listed listed)));
       runs = λ supported. (let none = append_none (refusals names callee) (refusals_in names arguments ++ []) supported in
           same_runs s _ (eval_expr names whole) _ (length last.env.identifiers) (λ source answers onward throws. refl)
-          (call_runs s mid last (eval_expr names callee) (eval_exprs names arguments) f given identifiers (shape_of arguments) (Some at.span) lf.blocks.extends la.blocks.extends lf.made (lf.runs none.0) (la.runs (sym (append-nil (refusals_in names arguments)) ∙ none.1)) shaped values_given));
+          (call_runs s mid last (eval_expr names callee) (eval_exprs names arguments) f given identifiers (shape_of arguments) (Some at.span) lf.blocks.extends la.blocks.extends (lf.runs none.0) (la.runs (sym (append-nil (refusals_in names arguments)) ∙ none.1)) shaped values_given));
     })
   where
     whole : Syntax
@@ -294,8 +288,8 @@ expression_statement_call names tree e at s new identifier is l = subst (λ (t :
   runs = λ supported. evaluated_runs s new (eval_expr names e) identifier (l.runs (sym (append-nil (refusals names e)) ∙ supported));
 })
 
-keeps_returned : (s : State) (span : Option Span) (place : Place) (kind : BlockKind)
-    → Preserves s (returned_from s span returns.Explicit place kind) 2
+keeps_returned : {names : Names} (s : State) (span : Option Span) (place : Place) (kind : BlockKind)
+    → Preserves names s (returned_from s span returns.Explicit place kind) 2
 keeps_returned s span place kind =
     keeps_then s (reserved s) _ 1 1 (keeps_reserved s) (keeps_completed (reserved s) (return_of span returns.Explicit place) (new_block s.env.next_block kind) refl)
 
@@ -340,7 +334,7 @@ return_nothing_call names tree at s mid new place kind span is given placed move
       blocks = blocks_then s mid2 end (blocks_value s (values.Primitive primitives.Undefined) None) (blocks_returned mid2 span returns.Explicit (temporary s None) kind);
       refused = sym (append-nil s.env.diagnostics);
       calls = calls_same s.table (unordered (temporary s None) (values.Primitive primitives.Undefined) None) refl ∙ sym (append-nil (calls_of s.table));
-      reachable = adds_then [] [] true false s mid2 end (adds_value s (values.Primitive primitives.Undefined) None) (adds_returned mid2 span returns.Explicit (temporary s None) kind) (keeps_value s (values.Primitive primitives.Undefined) None).listed;
+      reachable = adds_then [] [] true false s mid2 end (adds_value s (values.Primitive primitives.Undefined) None) (adds_returned mid2 span returns.Explicit (temporary s None) kind) (listed_value s (values.Primitive primitives.Undefined) None);
       runs = λ supported. return_runs s mid2 (λ source answers onward throws. onward value.Undefined source answers) (length s.env.identifiers) span returns.Explicit (temporary s None) kind refl (value_runs s (λ source answers onward throws. onward value.Undefined source answers) primitives.Undefined None (λ source answers onward throws. refl));
     }))
 

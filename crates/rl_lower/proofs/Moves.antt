@@ -1,5 +1,5 @@
 -- The builder's moves extend the state, and the graph's run through a silent one.
-use Rattle.std.proofs.Common.{◌≡◌, ℕ, ◌+◌, inl, inr, ◌++◌, List, [], ◌∷◌, length, length-append, Option, Some, refl, ◌∙◌, subst, arith}
+use Rattle.std.proofs.Common.{◌≡◌, ℕ, ◌+◌, ◌<◌, inl, inr, ◌++◌, List, [], ◌∷◌, length, length-append, Option, Some, refl, ◌∙◌, subst, arith}
 use Rattle.rl_base.specs.declared.diagnostic.Diagnostic.{Diagnostic}
 use Rattle.rl_base.specs.declared.ids.InstructionId.{InstructionId}
 use Rattle.rl_base.specs.declared.span.Span.{Span}
@@ -8,6 +8,7 @@ use Rattle.rl_hir.specs.declared.instruction.InstructionValue.{InstructionValue}
 use Rattle.rl_hir.specs.declared.terminal.Terminal.{Terminal}
 use Rattle.rl_hir.specs.Blocks.{Pair as BlockPair}
 use Rattle.rl_builder.specs.Builder.{State, reserved, recorded, with_temporary, pushed, ended_by, completed_by}
+use Rattle.rl_builder.specs.Names.{NamesAgree, resolved}
 use Rattle.rl_builder.specs.Temporaries.{with_value}
 use Rattle.rl_builder.specs.declared.builder.WipBlock.{WipBlock}
 use Rattle.rl_machine.specs.declared.trace.Answer.{Answer}
@@ -15,7 +16,9 @@ use Rattle.rl_machine.specs.declared.trace.Trace.{Trace}
 use Rattle.rl_machine.specs.Traces.{Store}
 use Rattle.rl_machine.specs.Machine.{Item, Runs, Ends, Code, Next, step}
 use Rattle.rl_machine.specs.Ends.{Notes}
-use Rattle.rl_lower.specs.Simulation.{IsCurrentOrCompleted, InBlock, InWip, Extends, IsContainedIn, TracesAt, TracesFrom, walk}
+use Rattle.rl_builder.proofs.NameLaws.{OneMore-resolved}
+use Rattle.rl_lower.specs.Simulation.{IsCurrentOrCompleted, InBlock, InWip, Extends, HasSoundNames, IsContainedIn, Nobody, TracesAt, TracesFrom, walk}
+use Rattle.rl_lower.proofs.FinalNames.{covers_before, names_refl, names_resolved, names_then, nobody_fresh, sound_more, sound_resolved}
 use Rattle.rl_lower.proofs.Steps.{get_more, get_seam, steps_on}
 
 block_more : (table more : List Instruction) (b : BlockPair) (place : ℕ) (item : Item) → InBlock table b place item
@@ -32,7 +35,7 @@ wip_more table more listed others place (Ends t) h = absurd h
 
 pub extends_refl : (s : State) → Extends s s
 extends_refl s =
-    record { done = λ f d. d; wip = λ f w. inr w; completed = λ id k. k; current = inl refl; entry = refl; blocks = omega arith; identifiers = omega arith; bindings = refl }
+    record { done = λ f d. d; wip = λ f w. inr w; completed = λ id k. k; current = inl refl; entry = refl; blocks = omega arith; identifiers = omega arith; names = names_refl s.env.pairs (length s.env.identifiers); sound = λ q. q }
 
 pub extends_then : (a b c : State) → Extends a b → Extends b c → Extends a c
 extends_then a b c g h = record {
@@ -43,7 +46,8 @@ extends_then a b c g h = record {
   entry = h.entry ∙ g.entry;
   blocks = omega (arith, g.blocks, h.blocks);
   identifiers = omega (arith, g.identifiers, h.identifiers);
-  bindings = h.bindings ∙ g.bindings;
+  names = names_then a.env.pairs b.env.pairs c.env.pairs (length a.env.identifiers) (length b.env.identifiers) g.identifiers g.names h.names;
+  sound = λ q. h.sound (g.sound q);
 }
 
 pub extends_reserved : (s : State) → Extends s (reserved s)
@@ -55,7 +59,8 @@ extends_reserved s = record {
   entry = refl;
   blocks = omega arith;
   identifiers = omega arith;
-  bindings = refl;
+  names = names_refl s.env.pairs (length s.env.identifiers);
+  sound = λ q. q;
 }
 
 pub extends_recorded : (s : State) (d : Diagnostic) → Extends s (recorded s d)
@@ -67,7 +72,8 @@ extends_recorded s d = record {
   entry = refl;
   blocks = omega arith;
   identifiers = omega arith;
-  bindings = refl;
+  names = names_refl s.env.pairs (length s.env.identifiers);
+  sound = λ q. q;
 }
 
 pub extends_temporary : (s : State) (span : Option Span) → Extends s (with_temporary s span)
@@ -79,7 +85,8 @@ extends_temporary s span = record {
   entry = refl;
   blocks = omega arith;
   identifiers = simp length-append (omega arith);
-  bindings = refl;
+  names = names_refl s.env.pairs (length s.env.identifiers);
+  sound = λ q. sound_more s.bindings s.used_names s.env.identifiers _ s.env.pairs q;
 }
 
 pub extends_pushed : (s : State) (i : Instruction) → Extends s (pushed s i)
@@ -91,7 +98,8 @@ extends_pushed s i = record {
   entry = refl;
   blocks = omega arith;
   identifiers = omega arith;
-  bindings = refl;
+  names = names_refl s.env.pairs (length s.env.identifiers);
+  sound = λ q. q;
 }
 
 -- A value goes into a fresh identifier.
@@ -113,14 +121,39 @@ extends_completed s t next = record {
   entry = refl;
   blocks = omega arith;
   identifiers = omega arith;
-  bindings = refl;
+  names = names_refl s.env.pairs (length s.env.identifiers);
+  sound = λ q. q;
 }
+
+-- A symbol is resolved: it gets an identifier unless it has one. That names agree, the builder tells.
+pub extends_resolved : (s : State) (name : List ℕ) (symbol : ℕ) (declaration : Span)
+    → (NamesAgree s → NamesAgree (resolved s name symbol declaration)) → Extends s (resolved s name symbol declaration)
+extends_resolved s name symbol declaration agrees = record {
+  done = λ f d. record { place = d.place; block = d.block; found = d.found; named = d.named; holds = d.holds };
+  wip = λ f w. inr (record { named = w.named; holds = w.holds });
+  completed = λ id k. k;
+  current = inl refl;
+  entry = refl;
+  blocks = omega arith;
+  identifiers = (OneMore-resolved s name symbol declaration).kept;
+  names = names_resolved s name symbol declaration;
+  sound = λ q. sound_resolved s name symbol declaration agrees q;
+}
+
+pub value_made : (s : State) (value : InstructionValue) (span : Option Span) → length s.env.identifiers < length (with_value s value span).env.identifiers
+value_made s value span = simp length-append (omega arith)
+
+-- The identifier of a value is no symbol's in the end.
+pub value_free : (s : State) (value : InstructionValue) (span : Option Span) (c : Code) → IsContainedIn (with_value s value span) c
+    → HasSoundNames s → Nobody c.ident (length s.env.identifiers)
+value_free s value span c cover q =
+    nobody_fresh s (length (with_value s value span).env.identifiers) c.ident (length s.env.identifiers) q cover.names (omega arith) (value_made s value span)
 
 -- Items that a graph has.
 
 pub contained_before : (old new : State) (c : Code) → Extends old new → IsContainedIn new c → IsContainedIn old c
 contained_before old new c g cover =
-    record { has = λ f h. elim h [ inl d ↦ cover.has f (inl (g.done f d)) | inr w ↦ cover.has f (g.wip f w) ]; uncaught = cover.uncaught; stands = cover.stands }
+    record { has = λ f h. elim h [ inl d ↦ cover.has f (inl (g.done f d)) | inr w ↦ cover.has f (g.wip f w) ]; uncaught = cover.uncaught; stands = cover.stands; names = covers_before old.env.pairs new.env.pairs (length old.env.identifiers) (length new.env.identifiers) c.ident g.identifiers g.names cover.names }
 
 pub terminal_met : (s : State) (t : Terminal) (next : WipBlock) (c : Code) → IsContainedIn (completed_by s t next) c
     → c.item s.current.id.0 (length s.current.instructions) ≡ Some (Ends t)

@@ -6,6 +6,8 @@ use Rattle.rl_base.specs.declared.diagnostic.Diagnostic.{Diagnostic}
 use Rattle.rl_base.specs.declared.ids.SymbolId.{SymbolId}
 use Rattle.rl_base.specs.declared.row.Row.TheVariants as row
 use Rattle.rl_base.specs.declared.span.Span.{Span}
+use Rattle.rl_base.specs.declared.stop.Stop.{Stop}
+use Rattle.rl_base.specs.declared.stop.Stop.TheVariants as stops
 use Rattle.rl_hir.specs.Pairs.{identifier_of}
 use Rattle.rl_hir.specs.declared.function.Identifier.{Identifier}
 use Rattle.rl_hir.specs.declared.function.IdentifierName.{IdentifierName}
@@ -30,6 +32,12 @@ pub never_stopped : (s : State) (name : List ℕ) (symbol : ℕ) (declaration : 
 never_stopped s name symbol declaration d h stopped =
     let never : Some h.identifier ≡ None = sym h.bound ∙ stopped.fresh in
     cc
+
+-- Resolving it fails only where memory does.
+pub memory_alone : (s : State) (name : List ℕ) (symbol : ℕ) (declaration : Span) (e : Stop) → HasIdentifier s symbol name
+    → ((d : Diagnostic) → e ≡ stops.Diagnostic d → IsStopped s name symbol declaration d) → e ≡ stops.OutOfMemory
+memory_alone s name symbol declaration (stops.Diagnostic d) h stopped = absurd (never_stopped s name symbol declaration d h (stopped d refl))
+memory_alone s name symbol declaration stops.OutOfMemory h stopped = refl
 
 -- Resolving a symbol that has an identifier records its refusal, and changes nothing else.
 noted_name : (s : State) (name : List ℕ) (symbol : ℕ) (declaration : Span) → (h : HasIdentifier s symbol name) → resolved s name symbol declaration ≡ record s { env = record s.env { diagnostics = s.env.diagnostics ++ refused_name (Some h.identifier) s.env.identifiers name declaration } }

@@ -18,25 +18,26 @@ use Rattle.rl_builder.specs.Builder.{State}
 use Rattle.rl_builder.specs.Names.{candidate, chosen, fbt, fbt_diagnostic, is_free, place_from, resolved, resolved_by, user_of, with_user}
 use Rattle.rl_hir.specs.Identifiers.{named_identifier}
 use Rattle.rl_builder.specs.UsedName.{UsedName}
-use Rattle.rl_machine.specs.declared.trace.Value.{Value}
-use Rattle.rl_machine.specs.declared.trace.Value.TheVariants as value
-use Rattle.rl_model.specs.Fields.{known_from, pairs_from, places_from}
-use Rattle.rl_model.specs.Runs.{take_arguments}
 use Rattle.rl_model.specs.Rows.{is_text, refusal}
-use Rattle.rl_model.specs.Source.{take}
-use Rattle.rl_machine.specs.Traces.{Store, set}
 use Rattle.rl_names.specs.Locals.{AreApart, AreLocals, HasTexts, IsApart}
 use Rattle.rl_names.specs.Names.{Names}
 use Rattle.rl_names.specs.declared.parameters.Parameter.{Parameter}
 use Rattle.rl_lower.specs.Named.{HasIdentifier, IsNamed}
 use Rattle.rl_lower.specs.Parameters.{said_of_parameters, with_parameters}
-use Rattle.rl_lower.specs.Simulation.{Agrees, AreMade}
-use Rattle.rl_lower.proofs.Steps.{set_same, set_other}
 
-abbrev user_of_parameter : Parameter → UsedName
+-- The pairs and identifiers of parameters that get identifiers one after the other, from the given ids on.
+abbrev pub pairs_from : (identifier : ℕ) → List Parameter → List Pair
+pairs_from identifier [] = []
+pairs_from identifier (p ∷ parameters) = pair p.symbol.0 identifier ∷ pairs_from (identifier + 1) parameters
+
+abbrev pub known_from : (type_id : ℕ) → List Parameter → List Identifier
+known_from type_id [] = []
+known_from type_id (p ∷ parameters) = named_identifier p.name p.declaration type_id ∷ known_from (type_id + 1) parameters
+
+abbrev pub user_of_parameter : Parameter → UsedName
 user_of_parameter p = record { name = p.name; symbol = p.symbol.0 }
 
-abbrev users_of : List Parameter → List UsedName
+abbrev pub users_of : List Parameter → List UsedName
 users_of parameters = map user_of_parameter parameters
 
 -- Lists that grow at their end.
@@ -152,51 +153,6 @@ pair_found identifier (q ∷ parameters) (suc place) p apart there =
     ap (λ (b : Bool). if b then Some identifier else identifier_of (pairs_from (identifier + 1) parameters) p.symbol.0) (ne_eqb q.symbol.0 p.symbol.0 (all_at (IsApart q) parameters place p there apart.0).symbols)
     ∙ pair_found (identifier + 1) parameters place p apart.1 there ∙ ap (λ (n : ℕ). Some n) (omega arith)
 
--- Stores: each parameter takes the argument at its place, on both sides.
-
--- Later parameters set other symbols, so a parameter's value stays.
-taken_later : (parameters : List Parameter) (arguments : List Value) (store : Store) (p : Parameter) → All (IsApart p) parameters → take parameters arguments store p.symbol.0 ≡ store p.symbol.0
-taken_later [] arguments store p apart = refl
-taken_later (q ∷ parameters) [] store p apart =
-    taken_later parameters [] (set store q.symbol.0 value.Undefined) p (All-tail (IsApart p) q parameters apart)
-    ∙ set_other store q.symbol.0 p.symbol.0 value.Undefined (All-head (IsApart p) q parameters apart).symbols
-taken_later (q ∷ parameters) (v ∷ arguments) store p apart =
-    taken_later parameters arguments (set store q.symbol.0 v) p (All-tail (IsApart p) q parameters apart)
-    ∙ set_other store q.symbol.0 p.symbol.0 v (All-head (IsApart p) q parameters apart).symbols
-
-given_later : (base : ℕ) (parameters : List Parameter) (arguments : List Value) (store : Store) (identifier : ℕ) → identifier < base → take_arguments (places_from base parameters) arguments store identifier ≡ store identifier
-given_later base [] arguments store identifier before = refl
-given_later base (q ∷ parameters) [] store identifier before =
-    given_later (base + 1) parameters [] (set store base value.Undefined) identifier (omega (arith, before))
-    ∙ set_other store base identifier value.Undefined (λ e. absurd (omega (arith, before, e)))
-given_later base (q ∷ parameters) (v ∷ arguments) store identifier before =
-    given_later (base + 1) parameters arguments (set store base v) identifier (omega (arith, before))
-    ∙ set_other store base identifier v (λ e. absurd (omega (arith, before, e)))
-
-pub taken_agree : (base : ℕ) (parameters : List Parameter) (arguments : List Value) (source store : Store) (place : ℕ) (p : Parameter) → AreApart parameters → slice_get parameters place ≡ Some p
-    → take_arguments (places_from base parameters) arguments store (base + place) ≡ take parameters arguments source p.symbol.0
-taken_agree base [] arguments source store place p apart there = absurd (cc)
-taken_agree base (q ∷ parameters) [] source store zero p apart there =
-    let same : q ≡ p = cc in
-    ap (λ (n : ℕ). take_arguments (places_from (base + 1) parameters) [] (set store base value.Undefined) n) (omega arith)
-    ∙ given_later (base + 1) parameters [] (set store base value.Undefined) base (omega arith)
-    ∙ set_same store base value.Undefined ∙ sym (set_same source q.symbol.0 value.Undefined)
-    ∙ sym (taken_later parameters [] (set source q.symbol.0 value.Undefined) q apart.0)
-    ∙ ap (λ (x : Parameter). take parameters [] (set source q.symbol.0 value.Undefined) x.symbol.0) same
-taken_agree base (q ∷ parameters) (v ∷ arguments) source store zero p apart there =
-    let same : q ≡ p = cc in
-    ap (λ (n : ℕ). take_arguments (places_from (base + 1) parameters) arguments (set store base v) n) (omega arith)
-    ∙ given_later (base + 1) parameters arguments (set store base v) base (omega arith)
-    ∙ set_same store base v ∙ sym (set_same source q.symbol.0 v)
-    ∙ sym (taken_later parameters arguments (set source q.symbol.0 v) q apart.0)
-    ∙ ap (λ (x : Parameter). take parameters arguments (set source q.symbol.0 v) x.symbol.0) same
-taken_agree base (q ∷ parameters) [] source store (suc place) p apart there =
-    ap (λ (n : ℕ). take_arguments (places_from (base + 1) parameters) [] (set store base value.Undefined) n) (omega arith)
-    ∙ taken_agree (base + 1) parameters [] (set source q.symbol.0 value.Undefined) (set store base value.Undefined) place p apart.1 there
-taken_agree base (q ∷ parameters) (v ∷ arguments) source store (suc place) p apart there =
-    ap (λ (n : ℕ). take_arguments (places_from (base + 1) parameters) arguments (set store base v) n) (omega arith)
-    ∙ taken_agree (base + 1) parameters arguments (set source q.symbol.0 v) (set store base v) place p apart.1 there
-
 pub known_length : (type : ℕ) (done : List Parameter) → length (known_from type done) ≡ length done
 known_length type [] = refl
 known_length type (x ∷ done) = let rest : length (known_from (type + 1) done) ≡ length done = known_length (type + 1) done in omega (arith, rest)
@@ -290,12 +246,12 @@ pub parameters_given : (s : State) (parameters : List Parameter) → s.bindings 
 parameters_given s parameters bindings used apart = ap (λ (t : State). with_parameters t parameters) (sym (empty_with s bindings used)) ∙ all_with s [] parameters apart
 
 -- The identifier of a place.
-known_at : (type : ℕ) (symbols : List Parameter) (place : ℕ) (x : Parameter) → slice_get symbols place ≡ Some x → slice_get (known_from type symbols) place ≡ Some (named_identifier x.name x.declaration (type + place))
+pub known_at : (type : ℕ) (symbols : List Parameter) (place : ℕ) (x : Parameter) → slice_get symbols place ≡ Some x → slice_get (known_from type symbols) place ≡ Some (named_identifier x.name x.declaration (type + place))
 known_at type [] place x is = absurd (cc)
 known_at type (y ∷ symbols) zero x is = (let same : y ≡ x = cc in let none : type ≡ type + 0 = omega arith in ap (λ (z : Parameter). Some (named_identifier z.name z.declaration type)) same ∙ ap (λ (n : ℕ). Some (named_identifier x.name x.declaration n)) none)
 known_at type (y ∷ symbols) (suc place) x is = (let one : type + 1 + place ≡ type + suc place = omega arith in known_at (type + 1) symbols place x is ∙ ap (λ (n : ℕ). Some (named_identifier x.name x.declaration n)) one)
 
-get_behind : {X : Type 0} (xs ys : List X) (place : ℕ) → slice_get (xs ++ ys) (length xs + place) ≡ slice_get ys place
+pub get_behind : {X : Type 0} (xs ys : List X) (place : ℕ) → slice_get (xs ++ ys) (length xs + place) ≡ slice_get ys place
 get_behind [] ys place = ap (λ (n : ℕ). slice_get ys n) (omega arith)
 get_behind (x ∷ xs) ys place = (let one : length (x ∷ xs) + place ≡ suc (length xs + place) = omega arith in ap (λ (n : ℕ). slice_get (x ∷ (xs ++ ys)) n) one ∙ get_behind xs ys place)
 
@@ -331,23 +287,4 @@ parameters_named s names parameters texts apart l = record {
       let found = found_in parameters symbol there.0 there.1 there.2 in
       subst (λ (x : SymbolId). HasIdentifier (state_with s parameters) x.0 (names.name x.0)) found.3
       (identified s names parameters apart l.named found.0 found.1 found.2);
-}
-
-pub parameters_made : (s : State) (parameters : List Parameter) → AreMade (state_with s parameters)
-parameters_made s parameters = record {
-  below = λ symbol identifier is.
-      let told = pair_tells (length s.env.identifiers) parameters symbol identifier is in
-      let short : told.0.place < length parameters = within parameters told.0.place told.0.parameter told.0.there in
-      let long : length (s.env.identifiers ++ known_from s.env.next_type parameters) ≡ length s.env.identifiers + length parameters = length-append s.env.identifiers (known_from s.env.next_type parameters) ∙ ap (λ (n : ℕ). length s.env.identifiers + n) (known_length s.env.next_type parameters) in
-      omega (arith, told.1, short, long);
-}
-
--- The stores agree where each took its argument, whatever was there before.
-pub parameters_agree : (s : State) (parameters : List Parameter) → AreApart parameters → (arguments : List Value) (source store : Store) → Agrees (state_with s parameters).bindings (take parameters arguments source) (take_arguments (places_from (length s.env.identifiers) parameters) arguments store)
-parameters_agree s parameters apart arguments source store = record {
-  at = λ symbol identifier is.
-      let told = pair_tells (length s.env.identifiers) parameters symbol identifier is in
-      ap (λ (n : ℕ). take_arguments (places_from (length s.env.identifiers) parameters) arguments store n) told.1
-      ∙ taken_agree (length s.env.identifiers) parameters arguments source store told.0.place told.0.parameter apart told.0.there
-      ∙ ap (λ (n : ℕ). take parameters arguments source n) told.0.has;
 }

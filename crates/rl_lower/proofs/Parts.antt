@@ -1,5 +1,6 @@
 -- The runs of expressions and statements, one lemma a kind.
 use Rattle.std.proofs.Common.{◌≡◌, ℕ, ◌+◌, ◌<◌, ◌++◌, List, [], ◌∷◌, length, length-append, map, codes, Option, Some, refl, sym, ap, ◌∙◌, subst, arith}
+use Rattle.std.proofs.lemmas.List.Elements.{All-cons, All-nil}
 use Rattle.rl_base.specs.declared.span.Span.{Span}
 use Rattle.rl_base.specs.Operators.{operator_text}
 use Rattle.rl_base.specs.declared.operator.BinaryOperator.{BinaryOperator}
@@ -32,24 +33,27 @@ use Rattle.rl_hir.specs.Pieces.{Says, argument_pieces, gathered, operands, texts
 use Rattle.rl_hir.specs.declared.instruction.PlaceOrSpread.TheVariants as arguments
 use Rattle.rl_hir.specs.Instructions.{argument_place, argument_shape, binding_texts}
 use Rattle.rl_lower.specs.Endings.{return_of, returned_from}
-use Rattle.rl_lower.specs.Simulation.{Agrees, AreMade, Eventually, Continues, Extends, IsContainedIn, TracesFrom, TracesAt, Later, Throws, RunsAll, RunsExpression, RunsStatement, walk}
+use Rattle.rl_lower.specs.Simulation.{Agrees, Eventually, Continues, Extends, HasSoundNames, IsContainedIn, Nobody, TracesFrom, TracesAt, Later, Throws, RunsAll, RunsExpression, RunsStatement, walk}
 use Rattle.rl_lower.proofs.Asking.{graph_unchanged, none_kept, source_unchanged}
-use Rattle.rl_lower.proofs.Steps.{agrees_before, agrees_set, agrees_then, made_then, set_same, comes_at_once, steps_on, later_refl, later_then, later_set}
-use Rattle.rl_lower.proofs.Moves.{extends_refl, extends_then, extends_value, contained_before, instruction_met, terminal_met, push_runs}
+use Rattle.rl_lower.proofs.Steps.{agrees_set, set_same, comes_at_once, steps_on, later_refl, later_then, later_set}
+use Rattle.rl_lower.proofs.Moves.{extends_refl, extends_then, extends_value, contained_before, instruction_met, terminal_met, push_runs, value_free, value_made}
 use Rattle.rl_lower.proofs.Blocks.{extends_returned}
 
 -- An instruction that computes a value silently.
 pub computed_runs : (s : State) (d : ExprMeaning) (value : InstructionValue) (span : Option Span) (computed : Store → Value)
     → ((store : Store) → act (length s.env.identifiers) value store ≡ Computes (computed store) (length s.env.identifiers ∷ []))
-    → ((source store : Store) → Agrees s.bindings source store → (answers : List Answer) (onward throws : ValueCont) → d source answers onward throws ≡ onward (computed store) source answers)
+    → ((c : Code) → IsContainedIn s c → HasSoundNames s → (source store : Store) → Agrees c.ident source store → (answers : List Answer) (onward throws : ValueCont) → d source answers onward throws ≡ onward (computed store) source answers)
     → RunsExpression d s (with_value s value span) (length s.env.identifiers)
 computed_runs s d value span computed acts silent = record {
+  made = value_made s value span;
+  free = λ c cover m. value_free s value span c cover m;
   runs = λ c cover m k h source store notes answers a throws onward.
       let after : Store = set store (length s.env.identifiers) (computed store) in
-      subst (λ t. TracesFrom c s store notes answers t) (sym (silent source store a answers k h))
+      let here : IsContainedIn s c = contained_before s _ c (extends_value s value span) cover in
+      subst (λ t. TracesFrom c s store notes answers t) (sym (silent c here m source store a answers k h))
       (push_runs (with_temporary s span) (unordered (temporary s span) value span) c store after notes answers (k (computed store) source answers)
       (λ stuck next block place. ap (λ act1. executed stuck c act1 next next block place store notes answers) (acts store)) cover
-      (onward.goes (computed store) source after notes answers (agrees_set s source store (length s.env.identifiers) (computed store) m (omega arith) a) (later_set s store (length s.env.identifiers) (computed store) (omega arith)) (set_same store (length s.env.identifiers) (computed store))));
+      (onward.goes (computed store) source after notes answers (agrees_set c.ident source store (length s.env.identifiers) (computed store) (value_free s value span c cover m) a) (later_set c s store (length s.env.identifiers) (computed store) (omega arith)) (set_same store (length s.env.identifiers) (computed store))));
 }
 
 -- A literal.
@@ -57,7 +61,7 @@ pub value_runs : (s : State) (d : ExprMeaning) (p : PrimitiveValue) (span : Opti
     → ((source : Store) (answers : List Answer) (onward throws : ValueCont) → d source answers onward throws ≡ onward (value_of p) source answers)
     → RunsExpression d s (with_value s (values.Primitive p) span) (length s.env.identifiers)
 value_runs s d p span silent =
-    computed_runs s d (values.Primitive p) span (λ store. value_of p) (λ store. refl) (λ source store a answers onward throws. silent source answers onward throws)
+    computed_runs s d (values.Primitive p) span (λ store. value_of p) (λ store. refl) (λ c here m source store a answers onward throws. silent source answers onward throws)
 
 -- A variable that is read.
 pub local_runs : (s : State) (symbol : ℕ) (p : Place) (span : Option Span)
@@ -65,13 +69,14 @@ pub local_runs : (s : State) (symbol : ℕ) (p : Place) (span : Option Span)
     → RunsExpression (λ source answers onward throws. onward (source symbol) source answers) s
     (with_value s (values.LoadLocal p) span) (length s.env.identifiers)
 local_runs s symbol p span bound =
-    computed_runs s _ (values.LoadLocal p) span (λ store. store p.identifier.0) (λ store. refl) (λ source store a answers onward throws. ap (λ v. onward v source answers) (sym (a.at symbol p.identifier.0 bound)))
+    computed_runs s _ (values.LoadLocal p) span (λ store. store p.identifier.0) (λ store. refl) (λ c here m source store a answers onward throws.
+    ap (λ v. onward v source answers) (sym (a.at symbol p.identifier.0 (here.names.kept symbol p.identifier.0 (sym (m.same symbol) ∙ bound)))))
 
 -- An instruction that asks: the traces behind its answer, a value or a throw, are known.
 asked_from : (s base : State) (value : InstructionValue) (span : Option Span) (event : Event) (c : Code) (k h : ValueCont)
     (source store first : Store) (notes : Notes) (answers : List Answer) → Extends base s
-    → IsContainedIn (with_value s value span) c → AreMade s
-    → act (length s.env.identifiers) value store ≡ Asks event (gives (length s.env.identifiers)) → Agrees base.bindings source store → Later base first store → Throws h
+    → IsContainedIn (with_value s value span) c → HasSoundNames s
+    → act (length s.env.identifiers) value store ≡ Asks event (gives (length s.env.identifiers)) → Agrees c.ident source store → Later c base first store → Throws h
     → Continues c base (with_value s value span) first (length s.env.identifiers) k
     → TracesFrom c s store notes answers (asks event source answers k h)
 asked_from s base value span event c k h source store first notes answers g cover m acts a l throws onward = by_answers answers
@@ -91,8 +96,8 @@ asked_from s base value span event c k h source store first notes answers g cove
         subst (λ (r : Store). TracesFrom c new (set r identifier v) notes rest (k v (set_open alone.opens assignments source) rest)) (sym (graph_unchanged c cover.stands assignments store))
         (subst (λ (r : Store). TracesFrom c new (set store identifier v) notes rest (k v r rest)) (sym (source_unchanged assignments source))
         (onward.goes v source (set store identifier v) notes rest
-        (agrees_before base s source (set store identifier v) g (agrees_set s source store identifier v m (omega arith) (agrees_then base s source store g a)))
-        (later_then base s first store (set store identifier v) g.identifiers l (later_set s store identifier v (omega arith)))
+        (agrees_set c.ident source store identifier v (value_free s value span c cover m) a)
+        (later_then c base s first store (set store identifier v) g.identifiers l (later_set c s store identifier v (omega arith)))
         (set_same store identifier v)))
 
     -- The continuations behind the event.
@@ -149,28 +154,32 @@ pub outer_runs : (s : State) (binding : NonLocalBinding) (span : Option Span)
     → RunsExpression (λ source answers onward throws. asks (global (binding_texts binding)) source answers onward throws) s
     (with_value s (values.LoadGlobal binding) span) (length s.env.identifiers)
 outer_runs s binding span = record {
+  made = value_made s (values.LoadGlobal binding) span;
+  free = λ c cover m. value_free s (values.LoadGlobal binding) span c cover m;
   runs = λ c cover m k h source store notes answers a throws onward.
-      asked_from s s (values.LoadGlobal binding) span (global (binding_texts binding)) c k h source store store notes answers (extends_refl s) cover m (ap (λ (x : Event). Asks x (gives (length s.env.identifiers))) (load_event binding store)) a (later_refl s store) throws onward;
+      asked_from s s (values.LoadGlobal binding) span (global (binding_texts binding)) c k h source store store notes answers (extends_refl s) cover m (ap (λ (x : Event). Asks x (gives (length s.env.identifiers))) (load_event binding store)) a (later_refl c s store) throws onward;
 }
 
 -- Two operands from left to right, then the operator's event.
 pub binary_runs : (s mid last : State) (dl dr : ExprMeaning) (operator : BinaryOperator) (l r : Place) (span : Option Span)
-    → Extends s mid → Extends mid last → l.identifier.0 < length mid.env.identifiers → RunsExpression dl s mid l.identifier.0
-    → RunsExpression dr mid last r.identifier.0
+    → Extends s mid → Extends mid last → RunsExpression dl s mid l.identifier.0 → RunsExpression dr mid last r.identifier.0
     → RunsExpression (λ source answers onward throws. dl source answers (λ v after rest. dr after rest (λ w later left. asks (binary (operator_text operator) v w) later left onward throws) throws) throws) s (with_value last (values.BinaryExpression operator l r) span) (length last.env.identifiers)
-binary_runs s mid last dl dr operator l r span gl gr made rl rr = record {
+binary_runs s mid last dl dr operator l r span gl gr rl rr = record {
+  made = value_made last (values.BinaryExpression operator l r) span;
+  free = λ c cover m. value_free last (values.BinaryExpression operator l r) span c cover (both.sound m);
   runs = λ c cover m k h source store notes answers a throws onward.
       let covered : IsContainedIn last c = contained_before last _ c (extends_value last (values.BinaryExpression operator l r) span) cover in
-      rl.runs c (contained_before mid last c gr covered) m (λ v after rest. dr after rest (λ w later left. asks (binary (operator_text operator) v w) later left k h) h) h source store notes answers a throws
+      let first : IsContainedIn mid c = contained_before mid last c gr covered in
+      rl.runs c first m (λ v after rest. dr after rest (λ w later left. asks (binary (operator_text operator) v w) later left k h) h) h source store notes answers a throws
       (record {
         goes = λ v source1 store1 notes1 answers1 a1 l1 is1.
-            rr.runs c covered (made_then s mid gl m) (λ w later left. asks (binary (operator_text operator) v w) later left k h) h source1 store1 notes1 answers1 (agrees_then s mid source1 store1 gl a1) throws
+            rr.runs c covered (gl.sound m) (λ w later left. asks (binary (operator_text operator) v w) later left k h) h source1 store1 notes1 answers1 a1 throws
             (record {
               goes = λ w source2 store2 notes2 answers2 a2 l2 is2.
-                  let kept : store2 l.identifier.0 ≡ v = l2.temporaries l.identifier.0 made ∙ is1 in
-                  asked_from last s (values.BinaryExpression operator l r) span (binary (operator_text operator) v w) c k h source2 store2 store notes2 answers2 both cover (made_then s last both m)
+                  let kept : store2 l.identifier.0 ≡ v = l2.temporaries l.identifier.0 (rl.free c first m) rl.made ∙ is1 in
+                  asked_from last s (values.BinaryExpression operator l r) span (binary (operator_text operator) v w) c k h source2 store2 store notes2 answers2 both cover (both.sound m)
                   (ap (λ (x : Value). Asks (binary (operator_text operator) x (store2 r.identifier.0)) (gives (length last.env.identifiers))) kept ∙ ap (λ (x : Value). Asks (binary (operator_text operator) v x) (gives (length last.env.identifiers))) is2)
-                  (agrees_before s mid source2 store2 gl a2) (later_then s mid store store1 store2 gl.identifiers l1 l2) throws onward;
+                  a2 (later_then c s mid store store1 store2 gl.identifiers l1 l2) throws onward;
             });
       });
 }
@@ -181,23 +190,27 @@ binary_runs s mid last dl dr operator l r span gl gr made rl rr = record {
 -- No expressions, and an expression before others.
 pub none_run : (s : State) → RunsAll (λ source answers onward throws. onward [] source answers) s s []
 none_run s = record {
-  runs = λ c cover m k h source store notes answers a throws onward. onward.goes [] source store notes answers a (later_refl s store) refl;
+  made = All-nil (λ identifier. identifier < length s.env.identifiers);
+  free = λ c cover m. All-nil (Nobody c.ident);
+  runs = λ c cover m k h source store notes answers a throws onward. onward.goes [] source store notes answers a (later_refl c s store) refl;
 }
 
 pub next_runs : (s mid last : State) (d : ExprMeaning) (ds : ExprsMeaning) (identifier : ℕ) (identifiers : List ℕ)
-    → Extends s mid → Extends mid last → identifier < length mid.env.identifiers → RunsExpression d s mid identifier
-    → RunsAll ds mid last identifiers
+    → Extends s mid → Extends mid last → RunsExpression d s mid identifier → RunsAll ds mid last identifiers
     → RunsAll (λ source answers onward throws. d source answers (λ v after rest. ds after rest (λ vs later left. onward (v ∷ vs) later left) throws) throws) s last (identifier ∷ identifiers)
-next_runs s mid last d ds identifier identifiers g gs made r rs = record {
+next_runs s mid last d ds identifier identifiers g gs r rs = record {
+  made = All-cons (λ i. i < length last.env.identifiers) identifier identifiers (omega (arith, r.made, gs.identifiers)) rs.made;
+  free = λ c cover m. All-cons (Nobody c.ident) identifier identifiers (r.free c (contained_before mid last c gs cover) m) (rs.free c cover (g.sound m));
   runs = λ c cover m k h source store notes answers a throws onward.
-      r.runs c (contained_before mid last c gs cover) m (λ v after rest. ds after rest (λ vs later left. k (v ∷ vs) later left) h) h source store notes answers a throws
+      let first : IsContainedIn mid c = contained_before mid last c gs cover in
+      r.runs c first m (λ v after rest. ds after rest (λ vs later left. k (v ∷ vs) later left) h) h source store notes answers a throws
       (record {
         goes = λ v source1 store1 notes1 answers1 a1 l1 is1.
-            rs.runs c cover (made_then s mid g m) (λ vs later left. k (v ∷ vs) later left) h source1 store1 notes1 answers1 (agrees_then s mid source1 store1 g a1) throws
+            rs.runs c cover (g.sound m) (λ vs later left. k (v ∷ vs) later left) h source1 store1 notes1 answers1 a1 throws
             (record {
               goes = λ vs source2 store2 notes2 answers2 a2 l2 is2.
-                  onward.goes (v ∷ vs) source2 store2 notes2 answers2 (agrees_before s mid source2 store2 g a2) (later_then s mid store store1 store2 g.identifiers l1 l2)
-                  (ap (λ (x : Value). x ∷ map store2 identifiers) (l2.temporaries identifier made ∙ is1) ∙ ap (λ (l : List Value). v ∷ l) is2);
+                  onward.goes (v ∷ vs) source2 store2 notes2 answers2 a2 (later_then c s mid store store1 store2 g.identifiers l1 l2)
+                  (ap (λ (x : Value). x ∷ map store2 identifiers) (l2.temporaries identifier (r.free c first m) r.made ∙ is1) ∙ ap (λ (l : List Value). v ∷ l) is2);
             });
       });
 }
@@ -223,27 +236,29 @@ call_event callee given store =
 -- A callee, its arguments from left to right, then the event of the call.
 pub call_runs : (s mid last : State) (df : ExprMeaning) (ds : ExprsMeaning) (callee : Place) (given : List PlaceOrSpread)
     (identifiers : List ℕ) (shape : List (List ℕ)) (span : Option Span) → Extends s mid → Extends mid last
-    → callee.identifier.0 < length mid.env.identifiers → RunsExpression df s mid callee.identifier.0
-    → RunsAll ds mid last identifiers
+    → RunsExpression df s mid callee.identifier.0 → RunsAll ds mid last identifiers
     → map argument_shape given ≡ shape →
     ((store : Store) → map (λ a. store (argument_place a).identifier.0) given ≡ map store identifiers)
     → RunsExpression (λ source answers onward throws. df source answers (λ f after rest. ds after rest (λ vs later left. asks (call shape f vs) later left onward throws) throws) throws) s (with_value last (values.CallExpression callee given) span) (length last.env.identifiers)
-call_runs s mid last df ds callee given identifiers shape span gf gs made rf rs shaped placed = record {
+call_runs s mid last df ds callee given identifiers shape span gf gs rf rs shaped placed = record {
+  made = value_made last (values.CallExpression callee given) span;
+  free = λ c cover m. value_free last (values.CallExpression callee given) span c cover (both.sound m);
   runs = λ c cover m k h source store notes answers a throws onward.
       let covered : IsContainedIn last c = contained_before last _ c (extends_value last (values.CallExpression callee given) span) cover in
-      rf.runs c (contained_before mid last c gs covered) m (λ f after rest. ds after rest (λ vs later left. asks (call shape f vs) later left k h) h) h source store notes answers a throws
+      let first : IsContainedIn mid c = contained_before mid last c gs covered in
+      rf.runs c first m (λ f after rest. ds after rest (λ vs later left. asks (call shape f vs) later left k h) h) h source store notes answers a throws
       (record {
         goes = λ f source1 store1 notes1 answers1 a1 l1 is1.
-            rs.runs c covered (made_then s mid gf m) (λ vs later left. asks (call shape f vs) later left k h) h source1 store1 notes1 answers1 (agrees_then s mid source1 store1 gf a1) throws
+            rs.runs c covered (gf.sound m) (λ vs later left. asks (call shape f vs) later left k h) h source1 store1 notes1 answers1 a1 throws
             (record {
               goes = λ vs source2 store2 notes2 answers2 a2 l2 is2.
-                  let kept : store2 callee.identifier.0 ≡ f = l2.temporaries callee.identifier.0 made ∙ is1 in
-                  asked_from last s (values.CallExpression callee given) span (call shape f vs) c k h source2 store2 store notes2 answers2 both cover (made_then s last both m)
+                  let kept : store2 callee.identifier.0 ≡ f = l2.temporaries callee.identifier.0 (rf.free c first m) rf.made ∙ is1 in
+                  asked_from last s (values.CallExpression callee given) span (call shape f vs) c k h source2 store2 store notes2 answers2 both cover (both.sound m)
                   (ap (λ (x : Event). Asks x (gives (length last.env.identifiers))) (call_event callee given store2)
                   ∙ ap (λ (x : List (List ℕ)). Asks (call x (store2 callee.identifier.0) (map (λ b. store2 (argument_place b).identifier.0) given)) (gives (length last.env.identifiers))) shaped
                   ∙ ap (λ (x : Value). Asks (call shape x (map (λ b. store2 (argument_place b).identifier.0) given)) (gives (length last.env.identifiers))) kept
                   ∙ ap (λ (x : List Value). Asks (call shape f x) (gives (length last.env.identifiers))) (placed store2 ∙ is2))
-                  (agrees_before s mid source2 store2 gf a2) (later_then s mid store store1 store2 gf.identifiers l1 l2) throws onward;
+                  a2 (later_then c s mid store store1 store2 gf.identifiers l1 l2) throws onward;
             });
       });
 }
@@ -256,6 +271,8 @@ pub same_runs : (s new : State) (d e : ExprMeaning) (identifier : ℕ)
     → ((source : Store) (answers : List Answer) (onward throws : ValueCont) → d source answers onward throws ≡ e source answers onward throws)
     → RunsExpression e s new identifier → RunsExpression d s new identifier
 same_runs s new d e identifier same r = record {
+  made = r.made;
+  free = r.free;
   runs = λ c cover m k h source store notes answers a throws onward. subst (λ t. TracesFrom c s store notes answers t) (sym (same source answers k h)) (r.runs c cover m k h source store notes answers a throws onward);
 }
 
@@ -302,7 +319,7 @@ pub nothing_runs : (s : State) (d : StmtMeaning)
     → ((source : Store) (answers : List Answer) (exits : Exits) → d source answers exits ≡ exits.normal source answers)
     → RunsStatement d s s
 nothing_runs s d normal = record {
-  runs = λ c cover m exits source store notes answers a throws onward. subst (λ t. TracesFrom c s store notes answers t) (sym (normal source answers exits)) (onward.goes source store notes answers a (later_refl s store));
+  runs = λ c cover m exits source store notes answers a throws onward. subst (λ t. TracesFrom c s store notes answers t) (sym (normal source answers exits)) (onward.goes source store notes answers a (later_refl c s store));
 }
 
 pub sequence_runs : (s new after : State) (a b d : StmtMeaning)
@@ -313,7 +330,7 @@ sequence_runs s new after a b d is ga gb ra rb = record {
       subst (λ t. TracesFrom c s store notes answers t) (sym (is source answers exits))
       (ra.runs c (contained_before new after c gb cover) m (record exits { normal = λ e r. b e r exits }) source store notes answers agreed throws
       (record {
-        goes = λ env1 store1 notes1 answers1 a1 l1. rb.runs c cover (made_then s new ga m) exits env1 store1 notes1 answers1 (agrees_then s new env1 store1 ga a1) throws
-            (record { goes = λ env2 store2 notes2 answers2 a2 l2. onward.goes env2 store2 notes2 answers2 (agrees_before s new env2 store2 ga a2) (later_then s new store store1 store2 ga.identifiers l1 l2) });
+        goes = λ env1 store1 notes1 answers1 a1 l1. rb.runs c cover (ga.sound m) exits env1 store1 notes1 answers1 a1 throws
+            (record { goes = λ env2 store2 notes2 answers2 a2 l2. onward.goes env2 store2 notes2 answers2 a2 (later_then c s new store store1 store2 ga.identifiers l1 l2) });
       }));
 }

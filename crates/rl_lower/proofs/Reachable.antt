@@ -23,7 +23,7 @@ use Rattle.rl_hir.specs.declared.terminal.ReturnVariant.{ReturnVariant}
 use Rattle.rl_lower.specs.Endings.{return_of, returned_from}
 use Rattle.rl_lower.proofs.Building.{filtered}
 use Rattle.rl_lower.proofs.Graphs.{get_map, without_order}
-use Rattle.rl_lower.proofs.Keeping.{keeps_reserved}
+use Rattle.rl_lower.proofs.Keeping.{listed_reserved}
 use Rattle.rl_lower.proofs.Steps.{get_seam}
 
 abbrev Calls : Type 0
@@ -200,7 +200,7 @@ adds_returned s span variant place kind = record {
   entry = refl;
   counted = omega arith;
   reachable = λ below. (adds_completed (reserved s) (return_of span variant place) (new_block s.env.next_block kind) (λ e. absurd (omega (arith, below, e)))).reachable (omega (arith, below));
-  held = λ listed below. (adds_completed (reserved s) (return_of span variant place) (new_block s.env.next_block kind) (λ e. absurd (omega (arith, below, e)))).held ((keeps_reserved s).listed listed) (omega (arith, below));
+  held = λ listed below. (adds_completed (reserved s) (return_of span variant place) (new_block s.env.next_block kind) (λ e. absurd (omega (arith, below, e)))).held (listed_reserved s listed) (omega (arith, below));
 }
 
 -- A value that is returned, behind which a block goes on that was reserved before.
@@ -218,7 +218,7 @@ adds_value_returned s mid calls t kind l listed = record {
     apart below e = let same : mid.entry.0 ≡ s.entry.0 = ap (λ (b : BlockId). b.0) l.entry in absurd (omega (arith, same, below, e))
 
     first : AddsCalls calls true s mid
-    first = adds_then [] calls true true s (reserved s) mid (adds_reserved s) l (keeps_reserved s).listed
+    first = adds_then [] calls true true s (reserved s) mid (adds_reserved s) l (listed_reserved s)
 
     both : s.entry.0 < s.env.next_block → AddsCalls calls false s (completed_by mid t (new_block s.env.next_block kind))
     both below = adds_same _ calls false false s _ (append-nil calls) refl (adds_then calls [] true false s mid _ first (adds_completed mid t (new_block s.env.next_block kind) (apart below)) listed)

@@ -1,5 +1,5 @@
 -- The graph of a function has known places and, where the function is small, writable parts.
-use Rattle.std.proofs.Common.{◌≡◌, ℕ, ◌+◌, ◌*◌, ◌<◌, ◌≤◌, ◌^◌, ◌++◌, List, [], ◌∷◌, length, length-append, map, All, Some, None, refl, sym, ap, ◌∙◌, subst, arith}
+use Rattle.std.proofs.Common.{◌≡◌, ℕ, ◌+◌, ◌*◌, ◌<◌, ◌≤◌, ◌^◌, ◌++◌, List, [], ◌∷◌, length, length-append, lit<, map, All, Some, None, refl, sym, ap, ◌∙◌, subst, arith}
 use Rattle.std.specs.Str.{IsUtf8}
 use Rattle.std.proofs.lemmas.List.Elements.{All-nil, All-cons, All-append, All-head, All-push, All-same, All-tail}
 use Rattle.rl_base.specs.declared.ids.BlockId.{BlockId}
@@ -14,7 +14,9 @@ use Rattle.rl_hir.specs.declared.environment.Environment.{Environment}
 use Rattle.rl_hir.specs.declared.function.BlockKind.TheVariants as kinds
 use Rattle.rl_hir.specs.declared.function.Hir.{Hir}
 use Rattle.rl_hir.specs.declared.function.HirFunction.{HirFunction}
+use Rattle.rl_hir.specs.Pairs.{pair}
 use Rattle.rl_hir.specs.declared.function.Identifier.{Identifier}
+use Rattle.rl_hir.specs.declared.function.Pair.{Pair}
 use Rattle.rl_hir.specs.Blocks.{Pair as BlockPair}
 use Rattle.rl_hir.specs.declared.function.Param.{Param}
 use Rattle.rl_hir.specs.declared.function.Param.TheVariants as given
@@ -30,19 +32,19 @@ use Rattle.rl_builder.specs.Builder.{State, completed_by, placeholder, started}
 use Rattle.rl_order.specs.Numbering.{orders_of}
 use Rattle.rl_builder.specs.Temporaries.{temporary}
 use Rattle.rl_builder.specs.declared.builder.Built.{Built}
-use Rattle.rl_model.specs.Fields.{known_from, places_from}
+use Rattle.rl_model.specs.Fields.{places_from}
 use Rattle.rl_model.specs.WellFormed.{AreKnown, HasKnownPlaces, instruction_places, param_place, terminal_places}
 use Rattle.rl_names.specs.Functions.{name_in, parameters_of}
 use Rattle.rl_names.specs.Names.{Names}
 use Rattle.rl_names.specs.declared.parameters.Parameter.{Parameter}
 use Rattle.rl_lower.specs.Endings.{closed_off, return_of, with_undefined}
 use Rattle.rl_lower.specs.Lowering.{CountersGrowBy, HasRoom, LowersBody}
-use Rattle.rl_lower.specs.Sound.{AreWritableIdentifiers, HasKnownParts, HasSmallCounters, HasWritableParts, IsSmallParameter, IsSmallTree, IsSoundGraph, IsWritableGraph, StaysSound}
+use Rattle.rl_lower.specs.Sound.{AreWritableIdentifiers, AreWritablePairs, HasKnownParts, HasSmallCounters, HasSmallSymbol, HasWritableParts, IsSmallParameter, IsSmallTree, IsSoundGraph, IsWritableGraph, StaysSound}
 use Rattle.rl_lower.proofs.Building.{IsFresh, keeps_closed, orders_fit}
 use Rattle.rl_lower.proofs.Closings.{closed_is}
 use Rattle.rl_lower.proofs.FunctionTrees.{IsFunction, function_parameters}
 use Rattle.rl_lower.proofs.Keeping.{keeps_then, room_less}
-use Rattle.rl_lower.proofs.Parameters.{known_length, state_with}
+use Rattle.rl_lower.proofs.Parameters.{known_from, known_length, pairs_from, state_with}
 use Rattle.rl_lower.proofs.SoundListing.{function_writable, named_writable, place_writable, span_writable, undefined_writable, unnamed_writable}
 use Rattle.rl_lower.proofs.SoundMoves.{counters_before, none_known, place_value, sound_next, sound_return, sound_value, table_more, terminals_more}
 use Rattle.rl_lower.proofs.SoundOrders.{built_table_known, built_terminals_known, built_writable}
@@ -85,6 +87,12 @@ params_writable base (x ∷ parameters) small fits =
 abbrev begun : Environment → List Parameter → State
 begun env parameters = state_with (started env kinds.Block) parameters
 
+begun_longer : (env : Environment) (parameters : List Parameter)
+    → length (env.identifiers ++ known_from env.next_type parameters) ≡ length env.identifiers + length parameters
+begun_longer env parameters =
+    length-append env.identifiers (known_from env.next_type parameters)
+    ∙ ap (λ (n : ℕ). length env.identifiers + n) (known_length env.next_type parameters)
+
 begun_known : (env : Environment) (parameters : List Parameter) → HasKnownParts (begun env parameters)
 begun_known env parameters = record {
   table = All-nil (λ (i : Instruction). AreKnown (length (begun env parameters).env.identifiers) (instruction_places i));
@@ -107,6 +115,21 @@ begun_identifiers : (env : Environment) (parameters : List Parameter) → All Is
 begun_identifiers env parameters small fits w =
     All-append IsWritableIdentifier env.identifiers (known_from env.next_type parameters) w
     (known_writable env.next_type parameters small fits.types)
+
+pairs_writable : (base : ℕ) (parameters : List Parameter) → All HasSmallSymbol parameters → base + length parameters ≤ largest
+    → AreWritablePairs (pairs_from base parameters)
+pairs_writable base [] small fits = All-nil (λ (p : Pair). IsWritable (listing.pair p))
+pairs_writable base (x ∷ parameters) small fits =
+    let here : x.symbol.0 ≤ largest = All-head HasSmallSymbol x parameters small in
+    All-cons (λ (p : Pair). IsWritable (listing.pair p)) (pair x.symbol.0 base) (pairs_from (base + 1) parameters)
+    ((lit< tt, refl), (omega (arith, here), (omega (arith, fits), tt)))
+    (pairs_writable (base + 1) parameters (All-tail HasSmallSymbol x parameters small) (omega (arith, fits)))
+
+begun_pairs : (env : Environment) (parameters : List Parameter) → All HasSmallSymbol parameters
+    → HasSmallCounters (begun env parameters) → AreWritablePairs env.pairs → AreWritablePairs (begun env parameters).env.pairs
+begun_pairs env parameters small fits w =
+    All-append (λ (p : Pair). IsWritable (listing.pair p)) env.pairs (pairs_from (length env.identifiers) parameters) w
+    (pairs_writable (length env.identifiers) parameters small (omega (arith, begun_longer env parameters, fits.identifiers)))
 
 sound_closed : (small : Type 0) (s : State) → StaysSound small s (closed_off s)
 sound_closed small s =
@@ -133,7 +156,7 @@ pub graph_sound : (parameters : List Parameter) (body : Syntax) (env new : Envir
 graph_sound parameters body env new s more built sound uses room entry orders graph after =
     subst (λ (b : Built). IsSoundGraph parameters body env new b) (sym graph)
     (subst (λ (e : Environment). IsSoundGraph parameters body env e (built_of (closed_off s))) (sym after) (record {
-      given = omega (arith, longer, whole.counters.identifiers);
+      given = omega (arith, begun_longer env parameters, whole.counters.identifiers);
       count = fits.identifiers;
       types = fits.types;
       table = built_table_known (length (closed_off s).env.identifiers) (closed_off s) known.table;
@@ -141,6 +164,7 @@ graph_sound parameters body env new s more built sound uses room entry orders gr
       graph = λ small. built_writable (closed_off s) (omega (arith, at_entry, fits0.blocks)) (omega (arith, orders))
           (whole.parts small fits (begun_writable env parameters fits0));
       identifiers = λ named small w. whole.identifiers small fits (begun_identifiers env parameters named fits0 w);
+      pairs = λ small w. whole.pairs fits (begun_pairs env parameters small fits0 w);
     }))
   where
     whole : StaysSound (IsSmallTree body) (begun env parameters) (closed_off s)
@@ -158,11 +182,6 @@ graph_sound parameters body env new s more built sound uses room entry orders gr
     at_entry : s.entry.0 ≡ env.next_block
     at_entry = ap (λ (id : BlockId). id.0) entry
 
-    longer : length (env.identifiers ++ known_from env.next_type parameters) ≡ length env.identifiers + length parameters
-    longer =
-        length-append env.identifiers (known_from env.next_type parameters)
-        ∙ ap (λ (n : ℕ). length env.identifiers + n) (known_length env.next_type parameters)
-
 -- as `graph_sound`, from the states that the code goes through
 pub graph_sound_call : (names : Names) (parameters : List Parameter) (body : Syntax) (env new : Environment) (before s s1 s2 : State) (p : Place)
     (built : Built) → before ≡ begun env parameters → LowersBody names body before s → StaysSound (IsSmallTree body) before s
@@ -172,7 +191,7 @@ pub graph_sound_call : (names : Names) (parameters : List Parameter) (body : Syn
 graph_sound_call names parameters body env new before s s1 s2 p built is lowers sound room given placed ended graph after =
     graph_sound parameters body env new s (4 * (nodes body + 1) + 2) built
     (subst (λ (o : State). StaysSound (IsSmallTree body) o s) is sound)
-    (keeps_then (begun env parameters) s (closed_off s) (4 * (nodes body + 1)) 2 lowered.keeps (keeps_closed s)).uses
+    (keeps_then (begun env parameters) s (closed_off s) (4 * (nodes body + 1)) 2 lowered.keeps (keeps_closed {names = names} s)).uses
     (room_less (begun env parameters) (4 * (nodes body + 2)) (4 * (nodes body + 1) + 2) (omega arith) room)
     lowered.reachable.entry
     (orders_fit names (begun env parameters) body s fresh lowered room)
@@ -209,6 +228,15 @@ function_places parameters body env mid new built i f g more body_is table_is pa
 
     below : length mid.identifiers ≤ length new.identifiers
     below = omega (arith, longer)
+
+-- The pairs, where there were none before.
+pub function_pairs : (names : Names) (fn body : Syntax) (parameters : List Parameter) (env mid new : Environment) (built : Built)
+    → parameters ≡ parameters_of names fn → env.pairs ≡ [] → IsSoundGraph parameters body env mid built → new.pairs ≡ mid.pairs
+    → All HasSmallSymbol (parameters_of names fn) → AreWritablePairs new.pairs
+function_pairs names fn body parameters env mid new built are none g same small =
+    subst AreWritablePairs (sym same)
+    (g.pairs (subst (λ (l : List Parameter). All HasSmallSymbol l) (sym are) small)
+    (subst AreWritablePairs (sym none) (All-nil (λ (p : Pair). IsWritable (listing.pair p)))))
 
 pub function_listed : (names : Names) (fn tree : Syntax) (parameters : List Parameter) (env mid : Environment) (built : Built) (f : HirFunction (List BlockPair))
     → IsFunction fn tree → parameters ≡ parameters_of names fn → IsSoundGraph parameters tree env mid built

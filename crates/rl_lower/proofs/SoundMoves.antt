@@ -49,6 +49,7 @@ sound_refl small s = record {
   known = λ k. k;
   parts = λ holds fits w. w;
   identifiers = λ holds fits w. w;
+  pairs = λ fits w. w;
 }
 
 pub sound_then : (P Q R : Type 0) (a b c : State) → (R → P) → (R → Q) → StaysSound P a b → StaysSound Q b c → StaysSound R a c
@@ -58,6 +59,7 @@ sound_then P Q R a b c first second j k = record {
   parts = λ holds fits w. k.parts (second holds) fits (j.parts (first holds) (counters_before b c k.counters fits) w);
   identifiers = λ holds fits w. k.identifiers (second holds) fits
       (j.identifiers (first holds) (counters_before b c k.counters fits) w);
+  pairs = λ fits w. k.pairs fits (j.pairs (counters_before b c k.counters fits) w);
 }
 
 pub sound_next : (small : Type 0) (a b c : State) → StaysSound small a b → StaysSound small b c → StaysSound small a c
@@ -69,6 +71,7 @@ sound_weaker P R a b first j = record {
   known = j.known;
   parts = λ holds. j.parts (first holds);
   identifiers = λ holds. j.identifiers (first holds);
+  pairs = j.pairs;
 }
 
 -- a place is known in later states
@@ -142,6 +145,7 @@ sound_value small s v span places value at = record {
       All-push (λ (i : Identifier). IsWritable (listing.identifier i)) s.env.identifiers
       (record { name = None; span = span; type_id = record { 0 = s.env.next_type } }) w
       (unnamed_writable span s.env.next_type (at holds) before.types);
+  pairs = λ fits w. w;
 }
   where
     new : State
@@ -187,6 +191,7 @@ sound_reserved small s = record {
   known = λ k. record { table = k.table; terminals = k.terminals };
   parts = λ holds fits w. record { table = w.table; completed = w.completed; current = w.current; listed = w.listed };
   identifiers = λ holds fits w. w;
+  pairs = λ fits w. w;
 }
 
 abbrev pub with_diagnostics : State → List Diagnostic → State
@@ -198,6 +203,7 @@ sound_diagnostics small s said = record {
   known = λ k. record { table = k.table; terminals = k.terminals };
   parts = λ holds fits w. record { table = w.table; completed = w.completed; current = w.current; listed = w.listed };
   identifiers = λ holds fits w. w;
+  pairs = λ fits w. w;
 }
 
 none_listed : (ids : List InstructionId) → ids ≡ [] → All (λ (id : InstructionId). id.0 ≤ largest) ids
@@ -223,6 +229,7 @@ sound_completed small s t next places terminal id none = record {
         listed = none_listed next.instructions none;
       };
   identifiers = λ holds fits w. w;
+  pairs = λ fits w. w;
 }
   where
     grow : CountersGrow s (completed_by s t next)

@@ -1,11 +1,9 @@
 -- Lemmas of any graph: lists, stores, steps.
-use Rattle.std.proofs.Common.{◌≡◌, ℕ, zero, suc, ◌<◌, ◌≤◌, ◌++◌, List, [], ◌∷◌, length, slice_get, Some, cond, refl, sym, ap, ◌∙◌, subst, arith}
+use Rattle.std.proofs.Common.{◌≡◌, ℕ, zero, suc, ◌<◌, ◌≤◌, ◌++◌, List, [], ◌∷◌, length, slice_get, Option, Some, cond, refl, ap, ◌∙◌, arith}
 use Rattle.std.proofs.lemmas.Bool.{ne_eqb}
 use Rattle.std.proofs.Common.{eq-eqb}
 use Rattle.rl_builder.specs.Builder.{State}
-use Rattle.rl_hir.specs.declared.function.Pair.{Pair}
-use Rattle.rl_hir.specs.Pairs.{identifier_of}
-use Rattle.rl_lower.specs.Simulation.{Agrees, AreMade, Eventually, TracesAt, Extends, Later, walk}
+use Rattle.rl_lower.specs.Simulation.{Agrees, Eventually, Later, Nobody, TracesAt, walk}
 use Rattle.rl_machine.specs.declared.trace.Value.{Value}
 use Rattle.rl_machine.specs.declared.trace.Answer.{Answer}
 use Rattle.rl_machine.specs.declared.trace.Trace.{Trace}
@@ -46,43 +44,25 @@ steps_on c block place store notes answers item t is rest = record { by = (suc r
     onward stuck zero enough = absurd (omega arith)
     onward stuck (suc steps) enough = ap (λ o. step stuck c o (walk stuck c steps) (walk stuck c steps) block place store notes answers) is ∙ rest.by.1 stuck steps (omega arith)
 
-pub later_refl : (s : State) (store : Store) → Later s store store
-later_refl s store = record { temporaries = λ identifier below. refl }
+pub later_refl : (c : Code) (s : State) (store : Store) → Later c s store store
+later_refl c s store = record { temporaries = λ identifier free below. refl }
 
-pub later_then : (s new : State) (store later after : Store) → length s.env.identifiers ≤ length new.env.identifiers
-    → Later s store later → Later new later after → Later s store after
-later_then s new store later after more a b =
-    record { temporaries = λ identifier below. b.temporaries identifier (omega arith) ∙ a.temporaries identifier below }
+pub later_then : (c : Code) (s new : State) (store later after : Store) → length s.env.identifiers ≤ length new.env.identifiers
+    → Later c s store later → Later c new later after → Later c s store after
+later_then c s new store later after more a b =
+    record { temporaries = λ identifier free below. b.temporaries identifier free (omega arith) ∙ a.temporaries identifier free below }
 
-pub later_set : (s : State) (store : Store) (identifier : ℕ) (v : Value) → length s.env.identifiers ≤ identifier
-    → Later s store (set store identifier v)
-later_set s store identifier v fresh = record {
-  temporaries = λ other below. let ne : other ≡ identifier → ⊥ = λ e. omega arith in set_other store identifier other v ne;
+pub later_set : (c : Code) (s : State) (store : Store) (identifier : ℕ) (v : Value) → length s.env.identifiers ≤ identifier
+    → Later c s store (set store identifier v)
+later_set c s store identifier v fresh = record {
+  temporaries = λ other free below. let ne : other ≡ identifier → ⊥ = λ e. omega arith in set_other store identifier other v ne;
 }
 
--- Bound identifiers stay in the environment.
-pub made_then : (old new : State) → Extends old new → AreMade old → AreMade new
-made_then old new g m = record {
-  below = λ symbol identifier is.
-      let below : identifier < length old.env.identifiers = m.below symbol identifier (ap (λ (b : List Pair). identifier_of b symbol) (sym g.bindings) ∙ is) in
-      omega (arith, below, g.identifiers);
-}
-
--- Setting a fresh identifier leaves the bound ones.
-pub agrees_set : (s : State) (source store : Store) (identifier : ℕ) (v : Value) → AreMade s
-    → length s.env.identifiers ≤ identifier → Agrees s.bindings source store → Agrees s.bindings source (set store identifier v)
-agrees_set s source store identifier v m fresh a = record {
+-- Setting an identifier that is nobody's leaves those of symbols.
+pub agrees_set : (ident : ℕ → Option ℕ) (source store : Store) (identifier : ℕ) (v : Value) → Nobody ident identifier
+    → Agrees ident source store → Agrees ident source (set store identifier v)
+agrees_set ident source store identifier v free a = record {
   at = λ symbol other is.
-      let below : other < length s.env.identifiers = m.below symbol other is in
-      let ne : other ≡ identifier → ⊥ = λ e. omega arith in
+      let ne : other ≡ identifier → ⊥ = λ e. free symbol (is ∙ ap (λ (n : ℕ). Some n) e) in
       set_other store identifier other v ne ∙ a.at symbol other is;
 }
-
--- `Agrees` reads the bindings alone, which states that extend each other share.
-pub agrees_then : (old new : State) (source store : Store) → Extends old new → Agrees old.bindings source store
-    → Agrees new.bindings source store
-agrees_then old new source store g a = subst (λ (b : List Pair). Agrees b source store) (sym g.bindings) a
-
-pub agrees_before : (old new : State) (source store : Store) → Extends old new → Agrees new.bindings source store
-    → Agrees old.bindings source store
-agrees_before old new source store g a = subst (λ (b : List Pair). Agrees b source store) g.bindings a

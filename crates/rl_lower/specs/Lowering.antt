@@ -1,13 +1,14 @@
 -- The promises of lowering a part, as relations of the builder's state before and after it.
-use Rattle.std.specs.Prelude.{◌≡◌, ℕ, ◌+◌, ◌*◌, ◌<◌, ◌≤◌, ◌^◌, List, [], ◌++◌, All, Bool, true, Option, length, map}
+use Rattle.std.specs.Prelude.{◌≡◌, ◌≢◌, ℕ, ◌+◌, ◌*◌, ◌<◌, ◌≤◌, ◌^◌, List, [], ◌++◌, All, Bool, true, Option, Some, None, length, map, slice_get}
 use Rattle.rl_base.specs.declared.diagnostic.Diagnostic.{Diagnostic}
 use Rattle.rl_base.specs.declared.span.Span.{Span}
+use Rattle.rl_hir.specs.declared.function.Identifier.{Identifier}
 use Rattle.rl_hir.specs.declared.terminal.ReturnVariant.TheVariants as returns
 use Rattle.rl_builder.specs.Builder.{State}
 use Rattle.rl_syntax.specs.declared.word.Word.TheVariants as word
 use Rattle.rl_syntax.specs.Syntax.{Syntax, Node, Listed, Pieces, End, Then, nodes, nodes_of}
 use Rattle.rl_names.specs.Names.{Names}
-use Rattle.rl_model.specs.Fields.{AddsUnnamed}
+use Rattle.rl_model.specs.Fields.{IsNamedPair}
 use Rattle.rl_model.specs.Held.{can_complete, calls_in, calls_among, calls_of, live_calls, live_in_body}
 use Rattle.rl_hir.specs.declared.instruction.PlaceOrSpread.{PlaceOrSpread}
 use Rattle.rl_hir.specs.Instructions.{argument_place, argument_shape}
@@ -36,22 +37,30 @@ pub record CountersGrowBy (old new : State) (more : ℕ) : Type 0 where
   pub instructions : length new.table ≤ length old.table + more
   pub completed : length new.completed ≤ length old.completed + more
 
+-- An identifier that has a name stays as it is.
+abbrev pub KeepsNamed : (old new : List Identifier) → Type 0
+KeepsNamed old new =
+    (identifier : ℕ) (known : Identifier) → slice_get old identifier ≡ Some known → known.name ≢ None → slice_get new identifier ≡ Some known
+
+-- The identifiers of the pairs are named for their symbols.
+abbrev pub HasNamedPairs : Names → State → Type 0
+HasNamedPairs names s = All (IsNamedPair names s.env.identifiers) s.env.pairs
+
 -- The parts of the state that lowering preserves, with at most `more` added to each counter.
-pub record Preserves (old new : State) (more : ℕ) : Type 0 where
+pub record Preserves (names : Names) (old new : State) (more : ℕ) : Type 0 where
   pub uses : CountersGrowBy old new more
   pub listed : IsListed old → IsListed new
-  pub named : (names : Names) → IsNamed names old → IsNamed names new
-  pub identifiers : AddsUnnamed old.env.identifiers new.env.identifiers
-  pub pairs : new.env.pairs ≡ old.env.pairs
+  pub named : IsNamed names old → IsNamed names new
+  pub identifiers : KeepsNamed old.env.identifiers new.env.identifiers
+  pub pairs : HasNamedPairs names old → HasNamedPairs names new
   pub functions : new.env.functions ≡ old.env.functions
   pub fn_type : new.env.fn_type ≡ old.env.fn_type
 
 -- An expression was lowered: its refusals were recorded, its calls are in the table and, where reachable, in the entry block,
 -- and its value goes to `identifier`. Where it has no refusal, the graph has its traces.
 pub record LowersExpression (names : Names) (e : Syntax) (old new : State) (identifier : ℕ) : Type 0 where
-  pub keeps : Preserves old new (4 * nodes e)
+  pub keeps : Preserves names old new (4 * nodes e)
   pub blocks : PreservesBlocks old new
-  pub made : identifier < length new.env.identifiers
   pub refused : new.env.diagnostics ≡ old.env.diagnostics ++ refusals names e
   pub calls : calls_of new.table ≡ calls_of old.table ++ calls_in e
   pub reachable : AddsCalls (calls_in e) true old new
@@ -59,9 +68,8 @@ pub record LowersExpression (names : Names) (e : Syntax) (old new : State) (iden
 
 -- As `LowersExpression`, for expressions from left to right.
 pub record LowersExpressions (names : Names) (es : Pieces) (old new : State) (identifiers : List ℕ) : Type 0 where
-  pub keeps : Preserves old new (4 * nodes_of es)
+  pub keeps : Preserves names old new (4 * nodes_of es)
   pub blocks : PreservesBlocks old new
-  pub made : All (λ identifier. identifier < length new.env.identifiers) identifiers
   pub refused : new.env.diagnostics ≡ old.env.diagnostics ++ refusals_in names es
   pub calls : calls_of new.table ≡ calls_of old.table ++ calls_among es
   pub reachable : AddsCalls (calls_among es) true old new
@@ -76,8 +84,8 @@ pub record LowersArguments (names : Names) (es : Pieces) (old new : State) (give
 
 -- As `LowersExpression`, for a part of `count` nodes and meaning `d` that has no value. Its refusals are `diagnostics`, its
 -- calls `called`, those of them that are reachable `reached`, and it completes normally where `completes`.
-pub record Lowers (count : ℕ) (diagnostics : List Diagnostic) (called reached : List (Option Span)) (completes : Bool) (d : StmtMeaning) (old new : State) : Type 0 where
-  pub keeps : Preserves old new (4 * count)
+pub record Lowers (names : Names) (count : ℕ) (diagnostics : List Diagnostic) (called reached : List (Option Span)) (completes : Bool) (d : StmtMeaning) (old new : State) : Type 0 where
+  pub keeps : Preserves names old new (4 * count)
   pub blocks : PreservesBlocks old new
   pub refused : new.env.diagnostics ≡ old.env.diagnostics ++ diagnostics
   pub calls : calls_of new.table ≡ calls_of old.table ++ called
@@ -86,11 +94,11 @@ pub record Lowers (count : ℕ) (diagnostics : List Diagnostic) (called reached 
 
 abbrev pub LowersStatement : Names → Syntax → State → State → Type 0
 LowersStatement names s old new =
-    Lowers (nodes s) (refusals names s) (calls_in s) (calls_in s) (can_complete s) (exec_stmt names s) old new
+    Lowers names (nodes s) (refusals names s) (calls_in s) (calls_in s) (can_complete s) (exec_stmt names s) old new
 
 abbrev pub LowersStatements : Names → Pieces → State → State → Type 0
 LowersStatements names ss old new =
-    Lowers (nodes_of ss) (refusals_in names ss) (calls_among ss) (live_calls ss) (can_all_complete ss) (exec_stmts names ss) old new
+    Lowers names (nodes_of ss) (refusals_in names ss) (calls_among ss) (live_calls ss) (can_all_complete ss) (exec_stmts names ss) old new
 
 -- The meaning of a body before its end, where the function returns undefined: an expression returns its value.
 abbrev pub exec_before_end : Names → Syntax → StmtMeaning
@@ -101,4 +109,4 @@ exec_before_end names body store answers exits =
 
 abbrev pub LowersBody : Names → Syntax → State → State → Type 0
 LowersBody names b old new =
-    Lowers (nodes b + 1) (refusals names b) (calls_in b) (live_in_body b) (can_body_complete b) (exec_before_end names b) old new
+    Lowers names (nodes b + 1) (refusals names b) (calls_in b) (live_in_body b) (can_body_complete b) (exec_before_end names b) old new

@@ -1,12 +1,15 @@
 -- The simulation: the graph that is built between two states of the builder has the traces of a part of the source.
-use Rattle.std.specs.Prelude.{◌≡◌, ℕ, zero, suc, ◌<◌, ◌≤◌, ◌⊎◌, None, Some, List, [], All, length, map, slice_get}
+use Rattle.std.specs.Prelude.{◌≡◌, ℕ, zero, suc, ◌<◌, ◌≤◌, ◌⊎◌, Option, None, Some, List, [], All, length, map, slice_get}
 use Rattle.rl_base.specs.Distinct.{AreDistinct}
 use Rattle.rl_base.specs.declared.ids.InstructionId.{InstructionId}
 use Rattle.rl_hir.specs.declared.instruction.Instruction.{Instruction}
 use Rattle.rl_hir.specs.Blocks.{Pair as BlockPair}
 use Rattle.rl_hir.specs.declared.function.Pair.{Pair}
 use Rattle.rl_hir.specs.Pairs.{identifier_of}
+use Rattle.rl_hir.specs.declared.function.Identifier.{Identifier}
 use Rattle.rl_builder.specs.Builder.{State}
+use Rattle.rl_builder.specs.Names.{AreNamed}
+use Rattle.rl_builder.specs.UsedName.{UsedName}
 use Rattle.rl_machine.specs.declared.trace.Value.{Value}
 use Rattle.rl_machine.specs.declared.trace.Answer.{Answer}
 use Rattle.rl_machine.specs.declared.trace.Trace.{Trace}
@@ -68,7 +71,35 @@ pub record IsCompleted (completed : List BlockPair) (id : ℕ) : Type 0 where
 abbrev pub IsCurrentOrCompleted : State → ℕ → Type 0
 IsCurrentOrCompleted s id = (s.current.id.0 ≡ id) ⊎ IsCompleted s.completed id
 
--- The new state has the items and blocks of the old one, its entry and its bindings, and no counter fell.
+-- The identifiers of symbols have names, each that of its own symbol; the builder and the environment agree on them, and no symbol
+-- has two pairs.
+pub record AreSoundNames (bindings : List Pair) (used : List UsedName) (identifiers : List Identifier) (pairs : List Pair) : Type 0 where
+  pub agree : AreNamed bindings used identifiers
+  pub same : (symbol : ℕ) → identifier_of bindings symbol ≡ identifier_of pairs symbol
+  pub once : AreDistinct (map (λ (p : Pair). p.symbol.0) pairs)
+
+abbrev pub HasSoundNames : State → Type 0
+HasSoundNames s = AreSoundNames s.bindings s.used_names s.env.identifiers s.env.pairs
+
+-- The new pairs give each symbol of the old ones the same identifier, and each other symbol one from `made` on, the number of
+-- identifiers that were made before.
+pub record GrowsNames (old : List Pair) (made : ℕ) (new : List Pair) : Type 0 where
+  pub kept : (symbol identifier : ℕ) → identifier_of old symbol ≡ Some identifier → identifier_of new symbol ≡ Some identifier
+  pub fresh : (symbol identifier : ℕ) → identifier_of new symbol ≡ Some identifier
+      → (identifier_of old symbol ≡ Some identifier) ⊎ (made ≤ identifier)
+
+-- The final identifiers of symbols, `ident`, are those of the pairs, and others from `made` on. No two symbols have one.
+pub record CoversNames (pairs : List Pair) (made : ℕ) (ident : ℕ → Option ℕ) : Type 0 where
+  pub kept : (symbol identifier : ℕ) → identifier_of pairs symbol ≡ Some identifier → ident symbol ≡ Some identifier
+  pub fresh : (symbol identifier : ℕ) → ident symbol ≡ Some identifier
+      → (identifier_of pairs symbol ≡ Some identifier) ⊎ (made ≤ identifier)
+  pub one : (symbol other identifier : ℕ) → ident symbol ≡ Some identifier → ident other ≡ Some identifier → symbol ≡ other
+
+-- No symbol has the identifier in the end.
+abbrev pub Nobody : (ident : ℕ → Option ℕ) → (identifier : ℕ) → Type 0
+Nobody ident identifier = (symbol : ℕ) → ident symbol ≡ Some identifier → ⊥
+
+-- The new state has the items, blocks and names of the old one and its entry, no counter fell, and names stay sound.
 pub record Extends (old new : State) : Type 0 where
   pub done : (f : Fact) → InCompleted old f → InCompleted new f
   pub wip : (f : Fact) → InCurrent old f → HasItem new f
@@ -77,13 +108,15 @@ pub record Extends (old new : State) : Type 0 where
   pub entry : new.entry ≡ old.entry
   pub blocks : old.env.next_block ≤ new.env.next_block
   pub identifiers : length old.env.identifiers ≤ length new.env.identifiers
-  pub bindings : new.bindings ≡ old.bindings
+  pub names : GrowsNames old.env.pairs (length old.env.identifiers) new.env.pairs
+  pub sound : HasSoundNames old → HasSoundNames new
 
--- The graph `c` has every item of the state. Its blocks have no handlers, and it stands alone.
+-- The graph `c` has every item of the state and, in the end, its names. Its blocks have no handlers, and it stands alone.
 pub record IsContainedIn (s : State) (c : Code) : Type 0 where
   pub has : (f : Fact) → HasItem s f → c.item f.block f.place ≡ Some f.item
   pub uncaught : (block : ℕ) → c.catcher block ≡ None
   pub stands : c.world ≡ alone
+  pub names : CoversNames s.env.pairs (length s.env.identifiers) c.ident
 
 -- The ids of blocks, the current one included, are distinct and below the counter `next`.
 pub record UniqueIds (completed : List BlockPair) (current next : ℕ) : Type 0 where
@@ -140,56 +173,56 @@ TracesAt c block place store notes answers t = Eventually c (λ stuck next. next
 abbrev pub TracesFrom : Code → State → Store → Notes → List Answer → Trace → Type 0
 TracesFrom c s store notes answers t = TracesAt c s.current.id.0 (length s.current.instructions) store notes answers t
 
--- The store `later` has the values of `store` for all identifiers that the state has.
-pub record Later (s : State) (store later : Store) : Type 0 where
-  pub temporaries : (identifier : ℕ) → identifier < length s.env.identifiers → later identifier ≡ store identifier
+-- The store `later` has the values of `store` for all identifiers that the state has and that are no symbol's in the end.
+pub record Later (c : Code) (s : State) (store later : Store) : Type 0 where
+  pub temporaries : (identifier : ℕ) → Nobody c.ident identifier → identifier < length s.env.identifiers
+      → later identifier ≡ store identifier
 
--- The stores of source and graph agree on the symbols that are bound to an identifier.
-pub record Agrees (bindings : List Pair) (source store : Store) : Type 0 where
-  pub at : (symbol identifier : ℕ) → identifier_of bindings symbol ≡ Some identifier → store identifier ≡ source symbol
+-- The stores of source and graph agree: each symbol's value is in the identifier that it has in the end.
+pub record Agrees (ident : ℕ → Option ℕ) (source store : Store) : Type 0 where
+  pub at : (symbol identifier : ℕ) → ident symbol ≡ Some identifier → store identifier ≡ source symbol
 
--- The identifiers that symbols are bound to are in the environment.
-pub record AreMade (s : State) : Type 0 where
-  pub below : (symbol identifier : ℕ) → identifier_of s.bindings symbol ≡ Some identifier
-      → identifier < length s.env.identifiers
-
--- The run from the builder's program point at `new` has the traces of the continuation `k`, from stores that agree on the
--- bindings of `s` and where `store` has changed above the identifiers of `s` alone.
+-- The run from the builder's program point at `new` has the traces of the continuation `k`, from stores that agree and where
+-- `store` has changed for identifiers of symbols and above those of `s` alone.
 pub record Follows (c : Code) (s new : State) (store : Store) (k : Cont) : Type 0 where
-  pub goes : (source later : Store) (notes : Notes) (answers : List Answer) → Agrees s.bindings source later
-      → Later s store later → TracesFrom c new later notes answers (k source answers)
+  pub goes : (source later : Store) (notes : Notes) (answers : List Answer) → Agrees c.ident source later
+      → Later c s store later → TracesFrom c new later notes answers (k source answers)
 
 -- As `Follows`, where `k` takes the value that the store has for `identifier`.
 pub record Continues (c : Code) (s new : State) (store : Store) (identifier : ℕ) (k : ValueCont) : Type 0 where
-  pub goes : (v : Value) (source later : Store) (notes : Notes) (answers : List Answer) → Agrees s.bindings source later
-      → Later s store later → later identifier ≡ v → TracesFrom c new later notes answers (k v source answers)
+  pub goes : (v : Value) (source later : Store) (notes : Notes) (answers : List Answer) → Agrees c.ident source later
+      → Later c s store later → later identifier ≡ v → TracesFrom c new later notes answers (k v source answers)
 
 -- As `Follows`, where `k` takes the values that the store has for `identifiers`.
 pub record ContinuesAll (c : Code) (s new : State) (store : Store) (identifiers : List ℕ) (k : ValuesCont) : Type 0 where
-  pub goes : (vs : List Value) (source later : Store) (notes : Notes) (answers : List Answer) → Agrees s.bindings source later
-      → Later s store later → map later identifiers ≡ vs → TracesFrom c new later notes answers (k vs source answers)
+  pub goes : (vs : List Value) (source later : Store) (notes : Notes) (answers : List Answer) → Agrees c.ident source later
+      → Later c s store later → map later identifiers ≡ vs → TracesFrom c new later notes answers (k vs source answers)
 
 -- The throw continuation ends the run: no handler encloses the part.
 pub record Throws (k : ValueCont) : Type 0 where
   pub ends : (v : Value) (source : Store) (answers : List Answer) → k v source answers ≡ threw v
 
 -- The graph that is built from `old` to `new` has the traces of an expression of meaning `d`, and leaves the value in
--- `identifier`.
+-- `identifier`, which is no symbol's.
 pub record RunsExpression (d : ExprMeaning) (old new : State) (identifier : ℕ) : Type 0 where
-  pub runs : (c : Code) → IsContainedIn new c → AreMade old
-      → (k h : ValueCont) (source store : Store) (notes : Notes) (answers : List Answer) → Agrees old.bindings source store
+  pub made : identifier < length new.env.identifiers
+  pub free : (c : Code) → IsContainedIn new c → HasSoundNames old → Nobody c.ident identifier
+  pub runs : (c : Code) → IsContainedIn new c → HasSoundNames old
+      → (k h : ValueCont) (source store : Store) (notes : Notes) (answers : List Answer) → Agrees c.ident source store
       → Throws h → Continues c old new store identifier k → TracesFrom c old store notes answers (d source answers k h)
 
 -- As `RunsExpression`, for expressions from left to right.
 pub record RunsAll (d : ExprsMeaning) (old new : State) (identifiers : List ℕ) : Type 0 where
-  pub runs : (c : Code) → IsContainedIn new c → AreMade old
+  pub made : All (λ identifier. identifier < length new.env.identifiers) identifiers
+  pub free : (c : Code) → IsContainedIn new c → HasSoundNames old → All (Nobody c.ident) identifiers
+  pub runs : (c : Code) → IsContainedIn new c → HasSoundNames old
       → (k : ValuesCont) (h : ValueCont) (source store : Store) (notes : Notes) (answers : List Answer)
-      → Agrees old.bindings source store → Throws h → ContinuesAll c old new store identifiers k
+      → Agrees c.ident source store → Throws h → ContinuesAll c old new store identifiers k
       → TracesFrom c old store notes answers (d source answers k h)
 
 -- The graph that is built from `old` to `new` has the traces of a statement of meaning `d`.
 pub record RunsStatement (d : StmtMeaning) (old new : State) : Type 0 where
-  pub runs : (c : Code) → IsContainedIn new c → AreMade old
-      → (exits : Exits) (source store : Store) (notes : Notes) (answers : List Answer) → Agrees old.bindings source store
+  pub runs : (c : Code) → IsContainedIn new c → HasSoundNames old
+      → (exits : Exits) (source store : Store) (notes : Notes) (answers : List Answer) → Agrees c.ident source store
       → Throws exits.throws → Follows c old new store exits.normal
       → TracesFrom c old store notes answers (d source answers exits)

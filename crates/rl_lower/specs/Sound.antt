@@ -9,6 +9,7 @@ use Rattle.rl_hir.specs.Instructions.{argument_place}
 use Rattle.rl_hir.specs.Listing as listing
 use Rattle.rl_hir.specs.declared.environment.Environment.{Environment}
 use Rattle.rl_hir.specs.declared.function.Identifier.{Identifier}
+use Rattle.rl_hir.specs.declared.function.Pair.{Pair}
 use Rattle.rl_hir.specs.declared.instruction.Place.{Place}
 use Rattle.rl_hir.specs.declared.instruction.PlaceOrSpread.{PlaceOrSpread}
 use Rattle.rl_builder.specs.Builder.{State}
@@ -47,6 +48,10 @@ AreSmallTrees trees = HaveSmallSpans trees × AreWritable (plain_parts trees)
 abbrev pub IsSmallParameter : Parameter → Type 0
 IsSmallParameter p = IsUtf8 p.name × IsSmallSpan p.declaration
 
+-- The id of the parameter's symbol is a number of the notation.
+abbrev pub HasSmallSymbol : Parameter → Type 0
+HasSmallSymbol p = p.symbol.0 ≤ largest
+
 -- The counters of the environment and the length of the instruction table are numbers of the notation, at most `largest`.
 pub record HasSmallCounters (s : State) : Type 0 where
   pub blocks : s.env.next_block ≤ largest
@@ -77,14 +82,19 @@ pub record HasWritableParts (s : State) : Type 0 where
 abbrev pub AreWritableIdentifiers : List Identifier → Type 0
 AreWritableIdentifiers identifiers = All (λ i. IsWritable (listing.identifier i)) identifiers
 
--- From `old` to `new` places stay known and, where `small` holds and the counters of `new` are small, parts and identifiers
--- stay writable.
+-- The notation has the listings of the pairs.
+abbrev pub AreWritablePairs : List Pair → Type 0
+AreWritablePairs pairs = All (λ p. IsWritable (listing.pair p)) pairs
+
+-- From `old` to `new` places stay known and, where the counters of `new` are small, pairs stay writable, and so do parts and
+-- identifiers where `small` holds too.
 pub record StaysSound (small : Type 0) (old new : State) : Type 0 where
   pub counters : CountersGrow old new
   pub known : HasKnownParts old → HasKnownParts new
   pub parts : small → HasSmallCounters new → HasWritableParts old → HasWritableParts new
   pub identifiers : small → HasSmallCounters new → AreWritableIdentifiers old.env.identifiers
       → AreWritableIdentifiers new.env.identifiers
+  pub pairs : HasSmallCounters new → AreWritablePairs old.env.pairs → AreWritablePairs new.env.pairs
 
 -- The place names an identifier of `new`, and the notation has it where `small` holds and the counters of `new` are small.
 pub record IsSoundPlace (small : Type 0) (new : State) (place : Place) : Type 0 where
@@ -109,7 +119,7 @@ pub record IsWritableGraph (built : Built) : Type 0 where
 
 -- The graph that was built from `body` over the environment `old` names identifiers of `new`, among which each of
 -- `parameters` has one of its own. Where the body is small, the notation has the graph, and where the parameters are too, the
--- identifiers.
+-- identifiers; and it has the pairs.
 pub record IsSoundGraph (parameters : List Parameter) (body : Syntax) (old new : Environment) (built : Built) : Type 0 where
   pub given : length old.identifiers + length parameters ≤ length new.identifiers
   pub count : length new.identifiers ≤ largest
@@ -119,3 +129,4 @@ pub record IsSoundGraph (parameters : List Parameter) (body : Syntax) (old new :
   pub graph : IsSmallTree body → IsWritableGraph built
   pub identifiers : All IsSmallParameter parameters → IsSmallTree body → AreWritableIdentifiers old.identifiers
       → AreWritableIdentifiers new.identifiers
+  pub pairs : All HasSmallSymbol parameters → AreWritablePairs old.pairs → AreWritablePairs new.pairs

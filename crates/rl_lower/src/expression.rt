@@ -1,6 +1,6 @@
 //! Lowering of expressions: each leaves its value in a temporary.
 
-ghost use Rattle.std.specs.Prelude.{◌≡◌, ◌*◌, ℕ, All, map, List, OnOk, IfOk};
+ghost use Rattle.std.specs.Prelude.{◌≡◌, ◌*◌, ℕ, All, map, List, OnOk, IfOk, IfErr};
 ghost use Rattle.rl_syntax.specs.Syntax.{Node, Said, End, Then, nodes, nodes_of, pieces_of, syntax};
 ghost use Rattle.rl_builder.specs.Builder.{state_of, recorded};
 ghost use Rattle.rl_builder.specs.Temporaries.{temporary, with_value};
@@ -38,16 +38,18 @@ use rl_syntax::word::Word;
 use rl_text::number::parse_number;
 use std::alloc::Global;
 
-/// Appends an instruction that puts a value into a fresh temporary (`lowerValueToTemporary`).
+/// Appends an instruction that puts a value into a fresh temporary (`lowerValueToTemporary`). On `Stop::OutOfMemory` an
+/// allocation failed; no other stop comes, here and in the functions below.
 pub(crate) fn lower_value_to_temporary(
     builder: &mut HirBuilder,
     value: InstructionValue,
     span: Option<Span>,
-) -> Result<Place, OutOfMemory>
+) -> Result<Place, Stop>
     requires { HasRoom (state_of builder.old.env.now builder.old.work) 1 }
     ensures same_reference { builder.new.env.ghost_name ≡ builder.old.env.ghost_name }
     ensures state { OnOk result (state_of builder.new.env.now builder.new.work ≡ with_value (state_of builder.old.env.now builder.old.work) value span) }
     ensures place { IfOk result (λ place. place ≡ temporary (state_of builder.old.env.now builder.old.work) span) }
+    ensures memory { IfErr result (λ e. e ≡ Stop.OutOfMemory) }
 {
     let place = builder.create_temporary_place(span)?;
     builder.push(Instruction {
@@ -86,11 +88,12 @@ fn lower_outer(
     builder: &mut HirBuilder,
     at: At,
     binding: NonLocalBinding,
-) -> Result<Place, OutOfMemory>
+) -> Result<Place, Stop>
     requires room { HasRoom (state_of builder.old.env.now builder.old.work) 1 }
     ensures same_reference { builder.new.env.ghost_name ≡ builder.old.env.ghost_name }
     ensures lowered { IfOk result (λ place. (names : Names) (name : List ℕ) → names.meaning at.reference.0 name ≡ Outer binding → LowersExpression names (Node at Word.Id (Then (Said name) End)) (state_of builder.old.env.now builder.old.work) (state_of builder.new.env.now builder.new.work) place.identifier.0) }
     ensures sound { IfOk result (λ place. (name : List ℕ) → (IsUtf8 name → All IsUtf8 (binding_texts binding)) → SoundExpression (Node at Word.Id (Then (Said name) End)) (state_of builder.old.env.now builder.old.work) (state_of builder.new.env.now builder.new.work) place) }
+    ensures memory { IfErr result (λ e. e ≡ Stop.OutOfMemory) }
 {
     let is_refused = is_eval(&binding);
     let value = InstructionValue::LoadGlobal(binding);
@@ -107,19 +110,16 @@ fn lower_local(
     names: &FunctionNames<'_>,
     at: At,
     symbol: SymbolId,
-) -> Result<Place, OutOfMemory>
+) -> Result<Place, Stop>
     requires known { HasIdentifier (state_of builder.old.env.now builder.old.work) symbol.0 ((seen names.now).name symbol.0) }
     requires room { HasRoom (state_of builder.old.env.now builder.old.work) 1 }
     ensures same_reference { builder.new.env.ghost_name ≡ builder.old.env.ghost_name }
     ensures lowered { IfOk result (λ place. (name : List ℕ) → (seen names.now).meaning at.reference.0 name ≡ Local symbol → LowersExpression (seen names.now) (Node at Word.Id (Then (Said name) End)) (state_of builder.old.env.now builder.old.work) (state_of builder.new.env.now builder.new.work) place.identifier.0) }
     ensures sound { IfOk result (λ place. (name : List ℕ) → SoundExpression (Node at Word.Id (Then (Said name) End)) (state_of builder.old.env.now builder.old.work) (state_of builder.new.env.now builder.new.work) place) }
+    ensures memory { IfErr result (λ e. e ≡ Stop.OutOfMemory) }
 {
-    let resolved = builder.resolve_binding(names.name(symbol), symbol, names.declaration(symbol));
-    let identifier = match resolved {
-        Ok(identifier) => identifier,
-        Err(Stop::OutOfMemory) => return Err(OutOfMemory),
-        Err(Stop::Diagnostic(_)) => unreachable!(),
-    };
+    let declaration = names.declaration(symbol);
+    let identifier = builder.resolve_binding(names.name(symbol), symbol, declaration)?;
     let variable = Place {
         identifier,
         span: Some(at.span),
@@ -137,12 +137,13 @@ fn lower_identifier(
     builder: &mut HirBuilder,
     names: &FunctionNames<'_>,
     identifier: &IdentifierReference<'_>,
-) -> Result<Place, OutOfMemory>
+) -> Result<Place, Stop>
     requires names { IsNamed (seen names.now) (state_of builder.old.env.now builder.old.work) }
     requires room { HasRoom (state_of builder.old.env.now builder.old.work) 1 }
     ensures same_reference { builder.new.env.ghost_name ≡ builder.old.env.ghost_name }
     ensures lowered { IfOk result (λ place. LowersExpression (seen names.now) (seen_identifier_reference identifier.now) (state_of builder.old.env.now builder.old.work) (state_of builder.new.env.now builder.new.work) place.identifier.0) }
     ensures sound { IfOk result (λ place. SoundExpression (seen_identifier_reference identifier.now) (state_of builder.old.env.now builder.old.work) (state_of builder.new.env.now builder.new.work) place) }
+    ensures memory { IfErr result (λ e. e ≡ Stop.OutOfMemory) }
 {
     match names.meaning(alloc, identifier)? {
         Meaning::Local(symbol) => lower_local(builder, names, identifier.at, symbol),
@@ -168,13 +169,14 @@ fn lower_arguments(
     builder: &mut HirBuilder,
     names: &FunctionNames<'_>,
     arguments: ArgumentTrees<'_>,
-) -> Result<List<PlaceOrSpread>, OutOfMemory>
+) -> Result<List<PlaceOrSpread>, Stop>
     requires names { IsNamed (seen names.now) (state_of builder.old.env.now builder.old.work) }
     requires covered { AreCovered (pieces_of (map syntax arguments.trees.now)) }
     requires room { HasRoom (state_of builder.old.env.now builder.old.work) (4 * nodes_of (pieces_of (map syntax arguments.trees.now))) }
     ensures same_reference { builder.new.env.ghost_name ≡ builder.old.env.ghost_name }
     ensures lowered { IfOk result (λ given. LowersArguments (seen names.now) (pieces_of (map syntax arguments.entry.trees.now)) (state_of builder.old.env.now builder.old.work) (state_of builder.new.env.now builder.new.work) given) }
     ensures sound { IfOk result (λ given. SoundArguments (pieces_of (map syntax arguments.entry.trees.now)) (state_of builder.old.env.now builder.old.work) (state_of builder.new.env.now builder.new.work) given) }
+    ensures memory { IfErr result (λ e. e ≡ Stop.OutOfMemory) }
 {
     let mut given = List::with_capacity(alloc, arguments.trees.len())?;
     let mut left = arguments;
@@ -193,13 +195,14 @@ pub(crate) fn lower_expression(
     builder: &mut HirBuilder,
     names: &FunctionNames<'_>,
     expression: ExpressionTree<'_>,
-) -> Result<Place, OutOfMemory>
+) -> Result<Place, Stop>
     requires names { IsNamed (seen names.now) (state_of builder.old.env.now builder.old.work) }
     requires covered { IsCovered (syntax expression.tree.now) }
     requires room { HasRoom (state_of builder.old.env.now builder.old.work) (4 * nodes (syntax expression.tree.now)) }
     ensures same_reference { builder.new.env.ghost_name ≡ builder.old.env.ghost_name }
     ensures lowered { IfOk result (λ place. LowersExpression (seen names.now) (syntax expression.entry.tree.now) (state_of builder.old.env.now builder.old.work) (state_of builder.new.env.now builder.new.work) place.identifier.0) }
     ensures sound { IfOk result (λ place. SoundExpression (syntax expression.entry.tree.now) (state_of builder.old.env.now builder.old.work) (state_of builder.new.env.now builder.new.work) place) }
+    ensures memory { IfErr result (λ e. e ≡ Stop.OutOfMemory) }
 {
     match expression_view(expression) {
         Expression::Null { at } => {

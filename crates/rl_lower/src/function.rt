@@ -16,10 +16,10 @@ ghost use Rattle.rl_lower.specs.Endings.{IsGraphOf};
 ghost use Rattle.rl_lower.specs.Lowering.{HasRoom, LowersBody};
 ghost use Rattle.rl_lower.specs.Named.{IsNamed};
 ghost use Rattle.rl_lower.specs.Parameters.{with_parameters};
-ghost use Rattle.rl_lower.specs.Sound.{AreWritableIdentifiers, IsSmallTree, IsSoundGraph, StaysSound};
+ghost use Rattle.rl_lower.specs.Sound.{AreWritableIdentifiers, AreWritablePairs, HasSmallSymbol, IsSmallTree, IsSoundGraph, StaysSound};
 ghost use Rattle.rl_machine.specs.Closed.{IsClosed};
 ghost use Rattle.rl_model.specs.Covered.{IsCovered, IsCoveredFunction};
-ghost use Rattle.rl_model.specs.Fields.{AddsUnnamed, directives_in, known_from, pairs_from, places_from, texts_in};
+ghost use Rattle.rl_model.specs.Fields.{AreGiven, ArePairs, directives_in, places_from, texts_in};
 ghost use Rattle.rl_model.specs.Headline.{NeverStuck, SameRuns};
 ghost use Rattle.rl_model.specs.Held.{HoldsCalls};
 ghost use Rattle.rl_model.specs.Rows.{first_named, is_text, refusals_of, stop_at, stop_of};
@@ -174,13 +174,14 @@ fn lower_body(
     builder: &mut HirBuilder,
     names: &FunctionNames<'_>,
     body: ArrowBody<'_>,
-) -> Result<(), OutOfMemory>
+) -> Result<(), Stop>
     requires names { IsNamed (seen names.now) (state_of builder.old.env.now builder.old.work) }
     requires covered { IsCovered (seen_arrow_body body) }
     requires room { HasRoom (state_of builder.old.env.now builder.old.work) (4 * (nodes (seen_arrow_body body) + 1)) }
     ensures same_reference { builder.new.env.ghost_name ≡ builder.old.env.ghost_name }
     ensures lowered { OnOk result (LowersBody (seen names.now) (seen_arrow_body body.entry) (state_of builder.old.env.now builder.old.work) (state_of builder.new.env.now builder.new.work)) }
     ensures sound { OnOk result (StaysSound (IsSmallTree (seen_arrow_body body.entry)) (state_of builder.old.env.now builder.old.work) (state_of builder.new.env.now builder.new.work)) }
+    ensures memory { IfErr result (λ e. e ≡ Stop.OutOfMemory) }
 {
     match body {
         ArrowBody::Expression(expression) => {
@@ -196,7 +197,8 @@ fn lower_body(
                     },
                 },
                 fallthrough,
-            )
+            )?;
+            Ok(())
         }
         ArrowBody::Body(body) => {
             let body = function_body_view(body);
@@ -316,14 +318,15 @@ pub fn lower(
     ensures context { IfOk result (λ f. f.context ≡ []) }
     ensures returns { IfOk result (λ f. (f.returns.span ≡ None) × (f.returns.identifier.0 + 1 ≡ length env.new.identifiers)) }
 
-    // The parameters' identifiers come first, and no other that is made has a name.
-    ensures pairs { OnOk result (env.new.pairs ≡ env.old.pairs ++ pairs_from (length env.old.identifiers) (parameters_of (seen names.now) (seen_function_node function.entry))) }
-    ensures identifiers { OnOk result (AddsUnnamed (env.old.identifiers ++ known_from env.old.next_type (parameters_of (seen names.now) (seen_function_node function.entry))) env.new.identifiers) }
+    // The identifiers of pairs are named for their symbols, and each parameter is paired with that of its place.
+    ensures pairs { OnOk result (ArePairs (seen names.now) env.new.identifiers env.new.pairs) }
+    ensures given { OnOk result (AreGiven env.new.identifiers env.new.pairs (length env.old.identifiers) env.old.next_type (parameters_of (seen names.now) (seen_function_node function.entry))) }
 
     // Places name identifiers that were made, and the notation has the listing of what a small function is lowered to.
     ensures places { IfOk result (λ f. HasKnownPlaces (length env.new.identifiers) f) }
     ensures writable { IfOk result (λ f. IsSmallTree (seen_function_node function.entry) → IsWritable (listed_function f)) }
     ensures known { OnOk result (IsSmallTree (seen_function_node function.entry) → AreWritableIdentifiers env.old.identifiers → AreWritableIdentifiers env.new.identifiers) }
+    ensures paired { OnOk result (All HasSmallSymbol (parameters_of (seen names.now) (seen_function_node function.entry)) → AreWritablePairs env.new.pairs) }
 {
     let parameters = parameters(alloc, names, function)?;
     if let Some(parameter) = find_this(parameters.as_slice()) {

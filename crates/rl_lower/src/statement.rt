@@ -1,6 +1,6 @@
 //! Lowering of statements, and of lists of them.
 
-ghost use Rattle.std.specs.Prelude.{◌≡◌, ◌*◌, map, OnOk, Some};
+ghost use Rattle.std.specs.Prelude.{◌≡◌, ◌*◌, map, OnOk, IfErr, Some};
 ghost use Rattle.rl_syntax.specs.Syntax.{nodes, nodes_of, pieces_of, syntax};
 ghost use Rattle.rl_builder.specs.Builder.{state_of};
 ghost use Rattle.rl_lower.specs.Endings.{returned_from};
@@ -12,9 +12,9 @@ ghost use Rattle.rl_lower.specs.Sound.{AreSmallTrees, IsSmallTree, StaysSound};
 
 use crate::expression::{lower_expression, lower_value_to_temporary};
 use rl_ast::statement::{Statement, statement_view};
-use rl_base::error::OutOfMemory;
 use rl_base::ids::EvaluationOrder;
 use rl_base::span::Span;
+use rl_base::stop::Stop;
 use rl_builder::builder::HirBuilder;
 use rl_grammar::sort::{StatementTree, StatementTrees};
 use rl_hir::function::BlockKind;
@@ -24,10 +24,11 @@ use rl_names::names::FunctionNames;
 use std::alloc::Global;
 
 /// Ends the block by a return of a value, and goes on in a fresh block, which is unreachable.
-fn lower_return(builder: &mut HirBuilder, span: Span, value: Place) -> Result<(), OutOfMemory>
+fn lower_return(builder: &mut HirBuilder, span: Span, value: Place) -> Result<(), Stop>
     requires { HasRoom (state_of builder.old.env.now builder.old.work) 1 }
     ensures same_reference { builder.new.env.ghost_name ≡ builder.old.env.ghost_name }
     ensures state { OnOk result (state_of builder.new.env.now builder.new.work ≡ returned_from (state_of builder.old.env.now builder.old.work) (Some span) ReturnVariant.Explicit value BlockKind.Block) }
+    ensures memory { IfErr result (λ e. e ≡ Stop.OutOfMemory) }
 {
     let next = builder.reserve(BlockKind::Block);
     builder.terminate_with_continuation(
@@ -40,7 +41,8 @@ fn lower_return(builder: &mut HirBuilder, span: Span, value: Place) -> Result<()
             },
         },
         next,
-    )
+    )?;
+    Ok(())
 }
 
 /// Lowers a statement (`lowerStatement`).
@@ -49,13 +51,14 @@ fn lower_statement(
     builder: &mut HirBuilder,
     names: &FunctionNames<'_>,
     statement: StatementTree<'_>,
-) -> Result<(), OutOfMemory>
+) -> Result<(), Stop>
     requires names { IsNamed (seen names.now) (state_of builder.old.env.now builder.old.work) }
     requires covered { IsCovered (syntax statement.tree.now) }
     requires room { HasRoom (state_of builder.old.env.now builder.old.work) (4 * nodes (syntax statement.tree.now)) }
     ensures same_reference { builder.new.env.ghost_name ≡ builder.old.env.ghost_name }
     ensures lowered { OnOk result (LowersStatement (seen names.now) (syntax statement.entry.tree.now) (state_of builder.old.env.now builder.old.work) (state_of builder.new.env.now builder.new.work)) }
     ensures sound { OnOk result (StaysSound (IsSmallTree (syntax statement.entry.tree.now)) (state_of builder.old.env.now builder.old.work) (state_of builder.new.env.now builder.new.work)) }
+    ensures memory { IfErr result (λ e. e ≡ Stop.OutOfMemory) }
 {
     match statement_view(statement) {
         Statement::Expression { at: _, expression } => {
@@ -83,13 +86,14 @@ pub(crate) fn lower_statements(
     builder: &mut HirBuilder,
     names: &FunctionNames<'_>,
     statements: StatementTrees<'_>,
-) -> Result<(), OutOfMemory>
+) -> Result<(), Stop>
     requires names { IsNamed (seen names.now) (state_of builder.old.env.now builder.old.work) }
     requires covered { AreCovered (pieces_of (map syntax statements.trees.now)) }
     requires room { HasRoom (state_of builder.old.env.now builder.old.work) (4 * nodes_of (pieces_of (map syntax statements.trees.now))) }
     ensures same_reference { builder.new.env.ghost_name ≡ builder.old.env.ghost_name }
     ensures lowered { OnOk result (LowersStatements (seen names.now) (pieces_of (map syntax statements.entry.trees.now)) (state_of builder.old.env.now builder.old.work) (state_of builder.new.env.now builder.new.work)) }
     ensures sound { OnOk result (StaysSound (AreSmallTrees (pieces_of (map syntax statements.entry.trees.now))) (state_of builder.old.env.now builder.old.work) (state_of builder.new.env.now builder.new.work)) }
+    ensures memory { IfErr result (λ e. e ≡ Stop.OutOfMemory) }
 {
     let mut left = statements;
     'statements: while let Some((statement, rest)) = left.split_first() {

@@ -1,3 +1,4 @@
+pub mod Candidates
 pub mod Functions
 pub mod Locals
 pub mod Names

@@ -15,12 +15,6 @@ use Rattle.rl_hir.specs.declared.function.InnerFunction.{InnerFunction}
 use Rattle.rl_model.specs.Size.{function_size, inner_size}
 use Rattle.rl_hir.specs.declared.function.BlockKind.TheVariants as kinds
 use Rattle.rl_builder.specs.Builder.{started}
-use Rattle.rl_ast.specs.FunctionNodes.{seen_function_node}
-use Rattle.rl_ast.specs.declared.function_node.FunctionNode.{FunctionNode}
-use Rattle.rl_lower.proofs.FunctionTrees.{function_form, function_nodes}
-use Rattle.rl_model.specs.Covered.{IsCoveredFunction}
-use Rattle.rl_names.specs.Functions.{body_in, parameters_of}
-use Rattle.rl_names.specs.Names.{Names}
 use Rattle.rl_lower.specs.Lowering.{HasRoom}
 
 pub unit_nodes : (bytes : List ℕ) (u : Syntax) → Spells bytes u → (IsTooLarge bytes → ⊥) → nodes u ≤ 65536
@@ -41,12 +35,6 @@ alone_bounded u f h found few inner none =
     let nothing : inner_size inner ≡ 0 = ap inner_size none in
     let inside : nodes f ≤ nodes u = inside_few u f (first_found u f found).0 in
     omega (arith, few, nothing, inside)
-
--- A function has at most as many parameters as nodes.
-pub parameters_few : (names : Names) (f : FunctionNode) → IsCoveredFunction (seen_function_node f) → length (parameters_of names (seen_function_node f)) ≤ nodes (seen_function_node f)
-parameters_few names f covered =
-    let counted : nodes (body_in (seen_function_node f)) + 2 + 2 * length (parameters_of names (seen_function_node f)) ≤ nodes (seen_function_node f) = function_nodes names (seen_function_node f) (body_in (seen_function_node f)) (function_form f covered) in
-    omega (arith, counted)
 
 -- An environment in which nothing was made leaves room.
 pub fresh_room : (env : Environment) (n : ℕ) → env.next_block ≡ 0 → env.next_type ≡ 0 → env.identifiers ≡ [] → n ≤ 65536 → HasRoom (started env kinds.Block) (4 * n)

@@ -12,11 +12,9 @@ use Rattle.rl_syntax.specs.Words.{word_text}
 use Rattle.rl_hir.specs.Listing.{lowered, function, identifier, inner, pair}
 use Rattle.rl_hir.specs.declared.function.InnerFunction.{InnerFunction}
 use Rattle.rl_hir.specs.declared.function.Lowered.{Lowered}
-use Rattle.rl_lower.specs.Sound.{AreSmallTrees, HasSmallSpans, HaveSmallSpans, IsSmallTree}
-use Rattle.rl_model.specs.Fields.{pairs_from}
+use Rattle.rl_lower.specs.Sound.{AreSmallTrees, HasSmallSpans, HasSmallSymbol, HaveSmallSpans, IsSmallTree}
 use Rattle.rl_names.proofs.SymbolRange.{IsInRange}
 use Rattle.rl_names.specs.declared.parameters.Parameter.{Parameter}
-use Rattle.std.proofs.lemmas.List.Elements.{All-head, All-tail}
 
 some_left : (close : ℕ) (parts : Pieces) → 0 < length (spelled_on close (plain_parts parts))
 some_left close End = omega arith
@@ -74,12 +72,9 @@ all_writable tree (x ∷ items) all = (all 0 x (omega arith), all_writable tree 
 none_writable : (items : List InnerFunction) → items ≡ [] → AreWritable (parts_of (map inner items))
 none_writable items none = subst (λ (l : List InnerFunction). AreWritable (parts_of (map inner l))) (sym none) tt
 
--- The pairs of parameters that get identifiers one after the other.
-pub pairs_writable : (identifier : ℕ) (parameters : List Parameter) → All (λ p. IsInRange p.symbol) parameters → identifier + length parameters ≤ 2 ^ 53 → AreWritable (parts_of (map pair (pairs_from identifier parameters)))
-pairs_writable identifier [] range few = tt
-pairs_writable identifier (p ∷ parameters) range few =
-    let small : p.symbol.0 ≤ 4294967295 = All-head (λ (q : Parameter). IsInRange q.symbol) p parameters range in
-    (((lit< tt, refl), (omega (arith, small), (omega (arith, few), tt))), pairs_writable (identifier + 1) parameters (All-tail (λ (q : Parameter). IsInRange q.symbol) p parameters range) (omega (arith, few)))
+-- A symbol's id is a number of the notation.
+pub small_symbol : (p : Parameter) → IsInRange p.symbol → HasSmallSymbol p
+small_symbol p below = omega (arith, below)
 
 -- A result whose parts are writable.
 pub result_writable : (l : Lowered) → IsWritable (function l.function) → l.inner ≡ [] → All (λ i. IsWritable (identifier i)) l.identifiers → AreWritable (parts_of (map pair l.pairs)) → IsWritable (lowered l)

@@ -154,7 +154,7 @@ lower_arguments-arguments-preserved t c =
     let now : State = state_of c.arguments.builder.env.now c.arguments.builder.work in
     record {
       same_reference = c.in_ok-place.ensures.same_reference ∙ loop.same_reference;
-      names = lowered.keeps.named _ loop.names;
+      names = lowered.keeps.named loop.names;
       covered = (subst AreCovered split loop.covered).1;
       room = room_behind _ _ _ _ _ (omega (arith, counted)) lowered.keeps.uses loop.room;
       fewer = omega (arith, counted, loop.fewer);

@@ -17,13 +17,13 @@ resolved_so s mid said name symbol at declaration moved named declared =
 pub returns-clause-lowered : goal.returns-clause-lowered
 returns-clause-lowered c =
     let names : Names = seen c.args.names.now in
-    let moved = resolved_so _ _ _ (names.name c.args.symbol.0) c.args.symbol.0 _ (names.declaration c.args.symbol.0) c.in-Ok.ensures.state c.name.ensures c.declaration.ensures in
+    let moved = resolved_so _ _ _ (names.name c.args.symbol.0) c.args.symbol.0 _ (names.declaration c.args.symbol.0) c.in_ok-identifier.ensures.state c.name.ensures c.declaration-declaration.ensures in
     ok_given c.lower_value_to_temporary.result c.lower_value_to_temporary.ensures.state c.lower_value_to_temporary.ensures.place
-    (λ place ended placed name is. variable_call names c.args.at name c.args.symbol _ _ _ _ place c.requires.known is moved c.in-Ok.ensures.identifier ended placed)
+    (λ place ended placed name is. variable_call names c.args.at name c.args.symbol _ _ _ _ place c.requires.known is moved c.in_ok-identifier.ensures.identifier ended placed)
 
 pub returns-clause-sound : goal.returns-clause-sound
 returns-clause-sound c =
     let names : Names = seen c.args.names.now in
-    let moved = resolved_so _ _ _ (names.name c.args.symbol.0) c.args.symbol.0 _ (names.declaration c.args.symbol.0) c.in-Ok.ensures.state c.name.ensures c.declaration.ensures in
+    let moved = resolved_so _ _ _ (names.name c.args.symbol.0) c.args.symbol.0 _ (names.declaration c.args.symbol.0) c.in_ok-identifier.ensures.state c.name.ensures c.declaration-declaration.ensures in
     ok_given c.lower_value_to_temporary.result c.lower_value_to_temporary.ensures.state c.lower_value_to_temporary.ensures.place
-    (λ place ended placed name. local_sound c.args.at name (names.name c.args.symbol.0) c.args.symbol.0 _ c.in-Ok.identifier _ _ _ place c.requires.known moved c.in-Ok.ensures.identifier ended placed)
+    (λ place ended placed name. local_sound c.args.at name (names.name c.args.symbol.0) c.args.symbol.0 _ c.in_ok-identifier.identifier _ _ _ place c.requires.known moved c.in_ok-identifier.ensures.identifier ended placed)

@@ -1,4 +1,4 @@
-use Rattle.std.proofs.Common.{◌≡◌, ◌++◌, Err, IfErr, Ok, Result, Some, List, ap, sym, ◌∙◌, refl, subst, length}
+use Rattle.std.proofs.Common.{◌≡◌, All, Err, IfErr, Ok, Result, Some, List, ap, sym, ◌∙◌, refl, subst, length}
 use Rattle.rl_ast.specs.FunctionNodes.{seen_function_node}
 use Rattle.rl_ast.specs.declared.function_node.FunctionNode.{FunctionNode}
 use Rattle.rl_ast.specs.declared.function_node.FunctionNode.TheVariants as function_node
@@ -11,12 +11,12 @@ use Rattle.std.specs.Result.{IsErrAnd}
 use Rattle.rl_hir.specs.declared.environment.Environment.{Environment}
 use Rattle.rl_hir.specs.Blocks.{Pair as BlockPair}
 use Rattle.rl_hir.specs.declared.function.HirFunction.{HirFunction}
-use Rattle.rl_lower.proofs.FunctionGraphs.{graph_closed, identifiers_fit, types_fit, lower_bounded, lower_never_stuck, lower_fn_type, lower_functions, lower_held, lower_identifiers, lower_pairs, lower_refused, lower_room, lower_same_runs}
+use Rattle.rl_lower.proofs.FunctionGraphs.{graph_closed, identifiers_fit, types_fit, lower_bounded, lower_never_stuck, lower_fn_type, lower_functions, lower_given, lower_held, lower_pairs, lower_refused, lower_room, lower_same_runs}
 use Rattle.rl_lower.proofs.FunctionTrees.{IsFunction, function_form}
 use Rattle.rl_lower.proofs.WellFormed.{graph_linked, graph_numbered}
-use Rattle.rl_lower.proofs.SoundGraphs.{function_identifiers, function_listed, function_places}
+use Rattle.rl_lower.proofs.SoundGraphs.{function_identifiers, function_listed, function_pairs, function_places}
 use Rattle.rl_model.specs.Covered.{IsCoveredFunction}
-use Rattle.rl_model.specs.Fields.{AddsUnnamed, known_from, pairs_from}
+use Rattle.rl_model.specs.Fields.{AreGiven}
 use Rattle.rl_names.specs.Functions.{body_in}
 use Rattle.rl_names.specs.Locals.{AreApart}
 use Rattle.rl_names.specs.Names.{at_of}
@@ -80,13 +80,13 @@ returns-clause-closed c = graph_closed _ _ _ _ _ _ _ c.in_ok-graph.ensures.graph
 
 pub returns-clause-same_runs : goal.returns-clause-same_runs
 returns-clause-same_runs c supported =
-    lower_same_runs _ _ _ _ _ _ _ _ (whole_form c.args.function _ c.requires.covered c.parts_of-parts.ensures.body) c.requires.locals.declared (c.as_slice-2.ensures ∙ c.in_ok-parameters.ensures) (are_apart _ _ (c.as_slice-2.ensures ∙ c.in_ok-parameters.ensures) c.requires.locals.apart) c.in_ok-graph.ensures.graph
-    supported (lowered c) _ refl refl refl
+    lower_same_runs _ _ _ _ _ _ _ _ (whole_form c.args.function _ c.requires.covered c.parts_of-parts.ensures.body) c.requires.locals.declared (c.as_slice-2.ensures ∙ c.in_ok-parameters.ensures) (are_apart _ _ (c.as_slice-2.ensures ∙ c.in_ok-parameters.ensures) c.requires.locals.apart) c.requires.fresh c.in_ok-graph.ensures.graph
+    supported (lowered c) _ (ap (λ (e : Environment). e.pairs) c.in_ok-returns.ensures.ok) refl refl refl
 
 pub returns-clause-never_stuck : goal.returns-clause-never_stuck
 returns-clause-never_stuck c supported =
-    lower_never_stuck _ _ _ _ _ _ _ _ (whole_form c.args.function _ c.requires.covered c.parts_of-parts.ensures.body) c.requires.locals.declared (c.as_slice-2.ensures ∙ c.in_ok-parameters.ensures) (are_apart _ _ (c.as_slice-2.ensures ∙ c.in_ok-parameters.ensures) c.requires.locals.apart) c.in_ok-graph.ensures.graph
-    supported (lowered c) _ refl refl refl
+    lower_never_stuck _ _ _ _ _ _ _ _ (whole_form c.args.function _ c.requires.covered c.parts_of-parts.ensures.body) c.requires.locals.declared (c.as_slice-2.ensures ∙ c.in_ok-parameters.ensures) (are_apart _ _ (c.as_slice-2.ensures ∙ c.in_ok-parameters.ensures) c.requires.locals.apart) c.requires.fresh c.in_ok-graph.ensures.graph
+    supported (lowered c) _ (ap (λ (e : Environment). e.pairs) c.in_ok-returns.ensures.ok) refl refl refl
 
 pub returns-clause-bounded : goal.returns-clause-bounded
 returns-clause-bounded c =
@@ -105,15 +105,20 @@ returns-clause-fn_type c =
 
 pub returns-clause-pairs : goal.returns-clause-pairs
 returns-clause-pairs c =
-    ap (λ (e : Environment). e.pairs) c.in_ok-returns.ensures.ok
-    ∙ lower_pairs _ _ _ _ _ _ _ (are_apart _ _ (c.as_slice-2.ensures ∙ c.in_ok-parameters.ensures) c.requires.locals.apart) c.in_ok-graph.ensures.graph
-    ∙ ap (λ (l : List Parameter). c.args.env.now.pairs ++ pairs_from (length c.args.env.now.identifiers) l) (c.as_slice-2.ensures ∙ c.in_ok-parameters.ensures)
+    lower_pairs (seen c.args.names.now) _ _ _ _ c.create_temporary_place.new.env _ _ _ (are_apart _ _ (c.as_slice-2.ensures ∙ c.in_ok-parameters.ensures) c.requires.locals.apart)
+    (subst (λ (l : List Parameter). All (λ p. (seen c.args.names.now).name p.symbol.0 ≡ p.name) l) (sym (c.as_slice-2.ensures ∙ c.in_ok-parameters.ensures)) c.requires.locals.locals.named)
+    c.requires.fresh c.in_ok-graph.ensures.graph c.in_ok-returns.ensures.ok
 
-pub returns-clause-identifiers : goal.returns-clause-identifiers
-returns-clause-identifiers c =
-    subst (λ (l : List Parameter). AddsUnnamed (c.args.env.now.identifiers ++ known_from c.args.env.now.next_type l) c.create_temporary_place.new.env.identifiers) (c.as_slice-2.ensures ∙ c.in_ok-parameters.ensures)
-    (lower_identifiers _ _ _ _ _ c.create_temporary_place.new.env _ _ _ (are_apart _ _ (c.as_slice-2.ensures ∙ c.in_ok-parameters.ensures) c.requires.locals.apart) c.in_ok-graph.ensures.graph
-    (ap (λ (e : Environment). e.identifiers) c.in_ok-returns.ensures.ok) refl)
+pub returns-clause-given : goal.returns-clause-given
+returns-clause-given c =
+    subst (λ (l : List Parameter). AreGiven c.create_temporary_place.new.env.identifiers c.create_temporary_place.new.env.pairs (length c.args.env.now.identifiers) c.args.env.now.next_type l) (c.as_slice-2.ensures ∙ c.in_ok-parameters.ensures)
+    (lower_given (seen c.args.names.now) _ _ _ _ c.create_temporary_place.new.env _ _ _ (are_apart _ _ (c.as_slice-2.ensures ∙ c.in_ok-parameters.ensures) c.requires.locals.apart)
+    c.requires.fresh c.in_ok-graph.ensures.graph c.in_ok-returns.ensures.ok)
+
+pub returns-clause-paired : goal.returns-clause-paired
+returns-clause-paired c =
+    function_pairs (seen c.args.names.now) (seen_function_node c.args.function) _ _ _ _ c.create_temporary_place.new.env _ (c.as_slice-2.ensures ∙ c.in_ok-parameters.ensures) c.requires.fresh c.in_ok-graph.ensures.sound
+    (ap (λ (e : Environment). e.pairs) c.in_ok-returns.ensures.ok)
 
 pub returns-clause-held : goal.returns-clause-held
 returns-clause-held c =

@@ -14,14 +14,14 @@ use Rattle.rl_lower.proofs.function.lower_body.Goals as goal
 pub lower_expression-requires-clause-names : goal.lower_expression-requires-clause-names
 lower_expression-requires-clause-names c =
     subst (λ (o : State). IsNamed (seen c.args.names.now) o) (sym c.reserve-fallthrough.ensures.state)
-    ((keeps_reserved _).named (seen c.args.names.now) c.requires.names)
+    ((keeps_reserved _).named c.requires.names)
 
-pub returns-in_ok-value-in-Expression-clause-lowered : goal.returns-in_ok-value-in-Expression-clause-lowered
-returns-in_ok-value-in-Expression-clause-lowered c =
-    done_so c.terminate_with_continuation.result c.terminate_with_continuation.ensures.state
-    (λ moved. expression_body_call _ _ _ _ _ _ _ c.in_ok-value-in-Expression.value _ kinds.Block None
+pub returns-in_ok-terminate_with_continuation-in-Expression-clause-lowered : goal.returns-in_ok-terminate_with_continuation-in-Expression-clause-lowered
+returns-in_ok-terminate_with_continuation-in-Expression-clause-lowered c =
+    expression_body_call _ _ _ _ _ _ _ c.in_ok-value-in-Expression.value _ kinds.Block None
     (ap seen_arrow_body c.in-Expression.is) c.in-Expression.expression.fit
-    c.reserve-fallthrough.ensures.state c.reserve-fallthrough.ensures.block c.in_ok-value-in-Expression.ensures.lowered moved)
+    c.reserve-fallthrough.ensures.state c.reserve-fallthrough.ensures.block c.in_ok-value-in-Expression.ensures.lowered
+    c.in_ok-terminate_with_continuation-in-Expression.ensures.state
 
 pub returns-in-Body-clause-lowered : goal.returns-in-Body-clause-lowered
 returns-in-Body-clause-lowered c =
@@ -31,12 +31,11 @@ returns-in-Body-clause-lowered c =
     (λ l. statements_body_call _ _ c.function_body_view-body.result.at directives statements _ _
     c.function_body_view-body.result.directives.fit (ap seen_arrow_body c.in-Body.is ∙ sym c.function_body_view-body.ensures) l)
 
-pub returns-in_ok-value-in-Expression-clause-sound : goal.returns-in_ok-value-in-Expression-clause-sound
-returns-in_ok-value-in-Expression-clause-sound c =
-    done_so c.terminate_with_continuation.result c.terminate_with_continuation.ensures.state
-    (λ moved. expression_body_sound _ _ _ _ _ _ c.in_ok-value-in-Expression.value _ kinds.Block
+pub returns-in_ok-terminate_with_continuation-in-Expression-clause-sound : goal.returns-in_ok-terminate_with_continuation-in-Expression-clause-sound
+returns-in_ok-terminate_with_continuation-in-Expression-clause-sound c =
+    expression_body_sound _ _ _ _ _ _ c.in_ok-value-in-Expression.value _ kinds.Block
     (ap seen_arrow_body c.in-Expression.is) c.reserve-fallthrough.ensures.state
-    c.reserve-fallthrough.ensures.block c.in_ok-value-in-Expression.ensures.sound moved)
+    c.reserve-fallthrough.ensures.block c.in_ok-value-in-Expression.ensures.sound c.in_ok-terminate_with_continuation-in-Expression.ensures.state
 
 pub returns-in-Body-clause-sound : goal.returns-in-Body-clause-sound
 returns-in-Body-clause-sound c =

@@ -20,7 +20,7 @@ statements-preserved c =
     let counted : nodes_of left ≡ nodes first + nodes_of rest = ap nodes_of split in
     record {
       same_reference = c.in_ok-lower_statement.ensures.same_reference ∙ c.statements.invariant.same_reference;
-      names = c.in_ok-lower_statement.ensures.lowered.keeps.named (seen c.args.names.now) c.statements.invariant.names;
+      names = c.in_ok-lower_statement.ensures.lowered.keeps.named c.statements.invariant.names;
       covered = (subst AreCovered split c.statements.invariant.covered).1;
       room = room_behind _ _ (4 * nodes first) (4 * nodes_of rest) (4 * nodes_of left) (omega (arith, counted))
           c.in_ok-lower_statement.ensures.lowered.keeps.uses c.statements.invariant.room;

@@ -1,21 +1,20 @@
-use Rattle.std.proofs.Common.{◌≡◌, ◌++◌, List, [], All, length, map, ap, sym, subst, refl, ◌∙◌, arith}
+use Rattle.std.proofs.Common.{◌≡◌, ◌++◌, List, [], All, length, ap, sym, subst, refl, ◌∙◌, arith}
+use Rattle.std.proofs.lemmas.List.Elements.{All-weaker}
 use Rattle.rl_ast.specs.FunctionNodes.{seen_function_node}
 use Rattle.rl_hir.specs.Listing.{identifier, pair}
 use Rattle.rl_hir.specs.declared.environment.Environment.{Environment}
 use Rattle.rl_hir.specs.declared.function.Lowered.{Lowered}
-use Rattle.rl_hir.specs.declared.function.Pair.{Pair}
-use Rattle.rl_model.specs.Fields.{AddsUnnamed, known_from, pairs_from, places_from}
+use Rattle.rl_lower.specs.Sound.{HasSmallSymbol}
+use Rattle.rl_model.specs.Fields.{AreGiven, places_from}
 use Rattle.rl_model.specs.Rows.{refusals_of}
-use Rattle.rl_names.proofs.SymbolRange.{declared_in_range, parameters_in_range}
+use Rattle.rl_names.proofs.SymbolRange.{IsInRange, declared_in_range, parameters_in_range}
 use Rattle.rl_names.specs.Functions.{parameters_of}
 use Rattle.rl_names.specs.Names.{Names}
 use Rattle.rl_names.specs.Seen.{seen}
 use Rattle.rl_names.specs.declared.parameters.Parameter.{Parameter}
 use Rattle.rl_syntax.specs.Syntax.{Syntax}
-use Rattle.rl_text.specs.Notation.{AreWritable, IsWritable}
-use Rattle.rl_text.specs.Raw.{parts_of}
-use Rattle.rl_unit.proofs.Room.{parameters_few}
-use Rattle.rl_unit.proofs.Small.{pairs_writable, result_writable}
+use Rattle.rl_text.specs.Notation.{IsWritable}
+use Rattle.rl_unit.proofs.Small.{all_writable, result_writable, small_symbol}
 use Rattle.rl_unit.specs.Functions.{IsResultOf}
 use Rattle.rl_unit.proofs.unit.lower_function.Goals as goal
 
@@ -31,12 +30,11 @@ returns-clause-lowered c =
     let diagnostics : env.diagnostics ≡ refusals_of names tree = graph.refused ∙ ap (λ (e : Environment). e.diagnostics ++ refusals_of names tree) c.fresh_environment-env.ensures in
     let none : refusals_of names tree ≡ [] = sym diagnostics ∙ c.if-not-is_empty.ensures.0 refl in
     let functions : env.functions ≡ [] = graph.functions ∙ ap (λ (e : Environment). e.functions) c.fresh_environment-env.ensures in
-    let pairs : env.pairs ≡ pairs_from 0 parameters = graph.pairs ∙ ap (λ (e : Environment). e.pairs ++ pairs_from (length e.identifiers) parameters) c.fresh_environment-env.ensures in
-    let added : AddsUnnamed (known_from 0 parameters) env.identifiers = subst (λ (e : Environment). AddsUnnamed (e.identifiers ++ known_from e.next_type parameters) env.identifiers) c.fresh_environment-env.ensures graph.identifiers in
+    let given = subst (λ (e : Environment). AreGiven env.identifiers env.pairs (length e.identifiers) e.next_type parameters) c.fresh_environment-env.ensures graph.given in
     let params = graph.params ∙ ap (λ (e : Environment). places_from (length e.identifiers) parameters) c.fresh_environment-env.ensures in
     let known = graph.known may.small (subst (λ (e : Environment). All (λ i. IsWritable (identifier i)) e.identifiers) (sym c.fresh_environment-env.ensures) (λ k d h. absurd (omega arith))) in
-    let counted = parameters_few names c.args.function may.covered in
     let range = parameters_in_range names tree (λ node symbol is. declared_in_range _ _ node symbol is) in
+    let small = All-weaker (λ (p : Parameter). IsInRange p.symbol) HasSmallSymbol (λ p below. small_symbol p below) parameters range in
     let l : Lowered = record { function = c.in-Ok.lowered; inner = env.functions; identifiers = env.identifiers; pairs = env.pairs } in
     subst (λ (r : Lowered). IsResultOf names tree r) (sym c.into_lowered.ensures) (record {
       supported = record { goes_on = graph.goes_on; accepted = none };
@@ -59,8 +57,7 @@ returns-clause-lowered c =
         well_formed = record { linked = graph.linked; places = graph.places };
       };
       inner = functions;
-      identifiers = record { known = added; pairs = pairs; returns_at = graph.returns.0; returns_last = graph.returns.1 };
+      identifiers = record { pairs = graph.pairs; parameters = given; returns_at = graph.returns.0; returns_last = graph.returns.1 };
       bounded = graph.bounded;
-      writable = result_writable l (graph.writable may.small) functions known
-          (subst (λ (ps : List Pair). AreWritable (parts_of (map pair ps))) (sym pairs) (pairs_writable 0 parameters range (omega (arith, may.few, counted))));
+      writable = result_writable l (graph.writable may.small) functions known (all_writable pair env.pairs (graph.paired small));
     })
