@@ -1,11 +1,11 @@
 -- Entries of the maps of a builder, and the look-up of a name.
-use Rattle.std.specs.Prelude.{ℕ, zero, suc, if◌then◌else◌, Option, Some, None, List, [], ◌∷◌, ◌++◌, codes}
-use Rattle.std.specs.Fmt.{decimal}
+use Rattle.std.specs.Prelude.{ℕ, if◌then◌else◌, Option, Some, None, List, [], ◌∷◌}
 use Rattle.std.specs.Str.{bytes_eq}
 use Rattle.rl_base.specs.declared.ids.IdentifierId.{IdentifierId}
 use Rattle.rl_base.specs.declared.ids.SymbolId.{SymbolId}
 use Rattle.rl_hir.specs.declared.function.Pair.{Pair}
 use Rattle.rl_builder.specs.declared.names.NameUser.{NameUser}
+pub use Rattle.rl_names.specs.Candidates.{candidate}
 
 -- A name, and the id of the symbol that has it.
 pub record UsedName : Type 0 where
@@ -24,8 +24,3 @@ used_name_of user = record { name = user.name; symbol = user.symbol.0 }
 abbrev pub user_of : List UsedName → List ℕ → Option ℕ
 user_of [] name = None
 user_of (u ∷ used) name = if bytes_eq name u.name then Some u.symbol else user_of used name
-
--- The candidates for a symbol's name, by index from 0: `name`, `name_0`, `name_1` ..
-abbrev pub candidate : List ℕ → ℕ → List ℕ
-candidate name zero = name
-candidate name (suc k) = name ++ codes "_" ++ decimal k
