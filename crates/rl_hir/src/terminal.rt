@@ -1,7 +1,7 @@
 //! Terminals: the ends of blocks, and the blocks to which they lead.
 
 ghost use Rattle.std.specs.Prelude.{◌≡◌, ◌++◌, IfOk, OnOk, map};
-ghost use Rattle.rl_hir.specs.Terminals.{fallthrough, successor_ids, unreachable};
+ghost use Rattle.rl_hir.specs.Terminals.{fallthrough, fields_of, leads, listed_id, successor_ids, unreachable};
 
 use crate::instruction::Place;
 use crate::terminal_table::with_terminals;
@@ -170,42 +170,86 @@ pub enum ReturnVariant {
     Void,
 }
 
+/// Appends a block, if it is there. On `OutOfMemory`, an allocation failed.
+fn add_if_there(ids: &mut Vec<BlockId>, id: Option<BlockId>) -> Result<(), OutOfMemory>
+    ensures { OnOk result (ids.new.items ≡ ids.old.items ++ listed_id id) }
+{
+    if let Some(id) = id {
+        ids.push(id)?;
+    }
+    Ok(())
+}
+
 /// Appends the block of each case, in order. On `OutOfMemory`, an allocation failed, and `ids` may hold some of them.
 fn add_cases(ids: &mut Vec<BlockId>, cases: &[Case]) -> Result<(), OutOfMemory>
     ensures { OnOk result (ids.new.items ≡ ids.old.items ++ map (λ c. c.block) cases.now) }
 {
-    ids.reserve(cases.len())?;
     for case in cases {
         ids.push(case.block)?;
     }
     Ok(())
 }
 
-/// Appends the blocks to which a field may lead.
-macro_rules! add_led {
-    ($ids:ident leads $block:ident) => {
-        $ids.push(*$block)?;
-    };
-    ($ids:ident may_lead $block:ident) => {
-        if let Some(block) = $block {
-            $ids.push(*block)?;
-        }
-    };
-    ($ids:ident chooses $cases:ident) => {
-        add_cases(&mut $ids, $cases.as_slice())?;
-    };
-    ($ids:ident $tells:ident $field:ident) => {};
+/// The blocks to which a terminal may lead: of at most two fields, and of cases.
+#[derive(Clone, Copy)]
+struct Led<'a> {
+    first: Option<BlockId>,
+    second: Option<BlockId>,
+    cases: &'a [Case],
 }
 
-/// Appends the blocks to which a terminal may lead.
-macro_rules! add_all_led {
-    (($ids:ident, $kind:expr) $($name:ident $word:literal ($($tells:ident $field:ident),*))*) => {
+/// The pattern of a field: its name where the terminal may lead to its blocks.
+macro_rules! led_pattern {
+    (leads $field:ident) => {
+        $field
+    };
+    (may_lead $field:ident) => {
+        $field
+    };
+    (chooses $field:ident) => {
+        $field
+    };
+    ($tells:ident $field:ident) => {
+        _
+    };
+}
+
+/// The blocks to which the fields of a terminal may lead.
+macro_rules! led {
+    () => {
+        Led { first: None, second: None, cases: &[] }
+    };
+    (leads $first:ident, leads $second:ident $($rest:tt)*) => {
+        Led { first: Some(*$first), second: Some(*$second), cases: &[] }
+    };
+    (leads $first:ident, may_lead $second:ident $($rest:tt)*) => {
+        Led { first: Some(*$first), second: *$second, cases: &[] }
+    };
+    (leads $first:ident $($rest:tt)*) => {
+        Led { first: Some(*$first), second: None, cases: &[] }
+    };
+    (chooses $cases:ident $($rest:tt)*) => {
+        Led { first: None, second: None, cases: $cases.as_slice() }
+    };
+    ($tells:ident $field:ident $(, $($rest:tt)*)?) => {
+        led!($($($rest)*)?)
+    };
+}
+
+/// The blocks to which a terminal may lead.
+macro_rules! led_of {
+    (($kind:expr) $($name:ident $word:literal ($($tells:ident $field:ident),*))*) => {
         match $kind {
-            $(TerminalKind::$name { $($field,)* } => {
-                $(add_led!($ids $tells $field);)*
-            })*
+            $(TerminalKind::$name { $($field: led_pattern!($tells $field),)* } => led!($($tells $field),*),)*
         }
     };
+}
+
+/// The blocks to which a terminal of a kind may lead.
+fn led_by(kind: &TerminalKind) -> Led<'_>
+    ensures { listed_id result.first ++ (listed_id result.second ++ map (λ c. c.block) result.cases.now) ≡ leads (fields_of kind.now) }
+{
+    with_terminals!(led_of(kind))
 }
 
 /// The ids of the blocks to which a terminal may lead, in the original's order (`eachTerminalSuccessor`). A fallthrough is
@@ -216,9 +260,22 @@ pub fn each_terminal_successor(
 ) -> Result<Vec<BlockId>, OutOfMemory>
     ensures { IfOk result (λ ids. ids.items ≡ successor_ids terminal.now) }
 {
-    let mut ids = Vec::new(alloc);
-    with_terminals!(add_all_led(ids, &terminal.kind));
+    let led = led_by(&terminal.kind);
+    let mut ids = Vec::with_capacity(alloc, led.cases.len().max(2))?;
+    add_if_there(&mut ids, led.first)?;
+    add_if_there(&mut ids, led.second)?;
+    add_cases(&mut ids, led.cases)?;
     Ok(ids)
+}
+
+/// The pattern of a field: its name where it is the block behind the construct.
+macro_rules! followed_pattern {
+    (follows $field:ident) => {
+        $field
+    };
+    ($tells:ident $field:ident) => {
+        _
+    };
 }
 
 /// The block of the first field that follows, if there is one.
@@ -238,7 +295,7 @@ macro_rules! followed {
 macro_rules! followed_of {
     (($kind:expr) $($name:ident $word:literal ($($tells:ident $field:ident),*))*) => {
         match $kind {
-            $(TerminalKind::$name { $($field,)* } => followed!($($tells $field),*),)*
+            $(TerminalKind::$name { $($field: followed_pattern!($tells $field),)* } => followed!($($tells $field),*),)*
         }
     };
 }
