@@ -6,7 +6,7 @@ use Rattle.rl_text.specs.Notation.{Tree, Then, AreWritable}
 use Rattle.rl_text.specs.Raw.{parts_of}
 use Rattle.rl_text.specs.Spaced.{spaced, join}
 use Rattle.rl_hir.specs.Pieces.{Use, Piece, Says, Names, Gives, Spreads, Takes, texts, operands, operand_tree, row_parts, gathered}
-use Rattle.rl_hir.specs.Trees.{said}
+use Rattle.rl_hir.specs.Trees.{said, AreListed}
 use Rattle.rl_hir.specs.declared.pieces.Row.{Row}
 use Rattle.rl_hir.specs.declared.pieces.Row.TheVariants as rows
 
@@ -35,11 +35,18 @@ row-append rows.Texts first second = ap (λ l. parts_of (map said l)) (texts-app
 row-append rows.Operands first second = ap (λ l. parts_of (map operand_tree l)) (operands-append first second) ∙ parts-append operand_tree (operands first) (operands second)
 
 -- The row of two lists of pieces, one behind the other.
-pub row_written : (out : List ℕ) (row : Row) (first second : List Piece) → (out ++ spaced (row_parts row first)) ++ spaced (row_parts row second) ≡ out ++ spaced (row_parts row (first ++ second))
+row_written : (out : List ℕ) (row : Row) (first second : List Piece) → (out ++ spaced (row_parts row first)) ++ spaced (row_parts row second) ≡ out ++ spaced (row_parts row (first ++ second))
 row_written out row first second = both_written out (row_parts row first) (row_parts row second) ∙ ap (λ parts. out ++ spaced parts) (sym (row-append row first second))
 
-pub row_writable : (row : Row) (first second : List Piece) → AreWritable (row_parts row first) → AreWritable (row_parts row second) → AreWritable (row_parts row (first ++ second))
+row_writable : (row : Row) (first second : List Piece) → AreWritable (row_parts row first) → AreWritable (row_parts row second) → AreWritable (row_parts row (first ++ second))
 row_writable row first second a b = subst AreWritable (sym (row-append row first second)) (both_writable (row_parts row first) (row_parts row second) a b)
+
+-- Two rows, one behind the other.
+pub row_listed : (row : Row) (first second : List Piece) (old between new : List ℕ) → AreListed old between (row_parts row first) → AreListed between new (row_parts row second) → AreListed old new (row_parts row (first ++ second))
+row_listed row first second old between new a b = record {
+  written = b.written ∙ ap (λ l. l ++ spaced (row_parts row second)) a.written ∙ row_written old row first second;
+  writable = row_writable row first second a.writable b.writable;
+}
 
 gathered-from : {X : Type 0} (pieces : X → List Piece) (items : List X) (index : ℕ) (item : X) → index < length items → item ≡ get_or items index item
     → gathered pieces (drop index items) ≡ pieces item ++ gathered pieces (drop (index + 1) items)

@@ -1,8 +1,9 @@
 //! Listings of terminals.
 
-ghost use Rattle.std.specs.Prelude.{◌≡◌, ◌++◌, OnOk};
+ghost use Rattle.std.specs.Prelude.{◌≡◌, OnOk};
 ghost use Rattle.rl_hir.specs.Listing as spec;
-ghost use Rattle.rl_text.specs.Notation.{IsWord, IsWritable, spelling};
+ghost use Rattle.rl_text.specs.Notation.{IsWord};
+ghost use Rattle.rl_hir.specs.Trees.{IsListed};
 ghost use Rattle.rl_hir.specs.Terminals.{goto_variant, return_variant};
 
 use crate::terminal::{Case, GotoVariant, ReturnVariant, Terminal, TerminalKind};
@@ -54,11 +55,11 @@ fn write_end<P: WrittenParts + Drop>(
     out: &mut Vec<u8>,
 ) -> Result<(), OutOfMemory>
     requires { IsWord word.now }
-    ensures written { OnOk result (out.new.items ≡ out.old.items ++ spelling (spec.ended word.now terminal.now (P.parts fields))) }
-    ensures writable { OnOk result (IsWritable (spec.ended word.now terminal.now (P.parts fields))) }
+    ensures { OnOk result (IsListed out.old.items out.new.items (spec.ended word.now terminal.now (P.parts fields))) }
 {
     let parts = Both((terminal.order, terminal.span), fields);
-    write_node(word, &parts, out)
+    write_node(word, &parts, out)?;
+    Ok(())
 }
 
 /// The listing of a field.
@@ -85,10 +86,18 @@ macro_rules! write_terminal {
     };
 }
 
+/// Appends the listing of a terminal. On `OutOfMemory` an allocation failed, and `out` may hold a part of it.
+fn write_any_end(terminal: &Terminal, out: &mut Vec<u8>) -> Result<(), OutOfMemory>
+    ensures { OnOk result (IsListed out.old.items out.new.items (spec.terminal terminal.now)) }
+{
+    with_terminals!(write_terminal(out, terminal))
+}
+
 impl Written for Terminal {
     ghost shown = { spec.terminal };
 
     fn write(&self, out: &mut Vec<u8>) -> Result<(), OutOfMemory> {
-        with_terminals!(write_terminal(out, self))
+        write_any_end(self, out)?;
+        Ok(())
     }
 }

@@ -1,10 +1,9 @@
 //! Pieces: the texts and operands that the parts of a value add to the listing of its event.
 
-ghost use Rattle.std.specs.Prelude.{◌≡◌, List, [], ◌∷◌, ◌++◌, OnOk};
-ghost use Rattle.rl_text.specs.Notation.{Tree, AreWritable};
+ghost use Rattle.std.specs.Prelude.{List, [], ◌∷◌, ◌++◌, OnOk};
 ghost use Rattle.rl_text.specs.Number.{numeral};
-ghost use Rattle.rl_text.specs.Spaced.{spaced};
 ghost use Rattle.rl_hir.specs.Pieces as spec;
+ghost use Rattle.rl_hir.specs.Trees.{AreListed};
 
 use crate::instruction::{
     ArrayElement, JsxAttribute, JsxTag, NonLocalBinding, ObjectPatternProperty, ObjectProperty,
@@ -33,24 +32,23 @@ pub trait Pieces {
     /// Appends the texts, or the operands, of the pieces, each behind a space. On `OutOfMemory` an allocation failed, and `out`
     /// may hold a part of them.
     fn write_row(&self, row: Row, out: &mut Vec<u8>) -> Result<(), OutOfMemory>
-        ensures written { OnOk result (out.new.items ≡ out.old.items ++ spaced (spec.row_parts row (pieces self.now))) }
-        ensures writable { OnOk result (AreWritable (spec.row_parts row (pieces self.now))) };
+        ensures { OnOk result (AreListed out.old.items out.new.items (spec.row_parts row (pieces self.now))) };
 }
 
 /// Appends `texts` or `operands`. On `OutOfMemory` an allocation failed, and `out` may hold a part of it.
-fn write_either<A: WrittenParts, B: WrittenParts>(
+fn write_either<A: WrittenParts + Drop, B: WrittenParts + Drop>(
     row: Row,
-    texts: &A,
-    operands: &B,
+    texts: A,
+    operands: B,
     out: &mut Vec<u8>,
 ) -> Result<(), OutOfMemory>
-    ensures written { OnOk result (out.new.items ≡ out.old.items ++ spaced (spec.either row (A.parts texts.now) (B.parts operands.now))) }
-    ensures writable { OnOk result (AreWritable (spec.either row (A.parts texts.now) (B.parts operands.now))) }
+    ensures { OnOk result (AreListed out.old.items out.new.items (spec.either row (A.parts texts) (B.parts operands))) }
 {
     match row {
-        Row::Texts => texts.write_parts(out),
-        Row::Operands => operands.write_parts(out),
+        Row::Texts => texts.write_parts(out)?,
+        Row::Operands => operands.write_parts(out)?,
     }
+    Ok(())
 }
 
 impl<T: Pieces> Pieces for &T {
@@ -65,14 +63,13 @@ impl Pieces for () {
     ghost pieces = { λ _. [] };
 
     fn write_row(&self, row: Row, out: &mut Vec<u8>) -> Result<(), OutOfMemory> {
-        write_either(row, &(), &(), out)
+        write_either(row, (), (), out)
     }
 }
 
 impl<A: Pieces, B: Pieces> Pieces for (A, B) {
     ghost pieces = { λ p. A.pieces p.0 ++ B.pieces p.1 };
 
-    #[tactic(auto, using(crate::proofs::Rows::row_written, crate::proofs::Rows::row_writable))]
     fn write_row(&self, row: Row, out: &mut Vec<u8>) -> Result<(), OutOfMemory> {
         self.0.write_row(row, out)?;
         self.1.write_row(row, out)?;
@@ -83,7 +80,6 @@ impl<A: Pieces, B: Pieces> Pieces for (A, B) {
 impl<A: Pieces, B: Pieces, C: Pieces> Pieces for (A, B, C) {
     ghost pieces = { λ p. A.pieces p.0 ++ (B.pieces p.1 ++ C.pieces p.2) };
 
-    #[tactic(auto, using(crate::proofs::Rows::row_written, crate::proofs::Rows::row_writable))]
     fn write_row(&self, row: Row, out: &mut Vec<u8>) -> Result<(), OutOfMemory> {
         self.0.write_row(row, out)?;
         (&self.1, &self.2).write_row(row, out)?;
@@ -93,8 +89,7 @@ impl<A: Pieces, B: Pieces, C: Pieces> Pieces for (A, B, C) {
 
 /// Appends the texts, or the operands, of all items. On `OutOfMemory` an allocation failed, and `out` may hold a part of them.
 fn write_rows<T: Pieces>(items: &[T], row: Row, out: &mut Vec<u8>) -> Result<(), OutOfMemory>
-    ensures written { OnOk result (out.new.items ≡ out.old.items ++ spaced (spec.row_parts row (spec.gathered T.pieces items.now))) }
-    ensures writable { OnOk result (AreWritable (spec.row_parts row (spec.gathered T.pieces items.now))) }
+    ensures { OnOk result (AreListed out.old.items out.new.items (spec.row_parts row (spec.gathered T.pieces items.now))) }
 {
     'items: for item in items {
         item.write_row(row, out)?;
@@ -114,7 +109,7 @@ impl<'a> Pieces for Literal<'a> {
     ghost pieces = { λ literal. spec.Says literal.0.now ∷ [] };
 
     fn write_row(&self, row: Row, out: &mut Vec<u8>) -> Result<(), OutOfMemory> {
-        write_either(row, &(self,), &(), out)
+        write_either(row, (self,), (), out)
     }
 }
 
@@ -122,7 +117,7 @@ impl Pieces for Text {
     ghost pieces = { λ text. spec.Says text ∷ [] };
 
     fn write_row(&self, row: Row, out: &mut Vec<u8>) -> Result<(), OutOfMemory> {
-        write_either(row, &(self,), &(), out)
+        write_either(row, (self,), (), out)
     }
 }
 
@@ -130,7 +125,7 @@ impl<'a> Pieces for Dotted<'a> {
     ghost pieces = { λ dotted. spec.Names dotted.0.now ∷ [] };
 
     fn write_row(&self, row: Row, out: &mut Vec<u8>) -> Result<(), OutOfMemory> {
-        write_either(row, &(self,), &(), out)
+        write_either(row, (self,), (), out)
     }
 }
 
@@ -138,7 +133,7 @@ impl Pieces for NodeId {
     ghost pieces = { λ id. spec.Says (numeral id.0) ∷ [] };
 
     fn write_row(&self, row: Row, out: &mut Vec<u8>) -> Result<(), OutOfMemory> {
-        write_either(row, &(Decimal(self.0),), &(), out)
+        write_either(row, (Decimal(self.0),), (), out)
     }
 }
 
@@ -146,7 +141,7 @@ impl Pieces for Place {
     ghost pieces = { spec.value_pieces };
 
     fn write_row(&self, row: Row, out: &mut Vec<u8>) -> Result<(), OutOfMemory> {
-        write_either(row, &(Literal("place"),), &(self,), out)
+        write_either(row, (Literal("place"),), (self,), out)
     }
 }
 
@@ -158,7 +153,7 @@ impl Pieces for Spread {
     ghost pieces = { λ spread. spec.Spreads spread.0 ∷ [] };
 
     fn write_row(&self, row: Row, out: &mut Vec<u8>) -> Result<(), OutOfMemory> {
-        write_either(row, &(Literal("spread"),), &(self.0,), out)
+        write_either(row, (Literal("spread"),), (self.0,), out)
     }
 }
 
@@ -170,7 +165,7 @@ impl Pieces for Used {
     ghost pieces = { λ used. spec.used used.0 ∷ [] };
 
     fn write_row(&self, row: Row, out: &mut Vec<u8>) -> Result<(), OutOfMemory> {
-        write_either(row, &(), &(self.0,), out)
+        write_either(row, (), (self.0,), out)
     }
 }
 
@@ -178,7 +173,7 @@ impl Pieces for PropertyLiteral {
     ghost pieces = { λ key. spec.Takes (spec.Key key) ∷ [] };
 
     fn write_row(&self, row: Row, out: &mut Vec<u8>) -> Result<(), OutOfMemory> {
-        write_either(row, &(), &(self,), out)
+        write_either(row, (), (self,), out)
     }
 }
 
@@ -312,6 +307,7 @@ impl<P: Pieces> WrittenParts for InRow<P> {
     ghost parts = { λ part. spec.row_parts part.1 (P.pieces part.0) };
 
     fn write_parts(&self, out: &mut Vec<u8>) -> Result<(), OutOfMemory> {
-        self.0.write_row(self.1, out)
+        self.0.write_row(self.1, out)?;
+        Ok(())
     }
 }

@@ -1,0 +1,14 @@
+use Rattle.std.proofs.Common.{◌++◌}
+use Rattle.rl_hir.proofs.Rows.{row_listed}
+use Rattle.rl_hir.proofs.pieces.Tuple3Pieces.write_row.Goals as goal
+
+pub returns : goal.returns
+returns g c = row_listed
+    c.args.row
+    (g.A.Pieces.pieces c.args.self.now.0)
+    (g.B.Pieces.pieces c.args.self.now.1 ++ g.C.Pieces.pieces c.args.self.now.2)
+    _
+    _
+    _
+    c.in_ok-write_row.ensures
+    c.in_ok-write_row-2.ensures
