@@ -1,0 +1,55 @@
+"""Checks functions of a crate without a check of the crates below it, which the compiler reads as source.
+
+Usage, at the top: python3 tools/check_only.py CRATE [FUNCTION..]
+
+A function is named as `rt check` prints it, or by the end of its name. Without functions all are checked, those of the crates
+below too. What is proved is kept in the folder that KEPT names, and a run over it starts in seconds. The verdict is that of
+`rt check` and of the gate: this run leaves out what they ask of a whole crate.
+"""
+import os
+import pathlib
+import shutil
+import subprocess
+import sys
+
+
+def crates_below(crate, uses):
+    """The crates of this repository that the crate stands on, each behind those that it stands on itself."""
+    below = []
+    for used in uses[crate]:
+        if used in uses:
+            below += [name for name in [*crates_below(used, uses), used] if name not in below]
+    return below
+
+
+def arguments(crate, functions, root, kit, kept):
+    """The compiler's arguments, with each crate below as source."""
+    lines = [line.split("#")[0].strip() for line in (root / "crates.txt").read_text().splitlines()]
+    uses = {line.split(":")[0].strip(): line.split(":")[1].split() for line in lines if line}
+    below = crates_below(crate, uses)
+    outside = {"core", "std", *(name for it in [crate, *below] for name in uses[it] if name not in uses)}
+    words = ["check", "--crate-name", crate, "src/lib.rt"]
+    for name in sorted(outside):
+        words += ["--extern", f"{name}={kit}/rlibs/{name}.rlib"]
+    words += ["-L", f"dependency={kit}/rlibs"]
+    for name in below:
+        seen = ",".join(dict.fromkeys(["core", "std", *uses[name]]))
+        words += ["--lib", f"{name}:{seen}={root}/crates/{name}/src/lib.rt"]
+    words += ["--antt-project", f"{kit}/rattle/logic/antt-project.json", "--logic-built", f"{kit}/logic_built"]
+    words += ["--links", f"{crate}=", "--incremental", kept, "--jobs", "1"]
+    for function in functions:
+        words += ["--only", function]
+    return words
+
+
+def main():
+    crate, *functions = sys.argv[1:] or sys.exit(__doc__)
+    root = pathlib.Path(__file__).resolve().parent.parent
+    rattle = pathlib.Path(shutil.which("rattle")).resolve()
+    kept = os.environ.get("KEPT", str(root / "crates" / crate / "out" / "only"))
+    pathlib.Path(kept).mkdir(parents=True, exist_ok=True)
+    words = arguments(crate, functions, root, rattle.parent.parent, kept)
+    sys.exit(subprocess.run([rattle, *words], cwd=root / "crates" / crate).returncode)
+
+
+main()
