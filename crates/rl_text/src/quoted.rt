@@ -96,8 +96,10 @@ pub fn read_quoted(
     ensures found { IfOk result (λ r. IfSome r (λ f. (at < f.1) × (f.1 ≤ length bytes.now) × (drop at bytes.now ≡ quoted_rest f.0.items ++ drop f.1 bytes.now))) }
     ensures none { IfOk result (λ r. IfNone r ((text rest : List ℕ) → drop at bytes.now ≡ quoted_rest text ++ rest → ⊥)) }
 {
-    let mut text = Vec::new(alloc);
-    let mut end = push_run(bytes, at, &mut text)?;
+    let mut end = plain_end(bytes, at);
+    // Room for the first run and one escape behind it, so that most texts take one allocation.
+    let mut text = Vec::with_capacity(alloc, end - at + 1)?;
+    text.extend_from_slice(&bytes[at..end])?;
     'reading: while !has_byte(bytes, end, b'"') {
         let Some(byte) = first_escape(&bytes[end..]) else {
             return Ok(None);

@@ -8,11 +8,12 @@ pub reading-init : goal.reading-init
 reading-init c =
     let bytes = c.args.bytes.now in
     let at = c.args.at in
-    let run = c.in_ok-end.ensures.run in record {
+    let end = c.plain_end-end.result in
+    let run = c.plain_end-end.ensures in record {
       forward = run.forward;
       within = run.within;
       stopped = run.stopped;
-      reads = subst (λ t. ReadsText bytes at c.in_ok-end.end t) (sym (c.in_ok-end.ensures.appended ∙ ap (λ l. l ++ take (c.in_ok-end.end - at) (drop at bytes)) c.new-text.ensures.items)) (text-run bytes at at c.in_ok-end.end [] (text-begun bytes at) run);
+      reads = subst (λ t. ReadsText bytes at end t) (sym (c.in_ok-extend_from_slice.ensures.items ∙ ap (λ l. l ++ take (end - at) (drop at bytes)) c.in_ok-text.ensures.items)) (text-run bytes at at end [] (text-begun bytes at) run);
     }
 
 pub returns-in_default-clause-none : goal.returns-in_default-clause-none
@@ -26,15 +27,15 @@ reading-preserved c =
     let bytes = c.args.bytes.now in
     let at = c.args.at in
     let end = c.reading.end in
-    let after = c.in_ok-end-2.end in
-    let run = c.in_ok-end-2.ensures.run in
+    let after = c.in_ok-end.end in
+    let run = c.in_ok-end.ensures.run in
     let found = rw (take_rest bytes end) at c.in-Some.ensures.some in
     let stands : drop end bytes ≡ escape c.in-Some.byte ++ drop (end + 3) bytes = found.1 ∙ ap (λ t. escape c.in-Some.byte ++ t) (drop-drop 3 end bytes) in
     let reads = text-more bytes at end (end + 3) c.reading.text.items c.in-Some.byte c.reading.invariant.reads stands in record {
       forward = omega (arith, run.forward, c.reading.invariant.forward);
       within = run.within;
       stopped = run.stopped;
-      reads = subst (λ t. ReadsText bytes at after t) (sym (c.in_ok-end-2.ensures.appended ∙ ap (λ l. l ++ take (after - (end + 3)) (drop (end + 3) bytes)) c.in_ok-push.ensures.items)) (text-run bytes at (end + 3) after _ reads run);
+      reads = subst (λ t. ReadsText bytes at after t) (sym (c.in_ok-end.ensures.appended ∙ ap (λ l. l ++ take (after - (end + 3)) (drop (end + 3) bytes)) c.in_ok-push.ensures.items)) (text-run bytes at (end + 3) after _ reads run);
     }
 
 pub returns-clause-found : goal.returns-clause-found
