@@ -16,3 +16,4 @@ pub mod Within
 pub mod Adding
 pub mod Splitting
 pub mod Keeping
+pub mod Passed

@@ -11,6 +11,8 @@ use Rattle.rl_bindings.specs.declared.names.Name.{Name}
 use Rattle.rl_bindings.specs.declared.role.Above.{Above}
 use Rattle.rl_bindings.specs.declared.role.Role.{Role}
 use Rattle.rl_bindings.specs.declared.role.Role.TheVariants as role
+use Rattle.rl_bindings.specs.Quiet.{inside}
+use Rattle.rl_bindings.proofs.Passed.{IsPassed}
 use Rattle.rl_bindings.proofs.Adding.{keeps_self, keeps_further, keeps_added, add_names_append}
 use Rattle.rl_syntax.specs.Syntax.{Syntax, Node, Listed, Said, Count, Flag, Absent, Pieces, End, Then, pieces_of, syntax}
 use Rattle.rl_syntax.specs.declared.numbered.At.{At}
@@ -234,6 +236,34 @@ module _ (a : Above) (tree : Syntax) (n0 : List Name) (o0 : List Event) where
     node_plain r inner n1 o1 which is_role is_inner trails =
         node_other r role.Plain inner n0 n1 o0 o1 which refl refl (λ e. let f : role.Plain ≡ role.Maker = e in cc) is_role is_inner
         (subst (λ x. Walked n0 n0 (said_by x ps) o0 o0 (λ later. front later x a at ps)) (sym which) (nothing n0 o0)) trails
+
+    -- A node that a walk passes by, but for its own name.
+    pub node_quiet : (r : Role) (inner : Above) (n1 n2 : List Name) (o1 o2 : List Event)
+        → IsPassed word
+        → r ≡ role_of word
+        → inner ≡ inside a
+        → Walked n0 n1 (said_by r ps) o0 o1 (λ later. front later r a at ps)
+        → Walked n1 n2 (texts_of ps) o1 o2 (λ later. trail later 0 inner ps)
+        → Walks n2 o2
+    node_quiet r inner n1 n2 o1 o2 passed is_role is_inner fronts trails =
+        of_form n2 o2 (Node at word ps) is
+        (walked_as n0 n2 (said_by r ps ++ texts_of ps) (texts (Node at word ps)) o0 o2 (λ later. front later r a at ps ++ trail later 0 inner ps) (λ later. events later a (Node at word ps))
+        (λ i. (sym (own_said word ps ∙ ap (λ x. said_by x ps) (sym is_role))) i ++ texts_of ps)
+        (λ later.
+        ap (λ b. front later r a at ps ++ trail later 0 b ps) (is_inner ∙ sym (passed.inner a at ps))
+        ∙ sym (unscoped later a at word ps r (sym is_role) passed.none_ahead (ap (λ x. sign x a at word) is_role ∙ passed.no_sign a at) (ap back is_role ∙ passed.no_back)))
+        (walked_then n0 n1 n2 (said_by r ps) (texts_of ps) o0 o1 o2 (λ later. front later r a at ps) (λ later. trail later 0 inner ps) fronts trails))
+
+    -- A node that a walk passes by, without a name of its own.
+    pub node_silent : (inner : Above) (n1 : List Name) (o1 : List Event)
+        → IsPassed word
+        → role_of word ≡ role.Plain
+        → inner ≡ inside a
+        → Walked n0 n1 (texts_of ps) o0 o1 (λ later. trail later 0 inner ps)
+        → Walks n1 o1
+    node_silent inner n1 o1 passed plain is_inner trails =
+        node_quiet (role_of word) inner n0 n1 o0 o1 passed refl is_inner
+        (subst (λ x. Walked n0 n0 (said_by x ps) o0 o0 (λ later. front later x a at ps)) (sym plain) (nothing n0 o0)) trails
 
   pub list_walked : (ps : Pieces) (n1 : List Name) (o1 : List Event) → tree ≡ Listed ps
       → Walked n0 n1 (texts_of ps) o0 o1 (λ later. trail later 0 a ps)

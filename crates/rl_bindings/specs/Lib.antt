@@ -2,6 +2,7 @@ pub mod Names
 pub mod Roles
 pub mod Events
 pub mod Walks
+pub mod Quiet
 pub mod Symbols
 pub mod Standing
 pub mod NameRules

@@ -4,6 +4,7 @@
 pub mod bindings;
 pub mod event;
 pub mod names;
+pub mod quiet;
 pub mod resolve;
 pub mod role;
 pub mod rules;

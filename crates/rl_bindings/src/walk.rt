@@ -11,10 +11,11 @@ ghost use Rattle.rl_rules.specs.Following as rules;
 ghost use Rattle.rl_rules.specs.Marks.{bodies, bodies_among};
 ghost use Rattle.rl_rules.specs.Walks.{passes, parts_pass, items_pass};
 ghost use Rattle.rl_syntax.specs.Sizes.{size_of};
-ghost use Rattle.rl_syntax.specs.Syntax.{pieces_of, syntax};
+ghost use Rattle.rl_syntax.specs.Syntax.{Node, pieces_of, syntax};
 
 use crate::event::{BindKind, Bound, Event, Place, ScopeEntry};
 use crate::names::{Name, add_said};
+use crate::quiet::{inside, is_quiet, is_silent};
 use crate::role::{
     Above, Role, below, outside, parent_of, parts_ahead, role_of, scope_kind, scope_of,
 };
@@ -144,46 +145,14 @@ fn push_events(
 {
     match tree {
         Numbered::Node(at, word, parts) => {
-            let role = role_of(*word);
             let parts = parts.as_slice();
-            let inner = below(above, *at, *word, parts);
-            *kept = test_node(*kept, context, *word, parts);
-            match role {
-                Role::Maker => {
-                    let outer = outside(above, *word);
-                    let (ahead, behind) = split_parts(*word, parts);
-                    push_sign(out, role, above, *at, *word)?;
-                    push_parts(alloc, out, names, kept, outer, context, *word, 0, ahead)?;
-                    push_front(alloc, out, names, role, above, *at, parts)?;
-                    push_parts(
-                        alloc,
-                        out,
-                        names,
-                        kept,
-                        inner,
-                        context,
-                        *word,
-                        ahead.len(),
-                        behind,
-                    )?;
-                    push_back(out, role)?;
-                    Ok(())
-                }
-                Role::Binder => {
-                    push_front(alloc, out, names, role, above, *at, parts)?;
-                    push_parts(alloc, out, names, kept, inner, context, *word, 0, parts)?;
-                    Ok(())
-                }
-                Role::User => {
-                    push_front(alloc, out, names, role, above, *at, parts)?;
-                    push_parts(alloc, out, names, kept, inner, context, *word, 0, parts)?;
-                    Ok(())
-                }
-                Role::Plain => {
-                    push_parts(alloc, out, names, kept, inner, context, *word, 0, parts)?;
-                    Ok(())
-                }
+            // Most nodes are silent: they take no more than this.
+            if is_silent(context, *word) {
+                push_all(alloc, out, names, kept, inside(above), outermost(), parts)?;
+                return Ok(());
             }
+            push_node(alloc, out, names, kept, above, context, at, *word, parts)?;
+            Ok(())
         }
         Numbered::List(parts) => {
             push_all(alloc, out, names, kept, above, context, parts.as_slice())?;
@@ -193,6 +162,68 @@ fn push_events(
         Numbered::Number(_) => Ok(()),
         Numbered::Flag(_) => Ok(()),
         Numbered::Absent => Ok(()),
+    }
+}
+
+/// As `push_events`, for a node, by its word and its parts. On `OutOfMemory`, an allocation failed.
+#[cycle(walking)]
+fn push_node(
+    alloc: Global,
+    out: &mut Vec<Event>,
+    names: &mut NameTable<Name>,
+    kept: &mut Option<bool>,
+    above: Above,
+    context: Context,
+    at: &At,
+    word: Word,
+    parts: &[Numbered],
+) -> Result<(), OutOfMemory>
+    ensures walked { OnOk result (Walked names.old names.new (texts (Node at.now word (pieces_of (map syntax parts.now)))) out.old.items out.new.items (λ later. events later above (Node at.now word (pieces_of (map syntax parts.now))))) }
+    ensures kept { OnOk result (kept.new ≡ followed kept.old (passes node_passes rules.part_below context (Node at.now word (pieces_of (map syntax parts.now)))) (bodies (Node at.now word (pieces_of (map syntax parts.now))))) }
+{
+    let role = role_of(word);
+    if is_quiet(context, word) {
+        push_front(alloc, out, names, role, above, *at, parts)?;
+        push_all(alloc, out, names, kept, inside(above), outermost(), parts)?;
+        return Ok(());
+    }
+    let inner = below(above, *at, word, parts);
+    *kept = test_node(*kept, context, word, parts);
+    match role {
+        Role::Maker => {
+            let outer = outside(above, word);
+            let (ahead, behind) = split_parts(word, parts);
+            push_sign(out, role, above, *at, word)?;
+            push_parts(alloc, out, names, kept, outer, context, word, 0, ahead)?;
+            push_front(alloc, out, names, role, above, *at, parts)?;
+            push_parts(
+                alloc,
+                out,
+                names,
+                kept,
+                inner,
+                context,
+                word,
+                ahead.len(),
+                behind,
+            )?;
+            push_back(out, role)?;
+            Ok(())
+        }
+        Role::Binder => {
+            push_front(alloc, out, names, role, above, *at, parts)?;
+            push_parts(alloc, out, names, kept, inner, context, word, 0, parts)?;
+            Ok(())
+        }
+        Role::User => {
+            push_front(alloc, out, names, role, above, *at, parts)?;
+            push_parts(alloc, out, names, kept, inner, context, word, 0, parts)?;
+            Ok(())
+        }
+        Role::Plain => {
+            push_parts(alloc, out, names, kept, inner, context, word, 0, parts)?;
+            Ok(())
+        }
     }
 }
 

@@ -8,6 +8,9 @@ use Rattle.rl_bindings.proofs.walk.+walking.Given as goal
 abbrev pub decreases-push_events : goal.decreases-push_events
 decreases-push_events l = 2 * size (syntax l.tree.now)
 
+abbrev pub decreases-push_node : goal.decreases-push_node
+decreases-push_node l = 2 * size_of (pieces_of (map syntax l.parts.now)) + 1
+
 abbrev pub decreases-push_parts : goal.decreases-push_parts
 decreases-push_parts l = 2 * size_of (pieces_of (map syntax l.parts.now))
 
