@@ -11,7 +11,7 @@ use rl_base::list::List;
 use rl_bindings::event::ScopeEntry;
 use rl_bindings::symbol_table::SymbolTable;
 use rl_semantic::buckets::{bucket, buckets};
-use rl_semantic::functions::{entry_at, is_property, property_of};
+use rl_semantic::functions::{entry_at, is_function_expression, is_property, property_of};
 use rl_syntax::nodes::NodeEntry;
 use rl_syntax::word::Word;
 use std::alloc::Global;
@@ -110,7 +110,9 @@ fn methods(alloc: Global, nodes: &[NodeEntry]) -> Result<List<(usize, ScopeId)>,
 {
     let mut pairs = List::new(alloc);
     for entry in nodes {
-        push_method(&mut pairs, nodes, *entry)?;
+        if is_function_expression(entry.word) {
+            push_method(&mut pairs, nodes, *entry)?;
+        }
     }
     Ok(pairs)
 }

@@ -45,7 +45,8 @@ fn is_object(word: Word) -> bool
 }
 
 /// True of the word of function expressions.
-fn is_function_expression(word: Word) -> bool
+#[inline(always)]
+pub fn is_function_expression(word: Word) -> bool
     ensures { result ≡ spec.is_function_expression word }
 {
     match word {
