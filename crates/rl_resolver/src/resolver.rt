@@ -6,7 +6,7 @@ ghost use Rattle.rl_bindings.specs.Symbols.{resolve};
 ghost use Rattle.rl_resolver.specs.Around as around;
 ghost use Rattle.rl_resolver.specs.Children as children;
 ghost use Rattle.rl_semantic.specs.Functions as made;
-ghost use Rattle.rl_semantic.specs.Buckets.{AreBuckets};
+ghost use Rattle.rl_semantic.specs.Buckets.{AreBuckets, AreFirsts};
 ghost use Rattle.rl_resolver.specs.Imported.{import_data, import_entry, import_pair};
 ghost use Rattle.rl_resolver.specs.Inside as within;
 ghost use Rattle.rl_resolver.specs.Listed as listed;
@@ -31,7 +31,7 @@ use rl_base::span::Span;
 use rl_base::text::Text;
 use rl_bindings::event::{Bound, ScopeKind};
 use rl_bindings::symbol_kind::{BindingKind, DeclKind};
-use rl_semantic::buckets::bucket;
+use rl_semantic::buckets::{bucket, first_at};
 use rl_semantic::functions::{capture_root_node, function_scope_ranges, function_scopes};
 use rl_semantic::imports::{ImportBindingData, ImportEntry};
 use rl_semantic::semantic::Semantic;
@@ -47,20 +47,20 @@ pub struct ScopeResolver<'s> {
     ranges: List<(u32, u32)>,
     references: List<List<ReferenceId>>,
     bindings: List<List<SymbolId>>,
-    declarations: List<List<SymbolId>>,
+    declarations: List<Option<SymbolId>>,
     unresolved: List<List<NodeId>>,
     methods: List<List<ScopeId>>,
-    declared: List<List<Option<SymbolId>>>,
+    declared: List<Option<Option<SymbolId>>>,
     imports: List<List<ImportEntry<'s>>>,
     ghost imports_are: { AreBuckets imports (length semantic.now.nodes.now) (map import_pair semantic.now.imports) },
-    ghost declared_are: { AreBuckets declared (length semantic.now.nodes.now) (map listed.declaration_pair semantic.now.bindings.declarations) },
+    ghost declared_are: { AreFirsts declared (length semantic.now.nodes.now) (map listed.declaration_pair semantic.now.bindings.declarations) },
     ghost functions_are: { functions ≡ made.function_scopes semantic.now.bindings.scopes },
     ghost ranges_are: { ranges ≡ made.function_scope_ranges semantic.now.nodes.now semantic.now.bindings.scopes },
     ghost methods_are: { AreBuckets methods (length semantic.now.nodes.now) (within.methods_in semantic.now.nodes.now semantic.now.nodes.now) },
     ghost few_scopes: { length semantic.now.bindings.scopes < 2 ^ 32 },
     ghost references_are: { AreBuckets references (length semantic.now.bindings.symbols) (listed.resolved_from 0 semantic.now.bindings.references) },
     ghost bindings_are: { AreBuckets bindings (length semantic.now.bindings.scopes) (listed.bound_from semantic.now.bindings.symbols 0 semantic.now.bindings.symbols) },
-    ghost declarations_are: { AreBuckets declarations (length semantic.now.nodes.now) (listed.declared_from 0 semantic.now.bindings.symbols) },
+    ghost declarations_are: { AreFirsts declarations (length semantic.now.nodes.now) (listed.declared_from 0 semantic.now.bindings.symbols) },
     ghost unresolved_are: { AreBuckets unresolved (length semantic.now.bindings.names) (listed.unresolved_in semantic.now.bindings.references) },
 }
 
@@ -369,10 +369,7 @@ impl<'s> ScopeResolver<'s> {
     pub fn resolve_binding_identifier(&self, identifier: &BindingIdentifier<'_>) -> Option<SymbolId>
         ensures { result ≡ listed.symbol_declared self.now.semantic.now.nodes.now self.now.semantic.now.bindings.symbols identifier.now.at.id.0 }
     {
-        match bucket(&self.declarations, identifier.at.id.0 as usize) {
-            [first, ..] => Some(*first),
-            [] => None,
-        }
+        first_at(&self.declarations, identifier.at.id.0 as usize)
     }
 
     /// True of a name that some reference has that resolves to no symbol: a global that the unit uses.
@@ -442,12 +439,13 @@ impl<'s> ScopeResolver<'s> {
 
     /// The symbol that a `bind` node declares, be it the first to declare it or a later one. `None` for a node that is no `bind`
     /// node of the unit.
+    #[tactic(auto, using(crate::proofs::Declaring::first_symbol, crate::proofs::Declaring::no_symbol))]
     pub fn declared_symbol(&self, identifier: &BindingIdentifier<'_>) -> Option<SymbolId>
         ensures { result ≡ listed.declared_symbol self.now.semantic.now.nodes.now self.now.semantic.now.bindings.declarations identifier.now.at.id.0 }
     {
-        match bucket(&self.declared, identifier.at.id.0 as usize) {
-            [first, ..] => *first,
-            [] => None,
+        match first_at(&self.declared, identifier.at.id.0 as usize) {
+            Some(symbol) => symbol,
+            None => None,
         }
     }
 

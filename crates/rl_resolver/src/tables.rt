@@ -2,7 +2,7 @@
 //! references of each name that resolve to none.
 
 ghost use Rattle.std.specs.Prelude.{◌≡◌, ◌++◌, map, IfOk, OnOk};
-ghost use Rattle.rl_semantic.specs.Buckets.{AreBuckets};
+ghost use Rattle.rl_semantic.specs.Buckets.{AreBuckets, AreFirsts};
 ghost use Rattle.rl_resolver.specs.Listed as spec;
 
 use crate::kinds::has_identifier;
@@ -13,7 +13,7 @@ use rl_base::list::List;
 use rl_bindings::event::Bound;
 use rl_bindings::resolve::{Declaration, Reference};
 use rl_bindings::symbol_table::SymbolTable;
-use rl_semantic::buckets::buckets;
+use rl_semantic::buckets::{buckets, firsts};
 use std::alloc::Global;
 
 /// Appends a reference with its id, at the symbol that it resolves to; nothing for a global. On `OutOfMemory`, an allocation
@@ -94,7 +94,7 @@ fn push_bound(
 fn bound(alloc: Global, symbols: &SymbolTable) -> Result<List<(usize, SymbolId)>, OutOfMemory>
     ensures { IfOk result (λ pairs. pairs ≡ spec.bound_from symbols.now 0 symbols.now) }
 {
-    let mut pairs = List::new(alloc);
+    let mut pairs = List::with_capacity(alloc, symbols.as_slice().len())?;
     let mut number = 0;
     for symbol in symbols.as_slice() {
         if number == 4_294_967_295 {
@@ -139,7 +139,7 @@ fn push_declared(
 fn declared(alloc: Global, symbols: &[Bound]) -> Result<List<(usize, SymbolId)>, OutOfMemory>
     ensures { IfOk result (λ pairs. pairs ≡ spec.declared_from 0 symbols.now) }
 {
-    let mut pairs = List::new(alloc);
+    let mut pairs = List::with_capacity(alloc, symbols.len())?;
     let mut number = 0;
     for symbol in symbols {
         if number == 4_294_967_295 {
@@ -157,11 +157,11 @@ pub(crate) fn symbols_by_node(
     alloc: Global,
     count: usize,
     symbols: &[Bound],
-) -> Result<List<List<SymbolId>>, OutOfMemory>
-    ensures { IfOk result (λ table. AreBuckets table count (spec.declared_from 0 symbols.now)) }
+) -> Result<List<Option<SymbolId>>, OutOfMemory>
+    ensures { IfOk result (λ table. AreFirsts table count (spec.declared_from 0 symbols.now)) }
 {
     let pairs = declared(alloc, symbols)?;
-    let table = buckets(alloc, count, pairs.as_slice())?;
+    let table = firsts(alloc, count, pairs.as_slice())?;
     Ok(table)
 }
 
@@ -213,22 +213,23 @@ fn declaring(
 ) -> Result<List<(usize, Option<SymbolId>)>, OutOfMemory>
     ensures { IfOk result (λ pairs. pairs ≡ map spec.declaration_pair declarations.now) }
 {
-    let mut pairs = List::new(alloc);
+    let mut pairs = List::with_capacity(alloc, declarations.len())?;
     for declaration in declarations {
         pairs.push((declaration.node.0 as usize, symbol_id(declaration.symbol)))?;
     }
     Ok(pairs)
 }
 
-/// The symbols that each of `count` nodes declares. On `OutOfMemory`, an allocation failed.
+/// The symbol that each of `count` nodes declares, be it the first to declare it or a later one. On `OutOfMemory`, an allocation
+/// failed.
 pub(crate) fn declarations_by_node(
     alloc: Global,
     count: usize,
     declarations: &[Declaration],
-) -> Result<List<List<Option<SymbolId>>>, OutOfMemory>
-    ensures { IfOk result (λ table. AreBuckets table count (map spec.declaration_pair declarations.now)) }
+) -> Result<List<Option<Option<SymbolId>>>, OutOfMemory>
+    ensures { IfOk result (λ table. AreFirsts table count (map spec.declaration_pair declarations.now)) }
 {
     let pairs = declaring(alloc, declarations)?;
-    let table = buckets(alloc, count, pairs.as_slice())?;
+    let table = firsts(alloc, count, pairs.as_slice())?;
     Ok(table)
 }

@@ -1,9 +1,10 @@
 -- A table that is made step by step has the items of each key.
-use Rattle.std.proofs.Common.{◌≡◌, ◌+◌, ◌<◌, ◌≤◌, arith, ℕ, zero, suc, Bool, true, false, if◌then◌else◌, nat_eq, nat_lt, eqb-true, ltb-true, ltb-false, List, [], ◌∷◌, ◌++◌, length, length-set, slice_get, replicate, append-nil, append_assoc, refl, sym, ap, subst, ◌∙◌}
+use Rattle.std.proofs.Common.{◌≡◌, ◌+◌, ◌<◌, ◌≤◌, arith, ℕ, zero, suc, Bool, true, false, if◌then◌else◌, nat_eq, nat_lt, eqb-true, ltb-true, ltb-false, Option, Some, None, List, [], ◌∷◌, ◌++◌, length, length-set, slice_get, replicate, append-nil, append_assoc, refl, sym, ap, subst, ◌∙◌}
 use Rattle.std.proofs.lemmas.Bool.{eqb-false, lt-ltb}
+use Rattle.rl_ast.specs.Marked.{first}
 use Rattle.rl_bindings.proofs.Looking.{get_set_same, get_set_other, by_test}
 use Rattle.rl_semantic.specs.Items.{of_item}
-use Rattle.rl_semantic.specs.Buckets.{further, those, those_below, keys_used, itself, bucket, put, put_all, tabled, AreBuckets}
+use Rattle.rl_semantic.specs.Buckets.{further, those, those_below, keys_used, itself, bucket, put, put_all, tabled, AreBuckets, same, first_at, put_at, put_first, put_firsts, firsts_tabled, AreFirsts}
 
 length_blank : {X : Type 0} (count : ℕ) (x : X) → length (replicate count x) ≡ count
 length_blank zero x = refl
@@ -123,3 +124,70 @@ module _ {T : Type 0} where
 
   pub are_buckets : (count used : ℕ) (pairs : List (ℕ × T)) (table : List (List T)) → used ≡ keys_used 0 count pairs → table ≡ tabled used pairs → AreBuckets table count pairs
   are_buckets count used pairs table uses is = record { at = λ key. ap (λ t. bucket t key) is ∙ at_tabled used pairs key ∙ those_same count used key pairs uses }
+
+  -- A table of the first items. The first of an item that may be there and of others behind it:
+  abbrev first_or : Option T → List T → Option T
+  first_or None items = first items
+  first_or (Some item) items = Some item
+
+  first_alone : (item : Option T) → item ≡ first_or item []
+  first_alone None = refl
+  first_alone (Some item) = refl
+
+  length_put_at : (there : Option T) (table : List (Option T)) (pair : ℕ × T) → length (put_at there table pair) ≡ length table
+  length_put_at None table pair = length-set table pair.0 (Some pair.1)
+  length_put_at (Some item) table pair = refl
+
+  length_put_firsts : (table : List (Option T)) (pairs : List (ℕ × T)) → length (put_firsts table pairs) ≡ length table
+  length_put_firsts table [] = refl
+  length_put_firsts table (pair ∷ pairs) = length_put_firsts (put_first table pair) pairs ∙ length_put_at (first_at table pair.0) table pair
+
+  at_key : (there : Option T) (table : List (Option T)) (pair : ℕ × T) (items : List T) → first_at table pair.0 ≡ there → pair.0 < length table
+      → first_or (first_at (put_first table pair) pair.0) items ≡ first_or (first_at table pair.0) (pair.1 ∷ items)
+  at_key None table pair items is within =
+      ap (λ x. first_or (first_at (put_at x table pair) pair.0) items) is
+      ∙ ap (λ x. first_or (of_item None same x) items) (get_set_same table pair.0 (Some pair.1) within)
+      ∙ sym (ap (λ x. first_or x (pair.1 ∷ items)) is)
+  at_key (Some item) table pair items is within =
+      ap (λ x. first_or (first_at (put_at x table pair) pair.0) items) is
+      ∙ ap (λ x. first_or x items) is
+      ∙ sym (ap (λ x. first_or x (pair.1 ∷ items)) is)
+
+  at_other : (there : Option T) (table : List (Option T)) (key : ℕ) (pair : ℕ × T) → first_at table pair.0 ≡ there → nat_eq pair.0 key ≡ false → first_at (put_first table pair) key ≡ first_at table key
+  at_other None table key pair is not = ap (λ x. first_at (put_at x table pair) key) is ∙ ap (of_item None same) (get_set_other table pair.0 key (Some pair.1) (eqb-false pair.0 key not))
+  at_other (Some item) table key pair is not = ap (λ x. first_at (put_at x table pair) key) is
+
+  at_put_firsts : (table : List (Option T)) (key : ℕ) (pairs : List (ℕ × T)) → key < length table → first_at (put_firsts table pairs) key ≡ first_or (first_at table key) (those key pairs)
+  at_put_firsts table key [] within = first_alone (first_at table key)
+  at_put_firsts table key (pair ∷ pairs) within =
+      at_put_firsts (put_first table pair) key pairs (subst (λ n. key < n) (sym (length_put_at (first_at table pair.0) table pair)) within)
+      ∙ by_test (nat_eq pair.0 key)
+      (λ is. let k : pair.0 ≡ key = eqb-true pair.0 key is in
+      subst (λ n. first_or (first_at (put_first table pair) n) (those key pairs) ≡ first_or (first_at table n) (pair.1 ∷ those key pairs)) k
+      (at_key (first_at table pair.0) table pair (those key pairs) refl (subst (λ n. n < length table) (sym k) within))
+      ∙ ap (λ (b : Bool). first_or (first_at table key) (if b then pair.1 ∷ those key pairs else those key pairs)) (sym is))
+      (λ not. ap (λ x. first_or x (those key pairs)) (at_other (first_at table pair.0) table key pair refl not)
+      ∙ ap (λ (b : Bool). first_or (first_at table key) (if b then pair.1 ∷ those key pairs else those key pairs)) (sym not))
+
+  none_blank : (count key : ℕ) → first_at (replicate {A = Option T} count None) key ≡ None
+  none_blank zero key = refl
+  none_blank (suc count) zero = refl
+  none_blank (suc count) (suc key) = none_blank count key
+
+  none_beyond : (table : List (Option T)) (key : ℕ) → length table ≤ key → first_at table key ≡ None
+  none_beyond [] key beyond = refl
+  none_beyond (item ∷ table) zero beyond = absurd (omega (arith, beyond))
+  none_beyond (item ∷ table) (suc key) beyond = none_beyond table key (omega (arith, beyond))
+
+  at_firsts : (count : ℕ) (pairs : List (ℕ × T)) (key : ℕ) → first_at (firsts_tabled count pairs) key ≡ first (those_below count key pairs)
+  at_firsts count pairs key = by_test (nat_lt key count)
+      (λ below. let less : key < count = ltb-true key count below in
+      at_put_firsts (replicate count None) key pairs (subst (λ n. key < n) (sym (length_blank {X = Option T} count None)) less)
+      ∙ ap (λ x. first_or x (those key pairs)) (none_blank count key)
+      ∙ ap (λ (b : Bool). first (if b then those key pairs else [])) (sym below))
+      (λ not. let more : count ≤ key = ltb-false key count not in
+      none_beyond (firsts_tabled count pairs) key (subst (λ n. n ≤ key) (sym (length_put_firsts (replicate count None) pairs ∙ length_blank {X = Option T} count None)) more)
+      ∙ ap (λ (b : Bool). first (if b then those key pairs else [])) (sym not))
+
+  pub are_firsts : (count used : ℕ) (pairs : List (ℕ × T)) (table : List (Option T)) → used ≡ keys_used 0 count pairs → table ≡ firsts_tabled used pairs → AreFirsts table count pairs
+  are_firsts count used pairs table uses is = record { at = λ key. ap (λ t. first_at t key) is ∙ at_firsts used pairs key ∙ ap first (those_same count used key pairs uses) }
