@@ -48,7 +48,7 @@ pub struct ScopeResolver<'s> {
     references: List<List<ReferenceId>>,
     bindings: List<List<SymbolId>>,
     declarations: List<Option<SymbolId>>,
-    unresolved: List<List<NodeId>>,
+    unresolved: List<Option<NodeId>>,
     methods: List<List<ScopeId>>,
     declared: List<Option<Option<SymbolId>>>,
     imports: List<List<ImportEntry<'s>>>,
@@ -61,7 +61,7 @@ pub struct ScopeResolver<'s> {
     ghost references_are: { AreBuckets references (length semantic.now.bindings.symbols) (listed.resolved_from 0 semantic.now.bindings.references) },
     ghost bindings_are: { AreBuckets bindings (length semantic.now.bindings.scopes) (listed.bound_from semantic.now.bindings.symbols 0 semantic.now.bindings.symbols) },
     ghost declarations_are: { AreFirsts declarations (length semantic.now.nodes.now) (listed.declared_from 0 semantic.now.bindings.symbols) },
-    ghost unresolved_are: { AreBuckets unresolved (length semantic.now.bindings.names) (listed.unresolved_in semantic.now.bindings.references) },
+    ghost unresolved_are: { AreFirsts unresolved (length semantic.now.bindings.names) (listed.unresolved_in semantic.now.bindings.references) },
 }
 
 impl<'s> ScopeResolver<'s> {
@@ -373,13 +373,14 @@ impl<'s> ScopeResolver<'s> {
     }
 
     /// True of a name that some reference has that resolves to no symbol: a global that the unit uses.
+    #[tactic(auto, using(crate::proofs::Declaring::some_first, crate::proofs::Declaring::none_first))]
     pub fn has_unresolved_reference(&self, name: &str) -> bool
         ensures { result ≡ listed.has_unresolved_reference self.now.semantic.now.bindings.names self.now.semantic.now.bindings.references name.now }
     {
         match self.semantic.bindings.names.find(name) {
-            Some(number) => match bucket(&self.unresolved, number) {
-                [_, ..] => true,
-                [] => false,
+            Some(number) => match first_at(&self.unresolved, number) {
+                Some(_) => true,
+                None => false,
             },
             None => false,
         }

@@ -1,14 +1,15 @@
-//! Tables by number: the references of each symbol, the symbols of each scope, the symbol of each first declaration, and the
-//! references of each name that resolve to none.
+//! Tables by number: the references of each symbol, the symbols of each scope, the symbol of each first declaration, and the first
+//! reference of each name that resolves to none.
 
-ghost use Rattle.std.specs.Prelude.{◌≡◌, ◌++◌, map, IfOk, OnOk};
+ghost use Rattle.std.specs.Prelude.{◌≡◌, ◌++◌, ◌∷◌, [], if◌then◌else◌, map, IfOk, OnOk};
 ghost use Rattle.rl_semantic.specs.Buckets.{AreBuckets, AreFirsts};
 ghost use Rattle.rl_resolver.specs.Listed as spec;
+ghost use Rattle.rl_resolver.specs.Lookups.{is_number};
 
 use crate::kinds::has_identifier;
 use crate::lookups::symbol_id;
 use rl_base::error::OutOfMemory;
-use rl_base::ids::{NodeId, ReferenceId, SymbolId};
+use rl_base::ids::{NodeId, ReferenceId, ScopeId, SymbolId};
 use rl_base::list::List;
 use rl_bindings::event::Bound;
 use rl_bindings::resolve::{Declaration, Reference};
@@ -68,20 +69,20 @@ pub(crate) fn references_by_symbol(
     Ok(table)
 }
 
-/// Appends a symbol at the scope that binds its name to it; nothing for an own name that another name of the scope shadows. On
-/// `OutOfMemory`, an allocation failed.
-fn push_bound(
+/// Appends a symbol at its scope, if `found` is its number: the symbol that the scope binds its name to. On `OutOfMemory`, an
+/// allocation failed.
+fn push_found(
     pairs: &mut List<(usize, SymbolId)>,
-    symbols: &SymbolTable,
+    found: Option<usize>,
     number: u32,
-    bound: Bound,
+    scope: ScopeId,
 ) -> Result<(), OutOfMemory>
-    ensures { OnOk result (pairs.new ≡ pairs.old ++ spec.bound_pair symbols.now number bound) }
+    ensures { OnOk result (pairs.new ≡ pairs.old ++ (if is_number number found then (scope.0, record { 0 = number }) ∷ [] else [])) }
 {
-    match symbols.binding(bound.scope, bound.name as usize) {
+    match found {
         Some(found) => {
             if found == number as usize {
-                pairs.push((bound.scope.0 as usize, SymbolId(number)))?;
+                pairs.push((scope.0 as usize, SymbolId(number)))?;
             }
             Ok(())
         }
@@ -89,8 +90,8 @@ fn push_bound(
     }
 }
 
-/// The symbols that scopes bind names to, each at its scope. On `OutOfMemory`, an allocation failed, or there are more symbols
-/// than ids, which no unit has.
+/// The symbols that scopes bind names to, each at its scope: all but the own names that another name of the scope shadows. On
+/// `OutOfMemory`, an allocation failed, or there are more symbols than ids, which no unit has.
 fn bound(alloc: Global, symbols: &SymbolTable) -> Result<List<(usize, SymbolId)>, OutOfMemory>
     ensures { IfOk result (λ pairs. pairs ≡ spec.bound_from symbols.now 0 symbols.now) }
 {
@@ -100,7 +101,8 @@ fn bound(alloc: Global, symbols: &SymbolTable) -> Result<List<(usize, SymbolId)>
         if number == 4_294_967_295 {
             return Err(OutOfMemory);
         }
-        push_bound(&mut pairs, symbols, number, *symbol)?;
+        let found = symbols.binding_of(number as usize, symbol);
+        push_found(&mut pairs, found, number, symbol.scope)?;
         number += 1;
     }
     Ok(pairs)
@@ -193,16 +195,16 @@ fn unresolved(alloc: Global, references: &[Reference]) -> Result<List<(usize, No
     Ok(pairs)
 }
 
-/// The nodes of the references of each of `count` names that resolve to no symbol. On `OutOfMemory`, an allocation failed.
+/// The node of the first reference of each of `count` names that resolves to no symbol. On `OutOfMemory`, an allocation failed.
 pub(crate) fn unresolved_by_name(
     alloc: Global,
     count: usize,
     references: &[Reference],
-) -> Result<List<List<NodeId>>, OutOfMemory>
-    ensures { IfOk result (λ table. AreBuckets table count (spec.unresolved_in references.now)) }
+) -> Result<List<Option<NodeId>>, OutOfMemory>
+    ensures { IfOk result (λ table. AreFirsts table count (spec.unresolved_in references.now)) }
 {
     let pairs = unresolved(alloc, references)?;
-    let table = buckets(alloc, count, pairs.as_slice())?;
+    let table = firsts(alloc, count, pairs.as_slice())?;
     Ok(table)
 }
 
@@ -220,8 +222,8 @@ fn declaring(
     Ok(pairs)
 }
 
-/// The symbol that each of `count` nodes declares, be it the first to declare it or a later one. On `OutOfMemory`, an allocation
-/// failed.
+/// The symbol that each of `count` nodes declares, be the node the first to declare it or a later one. On `OutOfMemory`, an
+/// allocation failed.
 pub(crate) fn declarations_by_node(
     alloc: Global,
     count: usize,
