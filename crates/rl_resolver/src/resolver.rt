@@ -241,7 +241,7 @@ impl<'s> ScopeResolver<'s> {
                 .semantic
                 .bindings
                 .symbols
-                .binding(bound.scope, bound.name as usize)
+                .binding_of(symbol.0 as usize, bound)
             {
                 Some(number) => {
                     if number == symbol.0 as usize {
