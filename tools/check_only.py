@@ -3,8 +3,9 @@
 Usage, at the top: python3 tools/check_only.py CRATE [FUNCTION..]
 
 A function is named as `rt check` prints it, or by the end of its name. Without functions all are checked, those of the crates
-below too. What is proved is kept in the folder that KEPT names, and a run over it starts in seconds. The verdict is that of
-`rt check` and of the gate: this run leaves out what they ask of a whole crate.
+below too. With TESTS set in the environment, tests and what they call may be named too. What is proved is kept in the folder that
+KEPT names, and a run over it starts in seconds. The verdict is that of `rt check` and of the gate: this run leaves out what they ask
+of a whole crate.
 """
 import os
 import pathlib
@@ -28,7 +29,10 @@ def arguments(crate, functions, root, kit, kept):
     uses = {line.split(":")[0].strip(): line.split(":")[1].split() for line in lines if line}
     below = crates_below(crate, uses)
     outside = {"core", "std", *(name for it in [crate, *below] for name in uses[it] if name not in uses)}
-    words = ["check", "--crate-name", crate, "src/lib.rt"]
+    source = "src/lib.rt" if (root / "crates" / crate / "src" / "lib.rt").exists() else "src/main.rt"
+    words = ["check", "--crate-name", crate, source]
+    if os.environ.get("TESTS"):
+        words.append("--test")
     for name in sorted(outside):
         words += ["--extern", f"{name}={kit}/rlibs/{name}.rlib"]
     words += ["-L", f"dependency={kit}/rlibs"]

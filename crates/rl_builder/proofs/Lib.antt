@@ -1,7 +1,7 @@
 pub mod Apart
-pub mod Candidates
-pub mod Merging
-pub mod NameEntries
+pub mod Examples
+pub mod Kept
 pub mod NameLaws
-pub mod NameSearches
 pub mod Pruned
+pub mod Refusals
+pub mod Renaming

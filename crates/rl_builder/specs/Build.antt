@@ -1,15 +1,18 @@
 -- The graph that is made of a builder's blocks.
-use Rattle.std.specs.Prelude.{◌≡◌, List, [], All, fold}
+use Rattle.std.specs.Prelude.{◌≡◌, List, [], ◌++◌, All, fold}
 use Rattle.rl_base.specs.Distinct.{AreDistinct}
+use Rattle.rl_base.specs.declared.ids.BlockId.{BlockId}
+use Rattle.rl_builder.specs.Builder.{State}
+use Rattle.rl_builder.specs.Dropped.{refused_blocks}
 use Rattle.rl_hir.specs.Blocks.{HaveOwnIds, Pair, with_block}
 use Rattle.rl_hir.specs.Numbered.{IsNumbered, listed_in}
+use Rattle.rl_hir.specs.declared.environment.Environment.{Environment}
+use Rattle.rl_hir.specs.declared.instruction.Instruction.{Instruction}
 use Rattle.rl_machine.specs.Closed.{IsClosed}
 use Rattle.rl_machine.specs.Conditions.{KeepsRuns, MayOrder}
 use Rattle.rl_machine.specs.Machine.{Graph}
 use Rattle.rl_order.specs.Predecessors.{PredecessorsReached}
 use Rattle.rl_order.specs.Prune.{IsPruned}
-use Rattle.rl_builder.specs.Builder.{State}
-use Rattle.rl_builder.specs.declared.builder.Built.{Built}
 
 -- The blocks as a table: each under its id, in order.
 abbrev pub table_of : List Pair → List Pair
@@ -23,16 +26,15 @@ graph_of s = table_of s.completed
 abbrev pub unordered_graph : State → Graph
 unordered_graph s = record { blocks = graph_of s; table = s.table; entry = s.entry }
 
-abbrev pub built_graph : Built → Graph
-built_graph built = record { blocks = built.hir.blocks; table = built.instructions; entry = built.hir.entry }
-
--- The graph in its order: without unreachable blocks and what names them, with evaluation orders from 1 and with predecessors.
-pub record IsBuilt (s : State) (built : Built) : Type 0 where
-  pub entry : built.hir.entry ≡ s.entry
-  pub pruned : IsPruned (graph_of s) s.entry s.table built.hir.blocks built.instructions
-  pub distinct : HaveOwnIds built.hir.blocks
-  pub numbered : AreDistinct (listed_in (graph_of s)) → All (λ i. i.order.0 ≡ 0) s.table → IsNumbered built.instructions built.hir.blocks
-  pub predecessors : PredecessorsReached built.hir.blocks built.hir.entry built.hir.blocks
+-- The seven moves of `build` made this graph and left this environment: the blocks in their order, the refusals of dropped blocks, the
+-- three removals, evaluation orders from 1, and predecessors.
+pub record IsBuilt (s : State) (graph : Graph) (env : Environment) : Type 0 where
+  pub entry : graph.entry ≡ s.entry
+  pub pruned : IsPruned (graph_of s) s.entry s.table graph.blocks graph.table
+  pub refused : env ≡ record s.env { diagnostics = s.env.diagnostics ++ refused_blocks s.table pruned.ordered (graph_of s) }
+  pub distinct : HaveOwnIds graph.blocks
+  pub numbered : AreDistinct (listed_in (graph_of s)) → All (λ i. i.order.0 ≡ 0) s.table → IsNumbered graph.table graph.blocks
+  pub predecessors : PredecessorsReached graph.blocks graph.entry graph.blocks
   -- under the conditions on what is ordered, the graph is closed and has the runs of the completed blocks
-  pub closed : MayOrder (unordered_graph s) → IsClosed built.hir
-  pub runs : MayOrder (unordered_graph s) → KeepsRuns (unordered_graph s) (built_graph built)
+  pub closed : MayOrder (unordered_graph s) → IsClosed (record { entry = graph.entry; blocks = graph.blocks })
+  pub runs : MayOrder (unordered_graph s) → KeepsRuns (unordered_graph s) graph

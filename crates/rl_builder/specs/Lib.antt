@@ -1,8 +1,12 @@
-pub mod Apart
 pub mod Build
 pub mod Builder
-pub mod Merged
-pub mod NameSearch
+pub mod Closures
+pub mod Dropped
+pub mod FunctionNames
+pub mod Jumps
+pub mod Lending
+pub mod Meanings
 pub mod Names
+pub mod Started
+pub mod Tables
 pub mod Temporaries
-pub mod UsedName

@@ -1,79 +1,151 @@
 //! The graph of completed blocks.
 
-ghost use Rattle.std.specs.Prelude.{◌≡◌, ◌+◌, ◌<◌, ◌^◌, All, IfOk, OnOk, length};
-ghost use Rattle.rl_base.specs.Distinct.{AreDistinct};
+ghost use Rattle.std.specs.Prelude.{◌≡◌, ◌++◌, ◌<◌, None, OnOk, OnErr, IfOk, option_copied, slice_get};
 ghost use Rattle.rl_builder.specs.Build.{table_of};
-ghost use Rattle.rl_hir.specs.Blocks.{HaveOwnIds};
-ghost use Rattle.rl_hir.specs.Numbered.{IsNumbered, listed_in};
-ghost use Rattle.rl_order.specs.Numbering.{orders_of};
-ghost use Rattle.rl_order.specs.Predecessors.{PredecessorsReached};
-ghost use Rattle.rl_order.specs.Prune.{IsPruned};
-ghost use Rattle.rl_order.specs.Walk.{IsWhole};
+ghost use Rattle.rl_builder.specs.Dropped as dropped;
+ghost use Rattle.rl_order.specs.Walk.{IsOrdered, IsWhole};
 
+use rl_base::diagnostic::Diagnostic;
 use rl_base::error::OutOfMemory;
-use rl_base::ids::BlockId;
+use rl_base::ids::{BlockId, InstructionId};
+use rl_base::list::List;
+use rl_base::row::Row;
+use rl_base::span::Span;
 use rl_base::steps::Steps;
-use rl_hir::blocks::{Blocks, MapBlocks};
+use rl_hir::blocks::Blocks;
+use rl_hir::environment::Environment;
 use rl_hir::function::{BasicBlock, Hir};
-use rl_hir::instruction::Instruction;
-use rl_order::prune::prune;
+use rl_hir::instruction::{Instruction, InstructionValue};
+use rl_order::order::get_reverse_postordered_blocks;
+use rl_used_names::names::{Bindings, UsedNames};
 use std::alloc::Global;
 use std::marker::Brand;
 use std::sync::ledger::{Blank, Ledger};
 
+/// A finished graph, its instruction table, and the names that were given.
+#[derive(Drop)]
+pub struct Built<B> {
+    /// The entry, and the blocks in their order.
+    pub hir: Hir<B>,
+    /// The instruction table, indexed by instruction id.
+    pub instructions: List<Instruction>,
+    /// The names of identifiers, each with its symbol.
+    pub used_names: UsedNames,
+    /// The identifiers of symbols.
+    pub bindings: Bindings,
+}
+
 /// A table of the blocks, each under its id, in order. On `OutOfMemory` an allocation failed, and nothing is kept.
-pub fn table_of(
+pub(crate) fn table_of<B: Blocks>(
     alloc: Global,
     completed: Vec<(BlockId, BasicBlock)>,
-) -> Result<MapBlocks, OutOfMemory>
-    ensures { IfOk result (λ blocks. blocks ≡ table_of completed.items) }
+) -> Result<B, OutOfMemory>
+    ensures { IfOk result (λ blocks. B.pairs blocks ≡ table_of completed.items) }
 {
-    let mut blocks = MapBlocks::empty(alloc);
+    let mut blocks = B::empty(alloc);
     for (id, block) in completed {
         blocks.put(id, block)?;
     }
     Ok(blocks)
 }
 
-/// As `prune_graph`, where the ledger `L` that `blank` becomes counts the steps of the ordering.
-fn prune_counted<L: Ledger>(
+/// As `order`, where the ledger `L` that `blank` becomes counts the steps.
+fn order_counted<B: Blocks, L: Ledger>(
     alloc: Global,
-    hir: &Hir<MapBlocks>,
-    table: &mut [Instruction],
+    hir: &Hir<B>,
     blank: Blank,
-) -> Result<Hir<MapBlocks>, OutOfMemory>
+) -> Result<B, OutOfMemory>
     requires name { blank.name ≡ L.name }
     requires parts { blank.parts ≡ L.parts }
     requires shared { 0 < blank.parts }
-    requires whole { IsWhole hir.now.blocks hir.now.entry }
-    requires within { All (λ p. All (λ id. id.0 < length table.old) p.1.instructions) hir.now.blocks }
-    requires room { 1 + orders_of hir.now.blocks < 2 ^ 32 }
-    ensures entry { IfOk result (λ pruned. pruned.entry ≡ hir.now.entry) }
-    ensures pruned { IfOk result (λ pruned. IsPruned hir.now.blocks hir.now.entry table.old pruned.blocks table.new) }
-    ensures distinct { IfOk result (λ pruned. HaveOwnIds pruned.blocks) }
-    ensures numbered { IfOk result (λ pruned. AreDistinct (listed_in hir.now.blocks) → All (λ i. i.order.0 ≡ 0) table.old → IsNumbered table.new pruned.blocks) }
-    ensures predecessors { IfOk result (λ pruned. PredecessorsReached pruned.blocks pruned.entry pruned.blocks) }
-    ensures length { OnOk result (length table.new ≡ length table.old) }
+    requires whole { IsWhole (B.pairs hir.now.blocks) hir.now.entry }
+    ensures ordered { IfOk result (λ blocks. IsOrdered (B.pairs hir.now.blocks) hir.now.entry (B.pairs blocks)) }
 {
     let mut steps = Steps::<L>::new(blank);
-    prune(alloc, hir, table, &mut steps)
+    get_reverse_postordered_blocks(alloc, hir, &mut steps)
 }
 
-/// The graph in its order, after all passes (`prune`). The steps of the ordering are counted and forgotten.
-pub fn prune_graph(
-    alloc: Global,
-    hir: &Hir<MapBlocks>,
-    table: &mut [Instruction],
-) -> Result<Hir<MapBlocks>, OutOfMemory>
-    requires whole { IsWhole hir.now.blocks hir.now.entry }
-    requires within { All (λ p. All (λ id. id.0 < length table.old) p.1.instructions) hir.now.blocks }
-    requires room { 1 + orders_of hir.now.blocks < 2 ^ 32 }
-    ensures entry { IfOk result (λ pruned. pruned.entry ≡ hir.now.entry) }
-    ensures pruned { IfOk result (λ pruned. IsPruned hir.now.blocks hir.now.entry table.old pruned.blocks table.new) }
-    ensures distinct { IfOk result (λ pruned. HaveOwnIds pruned.blocks) }
-    ensures numbered { IfOk result (λ pruned. AreDistinct (listed_in hir.now.blocks) → All (λ i. i.order.0 ≡ 0) table.old → IsNumbered table.new pruned.blocks) }
-    ensures predecessors { IfOk result (λ pruned. PredecessorsReached pruned.blocks pruned.entry pruned.blocks) }
-    ensures length { OnOk result (length table.new ≡ length table.old) }
+/// The blocks of a graph in their order (`get_reverse_postordered_blocks`). Its steps are counted and forgotten.
+pub(crate) fn order<B: Blocks>(alloc: Global, hir: &Hir<B>) -> Result<B, OutOfMemory>
+    requires whole { IsWhole (B.pairs hir.now.blocks) hir.now.entry }
+    ensures ordered { IfOk result (λ blocks. IsOrdered (B.pairs hir.now.blocks) hir.now.entry (B.pairs blocks)) }
 {
-    prune_counted::<Brand>(alloc, hir, table, Blank::new(1))
+    order_counted::<B, Brand>(alloc, hir, Blank::new(1))
+}
+
+/// True of an instruction that makes a function. One that makes a method does not.
+fn makes_function(instruction: &Instruction) -> bool
+    ensures { result ≡ dropped.is_function_expression instruction.now.value }
+{
+    match instruction.value {
+        InstructionValue::FunctionExpression(_) => true,
+        _ => false,
+    }
+}
+
+/// The instruction with this id, if it makes a function.
+fn function_at(table: &[Instruction], id: InstructionId) -> Option<&Instruction>
+    ensures { option_copied result ≡ dropped.function_or (slice_get table.now id.0) None }
+{
+    let instruction = table.get(id.0 as usize)?;
+    if makes_function(instruction) {
+        Some(instruction)
+    } else {
+        None
+    }
+}
+
+/// The first of the listed instructions that makes a function.
+fn first_function<'t>(table: &'t [Instruction], listed: &[InstructionId]) -> Option<&'t Instruction>
+    ensures { option_copied result ≡ dropped.first_function table.now listed.now }
+{
+    for id in listed {
+        if let Some(function) = function_at(table, *id) {
+            return Some(function);
+        }
+    }
+    None
+}
+
+/// Records row F41 for a block that is not in its order although it makes a function, at the first function. On `OutOfMemory` an
+/// allocation failed, and nothing changed.
+fn refuse_if_dropped<B: Blocks>(
+    alloc: Global,
+    env: &mut Environment,
+    table: &[Instruction],
+    ordered: &B,
+    id: BlockId,
+    block: &BasicBlock,
+) -> Result<(), OutOfMemory>
+    ensures refused { OnOk result (env.new ≡ record env.old { diagnostics = env.old.diagnostics ++ dropped.refused_block table.now (B.pairs ordered.now) (id, block.now) }) }
+    ensures unchanged { OnErr result (env.new ≡ env.old) }
+{
+    if ordered.get(id).is_some() {
+        return Ok(());
+    }
+    match first_function(table, block.instructions.as_slice()) {
+        Some(function) => {
+            let span = function.span.unwrap_or(Span { start: 0, end: 0 });
+            env.record_diagnostic(Diagnostic::at(alloc, Row::F41, "", span)?)
+        }
+        None => Ok(()),
+    }
+}
+
+/// Records row F41 for each block that is not in its order although it makes a function, in the order in which the blocks were
+/// completed. On `OutOfMemory` an allocation failed, and some may be recorded.
+pub(crate) fn refuse_dropped<B: Blocks>(
+    alloc: Global,
+    env: &mut Environment,
+    table: &[Instruction],
+    blocks: &B,
+    ordered: &B,
+) -> Result<(), OutOfMemory>
+    ensures { OnOk result (env.new ≡ record env.old { diagnostics = env.old.diagnostics ++ dropped.refused_blocks table.now (B.pairs ordered.now) (B.pairs blocks.now) }) }
+{
+    for place in 0..blocks.len() {
+        let (id, block) = blocks.at(place);
+        refuse_if_dropped(alloc, env, table, ordered, id, block)?;
+    }
+    Ok(())
 }

@@ -1,7 +1,10 @@
-//! Graphs of functions under construction: the builder, the names of identifiers, and the order of blocks.
+//! Graphs of functions under construction: the builder, its blocks and jumps, the names of identifiers, and the order of blocks.
 #![tactic(auto)]
 
+pub mod blocks;
 pub mod builder;
+pub mod closures;
 pub mod graph;
-pub mod names;
-pub mod reserved;
+pub mod jumps;
+pub mod resolve;
+pub mod unit_tables;

@@ -6,6 +6,7 @@ use Rattle.rl_base.proofs.DistinctLists.{IsIn, distinct_head, distinct_tail, in_
 use Rattle.rl_base.specs.declared.ids.BlockId.{BlockId}
 use Rattle.rl_hir.specs.Blocks.{HaveOwnIds, Pair, block_at, ids, same_id, with_block}
 use Rattle.rl_hir.specs.Terminals.{Field, Leads, MayLead, Chooses, Follows, Names, MayName, Reads, MayBind, Says, Holds, fallthrough, fields_of, follows, leads, named_ids, names, with_order}
+use Rattle.rl_hir.specs.declared.environment.Environment.{Environment}
 use Rattle.rl_hir.specs.declared.function.BasicBlock.{BasicBlock}
 use Rattle.rl_hir.specs.declared.terminal.TerminalKind.{TerminalKind}
 use Rattle.rl_hir.specs.declared.terminal.TerminalKind.TheVariants as kinds
@@ -19,14 +20,14 @@ use Rattle.rl_order.specs.Walk.{Ends, Expands, IsOrdered, Walk, appended, entere
 use Rattle.rl_order.specs.declared.predecessors.Edge.{Edge}
 use Rattle.rl_builder.specs.Build.{IsBuilt, graph_of, table_of}
 use Rattle.rl_builder.specs.Builder.{State}
-use Rattle.rl_builder.specs.declared.builder.Built.{Built}
+use Rattle.rl_machine.specs.Machine.{Graph}
 use Rattle.rl_lower.specs.Reachable.{entry_blocks}
 
 -- The graph of a state whose entry block is complete and leads nowhere.
-abbrev pub built_of : State → Built
+abbrev pub built_of : State → Graph
 built_of s =
     let alone = entry_blocks s.entry s.completed in
-    record { hir = record { entry = s.entry; blocks = ordered_blocks 1 alone }; instructions = ordered_table 1 alone s.table }
+    record { blocks = ordered_blocks 1 alone; table = ordered_table 1 alone s.table; entry = s.entry }
 
 abbrev pub one : BlockId → BasicBlock → List Pair
 one id block = (id, block) ∷ []
@@ -194,17 +195,17 @@ entry_alone entry (p ∷ pairs) block own found = by_test (same_id entry p.0) re
     by_test false is found1 rest = let later : block_at pairs entry ≡ Some block = rw is at found1 in rw is (rest later)
 
 -- What is built of a state whose entry block leads nowhere.
-pub alone_built : (s : State) (block : BasicBlock) (built : Built) → HaveOwnIds s.completed → block_at s.completed s.entry ≡ Some block
-    → named_ids block.terminal ≡ [] → block.preds ≡ [] → IsBuilt s built → built ≡ built_of s
-alone_built s block built own found none unlinked b =
+pub alone_built : (s : State) (block : BasicBlock) (built : Graph) (env : Environment) → HaveOwnIds s.completed → block_at s.completed s.entry ≡ Some block
+    → named_ids block.terminal ≡ [] → block.preds ≡ [] → IsBuilt s built env → built ≡ built_of s
+alone_built s block built env own found none unlinked b =
     let alone : entry_blocks s.entry s.completed ≡ one s.entry block = entry_alone s.entry s.completed block own found in
     let there : block_at (graph_of s) s.entry ≡ Some block = ap (λ (pairs : List Pair). block_at pairs s.entry) (table_same s.completed own) ∙ found in
     let left : cleaned b.pruned.ordered ≡ one s.entry block = ap cleaned (ordered_alone (graph_of s) s.entry block b.pruned.ordered there none b.pruned.order) ∙ alone_cleaned s.entry block none in
     let ended : BasicBlock = record block { terminal = with_order (1 + length block.instructions) block.terminal } in
-    let marked : IsMarked (one s.entry ended) s.entry built.hir.blocks = subst (λ (pairs : List Pair). IsMarked (ordered_blocks 1 pairs) s.entry built.hir.blocks) left b.pruned.marked in
-    let blocks : built.hir.blocks ≡ ordered_blocks 1 (entry_blocks s.entry s.completed) =
-    alone_marked s.entry ended built.hir.blocks none marked
+    let marked : IsMarked (one s.entry ended) s.entry built.blocks = subst (λ (pairs : List Pair). IsMarked (ordered_blocks 1 pairs) s.entry built.blocks) left b.pruned.marked in
+    let blocks : built.blocks ≡ ordered_blocks 1 (entry_blocks s.entry s.completed) =
+    alone_marked s.entry ended built.blocks none marked
     ∙ ap (λ (preds : List BlockId). one s.entry (record ended { preds = preds })) (sym unlinked) ∙ sym (ap (ordered_blocks 1) alone) in
-    let table : built.instructions ≡ ordered_table 1 (entry_blocks s.entry s.completed) s.table =
+    let table : built.table ≡ ordered_table 1 (entry_blocks s.entry s.completed) s.table =
     b.pruned.orders ∙ ap (λ (pairs : List Pair). ordered_table 1 pairs s.table) (left ∙ sym alone) in
-    λ i. record { hir = record { entry = b.entry i; blocks = blocks i }; instructions = table i }
+    λ i. record { blocks = blocks i; table = table i; entry = b.entry i }

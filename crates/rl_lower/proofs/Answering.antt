@@ -1,5 +1,9 @@
--- The value of an Ok, and the answers of the reader of numbers.
-use Rattle.std.proofs.Common.{◌≡◌, ℕ, List, Bool, true, false, if◌then◌else◌, Option, Some, None, Result, Ok, Err, IfOk, OnOk, sym, ap, ◌∙◌}
+-- The value of an Ok, errors without a diagnostic, and the answers of the reader of numbers.
+use Rattle.std.proofs.Common.{◌≡◌, ℕ, List, Bool, true, false, if◌then◌else◌, Option, Some, None, Result, Ok, Err, IfOk, IfErr, OnOk, sym, ap, ◌∙◌}
+use Rattle.std.specs.Result.{IsErrAnd}
+use Rattle.rl_base.specs.declared.diagnostic.Diagnostic.{Diagnostic}
+use Rattle.rl_base.specs.declared.stop.Stop.{Stop}
+use Rattle.rl_base.specs.declared.stop.Stop.TheVariants as stops
 use Rattle.rl_text.specs.Numeral.{is_numeral, number_of}
 
 pub ok_given : {X E : Type 0} {A : Type 0} {P Q : X → Type 0} (r : Result X E) → OnOk r A → IfOk r P → ((x : X) → A → P x → Q x) → IfOk r Q
@@ -30,3 +34,9 @@ ok_so (Err e) p f = tt
 pub done_so : {X E : Type 0} {A B : Type 0} (r : Result X E) → OnOk r A → (A → B) → OnOk r B
 done_so (Ok x) a f = f a
 done_so (Err e) a f = tt
+
+-- An error that is out of memory says no diagnostic.
+pub says_nothing : {X : Type 0} (r : Result X Stop) (P : Diagnostic → Type 0) → IsErrAnd r (λ e. e ≡ stops.OutOfMemory)
+    → IfErr r (λ e. (d : Diagnostic) → e ≡ stops.Diagnostic d → P d)
+says_nothing (Ok x) P h = absurd h
+says_nothing (Err e) P h = λ d is. absurd (let never : stops.OutOfMemory ≡ stops.Diagnostic d = sym h ∙ is in cc)

@@ -8,7 +8,7 @@ use Rattle.rl_hir.specs.declared.terminal.ReturnVariant.{ReturnVariant}
 use Rattle.rl_hir.specs.declared.terminal.ReturnVariant.TheVariants as returns
 use Rattle.rl_hir.specs.declared.function.BlockKind.{BlockKind}
 use Rattle.rl_builder.specs.Builder.{State, reserved, new_block, recorded, ended_by, completed_by}
-use Rattle.rl_builder.specs.Temporaries.{with_value}
+use Rattle.rl_lower.specs.Values.{with_value}
 use Rattle.rl_lower.specs.Endings.{return_of, returned_from}
 use Rattle.rl_lower.specs.Simulation.{Extends, PreservesBlocks}
 use Rattle.rl_lower.proofs.Moves.{extends_refl, extends_then, extends_reserved, extends_recorded, extends_value, extends_completed}

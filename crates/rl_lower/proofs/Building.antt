@@ -4,7 +4,7 @@ use Rattle.std.proofs.lemmas.List.Elements.{All-cons, All-head, All-tail}
 use Rattle.rl_hir.specs.Blocks.{Pair as BlockPair}
 use Rattle.rl_builder.specs.Builder.{State, placeholder}
 use Rattle.rl_order.specs.Numbering.{orders_of}
-use Rattle.rl_builder.specs.Temporaries.{temporary}
+use Rattle.rl_lower.specs.Values.{temporary}
 use Rattle.rl_syntax.specs.Syntax.{Syntax, nodes}
 use Rattle.rl_names.specs.Names.{Names}
 use Rattle.rl_lower.specs.Listed.{IsListed}
@@ -20,7 +20,7 @@ use Rattle.rl_lower.proofs.Listed.{listed_none}
 -- The moves that close off a body.
 pub keeps_closed : {names : Names} (s : State) → Preserves names s (closed_off s) 2
 keeps_closed s =
-    keeps_then s (with_undefined s) (closed_off s) 1 1 (keeps_value s (values.Primitive primitives.Undefined) None) (keeps_completed (with_undefined s) (return_of None returns.Void (temporary s None)) placeholder refl)
+    keeps_then s (with_undefined s) (closed_off s) 1 1 (keeps_value s (values.Primitive primitives.Undefined) None refl) (keeps_completed (with_undefined s) (return_of None returns.Void (temporary s None)) placeholder refl)
 
 -- A builder with no complete block and no instruction.
 pub record IsFresh (s : State) : Type 0 where

@@ -1,14 +1,19 @@
 -- A builder that was closed off can be built, and its graph is its entry block.
-use Rattle.std.proofs.Common.{◌≡◌, ◌+◌, ◌*◌, ◌<◌, ◌^◌, None, is_some, List, [], ◌++◌, All, length, sym, ap, ◌∙◌, subst}
+use Rattle.std.proofs.Common.{◌≡◌, ◌+◌, ◌*◌, ◌<◌, ◌^◌, Bool, true, false, if◌then◌else◌, Option, Some, None, is_some, List, [], ◌∷◌, ◌++◌, All, length, slice_get, append-nil, refl, sym, ap, ◌∙◌, subst}
 use Rattle.std.specs.List.{list_all}
-use Rattle.rl_hir.specs.Blocks.{Pair as BlockPair}
+use Rattle.rl_base.specs.declared.diagnostic.Diagnostic.{Diagnostic}
+use Rattle.rl_base.specs.declared.ids.InstructionId.{InstructionId}
+use Rattle.rl_builder.specs.Dropped.{first_function, function_or, is_function_expression, refused_blocks, refused_function}
+use Rattle.rl_hir.specs.Blocks.{Pair as BlockPair, block_at}
+use Rattle.rl_hir.specs.declared.environment.Environment.{Environment}
+use Rattle.rl_hir.specs.declared.instruction.Instruction.{Instruction}
 use Rattle.rl_hir.specs.Terminals.{fields_of, listed_id, named_ids, successor_ids}
 use Rattle.rl_hir.specs.declared.function.BasicBlock.{BasicBlock}
 use Rattle.rl_order.specs.Numbering.{orders_of}
 use Rattle.rl_order.specs.Walk.{IsWhole, has_block, leads_to}
 use Rattle.rl_builder.specs.Build.{IsBuilt, graph_of}
 use Rattle.rl_builder.specs.Builder.{State}
-use Rattle.rl_builder.specs.declared.builder.Built.{Built}
+use Rattle.rl_machine.specs.Machine.{Graph}
 use Rattle.rl_syntax.specs.Syntax.{Syntax, nodes}
 use Rattle.rl_names.specs.Names.{Names}
 use Rattle.rl_lower.specs.Endings.{closed_off}
@@ -18,6 +23,7 @@ use Rattle.rl_lower.proofs.Alone.{alone_built, built_of, follows_none, leads_non
 use Rattle.rl_lower.proofs.Building.{IsFresh, closed_listed, orders_fit}
 use Rattle.rl_lower.proofs.Finished.{IsFinished, entry_block, found_holds, found_leaves}
 use Rattle.rl_lower.proofs.Functions.{function_finished}
+use Rattle.rl_lower.proofs.Parameters.{all_at}
 
 -- The blocks of a finished builder lead to its blocks alone.
 finished_whole : (s : State) → IsFinished s → IsWhole s.completed s.entry
@@ -32,6 +38,26 @@ finished_whole s fin = record {
     nowhere block none =
         ap (λ o. listed_id o ++ successor_ids block.terminal) (follows_none (fields_of block.terminal.kind) none)
         ∙ leads_none (fields_of block.terminal.kind) none
+
+-- Blocks are not refused without instructions that make functions.
+
+none_found : (table : List Instruction) → All (λ i. is_function_expression i.value ≡ false) table → (ids : List InstructionId) → first_function table ids ≡ None
+none_found table plain [] = refl
+none_found table plain (id ∷ ids) = by_item (slice_get table id.0) refl (none_found table plain ids)
+  where
+    by_item : (o : Option Instruction) → slice_get table id.0 ≡ o → first_function table ids ≡ None → function_or o (first_function table ids) ≡ None
+    by_item None is rest = rest
+    by_item (Some i) is rest = ap (λ (b : Bool). if b then Some i else first_function table ids) (all_at (λ i. is_function_expression i.value ≡ false) table id.0 i is plain) ∙ rest
+
+none_refused : (table : List Instruction) (ordered : List BlockPair) → All (λ i. is_function_expression i.value ≡ false) table → (pairs : List BlockPair) → refused_blocks table ordered pairs ≡ []
+none_refused table ordered plain [] = refl
+none_refused table ordered plain (p ∷ pairs) =
+    ap (λ (l : List Diagnostic). l ++ refused_blocks table ordered pairs) (by_test (is_some (block_at ordered p.0)))
+    ∙ none_refused table ordered plain pairs
+  where
+    by_test : (b : Bool) → (if b then [] else refused_function (first_function table p.1.instructions)) ≡ []
+    by_test true = refl
+    by_test false = ap refused_function (none_found table plain p.1.instructions)
 
 module _ (names : Names) (begun : State) (body : Syntax) (s : State) (fresh : IsFresh begun) (l : LowersBody names body begun s) where
   finished : IsFinished (closed_off s)
@@ -52,8 +78,16 @@ module _ (names : Names) (begun : State) (body : Syntax) (s : State) (fresh : Is
   closed_orders room =
       subst (λ (pairs : List BlockPair). 1 + orders_of pairs < 2 ^ 32) (sym closed_table) (orders_fit names begun body s fresh l room)
 
-  pub closed_built : (built : Built) → IsBuilt (closed_off s) built → built ≡ built_of (closed_off s)
-  closed_built built b =
-      alone_built (closed_off s) finished.entry.block.1 built finished.apart (entry_block (closed_off s) finished (λ symbol. None)) (found_leaves (closed_off s) finished (closed_off s).entry finished.entry.block.1 (entry_block (closed_off s) finished (λ symbol. None))).0
+  pub closed_built : (built : Graph) (env : Environment) → IsBuilt (closed_off s) built env → built ≡ built_of (closed_off s)
+  closed_built built env b =
+      alone_built (closed_off s) finished.entry.block.1 built env finished.apart (entry_block (closed_off s) finished (λ symbol. None)) (found_leaves (closed_off s) finished (closed_off s).entry finished.entry.block.1 (entry_block (closed_off s) finished (λ symbol. None))).0
       (found_holds (λ (p : BlockPair). p.1.preds ≡ []) (closed_off s).completed (closed_off s).entry finished.entry.block.1
       (closed_listed names begun body s fresh l).predecessors (entry_block (closed_off s) finished (λ symbol. None))).1 b
+
+  -- No block makes a function, so none is refused.
+  pub closed_env : (built : Graph) (env : Environment) → IsBuilt (closed_off s) built env → env ≡ (closed_off s).env
+  closed_env built env b =
+      b.refused
+      ∙ ap (λ (said : List Diagnostic). record (closed_off s).env { diagnostics = (closed_off s).env.diagnostics ++ said })
+      (none_refused (closed_off s).table b.pruned.ordered (closed_listed names begun body s fresh l).no_functions (graph_of (closed_off s)))
+      ∙ ap (λ (said : List Diagnostic). record (closed_off s).env { diagnostics = said }) (append-nil (closed_off s).env.diagnostics)

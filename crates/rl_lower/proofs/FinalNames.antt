@@ -1,5 +1,5 @@
 -- Identifiers that symbols get on the way, and those that they have in the end.
-use Rattle.std.proofs.Common.{◌≡◌, ℕ, zero, suc, ◌+◌, ◌<◌, ◌≤◌, ◌⊎◌, inl, inr, ◌++◌, Bool, true, false, cond, nat_eq, List, [], ◌∷◌, length, map, slice_get, Option, Some, None, refl, sym, ap, ◌∙◌, subst, arith, eq-eqb}
+use Rattle.std.proofs.Common.{◌≡◌, ℕ, zero, suc, ◌<◌, ◌≤◌, ◌⊎◌, inl, inr, ◌++◌, Bool, true, false, cond, nat_eq, List, [], ◌∷◌, length, map, slice_get, Option, Some, None, refl, sym, ap, ◌∙◌, subst, arith, eq-eqb}
 use Rattle.std.proofs.lemmas.List.{map-append}
 use Rattle.std.proofs.lemmas.Option.{cond_some, none-some, same_Some}
 use Rattle.rl_base.proofs.DistinctLists.{IsIn, distinct_push}
@@ -11,8 +11,9 @@ use Rattle.rl_hir.specs.declared.function.IdentifierName.TheVariants as names
 use Rattle.rl_hir.specs.declared.function.Pair.{Pair}
 use Rattle.rl_builder.specs.Builder.{State}
 use Rattle.rl_builder.specs.Names.{NamesAgree, resolved, resolved_by}
-use Rattle.rl_builder.specs.UsedName.{UsedName}
-use Rattle.rl_builder.proofs.NameLaws.{AreNamed-append, identifier_of-append_none, identifier_of-append_some, name_of-injective, name_of-within}
+use Rattle.rl_used_names.specs.UsedName.{UsedName}
+use Rattle.rl_builder.proofs.NameLaws.{name_of-injective}
+use Rattle.rl_used_names.proofs.NameLaws.{AreNamed-append, identifier_of-append_none, identifier_of-append_some, name_of-within}
 use Rattle.rl_lower.specs.Simulation.{AreSoundNames, CoversNames, GrowsNames, HasSoundNames, Nobody}
 
 -- Names that grow.
@@ -88,9 +89,9 @@ same_more bindings pairs p same symbol None is =
 same_more bindings pairs p same symbol (Some identifier) is =
     identifier_of-append_some bindings (p ∷ []) symbol identifier is ∙ sym (identifier_of-append_some pairs (p ∷ []) symbol identifier (sym (same symbol) ∙ is))
 
-sound_by : (known : Option ℕ) (s : State) (name : List ℕ) (symbol : ℕ) (declaration : Span) → identifier_of s.bindings symbol ≡ known
-    → (NamesAgree s → NamesAgree (resolved_by known s name symbol declaration)) → HasSoundNames s → HasSoundNames (resolved_by known s name symbol declaration)
-sound_by None s name symbol declaration none agrees q =
+sound_by : (known : Option ℕ) (s : State) (name : List ℕ) (symbol : ℕ) (given : Option Span) → identifier_of s.bindings symbol ≡ known
+    → (NamesAgree s → NamesAgree (resolved_by known s name symbol given)) → HasSoundNames s → HasSoundNames (resolved_by known s name symbol given)
+sound_by None s name symbol given none agrees q =
     let p : Pair = pair symbol (length s.env.identifiers) in
     record {
       agree = agrees q.agree;
@@ -98,11 +99,11 @@ sound_by None s name symbol declaration none agrees q =
       once = subst (λ (symbols : List ℕ). AreDistinct symbols) (sym (map-append (λ (x : Pair). x.symbol.0) s.env.pairs (p ∷ [])))
           (distinct_push (map (λ (x : Pair). x.symbol.0) s.env.pairs) symbol q.once (unpaired s.env.pairs symbol (sym (q.same symbol) ∙ none)));
     }
-sound_by (Some known) s name symbol declaration is agrees q = record { agree = agrees q.agree; same = q.same; once = q.once }
+sound_by (Some known) s name symbol given is agrees q = record { agree = agrees q.agree; same = q.same; once = q.once }
 
-pub sound_resolved : (s : State) (name : List ℕ) (symbol : ℕ) (declaration : Span) → (NamesAgree s → NamesAgree (resolved s name symbol declaration))
-    → HasSoundNames s → HasSoundNames (resolved s name symbol declaration)
-sound_resolved s name symbol declaration agrees q = sound_by (identifier_of s.bindings symbol) s name symbol declaration refl agrees q
+pub sound_resolved : (s : State) (name : List ℕ) (symbol : ℕ) (given : Option Span) → (NamesAgree s → NamesAgree (resolved s name symbol given))
+    → HasSoundNames s → HasSoundNames (resolved s name symbol given)
+sound_resolved s name symbol given agrees q = sound_by (identifier_of s.bindings symbol) s name symbol given refl agrees q
 
 fresh_last : (pairs : List Pair) (made symbol : ℕ) (other identifier : ℕ) (said : Option ℕ) → identifier_of pairs other ≡ said
     → identifier_of (pairs ++ pair symbol made ∷ []) other ≡ Some identifier → (identifier_of pairs other ≡ Some identifier) ⊎ (made ≤ identifier)
@@ -112,14 +113,14 @@ fresh_last pairs made symbol other identifier None none is =
 fresh_last pairs made symbol other identifier (Some old) said is =
     inl (said ∙ sym (identifier_of-append_some pairs (pair symbol made ∷ []) other old said) ∙ is)
 
-names_by : (known : Option ℕ) (s : State) (name : List ℕ) (symbol : ℕ) (declaration : Span)
-    → GrowsNames s.env.pairs (length s.env.identifiers) (resolved_by known s name symbol declaration).env.pairs
-names_by None s name symbol declaration = record {
+names_by : (known : Option ℕ) (s : State) (name : List ℕ) (symbol : ℕ) (given : Option Span)
+    → GrowsNames s.env.pairs (length s.env.identifiers) (resolved_by known s name symbol given).env.pairs
+names_by None s name symbol given = record {
   kept = λ other identifier is. identifier_of-append_some s.env.pairs (pair symbol (length s.env.identifiers) ∷ []) other identifier is;
   fresh = λ other identifier is. fresh_last s.env.pairs (length s.env.identifiers) symbol other identifier (identifier_of s.env.pairs other) refl is;
 }
-names_by (Some known) s name symbol declaration = names_refl s.env.pairs (length s.env.identifiers)
+names_by (Some known) s name symbol given = names_refl s.env.pairs (length s.env.identifiers)
 
-pub names_resolved : (s : State) (name : List ℕ) (symbol : ℕ) (declaration : Span)
-    → GrowsNames s.env.pairs (length s.env.identifiers) (resolved s name symbol declaration).env.pairs
-names_resolved s name symbol declaration = names_by (identifier_of s.bindings symbol) s name symbol declaration
+pub names_resolved : (s : State) (name : List ℕ) (symbol : ℕ) (given : Option Span)
+    → GrowsNames s.env.pairs (length s.env.identifiers) (resolved s name symbol given).env.pairs
+names_resolved s name symbol given = names_by (identifier_of s.bindings symbol) s name symbol given

@@ -1,11 +1,10 @@
 -- The graph of a function (`IsGraphOf`): its traces, size, calls, identifiers and fields, from the lowering of its body.
-use Rattle.std.proofs.Common.{◌≡◌, ℕ, ◌+◌, ◌*◌, ◌<◌, ◌≤◌, ◌^◌, ◌++◌, Bool, true, false, cond, List, [], ◌∷◌, All, map, filter, length, length-append, slice_get, Option, Some, None, refl, sym, ap, ◌∙◌, subst, arith, append-nil, append_assoc, eq-eqb}
+use Rattle.std.proofs.Common.{◌≡◌, ℕ, ◌+◌, ◌*◌, ◌<◌, ◌≤◌, ◌^◌, ◌++◌, Bool, true, false, cond, List, [], ◌∷◌, All, map, filter, length, length-append, slice_get, Option, Some, refl, sym, ap, ◌∙◌, subst, arith, append-nil, append_assoc, eq-eqb}
 use Rattle.rl_base.specs.declared.diagnostic.Diagnostic.{Diagnostic}
 use Rattle.rl_base.specs.declared.span.Span.{Span}
 use Rattle.rl_syntax.specs.declared.word.Word.TheVariants as word
 use Rattle.rl_syntax.specs.Syntax.{Syntax, Node, Listed, End, Then, nodes}
 use Rattle.rl_hir.specs.declared.environment.Environment.{Environment}
-use Rattle.rl_hir.specs.declared.function.BlockKind.TheVariants as kinds
 use Rattle.rl_hir.specs.declared.function.HirFunction.{HirFunction}
 use Rattle.rl_hir.specs.Pairs.{identifier_of}
 use Rattle.rl_hir.specs.Blocks.{Pair as BlockPair}
@@ -13,10 +12,10 @@ use Rattle.rl_hir.specs.declared.function.Pair.{Pair}
 use Rattle.rl_hir.specs.declared.function.Param.{Param}
 use Rattle.rl_hir.specs.declared.terminal.ReturnVariant.TheVariants as returns
 use Rattle.rl_hir.specs.declared.instruction.Instruction.{Instruction}
-use Rattle.rl_builder.specs.Builder.{State, one_identifier_more, started, with_temporary}
+use Rattle.rl_builder.specs.Builder.{State, one_identifier_more, with_temporary}
 use Rattle.rl_order.specs.Numbering.{ordered_blocks, ordered_table, order_after}
 use Rattle.rl_lower.specs.Reachable.{entry_blocks}
-use Rattle.rl_builder.specs.declared.builder.Built.{Built}
+use Rattle.rl_machine.specs.Machine.{Graph}
 use Rattle.rl_names.specs.Names.{Names}
 use Rattle.rl_names.specs.declared.parameters.Parameter.{Parameter}
 use Rattle.rl_names.specs.Functions.{params_in, parameters_of}
@@ -37,8 +36,10 @@ use Rattle.rl_machine.specs.Traces.{Store, ValueCont, returned, threw, unset, wa
 use Rattle.rl_model.specs.Meanings.{set_all}
 use Rattle.rl_base.specs.declared.ids.BlockId.{BlockId}
 use Rattle.rl_hir.specs.declared.function.Hir.{Hir}
-use Rattle.rl_lower.specs.Endings.{closed_off, with_undefined, IsGraphOf}
+use Rattle.rl_lower.specs.Begun.{Tables, begun_by}
+use Rattle.rl_lower.specs.Endings.{closed_off, with_undefined, IsGraphOf, hir_of}
 use Rattle.rl_lower.specs.Listed.{IsListed}
+use Rattle.rl_lower.specs.Named.{AreDeclaredAt}
 use Rattle.rl_lower.specs.Reachable.{entry_calls, is_reachable, where_reachable}
 use Rattle.rl_lower.proofs.Reachable.{completed_calls, graph_plain, adds_value, none_where}
 use Rattle.rl_lower.specs.Lowering.{HasRoom, Preserves, LowersBody, exec_before_end}
@@ -53,7 +54,7 @@ use Rattle.rl_lower.proofs.GivenNames.{pairs_told, parameters_kept, parameters_p
 use Rattle.rl_lower.proofs.Graphs.{without_order, ordered_table_plain}
 use Rattle.rl_lower.proofs.Keeping.{keeps_named, keeps_then, named_pairs, room_less}
 use Rattle.rl_lower.proofs.Moves.{extends_temporary, extends_then}
-use Rattle.rl_lower.proofs.Parameters.{known_from, known_length, pair_found, parameters_given, state_with}
+use Rattle.rl_lower.proofs.Parameters.{known_from, known_length, pair_found, parameters_given, said_from, said_told, state_with}
 use Rattle.rl_lower.proofs.StartStores.{agrees_start, agrees_taken}
 use Rattle.rl_lower.proofs.Alone.{built_of}
 use Rattle.rl_lower.proofs.Builds.{closed_built, closed_table}
@@ -64,23 +65,23 @@ use Rattle.rl_lower.proofs.Finished.{finished_may_order}
 
 -- The builder behind the parameters.
 
-pub begun_fresh : (env : Environment) (parameters : List Parameter) → IsFresh (state_with (started env kinds.Block) parameters)
-begun_fresh env parameters = record { completed = refl; instructions = refl; table = refl; entry = refl; below = omega arith }
+pub begun_fresh : (env : Environment) (tables : Tables) (parameters : List Parameter) → IsFresh (state_with (begun_by env tables) parameters)
+begun_fresh env tables parameters = record { completed = refl; instructions = refl; table = refl; entry = refl; below = omega arith }
 
-pub begun_is : (env : Environment) (parameters : List Parameter) → AreApart parameters
-    → with_parameters (started env kinds.Block) parameters ≡ state_with (started env kinds.Block) parameters
-begun_is env parameters distinct = parameters_given (started env kinds.Block) parameters refl refl distinct
+pub begun_is : (env : Environment) (tables : Tables) (parameters : List Parameter) → AreApart parameters
+    → with_parameters (begun_by env tables) parameters ≡ state_with (begun_by env tables) parameters
+begun_is env tables parameters distinct = parameters_given (begun_by env tables) parameters refl refl distinct
 
-pub begun_call : (env : Environment) (parameters : List Parameter) (s0 begun : State) → AreApart parameters
-    → s0 ≡ started env kinds.Block → begun ≡ with_parameters s0 parameters → begun ≡ state_with (started env kinds.Block) parameters
-begun_call env parameters s0 begun distinct is moved =
-    moved ∙ ap (λ (s : State). with_parameters s parameters) is ∙ begun_is env parameters distinct
+pub begun_call : (env : Environment) (tables : Tables) (parameters : List Parameter) (s0 begun : State) → AreApart parameters
+    → s0 ≡ begun_by env tables → begun ≡ with_parameters s0 parameters → begun ≡ state_with (begun_by env tables) parameters
+begun_call env tables parameters s0 begun distinct is moved =
+    moved ∙ ap (λ (s : State). with_parameters s parameters) is ∙ begun_is env tables parameters distinct
 
 -- The room that is left behind them.
-pub begun_room : (env : Environment) (parameters : List Parameter) (more : ℕ)
-    → HasRoom (started env kinds.Block) (more + length parameters) → HasRoom (state_with (started env kinds.Block) parameters) more
-begun_room env parameters more room =
-    let given : length (env.identifiers ++ known_from env.next_type parameters) ≡ length env.identifiers + length parameters = length-append env.identifiers (known_from env.next_type parameters) ∙ ap (λ (n : ℕ). length env.identifiers + n) (known_length env.next_type parameters) in
+pub begun_room : (env : Environment) (tables : Tables) (parameters : List Parameter) (more : ℕ)
+    → HasRoom (begun_by env tables) (more + length parameters) → HasRoom (state_with (begun_by env tables) parameters) more
+begun_room env tables parameters more room =
+    let given : length (env.identifiers ++ known_from (begun_by env tables) env.next_type parameters) ≡ length env.identifiers + length parameters = length-append env.identifiers (known_from (begun_by env tables) env.next_type parameters) ∙ ap (λ (n : ℕ). length env.identifiers + n) (known_length (begun_by env tables) env.next_type parameters) in
     record {
       blocks = omega (arith, room.blocks);
       types = omega (arith, room.types);
@@ -89,84 +90,85 @@ begun_room env parameters more room =
       completed = omega (arith, room.completed);
     }
 
-pub lowered_from : (names : Names) (parameters : List Parameter) (body : Syntax) (env new : Environment) (params : List Param) (built : Built)
-    (g : IsGraphOf names parameters body env new params built) → AreApart parameters
-    → LowersBody names body (state_with (started env kinds.Block) parameters) g.state
-lowered_from names parameters body env new params built g distinct =
-    subst (λ (o : State). LowersBody names body o g.state) (begun_is env parameters distinct) g.lowers
+pub lowered_from : (names : Names) (tables : Tables) (parameters : List Parameter) (body : Syntax) (env new : Environment) (params : List Param) (built : Graph)
+    (g : IsGraphOf names tables parameters body env new params built) → AreApart parameters
+    → LowersBody names body (state_with (begun_by env tables) parameters) g.state
+lowered_from names tables parameters body env new params built g distinct =
+    subst (λ (o : State). LowersBody names body o g.state) (begun_is env tables parameters distinct) g.lowers
 
 -- The graph is the entry block alone.
-pub graph_is : (names : Names) (parameters : List Parameter) (body : Syntax) (env new : Environment) (params : List Param) (built : Built)
-    (g : IsGraphOf names parameters body env new params built) → AreApart parameters → built ≡ built_of (closed_off g.state)
-graph_is names parameters body env new params built g distinct =
-    closed_built names (state_with (started env kinds.Block) parameters) body g.state (begun_fresh env parameters)
-    (lowered_from names parameters body env new params built g distinct) built g.graph
+pub graph_is : (names : Names) (tables : Tables) (parameters : List Parameter) (body : Syntax) (env new : Environment) (params : List Param) (built : Graph)
+    (g : IsGraphOf names tables parameters body env new params built) → AreApart parameters → built ≡ built_of (closed_off g.state)
+graph_is names tables parameters body env new params built g distinct =
+    closed_built names (state_with (begun_by env tables) parameters) body g.state (begun_fresh env tables parameters)
+    (lowered_from names tables parameters body env new params built g distinct) built new g.graph
 
 -- The state behind the graph.
-graph_keeps : (names : Names) (parameters : List Parameter) (body : Syntax) (env new : Environment) (params : List Param) (built : Built)
-    (g : IsGraphOf names parameters body env new params built) → AreApart parameters
-    → Preserves names (state_with (started env kinds.Block) parameters) (closed_off g.state) (4 * (nodes body + 1) + 2)
-graph_keeps names parameters body env new params built g distinct =
-    keeps_then (state_with (started env kinds.Block) parameters) g.state (closed_off g.state) (4 * (nodes body + 1)) 2 (lowered_from names parameters body env new params built g distinct).keeps (keeps_closed g.state)
+graph_keeps : (names : Names) (tables : Tables) (parameters : List Parameter) (body : Syntax) (env new : Environment) (params : List Param) (built : Graph)
+    (g : IsGraphOf names tables parameters body env new params built) → AreApart parameters
+    → Preserves names (state_with (begun_by env tables) parameters) (closed_off g.state) (4 * (nodes body + 1) + 2)
+graph_keeps names tables parameters body env new params built g distinct =
+    keeps_then (state_with (begun_by env tables) parameters) g.state (closed_off g.state) (4 * (nodes body + 1)) 2 (lowered_from names tables parameters body env new params built g distinct).keeps (keeps_closed g.state)
 
-graph_extends : (names : Names) (parameters : List Parameter) (body : Syntax) (env new : Environment) (params : List Param) (built : Built)
-    (g : IsGraphOf names parameters body env new params built) → AreApart parameters
-    → Extends (state_with (started env kinds.Block) parameters) (closed_off g.state)
-graph_extends names parameters body env new params built g distinct =
-    extends_then (state_with (started env kinds.Block) parameters) g.state (closed_off g.state) (lowered_from names parameters body env new params built g distinct).blocks.extends (extends_closed g.state)
+graph_extends : (names : Names) (tables : Tables) (parameters : List Parameter) (body : Syntax) (env new : Environment) (params : List Param) (built : Graph)
+    (g : IsGraphOf names tables parameters body env new params built) → AreApart parameters
+    → Extends (state_with (begun_by env tables) parameters) (closed_off g.state)
+graph_extends names tables parameters body env new params built g distinct =
+    extends_then (state_with (begun_by env tables) parameters) g.state (closed_off g.state) (lowered_from names tables parameters body env new params built g distinct).blocks.extends (extends_closed g.state)
 
 -- Names are sound, where the environment had no pairs before.
-graph_names : (names : Names) (parameters : List Parameter) (body : Syntax) (env new : Environment) (params : List Param) (built : Built)
-    (g : IsGraphOf names parameters body env new params built) → AreApart parameters → env.pairs ≡ [] → HasSoundNames (closed_off g.state)
-graph_names names parameters body env new params built g distinct none =
-    (graph_extends names parameters body env new params built g distinct).sound (parameters_sound (started env kinds.Block) parameters none distinct)
+graph_names : (names : Names) (tables : Tables) (parameters : List Parameter) (body : Syntax) (env new : Environment) (params : List Param) (built : Graph)
+    (g : IsGraphOf names tables parameters body env new params built) → AreApart parameters → env.pairs ≡ [] → HasSoundNames (closed_off g.state)
+graph_names names tables parameters body env new params built g distinct none =
+    (graph_extends names tables parameters body env new params built g distinct).sound (parameters_sound (begun_by env tables) parameters none distinct)
 
-pub identifiers_fit : (names : Names) (parameters : List Parameter) (body : Syntax) (env new : Environment) (params : List Param) (built : Built)
-    → IsGraphOf names parameters body env new params built → AreApart parameters
-    → HasRoom (started env kinds.Block) (4 * (nodes body + 2) + length parameters) → length new.identifiers < 2 ^ 32
-identifiers_fit names parameters body env new params built g distinct room =
-    let keeps = graph_keeps names parameters body env new params built g distinct in
-    let given : length (env.identifiers ++ known_from env.next_type parameters) ≡ length env.identifiers + length parameters = length-append env.identifiers (known_from env.next_type parameters) ∙ ap (λ (n : ℕ). length env.identifiers + n) (known_length env.next_type parameters) in
-    let used : length (closed_off g.state).env.identifiers ≤ length (env.identifiers ++ known_from env.next_type parameters) + (4 * (nodes body + 1) + 2) = keeps.uses.identifiers in
+pub identifiers_fit : (names : Names) (tables : Tables) (parameters : List Parameter) (body : Syntax) (env new : Environment) (params : List Param) (built : Graph)
+    → IsGraphOf names tables parameters body env new params built → AreApart parameters
+    → HasRoom (begun_by env tables) (4 * (nodes body + 2) + length parameters) → length new.identifiers < 2 ^ 32
+identifiers_fit names tables parameters body env new params built g distinct room =
+    let keeps = graph_keeps names tables parameters body env new params built g distinct in
+    let given : length (env.identifiers ++ known_from (begun_by env tables) env.next_type parameters) ≡ length env.identifiers + length parameters = length-append env.identifiers (known_from (begun_by env tables) env.next_type parameters) ∙ ap (λ (n : ℕ). length env.identifiers + n) (known_length (begun_by env tables) env.next_type parameters) in
+    let used : length (closed_off g.state).env.identifiers ≤ length (env.identifiers ++ known_from (begun_by env tables) env.next_type parameters) + (4 * (nodes body + 1) + 2) = keeps.uses.identifiers in
     let free : length env.identifiers + (4 * (nodes body + 2) + length parameters) < 2 ^ 31 = room.identifiers in
     let same : length new.identifiers ≡ length (closed_off g.state).env.identifiers = ap (λ (e : Environment). length e.identifiers) g.after in
     omega (arith, given, used, free, same)
 
-pub types_fit : (names : Names) (parameters : List Parameter) (body : Syntax) (env new : Environment) (params : List Param) (built : Built)
-    → IsGraphOf names parameters body env new params built → AreApart parameters
-    → HasRoom (started env kinds.Block) (4 * (nodes body + 2) + length parameters) → new.next_type + 1 < 2 ^ 32
-types_fit names parameters body env new params built g distinct room =
-    let keeps = graph_keeps names parameters body env new params built g distinct in
+pub types_fit : (names : Names) (tables : Tables) (parameters : List Parameter) (body : Syntax) (env new : Environment) (params : List Param) (built : Graph)
+    → IsGraphOf names tables parameters body env new params built → AreApart parameters
+    → HasRoom (begun_by env tables) (4 * (nodes body + 2) + length parameters) → new.next_type + 1 < 2 ^ 32
+types_fit names tables parameters body env new params built g distinct room =
+    let keeps = graph_keeps names tables parameters body env new params built g distinct in
     let used : (closed_off g.state).env.next_type ≤ env.next_type + length parameters + (4 * (nodes body + 1) + 2) = keeps.uses.types in
     let free : env.next_type + (4 * (nodes body + 2) + length parameters) < 2 ^ 31 = room.types in
     let same : new.next_type ≡ (closed_off g.state).env.next_type = ap (λ (e : Environment). e.next_type) g.after in
     omega (arith, used, free, same)
 
-pub graph_refused : (names : Names) (parameters : List Parameter) (body : Syntax) (env new : Environment) (params : List Param) (built : Built)
-    → IsGraphOf names parameters body env new params built → AreApart parameters
-    → new.diagnostics ≡ env.diagnostics ++ (said_of_parameters parameters ++ refusals names body)
-graph_refused names parameters body env new params built g distinct =
-    ap (λ (e : Environment). e.diagnostics) g.after ∙ (lowered_from names parameters body env new params built g distinct).refused ∙ append_assoc env.diagnostics (said_of_parameters parameters) (refusals names body)
+pub graph_refused : (names : Names) (tables : Tables) (parameters : List Parameter) (body : Syntax) (env new : Environment) (params : List Param) (built : Graph)
+    → IsGraphOf names tables parameters body env new params built → AreApart parameters
+    → new.diagnostics ≡ env.diagnostics ++ (said_of_parameters names parameters ++ refusals names body)
+graph_refused names tables parameters body env new params built g distinct =
+    ap (λ (e : Environment). e.diagnostics) g.after ∙ (lowered_from names tables parameters body env new params built g distinct).refused ∙ append_assoc env.diagnostics (said_from (begun_by env tables) parameters) (refusals names body)
+    ∙ ap (λ (l : List Diagnostic). env.diagnostics ++ (l ++ refusals names body)) (said_told names (begun_by env tables) parameters g.declared)
 
 -- No completed block has a predecessor.
-graph_unlinked : (names : Names) (parameters : List Parameter) (body : Syntax) (env new : Environment) (params : List Param) (built : Built)
-    (g : IsGraphOf names parameters body env new params built) → AreApart parameters → All (λ p. p.1.preds ≡ []) (closed_off g.state).completed
-graph_unlinked names parameters body env new params built g distinct =
-    (closed_listed names (state_with (started env kinds.Block) parameters) body g.state (begun_fresh env parameters) (lowered_from names parameters body env new params built g distinct)).predecessors
+graph_unlinked : (names : Names) (tables : Tables) (parameters : List Parameter) (body : Syntax) (env new : Environment) (params : List Param) (built : Graph)
+    (g : IsGraphOf names tables parameters body env new params built) → AreApart parameters → All (λ p. p.1.preds ≡ []) (closed_off g.state).completed
+graph_unlinked names tables parameters body env new params built g distinct =
+    (closed_listed names (state_with (begun_by env tables) parameters) body g.state (begun_fresh env tables parameters) (lowered_from names tables parameters body env new params built g distinct)).predecessors
 
-graph_table : (names : Names) (parameters : List Parameter) (body : Syntax) (env new : Environment) (params : List Param) (built : Built)
-    (g : IsGraphOf names parameters body env new params built) → AreApart parameters → graph_of (closed_off g.state) ≡ (closed_off g.state).completed
-graph_table names parameters body env new params built g distinct =
-    closed_table names (state_with (started env kinds.Block) parameters) body g.state (begun_fresh env parameters) (lowered_from names parameters body env new params built g distinct)
+graph_table : (names : Names) (tables : Tables) (parameters : List Parameter) (body : Syntax) (env new : Environment) (params : List Param) (built : Graph)
+    (g : IsGraphOf names tables parameters body env new params built) → AreApart parameters → graph_of (closed_off g.state) ≡ (closed_off g.state).completed
+graph_table names tables parameters body env new params built g distinct =
+    closed_table names (state_with (begun_by env tables) parameters) body g.state (begun_fresh env tables parameters) (lowered_from names tables parameters body env new params built g distinct)
 
-pub graph_closed : (names : Names) (parameters : List Parameter) (body : Syntax) (env new : Environment) (params : List Param) (built : Built)
-    → IsGraphOf names parameters body env new params built → AreApart parameters → IsClosed built.hir
-graph_closed names parameters body env new params built g distinct =
+pub graph_closed : (names : Names) (tables : Tables) (parameters : List Parameter) (body : Syntax) (env new : Environment) (params : List Param) (built : Graph)
+    → IsGraphOf names tables parameters body env new params built → AreApart parameters → IsClosed (hir_of built)
+graph_closed names tables parameters body env new params built g distinct =
     let last : State = closed_off g.state in
     g.graph.closed
-    (subst (λ (blocks : List BlockPair). MayOrder (record { blocks = blocks; table = last.table; entry = last.entry })) (sym (graph_table names parameters body env new params built g distinct))
-    (finished_may_order last (function_finished (state_with (started env kinds.Block) parameters) g.state (begun_fresh env parameters) (lowered_from names parameters body env new params built g distinct).blocks)
-    (graph_unlinked names parameters body env new params built g distinct)))
+    (subst (λ (blocks : List BlockPair). MayOrder (record { blocks = blocks; table = last.table; entry = last.entry })) (sym (graph_table names tables parameters body env new params built g distinct))
+    (finished_may_order last (function_finished (state_with (begun_by env tables) parameters) g.state (begun_fresh env tables parameters) (lowered_from names tables parameters body env new params built g distinct).blocks)
+    (graph_unlinked names tables parameters body env new params built g distinct)))
 
 -- `exec_body` is the meaning of the body before its end, continued by a return of Undefined.
 body_means : (names : Names) (b : Syntax) (store : Store) (answers : List Answer) (throws : ValueCont)
@@ -206,16 +208,16 @@ fewer p (x ∷ xs) = by_test (fewer p xs) (p x)
     by_test rest true = omega (arith, rest)
     by_test rest false = omega (arith, rest)
 
-pub graph_bounded : (names : Names) (parameters : List Parameter) (body : Syntax) (env new : Environment) (params : List Param) (built : Built)
-    → IsGraphOf names parameters body env new params built → AreApart parameters → (f : HirFunction (List BlockPair)) (count : ℕ)
-    → f.body ≡ built.hir → f.instructions ≡ built.instructions → nodes body + 2 ≤ count → function_size f ≤ 64 * count
-graph_bounded names parameters body env new params built g distinct f count body_is instructions_is counted =
-    let keeps = graph_keeps names parameters body env new params built g distinct in
+pub graph_bounded : (names : Names) (tables : Tables) (parameters : List Parameter) (body : Syntax) (env new : Environment) (params : List Param) (built : Graph)
+    → IsGraphOf names tables parameters body env new params built → AreApart parameters → (f : HirFunction (List BlockPair)) (count : ℕ)
+    → f.body ≡ hir_of built → f.instructions ≡ built.table → nodes body + 2 ≤ count → function_size f ≤ 64 * count
+graph_bounded names tables parameters body env new params built g distinct f count body_is instructions_is counted =
+    let keeps = graph_keeps names tables parameters body env new params built g distinct in
     let s : State = closed_off g.state in
     let table : length s.table ≤ 0 + (4 * (nodes body + 1) + 2) = keeps.uses.instructions in
     let blocks : length s.completed ≤ 0 + (4 * (nodes body + 1) + 2) = keeps.uses.completed in
-    let instructions : length f.instructions ≡ length s.table = ap (λ (l : List Instruction). length l) (instructions_is ∙ ap (λ (b : Built). b.instructions) (graph_is names parameters body env new params built g distinct)) ∙ table_length (entry_blocks s.entry s.completed) s.table in
-    let listed : length f.body.blocks ≡ length (entry_blocks s.entry s.completed) = ap (λ (h : Hir (List BlockPair)). length h.blocks) (body_is ∙ ap (λ (b : Built). b.hir) (graph_is names parameters body env new params built g distinct)) ∙ blocks_length 1 (entry_blocks s.entry s.completed) in
+    let instructions : length f.instructions ≡ length s.table = ap (λ (l : List Instruction). length l) (instructions_is ∙ ap (λ (b : Graph). b.table) (graph_is names tables parameters body env new params built g distinct)) ∙ table_length (entry_blocks s.entry s.completed) s.table in
+    let listed : length f.body.blocks ≡ length (entry_blocks s.entry s.completed) = ap (λ (h : Hir (List BlockPair)). length h.blocks) (body_is ∙ ap hir_of (graph_is names tables parameters body env new params built g distinct)) ∙ blocks_length 1 (entry_blocks s.entry s.completed) in
     let kept : length (entry_blocks s.entry s.completed) ≤ length s.completed = fewer _ s.completed in
     omega (arith, table, instructions, blocks, listed, kept, counted)
 
@@ -225,29 +227,29 @@ calls_plain : (xs : List Instruction) → calls_of (map without_order xs) ≡ ca
 calls_plain [] = refl
 calls_plain (x ∷ xs) = ap (λ (l : List (Option Span)). call_at x ++ l) (calls_plain xs)
 
-pub graph_calls_held : (names : Names) (parameters : List Parameter) (body : Syntax) (env new : Environment) (params : List Param) (built : Built)
-    → IsGraphOf names parameters body env new params built → AreApart parameters → (f : HirFunction (List BlockPair))
-    → f.instructions ≡ built.instructions → calls_of f.instructions ≡ calls_in body
-graph_calls_held names parameters body env new params built g distinct f instructions_is =
+pub graph_calls_held : (names : Names) (tables : Tables) (parameters : List Parameter) (body : Syntax) (env new : Environment) (params : List Param) (built : Graph)
+    → IsGraphOf names tables parameters body env new params built → AreApart parameters → (f : HirFunction (List BlockPair))
+    → f.instructions ≡ built.table → calls_of f.instructions ≡ calls_in body
+graph_calls_held names tables parameters body env new params built g distinct f instructions_is =
     let s : State = closed_off g.state in
-    ap calls_of (instructions_is ∙ ap (λ (b : Built). b.instructions) (graph_is names parameters body env new params built g distinct))
+    ap calls_of (instructions_is ∙ ap (λ (b : Graph). b.table) (graph_is names tables parameters body env new params built g distinct))
     ∙ sym (calls_plain (ordered_table 1 (entry_blocks s.entry s.completed) s.table)) ∙ ap calls_of (ordered_table_plain 1 (entry_blocks s.entry s.completed) s.table) ∙ calls_plain s.table
-    ∙ Rattle.rl_lower.proofs.Calls.calls_same g.state.table _ refl ∙ (lowered_from names parameters body env new params built g distinct).calls
+    ∙ Rattle.rl_lower.proofs.Calls.calls_same g.state.table _ refl ∙ (lowered_from names tables parameters body env new params built g distinct).calls
 
 -- The calls that its blocks list.
-pub graph_blocks_held : (names : Names) (parameters : List Parameter) (body : Syntax) (env new : Environment) (params : List Param) (built : Built)
-    → IsGraphOf names parameters body env new params built → AreApart parameters → (f : HirFunction (List BlockPair)) → f.body ≡ built.hir
-    → f.instructions ≡ built.instructions → graph_calls f.instructions f.body.blocks ≡ live_in_body body
-graph_blocks_held names parameters body env new params built g distinct f body_is instructions_is =
+pub graph_blocks_held : (names : Names) (tables : Tables) (parameters : List Parameter) (body : Syntax) (env new : Environment) (params : List Param) (built : Graph)
+    → IsGraphOf names tables parameters body env new params built → AreApart parameters → (f : HirFunction (List BlockPair)) → f.body ≡ hir_of built
+    → f.instructions ≡ built.table → graph_calls f.instructions f.body.blocks ≡ live_in_body body
+graph_blocks_held names tables parameters body env new params built g distinct f body_is instructions_is =
     let s : State = closed_off g.state in
-    let begun : State = state_with (started env kinds.Block) parameters in
-    let lowered = lowered_from names parameters body env new params built g distinct in
+    let begun : State = state_with (begun_by env tables) parameters in
+    let lowered = lowered_from names tables parameters body env new params built g distinct in
     let below : begun.entry.0 < begun.env.next_block = omega arith in
-    let listed : IsListed begun = listed_fresh begun (begun_fresh env parameters) in
+    let listed : IsListed begun = listed_fresh begun (begun_fresh env tables parameters) in
     let later : g.state.entry.0 < g.state.env.next_block = (let same : g.state.entry.0 ≡ begun.entry.0 = ap (λ (b : BlockId). b.0) lowered.reachable.entry in omega (arith, same, lowered.reachable.counted)) in
     let stands : is_reachable begun ≡ true = eq-eqb env.next_block env.next_block refl in
-    ap (λ (t : List Instruction). graph_calls t f.body.blocks) (instructions_is ∙ ap (λ (b : Built). b.instructions) (graph_is names parameters body env new params built g distinct))
-    ∙ ap (λ (h : Hir (List BlockPair)). graph_calls (ordered_table 1 (entry_blocks s.entry s.completed) s.table) h.blocks) (body_is ∙ ap (λ (b : Built). b.hir) (graph_is names parameters body env new params built g distinct))
+    ap (λ (t : List Instruction). graph_calls t f.body.blocks) (instructions_is ∙ ap (λ (b : Graph). b.table) (graph_is names tables parameters body env new params built g distinct))
+    ∙ ap (λ (h : Hir (List BlockPair)). graph_calls (ordered_table 1 (entry_blocks s.entry s.completed) s.table) h.blocks) (body_is ∙ ap hir_of (graph_is names tables parameters body env new params built g distinct))
     ∙ graph_plain s.table (ordered_table 1 (entry_blocks s.entry s.completed) s.table) (entry_blocks s.entry s.completed) (ordered_table_plain 1 (entry_blocks s.entry s.completed) s.table) 1
     ∙ completed_calls (with_undefined g.state) _
     ∙ (adds_value g.state _ _).held (lowered.keeps.listed listed) later ∙ ap (λ (l : List (Option Span)). entry_calls g.state ++ l) (none_where (is_reachable g.state)) ∙ append-nil (entry_calls g.state)
@@ -263,7 +265,7 @@ nothing_twice (x ∷ xs) ys e = absurd (cc)
 
 body_supported : (names : Names) (f body : Syntax) → IsFunction f body → DeclaresAll names (params_in f) → refusals_of names f ≡ [] → refusals names body ≡ []
 body_supported names f body w declared none =
-    nothing_twice (said_of_parameters (parameters_of names f)) (refusals names body) (sym (function_refusals names f body w declared) ∙ none)
+    nothing_twice (said_of_parameters names (parameters_of names f)) (refusals names body) (sym (function_refusals names f body w declared) ∙ none)
 
 pub lower_room : (f body : Syntax) (names : Names) (parameters : List Parameter) (s : State) → IsFunction f body → parameters ≡ parameters_of names f
     → HasRoom s (4 * nodes f) → HasRoom s (4 * (nodes body + 2) + length parameters)
@@ -272,24 +274,24 @@ lower_room f body names parameters s w is room =
     let counted : nodes body + 2 + 2 * length (parameters_of names f) ≤ nodes f = function_nodes names f body w in
     room_less s (4 * nodes f) (4 * (nodes body + 2) + length parameters) (omega (arith, same, counted)) room
 
-pub lower_refused : (f body : Syntax) (names : Names) (parameters : List Parameter) (env new : Environment) (params : List Param) (built : Built)
+pub lower_refused : (f body : Syntax) (names : Names) (tables : Tables) (parameters : List Parameter) (env new : Environment) (params : List Param) (built : Graph)
     → IsFunction f body → DeclaresAll names (params_in f) → parameters ≡ parameters_of names f → AreApart parameters
-    → IsGraphOf names parameters body env new params built → new.diagnostics ≡ env.diagnostics ++ refusals_of names f
-lower_refused f body names parameters env new params built w declared is distinct g =
-    graph_refused names parameters body env new params built g distinct
-    ∙ ap (λ (l : List Parameter). env.diagnostics ++ (said_of_parameters l ++ refusals names body)) is
+    → IsGraphOf names tables parameters body env new params built → new.diagnostics ≡ env.diagnostics ++ refusals_of names f
+lower_refused f body names tables parameters env new params built w declared is distinct g =
+    graph_refused names tables parameters body env new params built g distinct
+    ∙ ap (λ (l : List Parameter). env.diagnostics ++ (said_of_parameters names l ++ refusals names body)) is
     ∙ ap (λ (l : List Diagnostic). env.diagnostics ++ l) (sym (function_refusals names f body w declared))
 
-lower_runs_by : (f body : Syntax) (names : Names) (parameters : List Parameter) (env new : Environment) (params : List Param) (built : Built)
+lower_runs_by : (f body : Syntax) (names : Names) (tables : Tables) (parameters : List Parameter) (env new : Environment) (params : List Param) (built : Graph)
     → IsFunction f body → DeclaresAll names (params_in f) → parameters ≡ parameters_of names f → AreApart parameters → env.pairs ≡ []
-    → IsGraphOf names parameters body env new params built → refusals_of names f ≡ []
-    → (h : HirFunction (List BlockPair)) (pairs : List Pair) → pairs ≡ new.pairs → h.body ≡ built.hir → h.instructions ≡ built.instructions → h.params ≡ params
+    → IsGraphOf names tables parameters body env new params built → refusals_of names f ≡ []
+    → (h : HirFunction (List BlockPair)) (pairs : List Pair) → pairs ≡ new.pairs → h.body ≡ hir_of built → h.instructions ≡ built.table → h.params ≡ params
     → (stuck : Trace) (start : List Assignment) (arguments : List Value) (answers : List Answer)
     → trace_by stuck h pairs start arguments answers ≡ source_trace names f start arguments answers
-lower_runs_by f body names given env new params built w declared is distinct none g supported h pairs final body_is instructions_is params_is =
-    function_runs_by begun graph.state (exec_before_end names body) (begun_fresh env parameters) sound
+lower_runs_by f body names tables given env new params built w declared is distinct none g supported h pairs final body_is instructions_is params_is =
+    function_runs_by begun graph.state (exec_before_end names body) (begun_fresh env tables parameters) sound
     lowered.blocks (lowered.runs (body_supported names f body w declared supported)) h pairs covers names f
-    built graph.graph (graph_table names parameters body env new params built graph apart) (graph_unlinked names parameters body env new params built graph apart) body_is instructions_is
+    built new graph.graph (graph_table names tables parameters body env new params built graph apart) (graph_unlinked names tables parameters body env new params built graph apart) body_is instructions_is
     (λ start arguments. take parameters arguments (set_all start unset))
     (λ start arguments. subst (λ (ps : List Param). Agrees ident (take parameters arguments (set_all start unset))
     (take_arguments ps arguments (start_values pairs start))) (sym (params_is ∙ graph.places))
@@ -304,16 +306,16 @@ lower_runs_by f body names given env new params built w declared is distinct non
     apart = subst AreApart is distinct
 
     begun : State
-    begun = state_with (started env kinds.Block) parameters
+    begun = state_with (begun_by env tables) parameters
 
-    graph : IsGraphOf names parameters body env new params built
-    graph = subst (λ (l : List Parameter). IsGraphOf names l body env new params built) is g
+    graph : IsGraphOf names tables parameters body env new params built
+    graph = subst (λ (l : List Parameter). IsGraphOf names tables l body env new params built) is g
 
     lowered : LowersBody names body begun graph.state
-    lowered = lowered_from names parameters body env new params built graph apart
+    lowered = lowered_from names tables parameters body env new params built graph apart
 
     sound : HasSoundNames begun
-    sound = parameters_sound (started env kinds.Block) parameters none apart
+    sound = parameters_sound (begun_by env tables) parameters none apart
 
     ident : ℕ → Option ℕ
     ident symbol = identifier_of pairs symbol
@@ -322,75 +324,75 @@ lower_runs_by f body names given env new params built w declared is distinct non
     covers =
         subst (λ (l : List Pair). CoversNames (closed_off graph.state).env.pairs (length (closed_off graph.state).env.identifiers) (λ symbol. identifier_of l symbol))
         (sym (final ∙ ap (λ (e : Environment). e.pairs) graph.after))
-        (sound_covers (closed_off graph.state) (graph_names names parameters body env new params built graph apart none))
+        (sound_covers (closed_off graph.state) (graph_names names tables parameters body env new params built graph apart none))
 
     -- A parameter has its identifier in the end.
     given_so : (place : ℕ) (p : Parameter) → slice_get parameters place ≡ Some p → ident p.symbol.0 ≡ Some (length env.identifiers + place)
     given_so place p there =
         covers.kept p.symbol.0 (length env.identifiers + place)
-        ((graph_extends names parameters body env new params built graph apart).names.kept p.symbol.0 (length env.identifiers + place)
+        ((graph_extends names tables parameters body env new params built graph apart).names.kept p.symbol.0 (length env.identifiers + place)
         (sym (sound.same p.symbol.0) ∙ pair_found (length env.identifiers) parameters place p apart there))
 
-pub lower_same_runs : (f body : Syntax) (names : Names) (parameters : List Parameter) (env new : Environment) (params : List Param) (built : Built)
+pub lower_same_runs : (f body : Syntax) (names : Names) (tables : Tables) (parameters : List Parameter) (env new : Environment) (params : List Param) (built : Graph)
     → IsFunction f body → DeclaresAll names (params_in f) → parameters ≡ parameters_of names f → AreApart parameters → env.pairs ≡ []
-    → IsGraphOf names parameters body env new params built → refusals_of names f ≡ []
-    → (h : HirFunction (List BlockPair)) (pairs : List Pair) → pairs ≡ new.pairs → h.body ≡ built.hir → h.instructions ≡ built.instructions → h.params ≡ params
+    → IsGraphOf names tables parameters body env new params built → refusals_of names f ≡ []
+    → (h : HirFunction (List BlockPair)) (pairs : List Pair) → pairs ≡ new.pairs → h.body ≡ hir_of built → h.instructions ≡ built.table → h.params ≡ params
     → SameRuns names f h pairs
-lower_same_runs f body names parameters env new params built w declared is distinct none g supported h pairs final body_is instructions_is params_is start arguments answers =
-    lower_runs_by f body names parameters env new params built w declared is distinct none g supported h pairs final body_is instructions_is params_is waiting start arguments answers
+lower_same_runs f body names tables parameters env new params built w declared is distinct none g supported h pairs final body_is instructions_is params_is start arguments answers =
+    lower_runs_by f body names tables parameters env new params built w declared is distinct none g supported h pairs final body_is instructions_is params_is waiting start arguments answers
 
-pub lower_never_stuck : (f body : Syntax) (names : Names) (parameters : List Parameter) (env new : Environment) (params : List Param) (built : Built)
+pub lower_never_stuck : (f body : Syntax) (names : Names) (tables : Tables) (parameters : List Parameter) (env new : Environment) (params : List Param) (built : Graph)
     → IsFunction f body → DeclaresAll names (params_in f) → parameters ≡ parameters_of names f → AreApart parameters → env.pairs ≡ []
-    → IsGraphOf names parameters body env new params built → refusals_of names f ≡ []
-    → (h : HirFunction (List BlockPair)) (pairs : List Pair) → pairs ≡ new.pairs → h.body ≡ built.hir → h.instructions ≡ built.instructions → h.params ≡ params
+    → IsGraphOf names tables parameters body env new params built → refusals_of names f ≡ []
+    → (h : HirFunction (List BlockPair)) (pairs : List Pair) → pairs ≡ new.pairs → h.body ≡ hir_of built → h.instructions ≡ built.table → h.params ≡ params
     → NeverStuck h pairs
-lower_never_stuck f body names parameters env new params built w declared is distinct none g supported h pairs final body_is instructions_is params_is stuck start arguments answers =
-    lower_runs_by f body names parameters env new params built w declared is distinct none g supported h pairs final body_is instructions_is params_is stuck start arguments answers
-    ∙ sym (lower_same_runs f body names parameters env new params built w declared is distinct none g supported h pairs final body_is instructions_is params_is start arguments answers)
+lower_never_stuck f body names tables parameters env new params built w declared is distinct none g supported h pairs final body_is instructions_is params_is stuck start arguments answers =
+    lower_runs_by f body names tables parameters env new params built w declared is distinct none g supported h pairs final body_is instructions_is params_is stuck start arguments answers
+    ∙ sym (lower_same_runs f body names tables parameters env new params built w declared is distinct none g supported h pairs final body_is instructions_is params_is start arguments answers)
 
-pub lower_bounded : (f body : Syntax) (names : Names) (parameters : List Parameter) (env new : Environment) (params : List Param) (built : Built)
-    → IsFunction f body → AreApart parameters → IsGraphOf names parameters body env new params built
-    → (h : HirFunction (List BlockPair)) → h.body ≡ built.hir → h.instructions ≡ built.instructions → function_size h ≤ 64 * nodes f
-lower_bounded f body names parameters env new params built w distinct g h body_is instructions_is =
+pub lower_bounded : (f body : Syntax) (names : Names) (tables : Tables) (parameters : List Parameter) (env new : Environment) (params : List Param) (built : Graph)
+    → IsFunction f body → AreApart parameters → IsGraphOf names tables parameters body env new params built
+    → (h : HirFunction (List BlockPair)) → h.body ≡ hir_of built → h.instructions ≡ built.table → function_size h ≤ 64 * nodes f
+lower_bounded f body names tables parameters env new params built w distinct g h body_is instructions_is =
     let counted : nodes body + 2 + 2 * length (parameters_of names f) ≤ nodes f = function_nodes names f body w in
-    graph_bounded names parameters body env new params built g distinct h (nodes f) body_is instructions_is (omega (arith, counted))
+    graph_bounded names tables parameters body env new params built g distinct h (nodes f) body_is instructions_is (omega (arith, counted))
 
-pub lower_functions : (names : Names) (parameters : List Parameter) (body : Syntax) (env new : Environment) (params : List Param) (built : Built)
-    → AreApart parameters → IsGraphOf names parameters body env new params built → new.functions ≡ env.functions
-lower_functions names parameters body env new params built distinct g =
-    ap (λ (e : Environment). e.functions) g.after ∙ (graph_keeps names parameters body env new params built g distinct).functions
+pub lower_functions : (names : Names) (tables : Tables) (parameters : List Parameter) (body : Syntax) (env new : Environment) (params : List Param) (built : Graph)
+    → AreApart parameters → IsGraphOf names tables parameters body env new params built → new.functions ≡ env.functions
+lower_functions names tables parameters body env new params built distinct g =
+    ap (λ (e : Environment). e.functions) g.after ∙ (graph_keeps names tables parameters body env new params built g distinct).functions
 
 -- The pairs behind the graph and one identifier more, that of the returned place.
-pub lower_pairs : (names : Names) (parameters : List Parameter) (body : Syntax) (env new last : Environment) (params : List Param)
-    (built : Built) (span : Option Span) → AreApart parameters → All (λ p. names.name p.symbol.0 ≡ p.name) parameters → env.pairs ≡ []
-    → IsGraphOf names parameters body env new params built → last ≡ one_identifier_more new span → ArePairs names last.identifiers last.pairs
-lower_pairs names parameters body env new last params built span distinct own none g more =
+pub lower_pairs : (names : Names) (tables : Tables) (parameters : List Parameter) (body : Syntax) (env new last : Environment) (params : List Param)
+    (built : Graph) (span : Option Span) → AreApart parameters → All (λ p. names.name p.symbol.0 ≡ p.name) parameters → env.pairs ≡ []
+    → IsGraphOf names tables parameters body env new params built → last ≡ one_identifier_more new span → ArePairs names last.identifiers last.pairs
+lower_pairs names tables parameters body env new last params built span distinct own none g more =
     subst (λ (e : Environment). ArePairs names e.identifiers e.pairs) (sym (more ∙ ap (λ (e : Environment). one_identifier_more e span) g.after))
     (pairs_told names (with_temporary (closed_off g.state) span)
-    ((extends_temporary (closed_off g.state) span).sound (graph_names names parameters body env new params built g distinct none))
+    ((extends_temporary (closed_off g.state) span).sound (graph_names names tables parameters body env new params built g distinct none))
     (named_pairs names (closed_off g.state).env.identifiers _ (closed_off g.state).env.pairs
-    ((graph_keeps names parameters body env new params built g distinct).pairs (parameters_pairs (started env kinds.Block) names parameters none own))))
+    ((graph_keeps names tables parameters body env new params built g distinct).pairs (parameters_pairs (begun_by env tables) names parameters none own))))
 
 -- The identifiers of parameters there.
-pub lower_given : (names : Names) (parameters : List Parameter) (body : Syntax) (env new last : Environment) (params : List Param)
-    (built : Built) (span : Option Span) → AreApart parameters → env.pairs ≡ []
-    → IsGraphOf names parameters body env new params built → last ≡ one_identifier_more new span
+pub lower_given : (names : Names) (tables : Tables) (parameters : List Parameter) (body : Syntax) (env new last : Environment) (params : List Param)
+    (built : Graph) (span : Option Span) → AreApart parameters → env.pairs ≡ []
+    → IsGraphOf names tables parameters body env new params built → AreDeclaredAt tables.semantic parameters → last ≡ one_identifier_more new span
     → AreGiven last.identifiers last.pairs (length env.identifiers) env.next_type parameters
-lower_given names parameters body env new last params built span distinct none g more =
+lower_given names tables parameters body env new last params built span distinct none g spanned more =
     subst (λ (e : Environment). AreGiven e.identifiers e.pairs (length env.identifiers) env.next_type parameters) (sym (more ∙ ap (λ (e : Environment). one_identifier_more e span) g.after))
-    (parameters_kept (started env kinds.Block) parameters _ _ _ none distinct (graph_extends names parameters body env new params built g distinct).names
+    (parameters_kept (begun_by env tables) parameters _ _ _ none distinct spanned (graph_extends names tables parameters body env new params built g distinct).names
     (λ identifier known is named. keeps_named (closed_off g.state).env.identifiers _ identifier known
-    ((graph_keeps names parameters body env new params built g distinct).identifiers identifier known is named) named))
+    ((graph_keeps names tables parameters body env new params built g distinct).identifiers identifier known is named) named))
 
-pub lower_fn_type : (names : Names) (parameters : List Parameter) (body : Syntax) (env new : Environment) (params : List Param) (built : Built)
-    → AreApart parameters → IsGraphOf names parameters body env new params built → new.fn_type ≡ env.fn_type
-lower_fn_type names parameters body env new params built distinct g =
-    ap (λ (e : Environment). e.fn_type) g.after ∙ (graph_keeps names parameters body env new params built g distinct).fn_type
+pub lower_fn_type : (names : Names) (tables : Tables) (parameters : List Parameter) (body : Syntax) (env new : Environment) (params : List Param) (built : Graph)
+    → AreApart parameters → IsGraphOf names tables parameters body env new params built → new.fn_type ≡ env.fn_type
+lower_fn_type names tables parameters body env new params built distinct g =
+    ap (λ (e : Environment). e.fn_type) g.after ∙ (graph_keeps names tables parameters body env new params built g distinct).fn_type
 
-pub lower_held : (f body : Syntax) (names : Names) (parameters : List Parameter) (env new : Environment) (params : List Param) (built : Built)
-    → IsFunction f body → AreApart parameters → IsGraphOf names parameters body env new params built
-    → (h : HirFunction (List BlockPair)) → h.body ≡ built.hir → h.instructions ≡ built.instructions → HoldsCalls f h
-lower_held f body names parameters env new params built w distinct g h body_is instructions_is = record {
-  table = graph_calls_held names parameters body env new params built g distinct h instructions_is ∙ sym (function_calls f body w);
-  blocks = graph_blocks_held names parameters body env new params built g distinct h body_is instructions_is ∙ sym (ap live_in_body w.is_body);
+pub lower_held : (f body : Syntax) (names : Names) (tables : Tables) (parameters : List Parameter) (env new : Environment) (params : List Param) (built : Graph)
+    → IsFunction f body → AreApart parameters → IsGraphOf names tables parameters body env new params built
+    → (h : HirFunction (List BlockPair)) → h.body ≡ hir_of built → h.instructions ≡ built.table → HoldsCalls f h
+lower_held f body names tables parameters env new params built w distinct g h body_is instructions_is = record {
+  table = graph_calls_held names tables parameters body env new params built g distinct h instructions_is ∙ sym (function_calls f body w);
+  blocks = graph_blocks_held names tables parameters body env new params built g distinct h body_is instructions_is ∙ sym (ap live_in_body w.is_body);
 }

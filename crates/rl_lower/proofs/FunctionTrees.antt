@@ -1,9 +1,8 @@
 -- The tree of a function that is covered and fits the grammar: its nodes, parameters, refusals and calls, and its small parts.
 use Rattle.std.specs.Option.{is_some}
-use Rattle.std.proofs.Common.{◌≡◌, ℕ, ◌+◌, ◌*◌, ◌≤◌, ◌++◌, Bool, true, false, if◌then◌else◌, codes, List, [], ◌∷◌, length, All, Option, Some, None, refl, sym, ap, ◌∙◌, subst, arith, append-nil}
+use Rattle.std.proofs.Common.{◌≡◌, ℕ, ◌+◌, ◌*◌, ◌≤◌, ◌++◌, Bool, true, false, List, [], ◌∷◌, length, All, Option, Some, None, refl, sym, ap, ◌∙◌, subst, arith, append-nil}
 use Rattle.std.proofs.lemmas.List.Elements.{All-nil, All-cons}
 use Rattle.rl_base.specs.declared.diagnostic.Diagnostic.{Diagnostic}
-use Rattle.rl_base.specs.declared.row.Row.TheVariants as row
 use Rattle.rl_base.specs.declared.span.Span.{Span}
 use Rattle.rl_text.specs.Notation.{IsWritable}
 use Rattle.rl_grammar.specs.Grammar.{fits}
@@ -30,7 +29,8 @@ use Rattle.rl_names.specs.declared.parameters.Parameter.{Parameter}
 use Rattle.rl_base.specs.declared.ids.SymbolId.{SymbolId}
 use Rattle.rl_model.specs.Covered.{AreCovered, IsCovered, IsCoveredFunction}
 use Rattle.rl_model.specs.Held.{calls_in, calls_among}
-use Rattle.rl_model.specs.Rows.{is_text, refusal, refusals, refusals_in, refusals_of}
+use Rattle.rl_model.specs.Rows.{label_of, refusals, refusals_in, refusals_of, said_of_local}
+use Rattle.rl_semantic.specs.Items.{of_item}
 use Rattle.rl_lower.specs.Parameters.{said_of_parameters}
 use Rattle.rl_lower.specs.Sound.{AreSmallTrees, IsSmallParameter, IsSmallTree}
 use Rattle.rl_lower.proofs.SoundListing.{span_writable}
@@ -162,29 +162,32 @@ function_nodes names f body w =
     omega (arith, counted, listed, few, same)
 
 said_params : (names : Names) (params : List ParamNode) → AreDeclared names (params_of params)
-    → refusals_in names (params_of params) ≡ said_of_parameters (parameters_among names (params_of params))
+    → refusals_in names (params_of params) ≡ said_of_parameters names (parameters_among names (params_of params))
 said_params names [] declared = refl
 said_params names (p ∷ params) declared = by_symbol (said_params names params declared.1) (names.declared p.bind.id.0) refl
   where
-    own : List Diagnostic
-    own = if is_text (codes "fbt") p.name then refusal row.F40 p.bind.span ∷ [] else []
+    said_by_name : Option SymbolId → List Diagnostic
+    said_by_name o = said_of_local p.name (of_item p.bind.span (λ symbol. label_of names symbol p.bind.span) o)
 
-    by_symbol : refusals_in names (params_of params) ≡ said_of_parameters (parameters_among names (params_of params)) → (o : Option SymbolId) → names.declared p.bind.id.0 ≡ o
-        → refusals_in names (params_of (p ∷ params)) ≡ said_of_parameters (parameters_among names (params_of (p ∷ params)))
+    own : List Diagnostic
+    own = said_by_name (names.declared p.bind.id.0)
+
+    by_symbol : refusals_in names (params_of params) ≡ said_of_parameters names (parameters_among names (params_of params)) → (o : Option SymbolId) → names.declared p.bind.id.0 ≡ o
+        → refusals_in names (params_of (p ∷ params)) ≡ said_of_parameters names (parameters_among names (params_of (p ∷ params)))
     by_symbol rest None is = absurd (let never : false ≡ true = sym (ap (λ (o : Option SymbolId). is_some o) is) ∙ declared.0 in cc)
     by_symbol rest (Some symbol) is =
-        ap (λ (l : List Diagnostic). l ++ refusals_in names (params_of params)) (append-nil (own ++ []) ∙ append-nil own)
-        ∙ ap (λ (l : List Diagnostic). own ++ l) rest ∙ rw is refl
+        ap (λ (l : List Diagnostic). l ++ refusals_in names (params_of params)) (append-nil (own ++ []) ∙ append-nil own ∙ ap said_by_name is)
+        ∙ ap (λ (l : List Diagnostic). said_of_local p.name (label_of names symbol p.bind.span) ++ l) rest ∙ rw is refl
 
 pub function_refusals : (names : Names) (f body : Syntax) → IsFunction f body → DeclaresAll names (params_in f)
-    → refusals_of names f ≡ said_of_parameters (parameters_of names f) ++ refusals names body
+    → refusals_of names f ≡ said_of_parameters names (parameters_of names f) ++ refusals names body
 function_refusals names f body w declared =
     let all : AreDeclared names (params_of w.params) = subst (λ (t : Syntax). DeclaresAll names t) w.is_params declared in
-    let given : refusals names (params_in f) ≡ said_of_parameters (parameters_of names f) =
+    let given : refusals names (params_in f) ≡ said_of_parameters names (parameters_of names f) =
     ap (λ (t : Syntax). refusals names t) w.is_params ∙ append-nil (refusals_in names (params_of w.params)) ∙ said_params names w.params all
-    ∙ ap said_of_parameters (sym (parameters_are names f body w)) in
+    ∙ ap (said_of_parameters names) (sym (parameters_are names f body w)) in
     ap (λ (l : List Diagnostic). l ++ refusals names (body_in f)) given
-    ∙ ap (λ (t : Syntax). said_of_parameters (parameters_of names f) ++ refusals names t) w.is_body
+    ∙ ap (λ (t : Syntax). said_of_parameters names (parameters_of names f) ++ refusals names t) w.is_body
 
 no_calls_in : (params : List ParamNode) → calls_among (params_of params) ≡ []
 no_calls_in [] = refl

@@ -8,20 +8,21 @@ use Rattle.rl_hir.specs.declared.terminal.Terminal.{Terminal}
 use Rattle.rl_hir.specs.declared.terminal.ReturnVariant.{ReturnVariant}
 use Rattle.rl_hir.specs.declared.terminal.ReturnVariant.TheVariants as returns
 use Rattle.rl_hir.specs.declared.function.BlockKind.{BlockKind}
+use Rattle.rl_hir.specs.declared.environment.Environment.{Environment}
 use Rattle.rl_hir.specs.declared.function.HirFunction.{HirFunction}
 use Rattle.rl_hir.specs.Blocks.{Pair as BlockPair}
 use Rattle.rl_base.specs.declared.ids.BlockId.{BlockId}
 use Rattle.rl_base.specs.declared.ids.InstructionId.{InstructionId}
 use Rattle.rl_hir.specs.declared.function.Pair.{Pair}
 use Rattle.rl_builder.specs.Builder.{State, reserved, new_block, ended_by, completed_by, placeholder}
-use Rattle.rl_builder.specs.Temporaries.{temporary}
+use Rattle.rl_lower.specs.Values.{temporary}
 use Rattle.rl_builder.specs.Build.{IsBuilt, graph_of, unordered_graph}
-use Rattle.rl_builder.specs.declared.builder.Built.{Built}
+use Rattle.rl_machine.specs.Machine.{Graph}
 use Rattle.rl_hir.specs.Pairs.{identifier_of}
 use Rattle.rl_machine.specs.Conditions.{MayOrder}
 use Rattle.rl_machine.specs.Machine.{code_of, graph_trace}
 use Rattle.rl_machine.specs.Prunes.{PassesOnce}
-use Rattle.rl_builder.specs.declared.builder.WipBlock.{WipBlock}
+use Rattle.rl_builder.specs.declared.blocks.WipBlock.{WipBlock}
 use Rattle.rl_machine.specs.declared.trace.Value.{Value}
 use Rattle.rl_machine.specs.declared.trace.Value.TheVariants as value
 use Rattle.rl_machine.specs.declared.trace.Answer.{Answer}
@@ -38,7 +39,7 @@ use Rattle.rl_names.specs.Names.{Names}
 use Rattle.rl_hir.specs.declared.function.Hir.{Hir}
 use Rattle.rl_hir.specs.declared.instruction.Instruction.{Instruction}
 use Rattle.rl_lower.specs.Simulation.{Agrees, CoversNames, IsCompleted, IsCurrentOrCompleted, Extends, HasSoundNames, IsContainedIn, UniqueIds, AreEnded, PreservesBlocks, TracesAt, TracesFrom, Throws, RunsExpression, RunsStatement}
-use Rattle.rl_lower.specs.Endings.{return_of, with_undefined, closed_off}
+use Rattle.rl_lower.specs.Endings.{return_of, with_undefined, closed_off, hir_of}
 use Rattle.rl_lower.proofs.Building.{IsFresh}
 use Rattle.rl_lower.proofs.Steps.{get_seam, comes_at_once, steps_on}
 use Rattle.rl_lower.proofs.Moves.{extends_then, extends_value, extends_completed, contained_before, terminal_met}
@@ -149,16 +150,16 @@ pub function_runs_by : (begun s : State) (m : StmtMeaning) → IsFresh begun →
     → RunsStatement m begun s → (f : HirFunction (List BlockPair)) (pairs : List Pair)
     → CoversNames (closed_off s).env.pairs (length (closed_off s).env.identifiers) (λ symbol. identifier_of pairs symbol)
     → (names : Names) (function : Syntax)
-    → (built : Built) → IsBuilt (closed_off s) built → graph_of (closed_off s) ≡ (closed_off s).completed → All (λ p. p.1.preds ≡ []) (closed_off s).completed
-    → f.body ≡ built.hir → f.instructions ≡ built.instructions
+    → (built : Graph) (env : Environment) → IsBuilt (closed_off s) built env → graph_of (closed_off s) ≡ (closed_off s).completed → All (λ p. p.1.preds ≡ []) (closed_off s).completed
+    → f.body ≡ hir_of built → f.instructions ≡ built.table
     → (source : List Assignment → List Value → Store) →
     ((start : List Assignment) (arguments : List Value) → Agrees (λ symbol. identifier_of pairs symbol) (source start arguments) (take_arguments f.params arguments (start_values pairs start)))
     → ((start : List Assignment) (arguments : List Value) (answers : List Answer) → source_trace names function start arguments answers ≡ m (source start arguments) answers (record { normal = λ after rest. returned [] returns.Void value.Undefined; throws = λ v after rest. threw v }))
     → (stuck : Trace) (start : List Assignment) (arguments : List Value) (answers : List Answer)
     → trace_by stuck f pairs start arguments answers ≡ source_trace names function start arguments answers
-function_runs_by begun s m fresh sound b r f pairs covers names function built is_built table_is unlinked body_is instructions_is source agrees means stuck start arguments answers =
+function_runs_by begun s m fresh sound b r f pairs covers names function built env is_built table_is unlinked body_is instructions_is source agrees means stuck start arguments answers =
     ap (λ (h : Hir (List BlockPair)). graph_trace stuck (record { blocks = h.blocks; table = f.instructions; entry = h.entry }) ident alone params start arguments answers) body_is
-    ∙ ap (λ (l : List Instruction). graph_trace stuck (record { blocks = built.hir.blocks; table = l; entry = built.hir.entry }) ident alone params start arguments answers) instructions_is
+    ∙ ap (λ (l : List Instruction). graph_trace stuck (record { blocks = built.blocks; table = l; entry = built.entry }) ident alone params start arguments answers) instructions_is
     ∙ is_built.runs may stuck ident alone params once start arguments answers
     ∙ ap (λ (blocks : List BlockPair). graph_trace stuck (record { blocks = blocks; table = last.table; entry = last.entry }) ident alone params start arguments answers) table_is
     ∙ finished_runs last finished ident stuck store answers trace

@@ -1,5 +1,5 @@
 -- The names of a builder behind the parameters, and those of its pairs in the end.
-use Rattle.std.proofs.Common.{◌≡◌, ◌≢◌, ℕ, zero, suc, ◌+◌, ◌<◌, ◌++◌, Bool, cond, if◌then◌else◌, List, [], ◌∷◌, All, length, map, slice_get, Option, Some, None, refl, sym, ap, ◌∙◌, subst, arith, eq-eqb}
+use Rattle.std.proofs.Common.{◌≡◌, ℕ, zero, suc, ◌+◌, ◌++◌, Bool, cond, if◌then◌else◌, List, [], ◌∷◌, All, length, map, slice_get, Option, Some, None, refl, sym, ap, ◌∙◌, subst, arith, eq-eqb}
 use Rattle.std.specs.Option.{option_map_or}
 use Rattle.std.proofs.lemmas.Bool.{ne_eqb}
 use Rattle.std.proofs.lemmas.Cmp.{nat_list_eq_equiv}
@@ -7,22 +7,25 @@ use Rattle.std.proofs.lemmas.List.Elements.{All-cons, All-head, All-nil, All-tai
 use Rattle.std.proofs.lemmas.Option.{none-some, same_Some}
 use Rattle.rl_base.proofs.DistinctLists.{IsIn, distinct_cons, distinct_head, distinct_none, distinct_tail}
 use Rattle.rl_base.specs.Distinct.{AreDistinct}
-use Rattle.rl_hir.specs.Identifiers.{named_identifier}
+use Rattle.rl_base.specs.declared.span.Span.{Span}
 use Rattle.rl_hir.specs.Pairs.{identifier_of, pair}
 use Rattle.rl_hir.specs.declared.function.Identifier.{Identifier}
 use Rattle.rl_hir.specs.declared.function.IdentifierName.TheVariants.{Named}
 use Rattle.rl_hir.specs.declared.function.Pair.{Pair}
 use Rattle.rl_builder.specs.Builder.{State}
-use Rattle.rl_builder.specs.Names.{name_of, user_of}
+use Rattle.rl_builder.specs.Names.{fresh_identifier}
+use Rattle.rl_used_names.specs.IdentifierNames.{name_of}
+use Rattle.rl_used_names.specs.UsedName.{user_of}
 use Rattle.rl_builder.proofs.NameLaws.{name_of-injective}
 use Rattle.rl_model.specs.Fields.{AreGiven, ArePairs, IsNamedPair, name_at}
 use Rattle.rl_names.specs.Locals.{AreApart, IsApart}
 use Rattle.rl_names.specs.Names.{Names}
 use Rattle.rl_names.specs.declared.parameters.Parameter.{Parameter}
 use Rattle.rl_lower.specs.Lowering.{HasNamedPairs, KeepsNamed}
+use Rattle.rl_lower.specs.Named.{AreDeclaredAt, declared_span}
 use Rattle.rl_lower.specs.Simulation.{GrowsNames, HasSoundNames}
 use Rattle.rl_lower.proofs.FinalNames.{unpaired}
-use Rattle.rl_lower.proofs.Parameters.{all_at, get_behind, known_at, known_from, pair_found, pair_tells, pairs_from, state_with, users_of}
+use Rattle.rl_lower.proofs.Parameters.{all_at, get_behind, identifier_for, known_at, known_from, pair_found, pair_tells, pairs_from, span_given, state_with, users_of}
 
 -- The name of a parameter is that of its symbol.
 user_found : (parameters : List Parameter) (place : ℕ) (p : Parameter) → AreApart parameters → slice_get parameters place ≡ Some p → user_of (users_of parameters) p.name ≡ Some p.symbol.0
@@ -52,12 +55,12 @@ symbols_distinct identifier (p ∷ parameters) apart =
 
 -- The identifier of a parameter.
 known_given : (s : State) (parameters : List Parameter) (place : ℕ) (p : Parameter) → slice_get parameters place ≡ Some p
-    → slice_get (s.env.identifiers ++ known_from s.env.next_type parameters) (length s.env.identifiers + place) ≡ Some (named_identifier p.name p.declaration (s.env.next_type + place))
+    → slice_get (s.env.identifiers ++ known_from s s.env.next_type parameters) (length s.env.identifiers + place) ≡ Some (identifier_for s (s.env.next_type + place) p)
 known_given s parameters place p there =
-    get_behind s.env.identifiers (known_from s.env.next_type parameters) place ∙ known_at s.env.next_type parameters place p there
+    get_behind s.env.identifiers (known_from s s.env.next_type parameters) place ∙ known_at s s.env.next_type parameters place p there
 
 name_given : (s : State) (parameters : List Parameter) (place : ℕ) (p : Parameter) → slice_get parameters place ≡ Some p
-    → name_at (s.env.identifiers ++ known_from s.env.next_type parameters) (length s.env.identifiers + place) ≡ Some (Named p.name)
+    → name_at (s.env.identifiers ++ known_from s s.env.next_type parameters) (length s.env.identifiers + place) ≡ Some (Named p.name)
 name_given s parameters place p there = ap (λ (o : Option Identifier). option_map_or (λ i. i.name) o None) (known_given s parameters place p there)
 
 -- Names are sound behind the parameters, where the environment had no pairs before.
@@ -68,7 +71,7 @@ parameters_sound s parameters none apart = record {
         let told = pair_tells (length s.env.identifiers) parameters symbol identifier is in
         record {
           name = told.0.parameter.name;
-          named = ap (λ (n : ℕ). name_of (s.env.identifiers ++ known_from s.env.next_type parameters) n) told.1 ∙ name_given s parameters told.0.place told.0.parameter told.0.there;
+          named = ap (λ (n : ℕ). name_of (s.env.identifiers ++ known_from s s.env.next_type parameters) n) told.1 ∙ name_given s parameters told.0.place told.0.parameter told.0.there;
           user = user_found parameters told.0.place told.0.parameter apart told.0.there ∙ ap (λ (n : ℕ). Some n) told.0.has;
         };
   };
@@ -96,19 +99,22 @@ named_from names identifiers identifier (p ∷ parameters) given own =
 pub parameters_pairs : (s : State) (names : Names) (parameters : List Parameter) → s.env.pairs ≡ [] → All (λ p. names.name p.symbol.0 ≡ p.name) parameters
     → HasNamedPairs names (state_with s parameters)
 parameters_pairs s names parameters none own =
-    subst (λ (l : List Pair). All (IsNamedPair names (s.env.identifiers ++ known_from s.env.next_type parameters)) (l ++ pairs_from (length s.env.identifiers) parameters)) (sym none)
-    (named_from names (s.env.identifiers ++ known_from s.env.next_type parameters) (length s.env.identifiers) parameters
+    subst (λ (l : List Pair). All (IsNamedPair names (s.env.identifiers ++ known_from s s.env.next_type parameters)) (l ++ pairs_from (length s.env.identifiers) parameters)) (sym none)
+    (named_from names (s.env.identifiers ++ known_from s s.env.next_type parameters) (length s.env.identifiers) parameters
     (λ place p there. name_given s parameters place p there) own)
 
 -- Pairs and named identifiers stay, so each parameter has its own in the end.
 pub parameters_kept : (s : State) (parameters : List Parameter) (made : ℕ) (identifiers : List Identifier) (pairs : List Pair) → s.env.pairs ≡ [] → AreApart parameters
+    → AreDeclaredAt s.semantic parameters
     → GrowsNames (state_with s parameters).env.pairs made pairs → KeepsNamed (state_with s parameters).env.identifiers identifiers
     → AreGiven identifiers pairs (length s.env.identifiers) s.env.next_type parameters
-parameters_kept s parameters made identifiers pairs none apart g k place p there = record {
+parameters_kept s parameters made identifiers pairs none apart spanned g k place p there = record {
   paired = g.kept p.symbol.0 (length s.env.identifiers + place)
       (ap (λ (l : List Pair). identifier_of (l ++ pairs_from (length s.env.identifiers) parameters) p.symbol.0) none ∙ pair_found (length s.env.identifiers) parameters place p apart there);
-  known = k (length s.env.identifiers + place) (named_identifier p.name p.declaration (s.env.next_type + place)) (known_given s parameters place p there)
-      (λ never. none-some (Named p.name) (sym never));
+  known = k (length s.env.identifiers + place) (identifier_for s (s.env.next_type + place) p) (known_given s parameters place p there)
+      (λ never. none-some (Named p.name) (sym never))
+      ∙ ap (λ (span : Option Span). Some (fresh_identifier p.name span (s.env.next_type + place)))
+      (span_given s p (all_at (λ (x : Parameter). declared_span s.semantic x.symbol.0 ≡ Some x.declaration) parameters place p there spanned));
 }
 
 -- Pairs whose symbols are distinct.

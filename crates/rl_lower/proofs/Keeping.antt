@@ -1,32 +1,37 @@
 -- The builder's moves preserve the state (`Preserves`): bounds on counters, lists of ids, names, and the environment's fields.
 use Rattle.std.proofs.lemmas.List.Elements.{All-push}
-use Rattle.std.proofs.Common.{◌≡◌, ℕ, ◌+◌, ◌≤◌, ◌++◌, List, [], ◌∷◌, All, length, length-append, Option, Some, None, slice_get, refl, sym, ap, ◌∙◌, subst, arith}
+use Rattle.std.proofs.Common.{◌≡◌, ℕ, false, ◌+◌, ◌≤◌, ◌++◌, List, [], ◌∷◌, All, length, length-append, Option, Some, None, slice_get, refl, sym, ap, ◌∙◌, subst, arith}
 use Rattle.rl_base.specs.declared.diagnostic.Diagnostic.{Diagnostic}
 use Rattle.rl_base.specs.declared.span.Span.{Span}
 use Rattle.rl_hir.specs.declared.instruction.InstructionValue.{InstructionValue}
 use Rattle.rl_hir.specs.declared.terminal.Terminal.{Terminal}
 use Rattle.rl_builder.specs.Builder.{State, reserved, completed_by, recorded}
-use Rattle.rl_builder.specs.Temporaries.{with_value}
-use Rattle.rl_builder.specs.declared.builder.WipBlock.{WipBlock}
-use Rattle.rl_hir.specs.Identifiers.{named_identifier}
+use Rattle.rl_lower.specs.Values.{with_value}
+use Rattle.rl_builder.specs.declared.blocks.WipBlock.{WipBlock}
+use Rattle.rl_builder.specs.Dropped.{is_function_expression}
+use Rattle.rl_semantic.specs.declared.semantic.Semantic.{Semantic}
 use Rattle.rl_hir.specs.Pairs.{identifier_of, pair}
 use Rattle.rl_hir.specs.declared.function.Identifier.{Identifier}
 use Rattle.rl_hir.specs.declared.function.Pair.{Pair}
 use Rattle.rl_names.specs.Names.{Names}
-use Rattle.rl_builder.specs.Names.{chosen, free_place, resolved, resolved_by}
-use Rattle.rl_builder.proofs.NameLaws.{OneMore-resolved, identifier_of-append_some, name_of-append, name_of-last}
+use Rattle.rl_builder.specs.Names.{fresh_identifier, new_span, resolved, resolved_by}
+use Rattle.rl_used_names.specs.Choosing.{chosen, free_place}
+use Rattle.rl_builder.proofs.NameLaws.{OneMore-resolved}
+use Rattle.rl_used_names.proofs.NameLaws.{identifier_of-append_some, name_of-append, name_of-last}
 use Rattle.rl_lower.specs.Listed.{IsListed}
 use Rattle.rl_lower.specs.Lowering.{HasNamedPairs, HasRoom, CountersGrowBy, KeepsNamed, Preserves}
 use Rattle.rl_model.specs.Fields.{IsNamedPair}
-use Rattle.rl_lower.specs.Named.{IsNamed}
+use Rattle.rl_lower.specs.Named.{IsNamed, declared_span}
 use Rattle.rl_lower.proofs.Listed.{listed_completed, listed_value}
 use Rattle.rl_lower.proofs.Steps.{get_more}
 
 -- Identifiers of local variables stay.
-named_same : (names : Names) (s new : State) → new.bindings ≡ s.bindings → new.env.identifiers ≡ s.env.identifiers
+named_same : (names : Names) (s new : State) → new.handlers ≡ s.handlers → new.semantic ≡ s.semantic → new.bindings ≡ s.bindings → new.env.identifiers ≡ s.env.identifiers
     → IsNamed names s → IsNamed names new
-named_same names s new bindings identifiers n = record {
+named_same names s new handlers semantic bindings identifiers n = record {
   texts = n.texts;
+  handlers = handlers ∙ n.handlers;
+  declared = λ symbol. n.declared symbol ∙ ap (λ (t : Semantic). declared_span t symbol) (sym semantic);
   each = λ reference name symbol is.
       let h = n.each reference name symbol is in record {
         identifier = h.identifier;
@@ -37,10 +42,12 @@ named_same names s new bindings identifiers n = record {
       };
 }
 
-named_more : (names : Names) (s new : State) (more : List Identifier) → new.bindings ≡ s.bindings
+named_more : (names : Names) (s new : State) (more : List Identifier) → new.handlers ≡ s.handlers → new.semantic ≡ s.semantic → new.bindings ≡ s.bindings
     → new.env.identifiers ≡ s.env.identifiers ++ more → IsNamed names s → IsNamed names new
-named_more names s new more bindings identifiers n = record {
+named_more names s new more handlers semantic bindings identifiers n = record {
   texts = n.texts;
+  handlers = handlers ∙ n.handlers;
+  declared = λ symbol. n.declared symbol ∙ ap (λ (t : Semantic). declared_span t symbol) (sym semantic);
   each = λ reference name symbol is.
       let h = n.each reference name symbol is in record {
         identifier = h.identifier;
@@ -99,11 +106,11 @@ keeps_more a b m n le k = record {
   fn_type = k.fn_type;
 }
 
-pub keeps_value : {names : Names} (s : State) (v : InstructionValue) (span : Option Span) → Preserves names s (with_value s v span) 1
-keeps_value {names} s v span = record {
+pub keeps_value : {names : Names} (s : State) (v : InstructionValue) (span : Option Span) → is_function_expression v ≡ false → Preserves names s (with_value s v span) 1
+keeps_value {names} s v span plain = record {
   uses = record { blocks = omega arith; types = omega arith; identifiers = simp length-append (omega arith); instructions = simp length-append (omega arith); completed = omega arith };
-  listed = listed_value s v span;
-  named = λ n. named_more names s (with_value s v span) _ refl refl n;
+  listed = listed_value s v span plain;
+  named = λ n. named_more names s (with_value s v span) _ refl refl refl refl n;
   identifiers = keeps_named s.env.identifiers _;
   pairs = λ p. named_pairs names s.env.identifiers _ s.env.pairs p;
   functions = refl;
@@ -112,7 +119,7 @@ keeps_value {names} s v span = record {
 
 pub listed_reserved : (s : State) → IsListed s → IsListed (reserved s)
 listed_reserved s l =
-    record { completed = l.completed; current = l.current; counted = l.counted; once = l.once; unordered = l.unordered; predecessors = l.predecessors }
+    record { completed = l.completed; current = l.current; counted = l.counted; once = l.once; unordered = l.unordered; no_functions = l.no_functions; predecessors = l.predecessors }
 
 pub uses_reserved : (s : State) → CountersGrowBy s (reserved s) 1
 uses_reserved s = record { blocks = omega arith; types = omega arith; identifiers = omega arith; instructions = omega arith; completed = omega arith }
@@ -121,7 +128,7 @@ pub keeps_reserved : {names : Names} (s : State) → Preserves names s (reserved
 keeps_reserved {names} s = record {
   uses = uses_reserved s;
   listed = listed_reserved s;
-  named = λ n. named_same names s _ refl refl n;
+  named = λ n. named_same names s _ refl refl refl refl n;
   identifiers = λ identifier known is named. is;
   pairs = λ p. p;
   functions = refl;
@@ -130,13 +137,13 @@ keeps_reserved {names} s = record {
 
 pub listed_recorded : (s : State) (d : Diagnostic) → IsListed s → IsListed (recorded s d)
 listed_recorded s d l =
-    record { completed = l.completed; current = l.current; counted = l.counted; once = l.once; unordered = l.unordered; predecessors = l.predecessors }
+    record { completed = l.completed; current = l.current; counted = l.counted; once = l.once; unordered = l.unordered; no_functions = l.no_functions; predecessors = l.predecessors }
 
 pub keeps_recorded : {names : Names} (s : State) (d : Diagnostic) → Preserves names s (recorded s d) 0
 keeps_recorded {names} s d = record {
   uses = record { blocks = omega arith; types = omega arith; identifiers = omega arith; instructions = omega arith; completed = omega arith };
   listed = listed_recorded s d;
-  named = λ n. named_same names s _ refl refl n;
+  named = λ n. named_same names s _ refl refl refl refl n;
   identifiers = λ identifier known is named. is;
   pairs = λ p. p;
   functions = refl;
@@ -148,7 +155,7 @@ pub keeps_completed : {names : Names} (s : State) (t : Terminal) (next : WipBloc
 keeps_completed {names} s t next none = record {
   uses = record { blocks = omega arith; types = omega arith; identifiers = omega arith; instructions = omega arith; completed = simp length-append (omega arith) };
   listed = listed_completed s t next none;
-  named = λ n. named_same names s _ refl refl n;
+  named = λ n. named_same names s _ refl refl refl refl n;
   identifiers = λ identifier known is named. is;
   pairs = λ p. p;
   functions = refl;
@@ -157,27 +164,31 @@ keeps_completed {names} s t next none = record {
 
 -- A symbol is resolved under its own name: it gets an identifier, named by a candidate, unless it has one.
 
-named_last : (names : Names) (s : State) (symbol : ℕ) (declaration : Span) → HasNamedPairs names s
-    → HasNamedPairs names (resolved_by None s (names.name symbol) symbol declaration)
+named_last : (names : Names) (s : State) (symbol : ℕ) (given : Option Span) → HasNamedPairs names s
+    → HasNamedPairs names (resolved_by None s (names.name symbol) symbol given)
 unfolding chosen
-named_last names s symbol declaration all =
+named_last names s symbol given all =
     All-push (IsNamedPair names (s.env.identifiers ++ made ∷ [])) s.env.pairs (pair symbol (length s.env.identifiers))
     (named_pairs names s.env.identifiers (made ∷ []) s.env.pairs all)
     (record { index = free_place s.used_names symbol (names.name symbol); named = name_of-last s.env.identifiers made })
   where
     made : Identifier
-    made = named_identifier (chosen s.used_names symbol (names.name symbol)) declaration s.env.next_type
+    made = fresh_identifier (chosen s.used_names symbol (names.name symbol)) (new_span s symbol given) s.env.next_type
 
-module _ (names : Names) (s : State) (symbol : ℕ) (declaration : Span) where
-  named_by : (known : Option ℕ) → IsNamed names s → IsNamed names (resolved_by known s (names.name symbol) symbol declaration)
+module _ (names : Names) (s : State) (symbol : ℕ) (given : Option Span) where
+  named_by : (known : Option ℕ) → IsNamed names s → IsNamed names (resolved_by known s (names.name symbol) symbol given)
   named_by (Some known) n = record {
     texts = n.texts;
+    handlers = n.handlers;
+    declared = n.declared;
     each = λ reference name local is.
         let h = n.each reference name local is in
         record { identifier = h.identifier; bound = h.bound; known = h.known; made = h.made; named = h.named };
   }
   named_by None n = record {
     texts = n.texts;
+    handlers = n.handlers;
+    declared = n.declared;
     each = λ reference name local is.
         let h = n.each reference name local is in record {
           identifier = h.identifier;
@@ -188,19 +199,19 @@ module _ (names : Names) (s : State) (symbol : ℕ) (declaration : Span) where
         };
   }
 
-  stays_by : (known : Option ℕ) → KeepsNamed s.env.identifiers (resolved_by known s (names.name symbol) symbol declaration).env.identifiers
+  stays_by : (known : Option ℕ) → KeepsNamed s.env.identifiers (resolved_by known s (names.name symbol) symbol given).env.identifiers
   stays_by (Some known) identifier i is named = is
   stays_by None identifier i is named = get_more s.env.identifiers _ identifier i is
 
-  pairs_by : (known : Option ℕ) → HasNamedPairs names s → HasNamedPairs names (resolved_by known s (names.name symbol) symbol declaration)
+  pairs_by : (known : Option ℕ) → HasNamedPairs names s → HasNamedPairs names (resolved_by known s (names.name symbol) symbol given)
   pairs_by (Some known) all = all
-  pairs_by None all = named_last names s symbol declaration all
+  pairs_by None all = named_last names s symbol given all
 
-  pub keeps_resolved : Preserves names s (resolved s (names.name symbol) symbol declaration) 1
+  pub keeps_resolved : Preserves names s (resolved s (names.name symbol) symbol given) 1
   keeps_resolved =
-      let one = OneMore-resolved s (names.name symbol) symbol declaration in record {
+      let one = OneMore-resolved s (names.name symbol) symbol given in record {
         uses = record { blocks = omega arith; types = one.types; identifiers = one.identifiers; instructions = omega arith; completed = omega arith };
-        listed = λ l. record { completed = l.completed; current = l.current; counted = l.counted; once = l.once; unordered = l.unordered; predecessors = l.predecessors };
+        listed = λ l. record { completed = l.completed; current = l.current; counted = l.counted; once = l.once; unordered = l.unordered; no_functions = l.no_functions; predecessors = l.predecessors };
         named = named_by (identifier_of s.bindings symbol);
         identifiers = stays_by (identifier_of s.bindings symbol);
         pairs = pairs_by (identifier_of s.bindings symbol);

@@ -11,9 +11,10 @@ use Rattle.rl_base.proofs.DistinctLists.{IsIn, distinct_append, distinct_apart, 
 use Rattle.rl_base.proofs.DistinctLists.{distinct_push, distinct_right, in_either, in_left, in_right}
 use Rattle.rl_order.proofs.NumberedOrders.{listed_below, numbers_below}
 use Rattle.rl_builder.specs.Builder.{State, ended_by, completed_by}
+use Rattle.rl_builder.specs.Dropped.{is_function_expression}
 use Rattle.rl_order.specs.Numbering.{orders_of}
-use Rattle.rl_builder.specs.Temporaries.{temporary, unordered, with_value}
-use Rattle.rl_builder.specs.declared.builder.WipBlock.{WipBlock}
+use Rattle.rl_lower.specs.Values.{temporary, unordered, with_value}
+use Rattle.rl_builder.specs.declared.blocks.WipBlock.{WipBlock}
 use Rattle.rl_hir.specs.Numbered.{listed_in}
 use Rattle.rl_hir.specs.Blocks.{Pair as BlockPair}
 use Rattle.rl_hir.specs.declared.instruction.Instruction.{Instruction}
@@ -65,8 +66,8 @@ end_unlisted s l h = elim (in_either (listed_in s.completed) (numbers s.current.
     never : length s.table < length s.table → ⊥
     never below = absurd (omega arith)
 
-pub listed_value : (s : State) (v : InstructionValue) (span : Option Span) → IsListed s → IsListed (with_value s v span)
-listed_value s v span l = record {
+pub listed_value : (s : State) (v : InstructionValue) (span : Option Span) → is_function_expression v ≡ false → IsListed s → IsListed (with_value s v span)
+listed_value s v span plain l = record {
   completed = λ place default within. below_more (length s.table) _ _ longer (l.completed place default within);
   current = All-append (λ (id : InstructionId). id.0 < length (s.table ++ i ∷ [])) s.current.instructions (next_index s ∷ [])
       (below_more (length s.table) _ s.current.instructions longer l.current)
@@ -75,6 +76,7 @@ listed_value s v span l = record {
   once = subst (λ (indices : List ℕ). AreDistinct indices) pushed_last
       (distinct_push (all_listed s) (length s.table) l.once (end_unlisted s l));
   unordered = All-push (λ (j : Instruction). j.order.0 ≡ 0) s.table i l.unordered refl;
+  no_functions = All-push (λ (j : Instruction). is_function_expression j.value ≡ false) s.table i l.no_functions plain;
   predecessors = l.predecessors;
 }
   where
@@ -116,6 +118,7 @@ listed_completed s t next none l = record {
       omega (arith, one, empty, more, l.counted);
   once = subst (λ (indices : List ℕ). AreDistinct indices) (sym same) l.once;
   unordered = l.unordered;
+  no_functions = l.no_functions;
   predecessors = All-push (λ (b : BlockPair). b.1.preds ≡ []) s.completed ended l.predecessors refl;
 }
   where
@@ -143,6 +146,8 @@ listed_none s completed instructions table = record {
       omega (arith, orders, listed, rows, blocks);
   once = subst (λ (indices : List ℕ). AreDistinct indices) (sym nothing) distinct_none;
   unordered = subst (λ (l : List Instruction). AreUnordered l) (sym table) (All-nil (λ (i : Instruction). i.order.0 ≡ 0));
+  no_functions = subst (λ (l : List Instruction). All (λ (i : Instruction). is_function_expression i.value ≡ false) l) (sym table)
+      (All-nil (λ (i : Instruction). is_function_expression i.value ≡ false));
   predecessors = subst (λ (blocks : List BlockPair). AreUnlinked blocks) (sym completed)
       (All-nil (λ (b : BlockPair). b.1.preds ≡ []));
 }

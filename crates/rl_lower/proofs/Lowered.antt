@@ -1,7 +1,6 @@
 -- `LowersExpression` and its like for each kind of part, from the moves that lowering it makes.
-use Rattle.std.proofs.Common.{◌≡◌, ℕ, ◌+◌, ◌*◌, ◌<◌, ◌≤◌, ◌++◌, Bool, true, false, if◌then◌else◌, List, [], ◌∷◌, length, length-append, map, Option, Some, None, refl, sym, ap, ◌∙◌, subst, arith}
+use Rattle.std.proofs.Common.{◌≡◌, ℕ, ◌+◌, ◌*◌, ◌≤◌, ◌++◌, Bool, true, false, if◌then◌else◌, List, [], ◌∷◌, length, map, Option, Some, None, refl, sym, ap, ◌∙◌, subst, arith}
 use Rattle.std.proofs.Common.{append-nil, append_assoc}
-use Rattle.std.proofs.lemmas.List.Elements.{All-cons}
 use Rattle.rl_base.specs.declared.diagnostic.Diagnostic.{Diagnostic}
 use Rattle.rl_base.specs.declared.row.Row.TheVariants as row
 use Rattle.rl_base.specs.declared.span.Span.{Span}
@@ -19,7 +18,8 @@ use Rattle.rl_hir.specs.declared.instruction.PrimitiveValue.TheVariants as primi
 use Rattle.rl_hir.specs.declared.function.BlockKind.{BlockKind}
 use Rattle.rl_hir.specs.declared.terminal.ReturnVariant.TheVariants as returns
 use Rattle.rl_builder.specs.Builder.{State, reserved, new_block, recorded}
-use Rattle.rl_builder.specs.Temporaries.{temporary, unordered, with_value}
+use Rattle.rl_builder.specs.Dropped.{is_function_expression}
+use Rattle.rl_lower.specs.Values.{temporary, unordered, with_value}
 use Rattle.rl_syntax.specs.declared.numbered.At.{At}
 use Rattle.rl_syntax.specs.declared.word.Word.TheVariants as word
 use Rattle.rl_syntax.specs.Syntax.{Syntax, Node, Listed, Said, Count, Flag, Absent, Pieces, End, Then, nodes, nodes_of}
@@ -30,7 +30,7 @@ use Rattle.rl_names.specs.declared.names.Meaning.TheVariants.{Local, Outer}
 use Rattle.rl_machine.specs.declared.trace.Answer.{Answer}
 use Rattle.rl_machine.specs.declared.trace.Value.TheVariants as value
 use Rattle.rl_model.specs.Held.{call_at, calls_in, calls_among, calls_of, can_complete, live_calls}
-use Rattle.rl_model.specs.Rows.{refusals, refusals_in, refusal, said_of_local, said_of_name, said_of_outer}
+use Rattle.rl_model.specs.Rows.{label_of, refusals, refusals_in, refusal, said_of_local, said_of_name, said_of_outer}
 use Rattle.rl_machine.specs.Traces.{returned, Store, ValueCont, waiting}
 use Rattle.rl_model.specs.Meanings.{Exits}
 use Rattle.rl_model.specs.Source.{eval_expr, eval_exprs, reads, shape_of, exec_stmt, exec_stmts}
@@ -55,11 +55,11 @@ append_none (x ∷ xs) ys e = absurd (cc)
 
 -- An expression without parts and without refusals.
 leaf_lowered : (names : Names) (e : Syntax) (s : State) (v : InstructionValue) (span : Option Span) → 1 ≤ nodes e
-    → calls_in e ≡ [] → call_at (unordered (temporary s span) v span) ≡ [] → refusals names e ≡ []
+    → is_function_expression v ≡ false → calls_in e ≡ [] → call_at (unordered (temporary s span) v span) ≡ [] → refusals names e ≡ []
     → RunsExpression (eval_expr names e) s (with_value s v span) (length s.env.identifiers)
     → LowersExpression names e s (with_value s v span) (length s.env.identifiers)
-leaf_lowered names e s v span one silent no_call none run = record {
-  keeps = keeps_more s _ 1 (4 * nodes e) (omega (arith, one)) (keeps_value s v span);
+leaf_lowered names e s v span one plain silent no_call none run = record {
+  keeps = keeps_more s _ 1 (4 * nodes e) (omega (arith, one)) (keeps_value s v span plain);
   blocks = blocks_value s v span;
   refused = nothing_added s.env.diagnostics (refusals names e) none;
   calls = calls_same s.table (unordered (temporary s span) v span) no_call ∙ nothing_added (calls_of s.table) (calls_in e) silent;
@@ -69,10 +69,10 @@ leaf_lowered names e s v span one silent no_call none run = record {
 
 -- As `leaf_lowered`, with a refusal, so that no run is owed.
 refused_lowered : (names : Names) (e : Syntax) (d : Diagnostic) (s : State) (v : InstructionValue) (span : Option Span)
-    → 1 ≤ nodes e → calls_in e ≡ [] → call_at (unordered (temporary s span) v span) ≡ [] → refusals names e ≡ d ∷ []
+    → 1 ≤ nodes e → is_function_expression v ≡ false → calls_in e ≡ [] → call_at (unordered (temporary s span) v span) ≡ [] → refusals names e ≡ d ∷ []
     → LowersExpression names e s (with_value (recorded s d) v span) (length s.env.identifiers)
-refused_lowered names e d s v span one silent no_call says = record {
-  keeps = keeps_more s _ 1 (4 * nodes e) (omega (arith, one)) (keeps_then s (recorded s d) _ 0 1 (keeps_recorded s d) (keeps_value (recorded s d) v span));
+refused_lowered names e d s v span one plain silent no_call says = record {
+  keeps = keeps_more s _ 1 (4 * nodes e) (omega (arith, one)) (keeps_then s (recorded s d) _ 0 1 (keeps_recorded s d) (keeps_value (recorded s d) v span plain));
   blocks = blocks_then s (recorded s d) _ (blocks_recorded s d) (blocks_value (recorded s d) v span);
   refused = ap (λ (l : List Diagnostic). s.env.diagnostics ++ l) (sym says);
   calls = calls_same s.table (unordered (temporary s span) v span) no_call ∙ nothing_added (calls_of s.table) (calls_in e) silent;
@@ -99,7 +99,7 @@ literal_call : (names : Names) (tree e : Syntax) (s new : State) (p : PrimitiveV
     → ((source : Store) (answers : List Answer) (onward throws : ValueCont) → eval_expr names e source answers onward throws ≡ onward (value_of p) source answers)
     → LowersExpression names tree s new place.identifier.0
 literal_call names tree e s new p span place is moved placed one no_calls none silent =
-    expression_call names tree e s new _ place _ is moved placed (leaf_lowered names e s (values.Primitive p) span one no_calls refl none (value_runs s (eval_expr names e) p span silent))
+    expression_call names tree e s new _ place _ is moved placed (leaf_lowered names e s (values.Primitive p) span one refl no_calls refl none (value_runs s (eval_expr names e) p span silent))
 
 pub null_call : (names : Names) (tree : Syntax) (at : At) (s new : State) (span : Option Span) (place : Place)
     → tree ≡ Node at word.Null End → new ≡ with_value s (values.Primitive primitives.Null) span → place ≡ temporary s span
@@ -137,7 +137,7 @@ pub refused_call : (names : Names) (tree : Syntax) (at : At) (text : List ℕ) (
 refused_call names tree at text d s mid new span place is not_numeral refuses noted moved placed =
     let noted2 : mid ≡ recorded s (refusal row.F43 at.span) = noted ∙ ap (λ (x : Diagnostic). recorded s x) refuses in
     expression_call names tree (Node at word.Num (Then (Said text) End)) s new _ place _ is (moved ∙ ap (λ (m : State). with_value m (values.Primitive primitives.Undefined) span) noted2) (placed ∙ ap (λ (m : State). temporary m span) noted2)
-    (refused_lowered names (Node at word.Num (Then (Said text) End)) (refusal row.F43 at.span) s (values.Primitive primitives.Undefined) span (omega arith) refl refl
+    (refused_lowered names (Node at word.Num (Then (Said text) End)) (refusal row.F43 at.span) s (values.Primitive primitives.Undefined) span (omega arith) refl refl refl
     (ap (λ (b : Bool). (if b then [] else refusal row.F43 at.span ∷ []) ++ []) not_numeral))
 
 -- The refusals of a name's node are those of the name.
@@ -153,7 +153,7 @@ pub outer_call : (names : Names) (at : At) (name : List ℕ) (binding : NonLocal
     → LowersExpression names (Node at word.Id (Then (Said name) End)) s new place.identifier.0
 outer_call names at name binding s new span place is nothing moved placed =
     expression_call names (Node at word.Id (Then (Said name) End)) (Node at word.Id (Then (Said name) End)) s new _ place _ refl moved placed
-    (leaf_lowered names (Node at word.Id (Then (Said name) End)) s (values.LoadGlobal binding) span (omega arith) refl refl (name_says names at name (Outer binding) is ∙ nothing)
+    (leaf_lowered names (Node at word.Id (Then (Said name) End)) s (values.LoadGlobal binding) span (omega arith) refl refl refl (name_says names at name (Outer binding) is ∙ nothing)
     (same_runs s _ _ _ _ (λ source answers onward throws. ap (λ (m : Meaning). reads m source answers onward throws) is) (outer_runs s binding span)))
 
 pub refused_outer_call : (names : Names) (at : At) (name : List ℕ) (binding : NonLocalBinding) (d : Diagnostic) (s mid new : State)
@@ -164,29 +164,29 @@ refused_outer_call names at name binding d s mid new span place is says noted mo
     expression_call names (Node at word.Id (Then (Said name) End)) (Node at word.Id (Then (Said name) End)) s new _ place _ refl
     (moved ∙ ap (λ (m : State). with_value m (values.LoadGlobal binding) span) noted)
     (placed ∙ ap (λ (m : State). temporary m span) noted)
-    (refused_lowered names (Node at word.Id (Then (Said name) End)) d s (values.LoadGlobal binding) span (omega arith) refl refl (name_says names at name (Outer binding) is ∙ says))
+    (refused_lowered names (Node at word.Id (Then (Said name) End)) d s (values.LoadGlobal binding) span (omega arith) refl refl refl (name_says names at name (Outer binding) is ∙ says))
 
 -- A local variable without a refusal, and one with one.
 pub local_call : (names : Names) (at : At) (name : List ℕ) (symbol : SymbolId)
     (p : Place) (s new : State) (span : Option Span) (place : Place)
-    → names.meaning at.reference.0 name ≡ Local symbol → said_of_local (names.name symbol.0) (names.declaration symbol.0) ≡ []
+    → names.meaning at.reference.0 name ≡ Local symbol → said_of_local (names.name symbol.0) (label_of names symbol at.span) ≡ []
     → identifier_of s.bindings symbol.0 ≡ Some p.identifier.0 → new ≡ with_value s (values.LoadLocal p) span
     → place ≡ temporary s span → LowersExpression names (Node at word.Id (Then (Said name) End)) s new place.identifier.0
 local_call names at name symbol p s new span place is nothing bound moved placed =
     expression_call names (Node at word.Id (Then (Said name) End)) (Node at word.Id (Then (Said name) End)) s new _ place _ refl moved placed
-    (leaf_lowered names (Node at word.Id (Then (Said name) End)) s (values.LoadLocal p) span (omega arith) refl refl (name_says names at name (Local symbol) is ∙ nothing)
+    (leaf_lowered names (Node at word.Id (Then (Said name) End)) s (values.LoadLocal p) span (omega arith) refl refl refl (name_says names at name (Local symbol) is ∙ nothing)
     (same_runs s _ _ _ _ (λ source answers onward throws. ap (λ (m : Meaning). reads m source answers onward throws) is) (local_runs s symbol.0 p span bound)))
 
 pub refused_local_call : (names : Names) (at : At) (name : List ℕ) (symbol : SymbolId)
     (d : Diagnostic) (p : Place) (s mid new : State) (span : Option Span) (place : Place)
-    → names.meaning at.reference.0 name ≡ Local symbol → said_of_local (names.name symbol.0) (names.declaration symbol.0) ≡ d ∷ []
+    → names.meaning at.reference.0 name ≡ Local symbol → said_of_local (names.name symbol.0) (label_of names symbol at.span) ≡ d ∷ []
     → mid ≡ recorded s d → new ≡ with_value mid (values.LoadLocal p) span → place ≡ temporary mid span
     → LowersExpression names (Node at word.Id (Then (Said name) End)) s new place.identifier.0
 refused_local_call names at name symbol d p s mid new span place is says noted moved placed =
     expression_call names (Node at word.Id (Then (Said name) End)) (Node at word.Id (Then (Said name) End)) s new _ place _ refl
     (moved ∙ ap (λ (m : State). with_value m (values.LoadLocal p) span) noted)
     (placed ∙ ap (λ (m : State). temporary m span) noted)
-    (refused_lowered names (Node at word.Id (Then (Said name) End)) d s (values.LoadLocal p) span (omega arith) refl refl (name_says names at name (Local symbol) is ∙ says))
+    (refused_lowered names (Node at word.Id (Then (Said name) End)) d s (values.LoadLocal p) span (omega arith) refl refl refl (name_says names at name (Local symbol) is ∙ says))
 
 pub parenthesized_call : (names : Names) (tree e : Syntax) (at : At) (s new : State) (identifier : ℕ)
     → tree ≡ Node at word.Paren (Then e End) → LowersExpression names e s new identifier
@@ -209,7 +209,7 @@ pub binary_call : (names : Names) (tree left right : Syntax) (at : At) (operator
     → LowersExpression names tree s new place.identifier.0
 binary_call names tree left right at operator l r s mid last new span place is ll lr moved placed =
     expression_call names tree whole s new _ place _ is moved placed (record {
-      keeps = keeps_more s _ (4 * nodes left + (4 * nodes right + 1)) _ (omega arith) (keeps_then s mid _ (4 * nodes left) (4 * nodes right + 1) ll.keeps (keeps_then mid last _ (4 * nodes right) 1 lr.keeps (keeps_value last (values.BinaryExpression operator l r) span)));
+      keeps = keeps_more s _ (4 * nodes left + (4 * nodes right + 1)) _ (omega arith) (keeps_then s mid _ (4 * nodes left) (4 * nodes right + 1) ll.keeps (keeps_then mid last _ (4 * nodes right) 1 lr.keeps (keeps_value last (values.BinaryExpression operator l r) span refl)));
       blocks = blocks_then s last _ (blocks_then s mid last ll.blocks lr.blocks) (blocks_value last (values.BinaryExpression operator l r) span);
       refused = added_then (refusals names left) (refusals names right ++ []) _ _ _ ll.refused (lr.refused ∙ ap (λ (ds : List Diagnostic). mid.env.diagnostics ++ ds) (sym (append-nil (refusals names right))));
       calls = calls_same last.table (unordered (temporary last span) (values.BinaryExpression operator l r) span) refl
@@ -259,7 +259,7 @@ pub call_call : (names : Names) (tree callee : Syntax) (arguments : Pieces) (at 
     → LowersExpression names tree s new place.identifier.0
 call_call names tree callee arguments at f given identifiers s mid last new place is lf la shaped values_given moved placed =
     expression_call names tree whole s new _ place _ is moved placed (record {
-      keeps = keeps_more s _ (4 * nodes callee + (4 * nodes_of arguments + 1)) _ (omega arith) (keeps_then s mid _ (4 * nodes callee) (4 * nodes_of arguments + 1) lf.keeps (keeps_then mid last _ (4 * nodes_of arguments) 1 la.keeps (keeps_value last (values.CallExpression f given) (Some at.span))));
+      keeps = keeps_more s _ (4 * nodes callee + (4 * nodes_of arguments + 1)) _ (omega arith) (keeps_then s mid _ (4 * nodes callee) (4 * nodes_of arguments + 1) lf.keeps (keeps_then mid last _ (4 * nodes_of arguments) 1 la.keeps (keeps_value last (values.CallExpression f given) (Some at.span) refl)));
       blocks = blocks_then s last _ (blocks_then s mid last lf.blocks la.blocks) (blocks_value last (values.CallExpression f given) (Some at.span));
       refused = added_then (refusals names callee) (refusals_in names arguments ++ []) _ _ _ lf.refused (la.refused ∙ ap (λ (ds : List Diagnostic). mid.env.diagnostics ++ ds) (sym (append-nil (refusals_in names arguments))));
       calls = calls_more last.table (unordered (temporary last (Some at.span)) (values.CallExpression f given) (Some at.span))
@@ -330,11 +330,11 @@ return_nothing_call names tree at s mid new place kind span is given placed move
     let moved2 : new ≡ end = moved ∙ ap (λ (m : State). returned_from m span returns.Explicit place kind) given ∙ ap (λ (p : Place). returned_from mid2 span returns.Explicit p kind) placed in
     subst (λ (t : Syntax). LowersStatement names t s new) (sym is)
     (subst (λ (n : State). LowersStatement names (Node at word.Return (Then Absent End)) s n) (sym moved2) (record {
-      keeps = keeps_more s end (1 + 2) 4 (omega arith) (keeps_then s mid2 end 1 2 (keeps_value s (values.Primitive primitives.Undefined) None) (keeps_returned mid2 span (temporary s None) kind));
+      keeps = keeps_more s end (1 + 2) 4 (omega arith) (keeps_then s mid2 end 1 2 (keeps_value s (values.Primitive primitives.Undefined) None refl) (keeps_returned mid2 span (temporary s None) kind));
       blocks = blocks_then s mid2 end (blocks_value s (values.Primitive primitives.Undefined) None) (blocks_returned mid2 span returns.Explicit (temporary s None) kind);
       refused = sym (append-nil s.env.diagnostics);
       calls = calls_same s.table (unordered (temporary s None) (values.Primitive primitives.Undefined) None) refl ∙ sym (append-nil (calls_of s.table));
-      reachable = adds_then [] [] true false s mid2 end (adds_value s (values.Primitive primitives.Undefined) None) (adds_returned mid2 span returns.Explicit (temporary s None) kind) (listed_value s (values.Primitive primitives.Undefined) None);
+      reachable = adds_then [] [] true false s mid2 end (adds_value s (values.Primitive primitives.Undefined) None) (adds_returned mid2 span returns.Explicit (temporary s None) kind) (listed_value s (values.Primitive primitives.Undefined) None refl);
       runs = λ supported. return_runs s mid2 (λ source answers onward throws. onward value.Undefined source answers) (length s.env.identifiers) span returns.Explicit (temporary s None) kind refl (value_runs s (λ source answers onward throws. onward value.Undefined source answers) primitives.Undefined None (λ source answers onward throws. refl));
     }))
 

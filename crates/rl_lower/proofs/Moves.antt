@@ -7,10 +7,10 @@ use Rattle.rl_hir.specs.declared.instruction.Instruction.{Instruction}
 use Rattle.rl_hir.specs.declared.instruction.InstructionValue.{InstructionValue}
 use Rattle.rl_hir.specs.declared.terminal.Terminal.{Terminal}
 use Rattle.rl_hir.specs.Blocks.{Pair as BlockPair}
-use Rattle.rl_builder.specs.Builder.{State, reserved, recorded, with_temporary, pushed, ended_by, completed_by}
+use Rattle.rl_builder.specs.Builder.{State, reserved, recorded, with_temporary, plainly_pushed, ended_by, completed_by}
 use Rattle.rl_builder.specs.Names.{NamesAgree, resolved}
-use Rattle.rl_builder.specs.Temporaries.{with_value}
-use Rattle.rl_builder.specs.declared.builder.WipBlock.{WipBlock}
+use Rattle.rl_lower.specs.Values.{with_value}
+use Rattle.rl_builder.specs.declared.blocks.WipBlock.{WipBlock}
 use Rattle.rl_machine.specs.declared.trace.Answer.{Answer}
 use Rattle.rl_machine.specs.declared.trace.Trace.{Trace}
 use Rattle.rl_machine.specs.Traces.{Store}
@@ -89,7 +89,7 @@ extends_temporary s span = record {
   sound = λ q. sound_more s.bindings s.used_names s.env.identifiers _ s.env.pairs q;
 }
 
-pub extends_pushed : (s : State) (i : Instruction) → Extends s (pushed s i)
+pub extends_pushed : (s : State) (i : Instruction) → Extends s (plainly_pushed s i)
 extends_pushed s i = record {
   done = λ f d. record { place = d.place; block = d.block; found = d.found; named = d.named; holds = block_more s.table (i ∷ []) d.block f.place f.item d.holds };
   wip = λ f w. inr (record { named = w.named; holds = wip_more s.table (i ∷ []) s.current.instructions (record { 0 = length s.table } ∷ []) f.place f.item w.holds });
@@ -126,18 +126,18 @@ extends_completed s t next = record {
 }
 
 -- A symbol is resolved: it gets an identifier unless it has one. That names agree, the builder tells.
-pub extends_resolved : (s : State) (name : List ℕ) (symbol : ℕ) (declaration : Span)
-    → (NamesAgree s → NamesAgree (resolved s name symbol declaration)) → Extends s (resolved s name symbol declaration)
-extends_resolved s name symbol declaration agrees = record {
+pub extends_resolved : (s : State) (name : List ℕ) (symbol : ℕ) (given : Option Span)
+    → (NamesAgree s → NamesAgree (resolved s name symbol given)) → Extends s (resolved s name symbol given)
+extends_resolved s name symbol given agrees = record {
   done = λ f d. record { place = d.place; block = d.block; found = d.found; named = d.named; holds = d.holds };
   wip = λ f w. inr (record { named = w.named; holds = w.holds });
   completed = λ id k. k;
   current = inl refl;
   entry = refl;
   blocks = omega arith;
-  identifiers = (OneMore-resolved s name symbol declaration).kept;
-  names = names_resolved s name symbol declaration;
-  sound = λ q. sound_resolved s name symbol declaration agrees q;
+  identifiers = (OneMore-resolved s name symbol given).kept;
+  names = names_resolved s name symbol given;
+  sound = λ q. sound_resolved s name symbol given agrees q;
 }
 
 pub value_made : (s : State) (value : InstructionValue) (span : Option Span) → length s.env.identifiers < length (with_value s value span).env.identifiers
@@ -161,7 +161,7 @@ terminal_met s t next c cover =
     cover.has (record { block = s.current.id.0; place = length s.current.instructions; item = Ends t })
     (inl (record { place = length s.completed; block = ended_by s.current t; found = get_seam s.completed (ended_by s.current t) []; named = refl; holds = (refl, refl) }))
 
-pub instruction_met : (s : State) (i : Instruction) (c : Code) → IsContainedIn (pushed s i) c
+pub instruction_met : (s : State) (i : Instruction) (c : Code) → IsContainedIn (plainly_pushed s i) c
     → c.item s.current.id.0 (length s.current.instructions) ≡ Some (Runs i)
 instruction_met s i c cover =
     cover.has (record { block = s.current.id.0; place = length s.current.instructions; item = Runs i })
@@ -171,7 +171,7 @@ instruction_met s i c cover =
 pub push_runs : (s : State) (i : Instruction) (c : Code) (store later : Store) (notes : Notes) (answers : List Answer)
     (t : Trace) →
     ((stuck : Trace) (next : Next) (block place : ℕ) → step stuck c (Some (Runs i)) next next block place store notes answers ≡ next block (place + 1) later notes answers)
-    → IsContainedIn (pushed s i) c → TracesFrom c (pushed s i) later notes answers t → TracesFrom c s store notes answers t
+    → IsContainedIn (plainly_pushed s i) c → TracesFrom c (plainly_pushed s i) later notes answers t → TracesFrom c s store notes answers t
 push_runs s i c store later notes answers t acts cover rest =
     let one : length (s.current.instructions ++ record { 0 = length s.table } ∷ []) ≡ length s.current.instructions + 1 = length-append s.current.instructions (record { 0 = length s.table } ∷ []) in
     let behind : TracesAt c s.current.id.0 (length s.current.instructions + 1) later notes answers t = subst (λ place. TracesAt c s.current.id.0 place later notes answers t) one rest in

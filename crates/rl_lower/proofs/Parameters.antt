@@ -1,7 +1,7 @@
 -- The builder after the parameters of a function.
-use Rattle.std.proofs.Common.{◌≡◌, ℕ, zero, suc, ◌+◌, ◌<◌, ◌++◌, ◌&&◌, Bool, true, false, nat_eq, if◌then◌else◌, List, [], ◌∷◌, map, All, get_or, length, length-append, Option, Some, None, slice_get, refl, sym, ap, ◌∙◌, subst, arith, append-nil, append_assoc, codes, eq-eqb, inl, inr}
+use Rattle.std.proofs.Common.{◌≡◌, ℕ, zero, suc, ◌+◌, ◌<◌, ◌++◌, ◌&&◌, Bool, true, false, nat_eq, if◌then◌else◌, List, [], ◌∷◌, map, All, get_or, unwrap_or, length, length-append, Option, Some, None, slice_get, refl, sym, ap, ◌∙◌, subst, arith, append-nil, append_assoc, eq-eqb, inl, inr}
 use Rattle.std.specs.Str.{bytes_eq}
-use Rattle.std.specs.Option.{option_map_or}
+use Rattle.std.specs.Option.{option_map, option_map_or, option_or}
 use Rattle.std.proofs.lemmas.Bool.{ne_eqb}
 use Rattle.std.proofs.lemmas.Bool.Decides.{eqb_tells}
 use Rattle.std.proofs.lemmas.List.Elements.{All-cons, All-head, All-tail}
@@ -9,20 +9,28 @@ use Rattle.std.proofs.lemmas.Slice.Eq.{bytes_eq-Decides}
 use Rattle.rl_base.specs.declared.diagnostic.Diagnostic.{Diagnostic}
 use Rattle.rl_base.specs.declared.ids.SymbolId.{SymbolId}
 use Rattle.rl_base.specs.declared.row.Row.TheVariants as row
+use Rattle.rl_base.specs.declared.span.Span.{Span}
+use Rattle.rl_bindings.specs.declared.event.Bound.{Bound}
+use Rattle.rl_context.specs.Index.{declares, span_among}
+use Rattle.rl_hir.specs.declared.environment.Rename.{Rename}
+use Rattle.rl_resolver.specs.Listed.{reference_ids}
+use Rattle.rl_resolver.specs.Lookups.{declaration_ident}
+use Rattle.rl_semantic.specs.Items.{of_item}
 use Rattle.rl_hir.specs.Pairs.{identifier_of, pair}
 use Rattle.rl_hir.specs.declared.environment.Environment.{Environment}
 use Rattle.rl_hir.specs.declared.function.Identifier.{Identifier}
 use Rattle.rl_hir.specs.declared.function.IdentifierName.TheVariants.{Named}
 use Rattle.rl_hir.specs.declared.function.Pair.{Pair}
 use Rattle.rl_builder.specs.Builder.{State}
-use Rattle.rl_builder.specs.Names.{candidate, chosen, fbt, fbt_diagnostic, is_free, place_from, resolved, resolved_by, user_of, with_user}
-use Rattle.rl_hir.specs.Identifiers.{named_identifier}
-use Rattle.rl_builder.specs.UsedName.{UsedName}
-use Rattle.rl_model.specs.Rows.{is_text, refusal}
+use Rattle.rl_builder.specs.Names.{fbt_label, fresh_identifier, new_span, renamed, renames_of, resolved, resolved_by}
+use Rattle.rl_used_names.specs.Choosing.{chosen, is_free, place_from, with_user}
+use Rattle.rl_used_names.specs.IdentifierNames.{fbt, fbt_diagnostic}
+use Rattle.rl_used_names.specs.UsedName.{candidate, user_of, UsedName}
+use Rattle.rl_model.specs.Rows.{label_of, refusal, said_of_local}
 use Rattle.rl_names.specs.Locals.{AreApart, AreLocals, HasTexts, IsApart}
 use Rattle.rl_names.specs.Names.{Names}
 use Rattle.rl_names.specs.declared.parameters.Parameter.{Parameter}
-use Rattle.rl_lower.specs.Named.{HasIdentifier, IsNamed}
+use Rattle.rl_lower.specs.Named.{HasIdentifier, IsNamed, TellDeclarations, declared_span}
 use Rattle.rl_lower.specs.Parameters.{said_of_parameters, with_parameters}
 
 -- The pairs and identifiers of parameters that get identifiers one after the other, from the given ids on.
@@ -30,15 +38,31 @@ abbrev pub pairs_from : (identifier : ℕ) → List Parameter → List Pair
 pairs_from identifier [] = []
 pairs_from identifier (p ∷ parameters) = pair p.symbol.0 identifier ∷ pairs_from (identifier + 1) parameters
 
-abbrev pub known_from : (type_id : ℕ) → List Parameter → List Identifier
-known_from type_id [] = []
-known_from type_id (p ∷ parameters) = named_identifier p.name p.declaration type_id ∷ known_from (type_id + 1) parameters
+abbrev pub identifier_for : State → (type_id : ℕ) → Parameter → Identifier
+identifier_for s type_id p = fresh_identifier p.name (new_span s p.symbol.0 (Some p.declaration)) type_id
+
+abbrev pub known_from : State → (type_id : ℕ) → List Parameter → List Identifier
+known_from s type_id [] = []
+known_from s type_id (p ∷ parameters) = identifier_for s type_id p ∷ known_from s (type_id + 1) parameters
 
 abbrev pub user_of_parameter : Parameter → UsedName
 user_of_parameter p = record { name = p.name; symbol = p.symbol.0 }
 
 abbrev pub users_of : List Parameter → List UsedName
 users_of parameters = map user_of_parameter parameters
+
+-- The span of a parameter's identifier is that of the parameter, where that is its symbol's declaration identifier: the index has
+-- that declaration or none.
+pub span_given : (s : State) (p : Parameter) → declared_span s.semantic p.symbol.0 ≡ Some p.declaration → new_span s p.symbol.0 (Some p.declaration) ≡ Some p.declaration
+span_given s p is = by_declaration (declaration_ident s.semantic.bindings.symbols p.symbol.0) is
+  where
+    by_index : (b : Bound) (held : Bool) → Some b.span ≡ Some p.declaration → option_or (if held then Some b.span else None) (Some p.declaration) ≡ Some p.declaration
+    by_index b true same = same
+    by_index b false same = refl
+
+    by_declaration : (o : Option Bound) → option_map (λ (b : Bound). b.span) o ≡ Some p.declaration → option_or (of_item None (span_among s.sites) o) (Some p.declaration) ≡ Some p.declaration
+    by_declaration None same = refl
+    by_declaration (Some b) same = by_index b (declares b.node.0 s.sites) same
 
 -- Lists that grow at their end.
 
@@ -49,23 +73,43 @@ pairs_end identifier (q ∷ done) p =
     ap (λ (l : List Pair). pair q.symbol.0 identifier ∷ l) (pairs_end (identifier + 1) done p
     ∙ ap (λ (n : ℕ). pairs_from (identifier + 1) done ++ pair p.symbol.0 n ∷ []) one)
 
-known_end : (type : ℕ) (done : List Parameter) (p : Parameter) → known_from type (done ++ p ∷ []) ≡ known_from type done ++ named_identifier p.name p.declaration (type + length done) ∷ []
-known_end type [] p = ap (λ (n : ℕ). named_identifier p.name p.declaration n ∷ []) (omega arith)
-known_end type (q ∷ done) p =
+known_end : (s : State) (type : ℕ) (done : List Parameter) (p : Parameter) → known_from s type (done ++ p ∷ []) ≡ known_from s type done ++ identifier_for s (type + length done) p ∷ []
+known_end s type [] p = ap (λ (n : ℕ). identifier_for s n p ∷ []) (omega arith)
+known_end s type (q ∷ done) p =
     let one : type + 1 + length done ≡ type + length (q ∷ done) = omega arith in
-    ap (λ (l : List Identifier). named_identifier q.name q.declaration type ∷ l) (known_end (type + 1) done p
-    ∙ ap (λ (n : ℕ). known_from (type + 1) done ++ named_identifier p.name p.declaration n ∷ []) one)
+    ap (λ (l : List Identifier). identifier_for s type q ∷ l) (known_end s (type + 1) done p
+    ∙ ap (λ (n : ℕ). known_from s (type + 1) done ++ identifier_for s n p ∷ []) one)
 
 users_end : (done : List Parameter) (p : Parameter) → users_of (done ++ p ∷ []) ≡ users_of done ++ user_of_parameter p ∷ []
 users_end [] p = refl
 users_end (q ∷ done) p = ap (λ (l : List UsedName). user_of_parameter q ∷ l) (users_end done p)
 
-abbrev said_of : Parameter → List Diagnostic
-said_of p = if is_text (codes "fbt") p.name then refusal row.F40 p.declaration ∷ [] else []
+abbrev said_of : State → Parameter → List Diagnostic
+said_of s p = said_of_local p.name (fbt_label s p.symbol.0 (Some p.declaration))
 
-said_end : (done : List Parameter) (p : Parameter) → said_of_parameters (done ++ p ∷ []) ≡ said_of_parameters done ++ said_of_parameters (p ∷ [])
-said_end [] p = refl
-said_end (q ∷ done) p = ap (λ (l : List Diagnostic). said_of q ++ l) (said_end done p) ∙ sym (append_assoc (said_of q) (said_of_parameters done) (said_of_parameters (p ∷ [])))
+-- The refusals of parameters, as a builder labels them.
+abbrev pub said_from : State → List Parameter → List Diagnostic
+said_from s [] = []
+said_from s (p ∷ parameters) = said_of s p ++ said_from s parameters
+
+said_end : (s : State) (done : List Parameter) (p : Parameter) → said_from s (done ++ p ∷ []) ≡ said_from s done ++ said_from s (p ∷ [])
+said_end s [] p = refl
+said_end s (q ∷ done) p = ap (λ (l : List Diagnostic). said_of s q ++ l) (said_end s done p) ∙ sym (append_assoc (said_of s q) (said_from s done) (said_from s (p ∷ [])))
+
+label_by : (declared : Option Bound) (other : Span) → option_map_or (λ b. b.span) declared other ≡ unwrap_or (option_map (λ b. b.span) declared) other
+label_by None other = refl
+label_by (Some b) other = refl
+
+-- The builder's label of row F40 is that of the names.
+pub label_told : (names : Names) (s : State) (symbol : SymbolId) (at : Span) → TellDeclarations names s.semantic → fbt_label s symbol.0 (Some at) ≡ label_of names symbol at
+label_told names s symbol at told =
+    label_by (declaration_ident s.semantic.bindings.symbols symbol.0) at ∙ ap (λ (o : Option Span). unwrap_or o at) (sym (told symbol.0))
+
+pub said_told : (names : Names) (s : State) (parameters : List Parameter) → TellDeclarations names s.semantic → said_from s parameters ≡ said_of_parameters names parameters
+said_told names s [] told = refl
+said_told names s (p ∷ parameters) told =
+    ap (λ (label : Span). said_of_local p.name label ++ said_from s parameters) (label_told names s p.symbol p.declaration told)
+    ∙ ap (λ (l : List Diagnostic). said_of_local p.name (label_of names p.symbol p.declaration) ++ l) (said_told names s parameters told)
 
 -- A name that nobody has is given as it is.
 
@@ -153,69 +197,78 @@ pair_found identifier (q ∷ parameters) (suc place) p apart there =
     ap (λ (b : Bool). if b then Some identifier else identifier_of (pairs_from (identifier + 1) parameters) p.symbol.0) (ne_eqb q.symbol.0 p.symbol.0 (all_at (IsApart q) parameters place p there apart.0).symbols)
     ∙ pair_found (identifier + 1) parameters place p apart.1 there ∙ ap (λ (n : ℕ). Some n) (omega arith)
 
-pub known_length : (type : ℕ) (done : List Parameter) → length (known_from type done) ≡ length done
-known_length type [] = refl
-known_length type (x ∷ done) = let rest : length (known_from (type + 1) done) ≡ length done = known_length (type + 1) done in omega (arith, rest)
+pub known_length : (s : State) (type : ℕ) (done : List Parameter) → length (known_from s type done) ≡ length done
+known_length s type [] = refl
+known_length s type (x ∷ done) = let rest : length (known_from s (type + 1) done) ≡ length done = known_length s (type + 1) done in omega (arith, rest)
 
-said_first : (x : Parameter) → (if bytes_eq x.name fbt && true then fbt_diagnostic x.declaration ∷ [] else []) ≡ said_of_parameters (x ∷ [])
-said_first x = by_test (bytes_eq x.name fbt) refl
+said_first : (s : State) (x : Parameter) → (if bytes_eq x.name fbt && true then fbt_diagnostic (fbt_label s x.symbol.0 (Some x.declaration)) ∷ [] else []) ≡ said_from s (x ∷ [])
+said_first s x = by_test (bytes_eq x.name fbt) refl
   where
-    by_test : (b : Bool) → bytes_eq x.name fbt ≡ b → (if bytes_eq x.name fbt && true then fbt_diagnostic x.declaration ∷ [] else []) ≡ said_of_parameters (x ∷ [])
-    by_test true is = ap (λ (c : Bool). if c && true then fbt_diagnostic x.declaration ∷ [] else []) is ∙ sym (ap (λ (c : Bool). (if c then refusal row.F40 x.declaration ∷ [] else []) ++ []) is)
-    by_test false is = ap (λ (c : Bool). if c && true then fbt_diagnostic x.declaration ∷ [] else []) is ∙ sym (ap (λ (c : Bool). (if c then refusal row.F40 x.declaration ∷ [] else []) ++ []) is)
+    label : Span
+    label = fbt_label s x.symbol.0 (Some x.declaration)
+
+    by_test : (b : Bool) → bytes_eq x.name fbt ≡ b → (if bytes_eq x.name fbt && true then fbt_diagnostic label ∷ [] else []) ≡ said_from s (x ∷ [])
+    by_test true is = ap (λ (c : Bool). if c && true then fbt_diagnostic label ∷ [] else []) is ∙ sym (ap (λ (c : Bool). (if c then refusal row.F40 label ∷ [] else []) ++ []) is)
+    by_test false is = ap (λ (c : Bool). if c && true then fbt_diagnostic label ∷ [] else []) is ∙ sym (ap (λ (c : Bool). (if c then refusal row.F40 label ∷ [] else []) ++ []) is)
 
 -- the environment after some symbols got identifiers
-abbrev pub env_with : Environment → List Parameter → Environment
-env_with env done = record env {
-  next_type = env.next_type + length done;
-  identifiers = env.identifiers ++ known_from env.next_type done;
-  pairs = env.pairs ++ pairs_from (length env.identifiers) done;
-  diagnostics = env.diagnostics ++ said_of_parameters done;
+abbrev pub env_with : State → List Parameter → Environment
+env_with s done = record s.env {
+  next_type = s.env.next_type + length done;
+  identifiers = s.env.identifiers ++ known_from s s.env.next_type done;
+  pairs = s.env.pairs ++ pairs_from (length s.env.identifiers) done;
+  diagnostics = s.env.diagnostics ++ said_from s done;
 }
 
 -- the same for a builder that had none
 abbrev pub state_with : State → List Parameter → State
-state_with s done = record s { env = env_with s.env done; bindings = pairs_from (length s.env.identifiers) done; used_names = users_of done }
+state_with s done = record s { env = env_with s done; bindings = pairs_from (length s.env.identifiers) done; used_names = users_of done }
 
 -- a builder, by what names change of it
-abbrev made : State → ℕ → List Identifier → List Pair → List Diagnostic → List Pair → List UsedName → State
-made s types identifiers pairs diagnostics bindings used = record s { env = record s.env { next_type = types; identifiers = identifiers; pairs = pairs; diagnostics = diagnostics }; bindings = bindings; used_names = used }
+abbrev made : State → ℕ → List Identifier → List Pair → List Diagnostic → List Rename → List Pair → List UsedName → State
+made s types identifiers pairs diagnostics renames bindings used = record s { env = record s.env { next_type = types; identifiers = identifiers; pairs = pairs; diagnostics = diagnostics; renames = renames }; bindings = bindings; used_names = used }
 
-made_same : (s : State) {types types1 : ℕ} {identifiers identifiers1 : List Identifier} {pairs pairs1 : List Pair} {diagnostics diagnostics1 : List Diagnostic} {bindings bindings1 : List Pair} {used used1 : List UsedName}
-    → types ≡ types1 → identifiers ≡ identifiers1 → pairs ≡ pairs1 → diagnostics ≡ diagnostics1 → bindings ≡ bindings1 → used ≡ used1 → made s types identifiers pairs diagnostics bindings used ≡ made s types1 identifiers1 pairs1 diagnostics1 bindings1 used1
-made_same s {types} {types1} {identifiers} {identifiers1} {pairs} {pairs1} {diagnostics} {diagnostics1} {bindings} {bindings1} {used} {used1} a b c d e f =
-    ap (λ (n : ℕ). made s n identifiers pairs diagnostics bindings used) a
-    ∙ ap (λ (l : List Identifier). made s types1 l pairs diagnostics bindings used) b
-    ∙ ap (λ (l : List Pair). made s types1 identifiers1 l diagnostics bindings used) c
-    ∙ ap (λ (l : List Diagnostic). made s types1 identifiers1 pairs1 l bindings used) d
-    ∙ ap (λ (l : List Pair). made s types1 identifiers1 pairs1 diagnostics1 l used) e
-    ∙ ap (λ (l : List UsedName). made s types1 identifiers1 pairs1 diagnostics1 bindings1 l) f
+made_same : (s : State) {types types1 : ℕ} {identifiers identifiers1 : List Identifier} {pairs pairs1 : List Pair} {diagnostics diagnostics1 : List Diagnostic} {renames renames1 : List Rename} {bindings bindings1 : List Pair} {used used1 : List UsedName}
+    → types ≡ types1 → identifiers ≡ identifiers1 → pairs ≡ pairs1 → diagnostics ≡ diagnostics1 → renames ≡ renames1 → bindings ≡ bindings1 → used ≡ used1 → made s types identifiers pairs diagnostics renames bindings used ≡ made s types1 identifiers1 pairs1 diagnostics1 renames1 bindings1 used1
+made_same s a b c d e f g = λ i. made s (a i) (b i) (c i) (d i) (e i) (f i) (g i)
 
 -- a list whose last part grows
 ended_by : {X : Type 0} (first more : List X) (last all : List X) → all ≡ more ++ last → (first ++ more) ++ last ≡ first ++ all
 ended_by first more last all is = append_assoc first more last ∙ ap (λ (l : List _). first ++ l) (sym is)
 
+-- No reference is renamed where a symbol gets its own name.
+none_renamed : (s : State) (name free : List ℕ) (symbol : ℕ) → free ≡ name → s.env.renames ++ renames_of s name free symbol ≡ s.env.renames
+none_renamed s name free symbol is = ap (λ (l : List Rename). s.env.renames ++ l) (same (bytes_eq free name) ((bytes_eq-Decides free name).1 is)) ∙ append-nil s.env.renames
+  where
+    more : List Rename
+    more = map (renamed free) (reference_ids s.semantic.bindings.symbols s.semantic.bindings.references symbol)
+
+    same : (b : Bool) → b ≡ true → (if b then [] else more) ≡ []
+    same true e = refl
+    same false e = absurd (cc)
+
 -- A parameter more, of a name that nobody has and a symbol without an identifier.
-next_with : (s : State) (done : List Parameter) (x : Parameter) → All (λ q. IsApart q x) done → resolved (state_with s done) x.name x.symbol.0 x.declaration ≡ state_with s (done ++ x ∷ [])
+next_with : (s : State) (done : List Parameter) (x : Parameter) → All (λ q. IsApart q x) done → resolved (state_with s done) x.name x.symbol.0 (Some x.declaration) ≡ state_with s (done ++ x ∷ [])
 next_with s done x apart =
     let base : ℕ = length s.env.identifiers in
     let type : ℕ = s.env.next_type + length done in
     let free : user_of (users_of done) x.name ≡ None = unused done x apart in
     let none : identifier_of (pairs_from base done) x.symbol.0 ≡ None = unbound base done x apart in
     let name_is : chosen (users_of done) x.symbol.0 x.name ≡ x.name = chosen_free (users_of done) x.symbol.0 x.name free in
-    let counted : length (s.env.identifiers ++ known_from s.env.next_type done) ≡ base + length done = length-append s.env.identifiers (known_from s.env.next_type done) ∙ ap (λ (n : ℕ). base + n) (known_length s.env.next_type done) in
+    let counted : length (s.env.identifiers ++ known_from s s.env.next_type done) ≡ base + length done = length-append s.env.identifiers (known_from s s.env.next_type done) ∙ ap (λ (n : ℕ). base + n) (known_length s s.env.next_type done) in
     let types : type + 1 ≡ s.env.next_type + length (done ++ x ∷ []) = (let long : length (done ++ x ∷ []) ≡ length done + 1 = length-append done (x ∷ []) in omega (arith, long)) in
-    let pairs : pairs_from base (done ++ x ∷ []) ≡ pairs_from base done ++ pair x.symbol.0 (length (s.env.identifiers ++ known_from s.env.next_type done)) ∷ [] =
+    let pairs : pairs_from base (done ++ x ∷ []) ≡ pairs_from base done ++ pair x.symbol.0 (length (s.env.identifiers ++ known_from s s.env.next_type done)) ∷ [] =
     pairs_end base done x ∙ ap (λ (n : ℕ). pairs_from base done ++ pair x.symbol.0 n ∷ []) (sym counted) in
-    let known : known_from s.env.next_type (done ++ x ∷ []) ≡ known_from s.env.next_type done ++ named_identifier (chosen (users_of done) x.symbol.0 x.name) x.declaration type ∷ [] =
-    known_end s.env.next_type done x ∙ ap (λ (n : List ℕ). known_from s.env.next_type done ++ named_identifier n x.declaration type ∷ []) (sym name_is) in
+    let known : known_from s s.env.next_type (done ++ x ∷ []) ≡ known_from s s.env.next_type done ++ fresh_identifier (chosen (users_of done) x.symbol.0 x.name) (new_span s x.symbol.0 (Some x.declaration)) type ∷ [] =
+    known_end s s.env.next_type done x ∙ ap (λ (n : List ℕ). known_from s s.env.next_type done ++ fresh_identifier n (new_span s x.symbol.0 (Some x.declaration)) type ∷ []) (sym name_is) in
     let used : with_user (users_of done) (chosen (users_of done) x.symbol.0 x.name) x.symbol.0 ≡ users_of (done ++ x ∷ []) =
     ap (λ (n : List ℕ). with_user (users_of done) n x.symbol.0) name_is ∙ user_last (users_of done) x.name x.symbol.0 free ∙ sym (users_end done x) in
-    ap (λ (o : Option ℕ). resolved_by o (state_with s done) x.name x.symbol.0 x.declaration) none
+    ap (λ (o : Option ℕ). resolved_by o (state_with s done) x.name x.symbol.0 (Some x.declaration)) none
     ∙ made_same s types
-    (ended_by s.env.identifiers (known_from s.env.next_type done) _ _ known)
+    (ended_by s.env.identifiers (known_from s s.env.next_type done) _ _ known)
     (ended_by s.env.pairs (pairs_from base done) _ _ pairs)
-    (ended_by s.env.diagnostics (said_of_parameters done) _ _ (said_end done x ∙ ap (λ (l : List Diagnostic). said_of_parameters done ++ l) (sym (said_first x))))
+    (ended_by s.env.diagnostics (said_from s done) _ _ (said_end s done x ∙ ap (λ (l : List Diagnostic). said_from s done ++ l) (sym (said_first s x))))
+    (none_renamed s x.name (chosen (users_of done) x.symbol.0 x.name) x.symbol.0 name_is)
     (sym pairs)
     used
 
@@ -228,16 +281,16 @@ all_with s done (x ∷ rest) apart =
     ∙ all_with s (done ++ x ∷ []) rest (subst AreApart regrouped apart)
     ∙ ap (λ (l : List Parameter). state_with s l) (sym regrouped)
 
-empty_env : (env : Environment) → env_with env [] ≡ env
-empty_env env =
-    ap (λ (n : ℕ). record env { next_type = n; identifiers = env.identifiers ++ []; pairs = env.pairs ++ []; diagnostics = env.diagnostics ++ [] }) (omega arith)
-    ∙ ap (λ (l : List Identifier). record env { identifiers = l; pairs = env.pairs ++ []; diagnostics = env.diagnostics ++ [] }) (append-nil env.identifiers)
-    ∙ ap (λ (l : List Pair). record env { pairs = l; diagnostics = env.diagnostics ++ [] }) (append-nil env.pairs)
-    ∙ ap (λ (l : List Diagnostic). record env { diagnostics = l }) (append-nil env.diagnostics)
+empty_env : (s : State) → env_with s [] ≡ s.env
+empty_env s =
+    ap (λ (n : ℕ). record s.env { next_type = n; identifiers = s.env.identifiers ++ []; pairs = s.env.pairs ++ []; diagnostics = s.env.diagnostics ++ [] }) (omega arith)
+    ∙ ap (λ (l : List Identifier). record s.env { identifiers = l; pairs = s.env.pairs ++ []; diagnostics = s.env.diagnostics ++ [] }) (append-nil s.env.identifiers)
+    ∙ ap (λ (l : List Pair). record s.env { pairs = l; diagnostics = s.env.diagnostics ++ [] }) (append-nil s.env.pairs)
+    ∙ ap (λ (l : List Diagnostic). record s.env { diagnostics = l }) (append-nil s.env.diagnostics)
 
 empty_with : (s : State) → s.bindings ≡ [] → s.used_names ≡ [] → state_with s [] ≡ s
 empty_with s bindings used =
-    ap (λ (env : Environment). record s { env = env; bindings = []; used_names = [] }) (empty_env s.env)
+    ap (λ (env : Environment). record s { env = env; bindings = []; used_names = [] }) (empty_env s)
     ∙ ap (λ (l : List Pair). record s { bindings = l; used_names = [] }) (sym bindings)
     ∙ ap (λ (l : List UsedName). record s { used_names = l }) (sym used)
 
@@ -246,10 +299,10 @@ pub parameters_given : (s : State) (parameters : List Parameter) → s.bindings 
 parameters_given s parameters bindings used apart = ap (λ (t : State). with_parameters t parameters) (sym (empty_with s bindings used)) ∙ all_with s [] parameters apart
 
 -- The identifier of a place.
-pub known_at : (type : ℕ) (symbols : List Parameter) (place : ℕ) (x : Parameter) → slice_get symbols place ≡ Some x → slice_get (known_from type symbols) place ≡ Some (named_identifier x.name x.declaration (type + place))
-known_at type [] place x is = absurd (cc)
-known_at type (y ∷ symbols) zero x is = (let same : y ≡ x = cc in let none : type ≡ type + 0 = omega arith in ap (λ (z : Parameter). Some (named_identifier z.name z.declaration type)) same ∙ ap (λ (n : ℕ). Some (named_identifier x.name x.declaration n)) none)
-known_at type (y ∷ symbols) (suc place) x is = (let one : type + 1 + place ≡ type + suc place = omega arith in known_at (type + 1) symbols place x is ∙ ap (λ (n : ℕ). Some (named_identifier x.name x.declaration n)) one)
+pub known_at : (s : State) (type : ℕ) (symbols : List Parameter) (place : ℕ) (x : Parameter) → slice_get symbols place ≡ Some x → slice_get (known_from s type symbols) place ≡ Some (identifier_for s (type + place) x)
+known_at s type [] place x is = absurd (cc)
+known_at s type (y ∷ symbols) zero x is = (let same : y ≡ x = cc in let none : type ≡ type + 0 = omega arith in ap (λ (z : Parameter). Some (identifier_for s type z)) same ∙ ap (λ (n : ℕ). Some (identifier_for s n x)) none)
+known_at s type (y ∷ symbols) (suc place) x is = (let one : type + 1 + place ≡ type + suc place = omega arith in known_at s (type + 1) symbols place x is ∙ ap (λ (n : ℕ). Some (identifier_for s n x)) one)
 
 pub get_behind : {X : Type 0} (xs ys : List X) (place : ℕ) → slice_get (xs ++ ys) (length xs + place) ≡ slice_get ys place
 get_behind [] ys place = ap (λ (n : ℕ). slice_get ys n) (omega arith)
@@ -265,8 +318,8 @@ identified : (s : State) (names : Names) (parameters : List Parameter) → AreAp
 identified s names parameters apart named place p there = record {
   identifier = length s.env.identifiers + place;
   bound = pair_found (length s.env.identifiers) parameters place p apart there;
-  known = named_identifier p.name p.declaration (s.env.next_type + place);
-  made = get_behind s.env.identifiers (known_from s.env.next_type parameters) place ∙ known_at s.env.next_type parameters place p there;
+  known = identifier_for s (s.env.next_type + place) p;
+  made = get_behind s.env.identifiers (known_from s s.env.next_type parameters) place ∙ known_at s s.env.next_type parameters place p there;
   named = ap (λ (n : List ℕ). Some (Named n)) (sym (all_at (λ (x : Parameter). names.name x.symbol.0 ≡ x.name) parameters place p there named));
 }
 
@@ -279,9 +332,11 @@ found_in (p ∷ parameters) symbol (suc place) within is =
     let later = found_in parameters symbol place (omega (arith, within)) is in
     (suc later.0, later.1, later.2, later.3)
 
-pub parameters_named : (s : State) (names : Names) (parameters : List Parameter) → HasTexts names → AreApart parameters → AreLocals names parameters → IsNamed names (state_with s parameters)
-parameters_named s names parameters texts apart l = record {
+pub parameters_named : (s : State) (names : Names) (parameters : List Parameter) → HasTexts names → s.handlers ≡ [] → TellDeclarations names s.semantic → AreApart parameters → AreLocals names parameters → IsNamed names (state_with s parameters)
+parameters_named s names parameters texts handlers told apart l = record {
   texts = texts;
+  handlers = handlers;
+  declared = told;
   each = λ reference name symbol is.
       let there = l.locals reference name symbol is in
       let found = found_in parameters symbol there.0 there.1 there.2 in

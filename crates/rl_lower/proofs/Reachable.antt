@@ -13,8 +13,8 @@ use Rattle.rl_hir.specs.declared.instruction.InstructionValue.{InstructionValue}
 use Rattle.rl_hir.specs.declared.terminal.Terminal.{Terminal}
 use Rattle.rl_builder.specs.Builder.{State, completed_by, ended_by, new_block, recorded, reserved}
 use Rattle.rl_order.specs.Numbering.{order_after, ordered_blocks}
-use Rattle.rl_builder.specs.Temporaries.{temporary, unordered, with_value}
-use Rattle.rl_builder.specs.declared.builder.WipBlock.{WipBlock}
+use Rattle.rl_lower.specs.Values.{temporary, unordered, with_value}
+use Rattle.rl_builder.specs.declared.blocks.WipBlock.{WipBlock}
 use Rattle.rl_model.specs.Held.{call_at, graph_calls, listed_calls}
 use Rattle.rl_lower.specs.Listed.{AreBelow, IsListed}
 use Rattle.rl_lower.specs.Reachable.{AddsCalls, entry_blocks, entry_calls, is_reachable, where_reachable}

@@ -1,20 +1,26 @@
 -- A parameter that gets its identifier.
-use Rattle.std.proofs.Common.{◌≡◌, ℕ, ◌+◌, ◌++◌, Bool, true, false, nat_eq, if◌then◌else◌, List, [], ◌∷◌, length, length-append, Option, Some, None, refl, sym, ap, ◌∙◌, subst, arith, append_assoc, All}
+use Rattle.std.proofs.Common.{◌≡◌, ℕ, ◌+◌, ◌++◌, Bool, true, false, nat_eq, if◌then◌else◌, List, [], ◌∷◌, length, length-append, Option, Some, None, Result, Ok, Err, IfErr, refl, sym, ap, ◌∙◌, subst, arith, append_assoc, All}
 use Rattle.std.proofs.lemmas.List.Elements.{All-nil, All-cons, All-head, All-tail}
 use Rattle.std.proofs.lemmas.Bool.{ne_eqb}
 use Rattle.std.proofs.Common.{eq-eqb}
+use Rattle.std.specs.Result.{IsErrAnd}
+use Rattle.rl_base.specs.Diagnostics.{diagnostic_at}
 use Rattle.rl_base.specs.Reserved.{is_reserved}
+use Rattle.rl_base.specs.declared.diagnostic.Diagnostic.{Diagnostic}
+use Rattle.rl_base.specs.declared.row.Row.TheVariants as row
 use Rattle.rl_base.specs.declared.span.Span.{Span}
+use Rattle.rl_base.specs.declared.stop.Stop.{Stop}
+use Rattle.rl_base.specs.declared.stop.Stop.TheVariants as stops
 use Rattle.rl_hir.specs.Pairs.{identifier_of}
 use Rattle.rl_hir.specs.declared.function.Pair.{Pair}
 use Rattle.rl_hir.specs.declared.function.Param.{Param}
 use Rattle.rl_hir.specs.declared.function.Param.TheVariants as params
 use Rattle.rl_builder.specs.Builder.{State}
-use Rattle.rl_builder.specs.Names.{resolved, resolved_by}
+use Rattle.rl_builder.specs.Names.{IsStopped, resolved, resolved_by}
 use Rattle.rl_hir.specs.Pairs.{pair}
 use Rattle.rl_names.specs.Locals.{IsApart}
 use Rattle.rl_names.specs.declared.parameters.Parameter.{Parameter}
-use Rattle.rl_model.specs.Rows.{first_named}
+use Rattle.rl_model.specs.Rows.{first_named, stop_at}
 use Rattle.rl_lower.specs.Lowering.{HasRoom}
 use Rattle.rl_model.specs.Fields.{places_from}
 
@@ -36,11 +42,11 @@ bound_last (p ∷ bindings) number identifier none = by_test (bound_last binding
     by_test rest false is = ap (λ (b : Bool). if b then Some p.identifier.0 else identifier_of (bindings ++ pair number identifier ∷ []) number) is ∙ rest (sym (ap (λ (b : Bool). if b then Some p.identifier.0 else identifier_of bindings number) is) ∙ none)
 
 -- A symbol that had no identifier.
-pub resolved_fresh : (s new : State) (name : List ℕ) (number : ℕ) (declaration : Span) → identifier_of s.bindings number ≡ None → new ≡ resolved s name number declaration → new ≡ resolved_by None s name number declaration
-resolved_fresh s new name number declaration none moved = moved ∙ ap (λ (o : Option ℕ). resolved_by o s name number declaration) none
+pub resolved_fresh : (s new : State) (name : List ℕ) (number : ℕ) (given : Option Span) → identifier_of s.bindings number ≡ None → new ≡ resolved s name number given → new ≡ resolved_by None s name number given
+resolved_fresh s new name number given none moved = moved ∙ ap (λ (o : Option ℕ). resolved_by o s name number given) none
 
-pub fresh_room : (s new : State) (name : List ℕ) (number : ℕ) (declaration : Span) (left more : ℕ) → new ≡ resolved_by None s name number declaration → left ≡ more + 1 → HasRoom s left → HasRoom new more
-fresh_room s new name number declaration left more moved is room = subst (λ (t : State). HasRoom t more) (sym moved) (record {
+pub fresh_room : (s new : State) (name : List ℕ) (number : ℕ) (given : Option Span) (left more : ℕ) → new ≡ resolved_by None s name number given → left ≡ more + 1 → HasRoom s left → HasRoom new more
+fresh_room s new name number given left more moved is room = subst (λ (t : State). HasRoom t more) (sym moved) (record {
   blocks = omega (arith, is, room.blocks);
   types = omega (arith, is, room.types);
   identifiers = simp length-append (omega (arith, is, room.identifiers));
@@ -49,7 +55,7 @@ fresh_room s new name number declaration left more moved is room = subst (λ (t 
 })
 
 -- The parameters behind one that gets its identifier have none still.
-pub fresh_unbound : (s new : State) (p : Parameter) (rest : List Parameter) → new ≡ resolved_by None s p.name p.symbol.0 p.declaration → All (IsApart p) rest
+pub fresh_unbound : (s new : State) (p : Parameter) (rest : List Parameter) → new ≡ resolved_by None s p.name p.symbol.0 (Some p.declaration) → All (IsApart p) rest
     → All (λ q. identifier_of s.bindings q.symbol.0 ≡ None) rest → All (λ q. identifier_of new.bindings q.symbol.0 ≡ None) rest
 fresh_unbound s new p [] moved apart none = All-nil (λ q. identifier_of new.bindings q.symbol.0 ≡ None)
 fresh_unbound s new p (q ∷ rest) moved apart none =
@@ -59,7 +65,7 @@ fresh_unbound s new p (q ∷ rest) moved apart none =
     (fresh_unbound s new p rest moved (All-tail (IsApart p) q rest apart) (All-tail (λ q. identifier_of s.bindings q.symbol.0 ≡ None) q rest none))
 
 -- Its place among the parameters.
-pub fresh_place : (s new : State) (x : Parameter) (identifier : ℕ) (rest : List Parameter) (given more all : List Param) → new ≡ resolved_by None s x.name x.symbol.0 x.declaration → identifier_of s.bindings x.symbol.0 ≡ None → identifier_of new.bindings x.symbol.0 ≡ Some identifier
+pub fresh_place : (s new : State) (x : Parameter) (identifier : ℕ) (rest : List Parameter) (given more all : List Param) → new ≡ resolved_by None s x.name x.symbol.0 (Some x.declaration) → identifier_of s.bindings x.symbol.0 ≡ None → identifier_of new.bindings x.symbol.0 ≡ Some identifier
     → more ≡ given ++ params.Place (record { identifier = record { 0 = identifier }; span = Some x.declaration }) ∷ [] → given ++ places_from (length s.env.identifiers) (x ∷ rest) ≡ all → more ++ places_from (length new.env.identifiers) rest ≡ all
 fresh_place s new x identifier rest given more all moved none bound pushed before =
     let told : Some (length s.env.identifiers) ≡ Some identifier = sym (bound_last s.bindings x.symbol.0 (length s.env.identifiers) none) ∙ ap (λ (t : State). identifier_of t.bindings x.symbol.0) (sym moved) ∙ bound in
@@ -72,3 +78,14 @@ fresh_place s new x identifier rest given more all moved none bound pushed befor
 
 pub unreserved_more : (x : Parameter) (rest : List Parameter) (all : Option Parameter) → is_reserved x.name ≡ false → first_named (λ name. is_reserved name) (x ∷ rest) ≡ all → first_named (λ name. is_reserved name) rest ≡ all
 unreserved_more x rest all free is = sym (ap (λ (b : Bool). if b then Some x else first_named (λ name. is_reserved name) rest) free) ∙ is
+
+-- The stop at a parameter whose name is reserved is that of the first such parameter.
+pub stopped_first : {X : Type 0} (r : Result X Stop) (given : Stop) (s : State) (name : List ℕ) (x : Parameter) (rest : List Parameter) (all : Option Parameter)
+    → IsErrAnd r (λ e. e ≡ given) → ((d : Diagnostic) → given ≡ stops.Diagnostic d → IsStopped s name x.symbol.0 (Some x.declaration) d) → name ≡ x.name
+    → first_named (λ name. is_reserved name) (x ∷ rest) ≡ all → IfErr r (λ e. (d : Diagnostic) → e ≡ stops.Diagnostic d → Some d ≡ stop_at row.S1 all None)
+stopped_first (Ok y) given s name x rest all error stopped named first = absurd error
+stopped_first (Err e) given s name x rest all error stopped named first = λ d is.
+    let stop = stopped d (sym error ∙ is) in
+    let reserved : is_reserved x.name ≡ true = ap (λ (n : List ℕ). is_reserved n) (sym named) ∙ stop.word in
+    ap (λ (said : Diagnostic). Some said) (stop.diagnostic ∙ ap (λ (n : List ℕ). diagnostic_at row.S1 n x.declaration) named)
+    ∙ ap (λ (o : Option Parameter). stop_at row.S1 o None) (sym (ap (λ (b : Bool). if b then Some x else first_named (λ name. is_reserved name) rest) reserved) ∙ first)

@@ -1,5 +1,5 @@
 -- The graph of a function has known places and, where the function is small, writable parts.
-use Rattle.std.proofs.Common.{◌≡◌, ℕ, ◌+◌, ◌*◌, ◌<◌, ◌≤◌, ◌^◌, ◌++◌, List, [], ◌∷◌, length, length-append, lit<, map, All, Some, None, refl, sym, ap, ◌∙◌, subst, arith}
+use Rattle.std.proofs.Common.{◌≡◌, ℕ, ◌+◌, ◌*◌, ◌<◌, ◌≤◌, ◌^◌, ◌++◌, List, [], ◌∷◌, length, length-append, lit<, map, All, Option, Some, None, refl, sym, ap, ◌∙◌, subst, arith}
 use Rattle.std.specs.Str.{IsUtf8}
 use Rattle.std.proofs.lemmas.List.Elements.{All-nil, All-cons, All-append, All-head, All-push, All-same, All-tail}
 use Rattle.rl_base.specs.declared.ids.BlockId.{BlockId}
@@ -8,10 +8,8 @@ use Rattle.rl_base.specs.declared.span.Span.{Span}
 use Rattle.rl_text.specs.Notation.{IsWritable}
 use Rattle.rl_text.specs.Number.{largest}
 use Rattle.rl_syntax.specs.Syntax.{Syntax, nodes, span_of}
-use Rattle.rl_hir.specs.Identifiers.{named_identifier}
 use Rattle.rl_hir.specs.Listing as listing
 use Rattle.rl_hir.specs.declared.environment.Environment.{Environment}
-use Rattle.rl_hir.specs.declared.function.BlockKind.TheVariants as kinds
 use Rattle.rl_hir.specs.declared.function.Hir.{Hir}
 use Rattle.rl_hir.specs.declared.function.HirFunction.{HirFunction}
 use Rattle.rl_hir.specs.Pairs.{pair}
@@ -26,25 +24,28 @@ use Rattle.rl_hir.specs.declared.instruction.Place.{Place}
 use Rattle.rl_hir.specs.declared.instruction.PrimitiveValue.TheVariants as primitives
 use Rattle.rl_hir.specs.declared.terminal.ReturnVariant.TheVariants as returns
 use Rattle.rl_builder.specs.Build.{IsBuilt}
+use Rattle.rl_builder.specs.Names.{new_span}
 use Rattle.rl_lower.proofs.Alone.{built_of}
-use Rattle.rl_lower.proofs.Builds.{closed_built}
-use Rattle.rl_builder.specs.Builder.{State, completed_by, placeholder, started}
+use Rattle.rl_lower.proofs.Builds.{closed_built, closed_env}
+use Rattle.rl_builder.specs.Builder.{State, completed_by, placeholder}
 use Rattle.rl_order.specs.Numbering.{orders_of}
-use Rattle.rl_builder.specs.Temporaries.{temporary}
-use Rattle.rl_builder.specs.declared.builder.Built.{Built}
+use Rattle.rl_lower.specs.Values.{temporary}
+use Rattle.rl_machine.specs.Machine.{Graph}
 use Rattle.rl_model.specs.Fields.{places_from}
 use Rattle.rl_model.specs.WellFormed.{AreKnown, HasKnownPlaces, instruction_places, param_place, terminal_places}
 use Rattle.rl_names.specs.Functions.{name_in, parameters_of}
 use Rattle.rl_names.specs.Names.{Names}
 use Rattle.rl_names.specs.declared.parameters.Parameter.{Parameter}
-use Rattle.rl_lower.specs.Endings.{closed_off, return_of, with_undefined}
+use Rattle.rl_lower.specs.Begun.{Tables, begun_by}
+use Rattle.rl_lower.specs.Endings.{closed_off, return_of, with_undefined, hir_of}
+use Rattle.rl_lower.specs.Named.{AreDeclaredAt, declared_span}
 use Rattle.rl_lower.specs.Lowering.{CountersGrowBy, HasRoom, LowersBody}
 use Rattle.rl_lower.specs.Sound.{AreWritableIdentifiers, AreWritablePairs, HasKnownParts, HasSmallCounters, HasSmallSymbol, HasWritableParts, IsSmallParameter, IsSmallTree, IsSoundGraph, IsWritableGraph, StaysSound}
 use Rattle.rl_lower.proofs.Building.{IsFresh, keeps_closed, orders_fit}
 use Rattle.rl_lower.proofs.Closings.{closed_is}
 use Rattle.rl_lower.proofs.FunctionTrees.{IsFunction, function_parameters}
 use Rattle.rl_lower.proofs.Keeping.{keeps_then, room_less}
-use Rattle.rl_lower.proofs.Parameters.{known_from, known_length, pairs_from, state_with}
+use Rattle.rl_lower.proofs.Parameters.{identifier_for, known_from, known_length, pairs_from, span_given, state_with}
 use Rattle.rl_lower.proofs.SoundListing.{function_writable, named_writable, place_writable, span_writable, undefined_writable, unnamed_writable}
 use Rattle.rl_lower.proofs.SoundMoves.{counters_before, none_known, place_value, sound_next, sound_return, sound_value, table_more, terminals_more}
 use Rattle.rl_lower.proofs.SoundOrders.{built_table_known, built_terminals_known, built_writable}
@@ -54,14 +55,16 @@ use Rattle.rl_lower.proofs.SoundOrders.{built_table_known, built_terminals_known
 abbrev IsWritableIdentifier : Identifier → Type 0
 IsWritableIdentifier i = IsWritable (listing.identifier i)
 
-known_writable : (type : ℕ) (parameters : List Parameter) → All IsSmallParameter parameters → type + length parameters ≤ largest
-    → AreWritableIdentifiers (known_from type parameters)
-known_writable type [] small fits = All-nil IsWritableIdentifier
-known_writable type (x ∷ parameters) small fits =
+known_writable : (s : State) (type : ℕ) (parameters : List Parameter) → AreDeclaredAt s.semantic parameters → All IsSmallParameter parameters → type + length parameters ≤ largest
+    → AreWritableIdentifiers (known_from s type parameters)
+known_writable s type [] spanned small fits = All-nil IsWritableIdentifier
+known_writable s type (x ∷ parameters) spanned small fits =
     let here : IsSmallParameter x = All-head IsSmallParameter x parameters small in
-    All-cons IsWritableIdentifier (named_identifier x.name x.declaration type) (known_from (type + 1) parameters)
-    (named_writable x.name x.declaration type here.0 here.1 (omega (arith, fits)))
-    (known_writable (type + 1) parameters (All-tail IsSmallParameter x parameters small) (omega (arith, fits)))
+    let is = span_given s x (All-head (λ (p : Parameter). declared_span s.semantic p.symbol.0 ≡ Some p.declaration) x parameters spanned) in
+    All-cons IsWritableIdentifier (identifier_for s type x) (known_from s (type + 1) parameters)
+    (named_writable x.name (new_span s x.symbol.0 (Some x.declaration)) type here.0
+    (subst (λ (o : Option Span). IsWritable (listing.optional listing.span o)) (sym is) (span_writable x.declaration here.1)) (omega (arith, fits)))
+    (known_writable s (type + 1) parameters (All-tail (λ (p : Parameter). declared_span s.semantic p.symbol.0 ≡ Some p.declaration) x parameters spanned) (All-tail IsSmallParameter x parameters small) (omega (arith, fits)))
 
 params_known : (base count : ℕ) (parameters : List Parameter) → base + length parameters ≤ count
     → AreKnown count (map param_place (places_from base parameters))
@@ -84,37 +87,37 @@ params_writable base (x ∷ parameters) small fits =
 
 -- a builder behind the parameters, and one that was closed off
 
-abbrev begun : Environment → List Parameter → State
-begun env parameters = state_with (started env kinds.Block) parameters
+abbrev begun : Environment → Tables → List Parameter → State
+begun env tables parameters = state_with (begun_by env tables) parameters
 
-begun_longer : (env : Environment) (parameters : List Parameter)
-    → length (env.identifiers ++ known_from env.next_type parameters) ≡ length env.identifiers + length parameters
-begun_longer env parameters =
-    length-append env.identifiers (known_from env.next_type parameters)
-    ∙ ap (λ (n : ℕ). length env.identifiers + n) (known_length env.next_type parameters)
+begun_longer : (env : Environment) (tables : Tables) (parameters : List Parameter)
+    → length (env.identifiers ++ known_from (begun_by env tables) env.next_type parameters) ≡ length env.identifiers + length parameters
+begun_longer env tables parameters =
+    length-append env.identifiers (known_from (begun_by env tables) env.next_type parameters)
+    ∙ ap (λ (n : ℕ). length env.identifiers + n) (known_length (begun_by env tables) env.next_type parameters)
 
-begun_known : (env : Environment) (parameters : List Parameter) → HasKnownParts (begun env parameters)
-begun_known env parameters = record {
-  table = All-nil (λ (i : Instruction). AreKnown (length (begun env parameters).env.identifiers) (instruction_places i));
-  terminals = All-nil (λ (b : BlockPair). AreKnown (length (begun env parameters).env.identifiers)
+begun_known : (env : Environment) (tables : Tables) (parameters : List Parameter) → HasKnownParts (begun env tables parameters)
+begun_known env tables parameters = record {
+  table = All-nil (λ (i : Instruction). AreKnown (length (begun env tables parameters).env.identifiers) (instruction_places i));
+  terminals = All-nil (λ (b : BlockPair). AreKnown (length (begun env tables parameters).env.identifiers)
       (terminal_places b.1.terminal));
 }
 
-begun_writable : (env : Environment) (parameters : List Parameter) → HasSmallCounters (begun env parameters)
-    → HasWritableParts (begun env parameters)
-begun_writable env parameters fits = record {
+begun_writable : (env : Environment) (tables : Tables) (parameters : List Parameter) → HasSmallCounters (begun env tables parameters)
+    → HasWritableParts (begun env tables parameters)
+begun_writable env tables parameters fits = record {
   table = All-nil (λ (i : Instruction). IsWritable (listing.instruction i));
   completed = All-nil (λ (b : BlockPair). IsWritable (listing.block b));
   current = omega (arith, fits.blocks);
   listed = All-nil (λ (id : InstructionId). id.0 ≤ largest);
 }
 
-begun_identifiers : (env : Environment) (parameters : List Parameter) → All IsSmallParameter parameters
-    → HasSmallCounters (begun env parameters) → AreWritableIdentifiers env.identifiers
-    → AreWritableIdentifiers (begun env parameters).env.identifiers
-begun_identifiers env parameters small fits w =
-    All-append IsWritableIdentifier env.identifiers (known_from env.next_type parameters) w
-    (known_writable env.next_type parameters small fits.types)
+begun_identifiers : (env : Environment) (tables : Tables) (parameters : List Parameter) → AreDeclaredAt tables.semantic parameters → All IsSmallParameter parameters
+    → HasSmallCounters (begun env tables parameters) → AreWritableIdentifiers env.identifiers
+    → AreWritableIdentifiers (begun env tables parameters).env.identifiers
+begun_identifiers env tables parameters spanned small fits w =
+    All-append IsWritableIdentifier env.identifiers (known_from (begun_by env tables) env.next_type parameters) w
+    (known_writable (begun_by env tables) env.next_type parameters spanned small fits.types)
 
 pairs_writable : (base : ℕ) (parameters : List Parameter) → All HasSmallSymbol parameters → base + length parameters ≤ largest
     → AreWritablePairs (pairs_from base parameters)
@@ -125,11 +128,11 @@ pairs_writable base (x ∷ parameters) small fits =
     ((lit< tt, refl), (omega (arith, here), (omega (arith, fits), tt)))
     (pairs_writable (base + 1) parameters (All-tail HasSmallSymbol x parameters small) (omega (arith, fits)))
 
-begun_pairs : (env : Environment) (parameters : List Parameter) → All HasSmallSymbol parameters
-    → HasSmallCounters (begun env parameters) → AreWritablePairs env.pairs → AreWritablePairs (begun env parameters).env.pairs
-begun_pairs env parameters small fits w =
+begun_pairs : (env : Environment) (tables : Tables) (parameters : List Parameter) → All HasSmallSymbol parameters
+    → HasSmallCounters (begun env tables parameters) → AreWritablePairs env.pairs → AreWritablePairs (begun env tables parameters).env.pairs
+begun_pairs env tables parameters small fits w =
     All-append (λ (p : Pair). IsWritable (listing.pair p)) env.pairs (pairs_from (length env.identifiers) parameters) w
-    (pairs_writable (length env.identifiers) parameters small (omega (arith, begun_longer env parameters, fits.identifiers)))
+    (pairs_writable (length env.identifiers) parameters small (omega (arith, begun_longer env tables parameters, fits.identifiers)))
 
 sound_closed : (small : Type 0) (s : State) → StaysSound small s (closed_off s)
 sound_closed small s =
@@ -148,74 +151,78 @@ small_behind old new more uses room = record {
 }
 
 -- the graph of a function whose body was lowered and closed off
-pub graph_sound : (parameters : List Parameter) (body : Syntax) (env new : Environment) (s : State) (more : ℕ) (built : Built)
-    → StaysSound (IsSmallTree body) (begun env parameters) s → CountersGrowBy (begun env parameters) (closed_off s) more
-    → HasRoom (begun env parameters) more → s.entry ≡ (begun env parameters).entry
-    → 1 + orders_of (closed_off s).completed < 2 ^ 32 → built ≡ built_of (closed_off s)
+pub graph_sound : (tables : Tables) (parameters : List Parameter) (body : Syntax) (env new : Environment) (s : State) (more : ℕ) (built : Graph)
+    → StaysSound (IsSmallTree body) (begun env tables parameters) s → CountersGrowBy (begun env tables parameters) (closed_off s) more
+    → HasRoom (begun env tables parameters) more → s.entry ≡ (begun env tables parameters).entry
+    → 1 + orders_of (closed_off s).completed < 2 ^ 32 → AreDeclaredAt tables.semantic parameters → built ≡ built_of (closed_off s)
     → new ≡ (closed_off s).env → IsSoundGraph parameters body env new built
-graph_sound parameters body env new s more built sound uses room entry orders graph after =
-    subst (λ (b : Built). IsSoundGraph parameters body env new b) (sym graph)
+graph_sound tables parameters body env new s more built sound uses room entry orders spanned graph after =
+    subst (λ (b : Graph). IsSoundGraph parameters body env new b) (sym graph)
     (subst (λ (e : Environment). IsSoundGraph parameters body env e (built_of (closed_off s))) (sym after) (record {
-      given = omega (arith, begun_longer env parameters, whole.counters.identifiers);
+      given = omega (arith, begun_longer env tables parameters, whole.counters.identifiers);
       count = fits.identifiers;
       types = fits.types;
       table = built_table_known (length (closed_off s).env.identifiers) (closed_off s) known.table;
       terminals = built_terminals_known (length (closed_off s).env.identifiers) (closed_off s) known.terminals;
       graph = λ small. built_writable (closed_off s) (omega (arith, at_entry, fits0.blocks)) (omega (arith, orders))
-          (whole.parts small fits (begun_writable env parameters fits0));
-      identifiers = λ named small w. whole.identifiers small fits (begun_identifiers env parameters named fits0 w);
-      pairs = λ small w. whole.pairs fits (begun_pairs env parameters small fits0 w);
+          (whole.parts small fits (begun_writable env tables parameters fits0));
+      identifiers = λ named small w. whole.identifiers small fits (begun_identifiers env tables parameters spanned named fits0 w);
+      pairs = λ small w. whole.pairs fits (begun_pairs env tables parameters small fits0 w);
     }))
   where
-    whole : StaysSound (IsSmallTree body) (begun env parameters) (closed_off s)
-    whole = sound_next (IsSmallTree body) (begun env parameters) s (closed_off s) sound (sound_closed (IsSmallTree body) s)
+    whole : StaysSound (IsSmallTree body) (begun env tables parameters) (closed_off s)
+    whole = sound_next (IsSmallTree body) (begun env tables parameters) s (closed_off s) sound (sound_closed (IsSmallTree body) s)
 
     fits : HasSmallCounters (closed_off s)
-    fits = small_behind (begun env parameters) (closed_off s) more uses room
+    fits = small_behind (begun env tables parameters) (closed_off s) more uses room
 
-    fits0 : HasSmallCounters (begun env parameters)
-    fits0 = counters_before (begun env parameters) (closed_off s) whole.counters fits
+    fits0 : HasSmallCounters (begun env tables parameters)
+    fits0 = counters_before (begun env tables parameters) (closed_off s) whole.counters fits
 
     known : HasKnownParts (closed_off s)
-    known = whole.known (begun_known env parameters)
+    known = whole.known (begun_known env tables parameters)
 
     at_entry : s.entry.0 ≡ env.next_block
     at_entry = ap (λ (id : BlockId). id.0) entry
 
 -- as `graph_sound`, from the states that the code goes through
-pub graph_sound_call : (names : Names) (parameters : List Parameter) (body : Syntax) (env new : Environment) (before s s1 s2 : State) (p : Place)
-    (built : Built) → before ≡ begun env parameters → LowersBody names body before s → StaysSound (IsSmallTree body) before s
-    → HasRoom (begun env parameters) (4 * (nodes body + 2)) → s1 ≡ with_undefined s → p ≡ temporary s None
-    → s2 ≡ completed_by s1 (return_of None returns.Void p) placeholder → IsBuilt s2 built → new ≡ s2.env
+pub graph_sound_call : (names : Names) (tables : Tables) (parameters : List Parameter) (body : Syntax) (env new : Environment) (before s s1 s2 : State) (p : Place)
+    (built : Graph) → before ≡ begun env tables parameters → AreDeclaredAt tables.semantic parameters → LowersBody names body before s → StaysSound (IsSmallTree body) before s
+    → HasRoom (begun env tables parameters) (4 * (nodes body + 2)) → s1 ≡ with_undefined s → p ≡ temporary s None
+    → s2 ≡ completed_by s1 (return_of None returns.Void p) placeholder → IsBuilt s2 built new
     → IsSoundGraph parameters body env new built
-graph_sound_call names parameters body env new before s s1 s2 p built is lowers sound room given placed ended graph after =
-    graph_sound parameters body env new s (4 * (nodes body + 1) + 2) built
+graph_sound_call names tables parameters body env new before s s1 s2 p built is spanned lowers sound room given placed ended graph =
+    graph_sound tables parameters body env new s (4 * (nodes body + 1) + 2) built
     (subst (λ (o : State). StaysSound (IsSmallTree body) o s) is sound)
-    (keeps_then (begun env parameters) s (closed_off s) (4 * (nodes body + 1)) 2 lowered.keeps (keeps_closed {names = names} s)).uses
-    (room_less (begun env parameters) (4 * (nodes body + 2)) (4 * (nodes body + 1) + 2) (omega arith) room)
+    (keeps_then (begun env tables parameters) s (closed_off s) (4 * (nodes body + 1)) 2 lowered.keeps (keeps_closed {names = names} s)).uses
+    (room_less (begun env tables parameters) (4 * (nodes body + 2)) (4 * (nodes body + 1) + 2) (omega arith) room)
     lowered.reachable.entry
-    (orders_fit names (begun env parameters) body s fresh lowered room)
-    (closed_built names (begun env parameters) body s fresh lowered built (subst (λ (t : State). IsBuilt t built) (closed_is s s1 s2 p given placed ended) graph))
-    (after ∙ ap (λ (t : State). t.env) (closed_is s s1 s2 p given placed ended))
+    (orders_fit names (begun env tables parameters) body s fresh lowered room)
+    spanned
+    (closed_built names (begun env tables parameters) body s fresh lowered built new is_built)
+    (closed_env names (begun env tables parameters) body s fresh lowered built new is_built)
   where
-    fresh : IsFresh (begun env parameters)
+    fresh : IsFresh (begun env tables parameters)
     fresh = record { completed = refl; instructions = refl; table = refl; entry = refl; below = omega arith }
 
-    lowered : LowersBody names body (begun env parameters) s
+    lowered : LowersBody names body (begun env tables parameters) s
     lowered = subst (λ (o : State). LowersBody names body o s) is lowers
+
+    is_built : IsBuilt (closed_off s) built new
+    is_built = subst (λ (t : State). IsBuilt t built new) (closed_is s s1 s2 p given placed ended) graph
 
 -- the function
 
-pub function_places : (parameters : List Parameter) (body : Syntax) (env mid new : Environment) (built : Built) (i : Identifier)
+pub function_places : (parameters : List Parameter) (body : Syntax) (env mid new : Environment) (built : Graph) (i : Identifier)
     (f : HirFunction (List BlockPair)) → IsSoundGraph parameters body env mid built → new.identifiers ≡ mid.identifiers ++ i ∷ []
-    → f.body ≡ built.hir → f.instructions ≡ built.instructions → f.params ≡ places_from (length env.identifiers) parameters
+    → f.body ≡ hir_of built → f.instructions ≡ built.table → f.params ≡ places_from (length env.identifiers) parameters
     → f.context ≡ [] → f.returns ≡ record { identifier = record { 0 = length mid.identifiers }; span = None }
     → HasKnownPlaces (length new.identifiers) f
 function_places parameters body env mid new built i f g more body_is table_is params_are none returned = record {
   table = subst (λ (t : List Instruction). All (λ i. AreKnown (length new.identifiers) (instruction_places i)) t) (sym table_is)
-      (table_more (length mid.identifiers) (length new.identifiers) built.instructions below g.table);
+      (table_more (length mid.identifiers) (length new.identifiers) built.table below g.table);
   terminals = subst (λ (h : Hir (List BlockPair)). All (λ b. AreKnown (length new.identifiers) (terminal_places b.1.terminal)) h.blocks)
-      (sym body_is) (terminals_more (length mid.identifiers) (length new.identifiers) built.hir.blocks below g.terminals);
+      (sym body_is) (terminals_more (length mid.identifiers) (length new.identifiers) built.blocks below g.terminals);
   params = subst (λ (ps : List Param). AreKnown (length new.identifiers) (map param_place ps)) (sym params_are)
       (params_known (length env.identifiers) (length new.identifiers) parameters (omega (arith, g.given, longer)));
   context = All-same (λ (p : Place). p.identifier.0 < length new.identifiers) f.context [] none
@@ -230,7 +237,7 @@ function_places parameters body env mid new built i f g more body_is table_is pa
     below = omega (arith, longer)
 
 -- The pairs, where there were none before.
-pub function_pairs : (names : Names) (fn body : Syntax) (parameters : List Parameter) (env mid new : Environment) (built : Built)
+pub function_pairs : (names : Names) (fn body : Syntax) (parameters : List Parameter) (env mid new : Environment) (built : Graph)
     → parameters ≡ parameters_of names fn → env.pairs ≡ [] → IsSoundGraph parameters body env mid built → new.pairs ≡ mid.pairs
     → All HasSmallSymbol (parameters_of names fn) → AreWritablePairs new.pairs
 function_pairs names fn body parameters env mid new built are none g same small =
@@ -238,11 +245,11 @@ function_pairs names fn body parameters env mid new built are none g same small 
     (g.pairs (subst (λ (l : List Parameter). All HasSmallSymbol l) (sym are) small)
     (subst AreWritablePairs (sym none) (All-nil (λ (p : Pair). IsWritable (listing.pair p)))))
 
-pub function_listed : (names : Names) (fn tree : Syntax) (parameters : List Parameter) (env mid : Environment) (built : Built) (f : HirFunction (List BlockPair))
+pub function_listed : (names : Names) (fn tree : Syntax) (parameters : List Parameter) (env mid : Environment) (built : Graph) (f : HirFunction (List BlockPair))
     → IsFunction fn tree → parameters ≡ parameters_of names fn → IsSoundGraph parameters tree env mid built
     → f.span ≡ Some (span_of fn) → f.name ≡ name_in fn
-    → (IsSmallTree tree → All IsUtf8 f.directives) → f.body ≡ built.hir
-    → f.instructions ≡ built.instructions → f.params ≡ places_from (length env.identifiers) parameters → f.context ≡ []
+    → (IsSmallTree tree → All IsUtf8 f.directives) → f.body ≡ hir_of built
+    → f.instructions ≡ built.table → f.params ≡ places_from (length env.identifiers) parameters → f.context ≡ []
     → f.returns ≡ record { identifier = record { 0 = length mid.identifiers }; span = None } → IsSmallTree fn
     → IsWritable (listing.function f)
 function_listed names fn tree parameters env mid built f w are g span_is name_is directives body_is table_is params_are none returned small =
@@ -268,7 +275,7 @@ function_listed names fn tree parameters env mid built f w are g span_is name_is
 abbrev unnamed : Span → ℕ → Identifier
 unnamed span type = record { name = None; span = Some span; type_id = record { 0 = type } }
 
-pub function_identifiers : (names : Names) (fn body : Syntax) (span : Span) (parameters : List Parameter) (env mid new : Environment) (built : Built)
+pub function_identifiers : (names : Names) (fn body : Syntax) (span : Span) (parameters : List Parameter) (env mid new : Environment) (built : Graph)
     → IsFunction fn body → span ≡ span_of fn → parameters ≡ parameters_of names fn → IsSoundGraph parameters body env mid built
     → new.identifiers ≡ mid.identifiers ++ unnamed span mid.next_type ∷ [] → IsSmallTree fn
     → AreWritableIdentifiers env.identifiers → AreWritableIdentifiers new.identifiers

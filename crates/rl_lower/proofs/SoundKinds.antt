@@ -26,9 +26,9 @@ use Rattle.rl_hir.specs.declared.instruction.PlaceOrSpread.TheVariants as argume
 use Rattle.rl_hir.specs.declared.instruction.PrimitiveValue.TheVariants as primitives
 use Rattle.rl_hir.specs.declared.terminal.ReturnVariant.TheVariants as returns
 use Rattle.rl_builder.specs.Builder.{State, reserved, completed_by, new_block}
-use Rattle.rl_builder.specs.Names.{resolved, resolved_by, refused_name}
-use Rattle.rl_builder.specs.Temporaries.{temporary, with_value}
-use Rattle.rl_builder.specs.declared.builder.WipBlock.{WipBlock}
+use Rattle.rl_builder.specs.Names.{fbt_label, resolved, resolved_by, refused_name}
+use Rattle.rl_lower.specs.Values.{temporary, with_value}
+use Rattle.rl_builder.specs.declared.blocks.WipBlock.{WipBlock}
 use Rattle.rl_model.specs.WellFormed.{AreKnown, operand_places, value_places}
 use Rattle.rl_lower.specs.Endings.{return_of, returned_from}
 use Rattle.rl_lower.specs.Named.{HasIdentifier}
@@ -76,11 +76,11 @@ leaf_sound tree at w parts v s new p is none value =
     (subst (AreKnown (length s.env.identifiers)) (sym none) (none_known (length s.env.identifiers))) (λ small fits. value small)
 
 -- a variable, whose identifier was made with the parameters
-pub local_sound : (at : At) (text name : List ℕ) (found : ℕ) (declaration : Span) (i : IdentifierId) (s mid new : State) (p : Place)
-    → HasIdentifier s found name → mid ≡ resolved s name found declaration → identifier_of mid.bindings found ≡ Some i.0
+pub local_sound : (at : At) (text name : List ℕ) (found : ℕ) (given : Option Span) (i : IdentifierId) (s mid new : State) (p : Place)
+    → HasIdentifier s found name → mid ≡ resolved s name found given → identifier_of mid.bindings found ≡ Some i.0
     → new ≡ with_value mid (values.LoadLocal (record { identifier = i; span = Some at.span })) (Some at.span)
     → p ≡ temporary mid (Some at.span) → SoundExpression (Node at word.Id (Then (Said text) End)) s new p
-local_sound at text name found declaration i s mid new p h moved bound ended placed =
+local_sound at text name found given i s mid new p h moved bound ended placed =
     noted_sound e at word.Id (Then (Said text) End) (values.LoadLocal variable) said s mid new p refl noted
     (one_known (length s.env.identifiers) variable below)
     (λ small fits. local_writable variable
@@ -93,10 +93,10 @@ local_sound at text name found declaration i s mid new p h moved bound ended pla
     variable = record { identifier = i; span = Some at.span }
 
     said : List Diagnostic
-    said = s.env.diagnostics ++ refused_name (Some h.identifier) s.env.identifiers name declaration
+    said = s.env.diagnostics ++ refused_name (Some h.identifier) s.env.identifiers name (fbt_label s found given)
 
     noted : mid ≡ with_diagnostics s said
-    noted = moved ∙ ap (λ (o : Option ℕ). resolved_by o s name found declaration) h.bound
+    noted = moved ∙ ap (λ (o : Option ℕ). resolved_by o s name found given) h.bound
 
     below : i.0 < length s.env.identifiers
     below =

@@ -1,5 +1,5 @@
 -- Listings that the notation has, from those of their parts.
-use Rattle.std.proofs.Common.{ℕ, ◌<◌, ◌≤◌, ◌^◌, Bool, List, [], ◌∷◌, map, All, Option, None, codes, lit<, refl, arith}
+use Rattle.std.proofs.Common.{Some, ℕ, ◌<◌, ◌≤◌, ◌^◌, Bool, List, [], ◌∷◌, map, All, Option, None, codes, lit<, refl, arith}
 use Rattle.std.specs.Str.{IsUtf8}
 use Rattle.std.proofs.lemmas.List.Elements.{All-head, All-tail}
 use Rattle.rl_base.specs.declared.span.Span.{Span}
@@ -11,11 +11,11 @@ use Rattle.rl_text.specs.Number.{largest}
 use Rattle.rl_text.specs.Raw.{parts_of}
 use Rattle.rl_hir.specs.Instructions.{argument_place, argument_shape, binding_texts}
 use Rattle.rl_hir.specs.Listing as listing
-use Rattle.rl_hir.specs.Identifiers.{named_identifier}
+use Rattle.rl_hir.specs.declared.function.IdentifierName.TheVariants.{Named}
 use Rattle.rl_hir.specs.Pieces.{Says, argument_pieces, gathered, row_parts}
 use Rattle.rl_hir.specs.Terminals.{return_variant, with_order}
 use Rattle.rl_builder.specs.Builder.{ended_by}
-use Rattle.rl_builder.specs.declared.builder.WipBlock.{WipBlock}
+use Rattle.rl_builder.specs.declared.blocks.WipBlock.{WipBlock}
 use Rattle.rl_hir.specs.declared.function.BlockKind.{BlockKind}
 use Rattle.rl_hir.specs.declared.function.BlockKind.TheVariants as kinds
 use Rattle.rl_hir.specs.declared.function.HirFunction.{HirFunction}
@@ -185,10 +185,10 @@ pub unnamed_writable : (at : Option Span) (type : ℕ) → IsWritable (listing.o
     → IsWritable (listing.identifier (record { name = None; span = at; type_id = record { 0 = type } }))
 unnamed_writable at type span fits = ((lit< tt, refl), (tt, (span, (fits, tt))))
 
-pub named_writable : (name : List ℕ) (declaration : Span) (type : ℕ) → IsUtf8 name → IsSmallSpan declaration → type ≤ largest
-    → IsWritable (listing.identifier (named_identifier name declaration type))
-named_writable name declaration type utf8 small fits =
-    ((lit< tt, refl), (((lit< tt, refl), (utf8, tt)), (span_writable declaration small, (fits, tt))))
+pub named_writable : (name : List ℕ) (span : Option Span) (type : ℕ) → IsUtf8 name → IsWritable (listing.optional listing.span span) → type ≤ largest
+    → IsWritable (listing.identifier (record { name = Some (Named name); span = span; type_id = record { 0 = type } }))
+named_writable name span type utf8 small fits =
+    ((lit< tt, refl), (((lit< tt, refl), (utf8, tt)), (small, (fits, tt))))
 
 pub function_writable : (f : HirFunction (List BlockPair)) → IsWritable (listing.optional listing.span f.span)
     → IsWritable (listing.optional listing.said f.name) → All IsUtf8 f.directives

@@ -16,8 +16,8 @@ use Rattle.rl_hir.specs.declared.instruction.Place.{Place}
 use Rattle.rl_hir.specs.declared.terminal.Terminal.{Terminal}
 use Rattle.rl_hir.specs.declared.terminal.ReturnVariant.{ReturnVariant}
 use Rattle.rl_builder.specs.Builder.{State, reserved, ended_by, completed_by, new_block}
-use Rattle.rl_builder.specs.Temporaries.{temporary, unordered, with_value}
-use Rattle.rl_builder.specs.declared.builder.WipBlock.{WipBlock}
+use Rattle.rl_lower.specs.Values.{temporary, unordered, with_value}
+use Rattle.rl_builder.specs.declared.blocks.WipBlock.{WipBlock}
 use Rattle.rl_model.specs.WellFormed.{AreKnown, instruction_places, terminal_places, value_places}
 use Rattle.rl_lower.specs.Endings.{return_of, returned_from}
 use Rattle.rl_lower.specs.Sound.{CountersGrow, HasSmallCounters, IsSoundPlace, StaysSound}

@@ -79,14 +79,14 @@ terminal_known : (count order : ℕ) (t : Terminal) → AreKnown count (terminal
 terminal_known count order t known = known
 
 pub built_table_known : (count : ℕ) (s : State) → All (λ i. AreKnown count (instruction_places i)) s.table
-    → All (λ i. AreKnown count (instruction_places i)) (built_of s).instructions
+    → All (λ i. AreKnown count (instruction_places i)) (built_of s).table
 built_table_known count s known =
     ordered_table_all (λ (i : Instruction). AreKnown count (instruction_places i))
     (1 + orders_of (entry_blocks s.entry s.completed)) (λ order i within k. k) 1 (entry_blocks s.entry s.completed) s.table
     (omega arith) known
 
 pub built_terminals_known : (count : ℕ) (s : State) → All (λ b. AreKnown count (terminal_places b.1.terminal)) s.completed
-    → All (λ b. AreKnown count (terminal_places b.1.terminal)) (built_of s).hir.blocks
+    → All (λ b. AreKnown count (terminal_places b.1.terminal)) (built_of s).blocks
 built_terminals_known count s known =
     ordered_blocks_all (λ (b : BlockPair). AreKnown count (terminal_places b.1.terminal))
     (1 + orders_of (entry_blocks s.entry s.completed)) (λ order b within k. terminal_known count order b.1.terminal k) 1

@@ -2,7 +2,6 @@
 use Rattle.std.specs.Prelude.{◌≡◌, Option, None, List, length}
 use Rattle.rl_base.specs.declared.span.Span.{Span}
 use Rattle.rl_hir.specs.declared.environment.Environment.{Environment}
-use Rattle.rl_hir.specs.declared.function.BlockKind.TheVariants as kinds
 use Rattle.rl_hir.specs.declared.instruction.Place.{Place}
 use Rattle.rl_hir.specs.declared.instruction.InstructionValue.TheVariants as values
 use Rattle.rl_hir.specs.declared.instruction.PrimitiveValue.TheVariants as primitives
@@ -10,11 +9,16 @@ use Rattle.rl_hir.specs.declared.terminal.Terminal.{Terminal}
 use Rattle.rl_hir.specs.declared.terminal.TerminalKind.TheVariants as ends
 use Rattle.rl_hir.specs.declared.terminal.ReturnVariant.{ReturnVariant}
 use Rattle.rl_hir.specs.declared.terminal.ReturnVariant.TheVariants as returns
-use Rattle.rl_builder.specs.Builder.{State, started, reserved, new_block, completed_by, placeholder}
+use Rattle.rl_builder.specs.Builder.{State, reserved, new_block, completed_by, placeholder}
 use Rattle.rl_hir.specs.declared.function.BlockKind.{BlockKind}
-use Rattle.rl_builder.specs.Temporaries.{temporary, with_value}
+use Rattle.rl_lower.specs.Values.{temporary, with_value}
 use Rattle.rl_builder.specs.Build.{IsBuilt}
-use Rattle.rl_builder.specs.declared.builder.Built.{Built}
+use Rattle.rl_builder.specs.declared.graph.Built.{Built}
+use Rattle.rl_hir.specs.Blocks.{Pair as BlockPair}
+use Rattle.rl_hir.specs.declared.function.Hir.{Hir}
+use Rattle.rl_lower.specs.Begun.{Tables, begun_by}
+use Rattle.rl_lower.specs.Named.{TellDeclarations}
+use Rattle.rl_machine.specs.Machine.{Graph}
 use Rattle.rl_syntax.specs.Syntax.{Syntax}
 use Rattle.rl_hir.specs.declared.function.Param.{Param}
 use Rattle.rl_names.specs.Names.{Names}
@@ -40,11 +44,20 @@ with_undefined s = with_value s (values.Primitive primitives.Undefined) None
 abbrev pub closed_off : State → State
 closed_off s = completed_by (with_undefined s) (return_of None returns.Void (temporary s None)) placeholder
 
+-- The entry and the blocks of a graph.
+abbrev pub hir_of : Graph → Hir (List BlockPair)
+hir_of g = record { entry = g.entry; blocks = g.blocks }
+
+-- The graph that was built, with its instruction table.
+abbrev pub graph_of : Built (List BlockPair) → Graph
+graph_of built = record { blocks = built.hir.blocks; table = built.instructions; entry = built.hir.entry }
+
 -- `built` is the graph of a builder that gave the parameters their identifiers, lowered the body, and was closed off. `old`
 -- and `new` are the environment before and after it.
-pub record IsGraphOf (names : Names) (parameters : List Parameter) (body : Syntax) (old new : Environment) (params : List Param) (built : Built) : Type 0 where
+pub record IsGraphOf (names : Names) (tables : Tables) (parameters : List Parameter) (body : Syntax) (old new : Environment) (params : List Param) (built : Graph) : Type 0 where
   pub state : State
+  pub declared : TellDeclarations names tables.semantic
   pub places : params ≡ places_from (length old.identifiers) parameters
-  pub lowers : LowersBody names body (with_parameters (started old kinds.Block) parameters) state
-  pub graph : IsBuilt (closed_off state) built
+  pub lowers : LowersBody names body (with_parameters (begun_by old tables) parameters) state
+  pub graph : IsBuilt (closed_off state) built new
   pub after : new ≡ (closed_off state).env

@@ -1,3 +1,4 @@
+pub mod Begun
 pub mod Endings
 pub mod Listed
 pub mod Lowering
@@ -6,3 +7,4 @@ pub mod Parameters
 pub mod Reachable
 pub mod Simulation
 pub mod Sound
+pub mod Values

@@ -1,6 +1,7 @@
 -- Names in the middle of the lowering: each local variable has an identifier, which has its name.
-use Rattle.std.specs.Prelude.{◌≡◌, ℕ, Some, List, slice_get}
+use Rattle.std.specs.Prelude.{◌≡◌, ℕ, Some, Option, option_map, List, [], All, slice_get}
 use Rattle.rl_base.specs.declared.ids.SymbolId.{SymbolId}
+use Rattle.rl_base.specs.declared.span.Span.{Span}
 use Rattle.rl_builder.specs.Builder.{State}
 use Rattle.rl_hir.specs.Pairs.{identifier_of}
 use Rattle.rl_hir.specs.declared.function.Identifier.{Identifier}
@@ -8,6 +9,9 @@ use Rattle.rl_hir.specs.declared.function.IdentifierName.TheVariants.{Named}
 use Rattle.rl_names.specs.Locals.{HasTexts}
 use Rattle.rl_names.specs.Names.{Names}
 use Rattle.rl_names.specs.declared.names.Meaning.TheVariants.{Local}
+use Rattle.rl_names.specs.declared.parameters.Parameter.{Parameter}
+use Rattle.rl_resolver.specs.Lookups.{declaration_ident}
+use Rattle.rl_semantic.specs.declared.semantic.Semantic.{Semantic}
 
 -- The symbol with this number has an identifier of this name.
 pub record HasIdentifier (s : State) (number : ℕ) (name : List ℕ) : Type 0 where
@@ -17,7 +21,22 @@ pub record HasIdentifier (s : State) (number : ℕ) (name : List ℕ) : Type 0 w
   pub made : slice_get s.env.identifiers identifier ≡ Some known
   pub named : known.name ≡ Some (Named name)
 
--- Each local variable has an identifier, and the texts of other names are UTF-8.
+-- The span of a symbol's declaration identifier, by the tables of a unit. None of a symbol without one.
+abbrev pub declared_span : Semantic → (symbol : ℕ) → Option Span
+declared_span semantic symbol = option_map (λ b. b.span) (declaration_ident semantic.bindings.symbols symbol)
+
+-- The names tell the declaration identifiers that the tables have.
+abbrev pub TellDeclarations : Names → Semantic → Type 0
+TellDeclarations names semantic = (symbol : ℕ) → names.declaration symbol ≡ declared_span semantic symbol
+
+-- Each of the parameters stands at the declaration identifier of its symbol, by the tables of a unit.
+abbrev pub AreDeclaredAt : Semantic → List Parameter → Type 0
+AreDeclaredAt semantic parameters = All (λ p. declared_span semantic p.symbol.0 ≡ Some p.declaration) parameters
+
+-- Each local variable has an identifier, and the texts of other names are UTF-8. No handler is open, and the names are those of the
+-- builder's tables.
 pub record IsNamed (names : Names) (s : State) : Type 0 where
   pub texts : HasTexts names
+  pub handlers : s.handlers ≡ []
+  pub declared : TellDeclarations names s.semantic
   pub each : (reference : ℕ) (name : List ℕ) (symbol : SymbolId) → names.meaning reference name ≡ Local symbol → HasIdentifier s symbol.0 (names.name symbol.0)

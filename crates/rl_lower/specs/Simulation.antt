@@ -8,8 +8,8 @@ use Rattle.rl_hir.specs.declared.function.Pair.{Pair}
 use Rattle.rl_hir.specs.Pairs.{identifier_of}
 use Rattle.rl_hir.specs.declared.function.Identifier.{Identifier}
 use Rattle.rl_builder.specs.Builder.{State}
-use Rattle.rl_builder.specs.Names.{AreNamed}
-use Rattle.rl_builder.specs.UsedName.{UsedName}
+use Rattle.rl_used_names.specs.IdentifierNames.{AreNamed}
+use Rattle.rl_used_names.specs.UsedName.{UsedName}
 use Rattle.rl_machine.specs.declared.trace.Value.{Value}
 use Rattle.rl_machine.specs.declared.trace.Answer.{Answer}
 use Rattle.rl_machine.specs.declared.trace.Trace.{Trace}

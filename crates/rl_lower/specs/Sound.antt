@@ -13,7 +13,7 @@ use Rattle.rl_hir.specs.declared.function.Pair.{Pair}
 use Rattle.rl_hir.specs.declared.instruction.Place.{Place}
 use Rattle.rl_hir.specs.declared.instruction.PlaceOrSpread.{PlaceOrSpread}
 use Rattle.rl_builder.specs.Builder.{State}
-use Rattle.rl_builder.specs.declared.builder.Built.{Built}
+use Rattle.rl_machine.specs.Machine.{Graph}
 use Rattle.rl_model.specs.WellFormed.{AreKnown, instruction_places, terminal_places}
 use Rattle.rl_names.specs.declared.parameters.Parameter.{Parameter}
 
@@ -112,20 +112,20 @@ pub record SoundArguments (trees : Pieces) (old new : State) (given : List Place
   pub places : All (λ a. IsSoundPlace (AreSmallTrees trees) new (argument_place a)) given
 
 -- The notation has the listings of a graph and of its instruction table.
-pub record IsWritableGraph (built : Built) : Type 0 where
-  pub entry : built.hir.entry.0 ≤ largest
-  pub blocks : All (λ b. IsWritable (listing.block b)) built.hir.blocks
-  pub table : All (λ i. IsWritable (listing.instruction i)) built.instructions
+pub record IsWritableGraph (built : Graph) : Type 0 where
+  pub entry : built.entry.0 ≤ largest
+  pub blocks : All (λ b. IsWritable (listing.block b)) built.blocks
+  pub table : All (λ i. IsWritable (listing.instruction i)) built.table
 
 -- The graph that was built from `body` over the environment `old` names identifiers of `new`, among which each of
 -- `parameters` has one of its own. Where the body is small, the notation has the graph, and where the parameters are too, the
 -- identifiers; and it has the pairs.
-pub record IsSoundGraph (parameters : List Parameter) (body : Syntax) (old new : Environment) (built : Built) : Type 0 where
+pub record IsSoundGraph (parameters : List Parameter) (body : Syntax) (old new : Environment) (built : Graph) : Type 0 where
   pub given : length old.identifiers + length parameters ≤ length new.identifiers
   pub count : length new.identifiers ≤ largest
   pub types : new.next_type ≤ largest
-  pub table : All (λ i. AreKnown (length new.identifiers) (instruction_places i)) built.instructions
-  pub terminals : All (λ b. AreKnown (length new.identifiers) (terminal_places b.1.terminal)) built.hir.blocks
+  pub table : All (λ i. AreKnown (length new.identifiers) (instruction_places i)) built.table
+  pub terminals : All (λ b. AreKnown (length new.identifiers) (terminal_places b.1.terminal)) built.blocks
   pub graph : IsSmallTree body → IsWritableGraph built
   pub identifiers : All IsSmallParameter parameters → IsSmallTree body → AreWritableIdentifiers old.identifiers
       → AreWritableIdentifiers new.identifiers

@@ -1,9 +1,9 @@
 //! Lowering of expressions: each leaves its value in a temporary.
 
-ghost use Rattle.std.specs.Prelude.{◌≡◌, ◌*◌, ℕ, All, map, List, OnOk, IfOk, IfErr};
+ghost use Rattle.std.specs.Prelude.{◌≡◌, ◌*◌, ℕ, [], All, map, List, OnOk, IfOk, IfErr};
 ghost use Rattle.rl_syntax.specs.Syntax.{Node, Said, End, Then, nodes, nodes_of, pieces_of, syntax};
 ghost use Rattle.rl_builder.specs.Builder.{state_of, recorded};
-ghost use Rattle.rl_builder.specs.Temporaries.{temporary, with_value};
+ghost use Rattle.rl_lower.specs.Values.{temporary, with_value};
 ghost use Rattle.rl_lower.specs.Lowering.{HasRoom, LowersExpression, LowersArguments};
 ghost use Rattle.rl_lower.specs.Named.{HasIdentifier, IsNamed};
 ghost use Rattle.rl_lower.specs.Sound.{SoundArguments, SoundExpression};
@@ -28,7 +28,9 @@ use rl_base::row::Row;
 use rl_base::span::Span;
 use rl_base::stop::Stop;
 use rl_builder::builder::HirBuilder;
+use rl_builder::unit_tables::ReadsUnit;
 use rl_grammar::sort::{ArgumentTree, ArgumentTrees, ExpressionTree};
+use rl_hir::blocks::MapBlocks;
 use rl_hir::instruction::{
     Instruction, InstructionValue, NonLocalBinding, Place, PlaceOrSpread, PrimitiveValue,
 };
@@ -40,15 +42,16 @@ use std::alloc::Global;
 
 /// Appends an instruction that puts a value into a fresh temporary (`lowerValueToTemporary`). On `Stop::OutOfMemory` an
 /// allocation failed; no other stop comes, here and in the functions below.
-pub(crate) fn lower_value_to_temporary(
-    builder: &mut HirBuilder,
+pub(crate) fn lower_value_to_temporary<U: ReadsUnit>(
+    builder: &mut HirBuilder<'_, U, MapBlocks>,
     value: InstructionValue,
     span: Option<Span>,
 ) -> Result<Place, Stop>
-    requires { HasRoom (state_of builder.old.env.now builder.old.work) 1 }
+    requires handlers { (state_of U.tables builder.old).handlers ≡ [] }
+    requires room { HasRoom (state_of U.tables builder.old) 1 }
     ensures same_reference { builder.new.env.ghost_name ≡ builder.old.env.ghost_name }
-    ensures state { OnOk result (state_of builder.new.env.now builder.new.work ≡ with_value (state_of builder.old.env.now builder.old.work) value span) }
-    ensures place { IfOk result (λ place. place ≡ temporary (state_of builder.old.env.now builder.old.work) span) }
+    ensures state { OnOk result (state_of U.tables builder.new ≡ with_value (state_of U.tables builder.old) value span) }
+    ensures place { IfOk result (λ place. place ≡ temporary (state_of U.tables builder.old) span) }
     ensures memory { IfErr result (λ e. e ≡ Stop.OutOfMemory) }
 {
     let place = builder.create_temporary_place(span)?;
@@ -62,9 +65,14 @@ pub(crate) fn lower_value_to_temporary(
 }
 
 /// Records the diagnostic of a row that refuses a node; its label is the node's span.
-fn refuse(alloc: Global, builder: &mut HirBuilder, row: Row, at: At) -> Result<(), OutOfMemory>
+fn refuse<U: ReadsUnit>(
+    alloc: Global,
+    builder: &mut HirBuilder<'_, U, MapBlocks>,
+    row: Row,
+    at: At,
+) -> Result<(), OutOfMemory>
     ensures same_reference { builder.new.env.ghost_name ≡ builder.old.env.ghost_name }
-    ensures state { OnOk result (state_of builder.new.env.now builder.new.work ≡ recorded (state_of builder.old.env.now builder.old.work) (refusal row at.span)) }
+    ensures state { OnOk result (state_of U.tables builder.new ≡ recorded (state_of U.tables builder.old) (refusal row at.span)) }
 {
     builder.record_diagnostic(Diagnostic::at(alloc, row, "", at.span)?)
 }
@@ -83,16 +91,17 @@ fn is_eval(binding: &NonLocalBinding) -> bool
 }
 
 /// Lowers a name that no local variable has: a load of what it is bound to. The global `eval` is refused.
-fn lower_outer(
+fn lower_outer<U: ReadsUnit>(
     alloc: Global,
-    builder: &mut HirBuilder,
+    builder: &mut HirBuilder<'_, U, MapBlocks>,
     at: At,
     binding: NonLocalBinding,
 ) -> Result<Place, Stop>
-    requires room { HasRoom (state_of builder.old.env.now builder.old.work) 1 }
+    requires handlers { (state_of U.tables builder.old).handlers ≡ [] }
+    requires room { HasRoom (state_of U.tables builder.old) 1 }
     ensures same_reference { builder.new.env.ghost_name ≡ builder.old.env.ghost_name }
-    ensures lowered { IfOk result (λ place. (names : Names) (name : List ℕ) → names.meaning at.reference.0 name ≡ Outer binding → LowersExpression names (Node at Word.Id (Then (Said name) End)) (state_of builder.old.env.now builder.old.work) (state_of builder.new.env.now builder.new.work) place.identifier.0) }
-    ensures sound { IfOk result (λ place. (name : List ℕ) → (IsUtf8 name → All IsUtf8 (binding_texts binding)) → SoundExpression (Node at Word.Id (Then (Said name) End)) (state_of builder.old.env.now builder.old.work) (state_of builder.new.env.now builder.new.work) place) }
+    ensures lowered { IfOk result (λ place. (names : Names) (name : List ℕ) → names.meaning at.reference.0 name ≡ Outer binding → LowersExpression names (Node at Word.Id (Then (Said name) End)) (state_of U.tables builder.old) (state_of U.tables builder.new) place.identifier.0) }
+    ensures sound { IfOk result (λ place. (name : List ℕ) → (IsUtf8 name → All IsUtf8 (binding_texts binding)) → SoundExpression (Node at Word.Id (Then (Said name) End)) (state_of U.tables builder.old) (state_of U.tables builder.new) place) }
     ensures memory { IfErr result (λ e. e ≡ Stop.OutOfMemory) }
 {
     let is_refused = is_eval(&binding);
@@ -105,21 +114,22 @@ fn lower_outer(
 }
 
 /// Lowers a local variable, which has an identifier already: a load.
-fn lower_local(
-    builder: &mut HirBuilder,
+fn lower_local<U: ReadsUnit>(
+    builder: &mut HirBuilder<'_, U, MapBlocks>,
     names: &FunctionNames<'_>,
     at: At,
     symbol: SymbolId,
 ) -> Result<Place, Stop>
-    requires known { HasIdentifier (state_of builder.old.env.now builder.old.work) symbol.0 ((seen names.now).name symbol.0) }
-    requires room { HasRoom (state_of builder.old.env.now builder.old.work) 1 }
+    requires known { HasIdentifier (state_of U.tables builder.old) symbol.0 ((seen names.now).name symbol.0) }
+    requires names { IsNamed (seen names.now) (state_of U.tables builder.old) }
+    requires room { HasRoom (state_of U.tables builder.old) 1 }
     ensures same_reference { builder.new.env.ghost_name ≡ builder.old.env.ghost_name }
-    ensures lowered { IfOk result (λ place. (name : List ℕ) → (seen names.now).meaning at.reference.0 name ≡ Local symbol → LowersExpression (seen names.now) (Node at Word.Id (Then (Said name) End)) (state_of builder.old.env.now builder.old.work) (state_of builder.new.env.now builder.new.work) place.identifier.0) }
-    ensures sound { IfOk result (λ place. (name : List ℕ) → SoundExpression (Node at Word.Id (Then (Said name) End)) (state_of builder.old.env.now builder.old.work) (state_of builder.new.env.now builder.new.work) place) }
+    ensures lowered { IfOk result (λ place. (name : List ℕ) → (seen names.now).meaning at.reference.0 name ≡ Local symbol → LowersExpression (seen names.now) (Node at Word.Id (Then (Said name) End)) (state_of U.tables builder.old) (state_of U.tables builder.new) place.identifier.0) }
+    ensures sound { IfOk result (λ place. (name : List ℕ) → SoundExpression (Node at Word.Id (Then (Said name) End)) (state_of U.tables builder.old) (state_of U.tables builder.new) place) }
     ensures memory { IfErr result (λ e. e ≡ Stop.OutOfMemory) }
 {
-    let declaration = names.declaration(symbol);
-    let identifier = builder.resolve_binding(names.name(symbol), symbol, declaration)?;
+    let name = names.name(symbol);
+    let identifier = builder.resolve_binding_with_span(name, symbol, at.span)?;
     let variable = Place {
         identifier,
         span: Some(at.span),
@@ -132,17 +142,17 @@ fn lower_local(
 }
 
 /// Lowers a name (`lowerIdentifier`).
-fn lower_identifier(
+fn lower_identifier<U: ReadsUnit>(
     alloc: Global,
-    builder: &mut HirBuilder,
+    builder: &mut HirBuilder<'_, U, MapBlocks>,
     names: &FunctionNames<'_>,
     identifier: &IdentifierReference<'_>,
 ) -> Result<Place, Stop>
-    requires names { IsNamed (seen names.now) (state_of builder.old.env.now builder.old.work) }
-    requires room { HasRoom (state_of builder.old.env.now builder.old.work) 1 }
+    requires names { IsNamed (seen names.now) (state_of U.tables builder.old) }
+    requires room { HasRoom (state_of U.tables builder.old) 1 }
     ensures same_reference { builder.new.env.ghost_name ≡ builder.old.env.ghost_name }
-    ensures lowered { IfOk result (λ place. LowersExpression (seen names.now) (seen_identifier_reference identifier.now) (state_of builder.old.env.now builder.old.work) (state_of builder.new.env.now builder.new.work) place.identifier.0) }
-    ensures sound { IfOk result (λ place. SoundExpression (seen_identifier_reference identifier.now) (state_of builder.old.env.now builder.old.work) (state_of builder.new.env.now builder.new.work) place) }
+    ensures lowered { IfOk result (λ place. LowersExpression (seen names.now) (seen_identifier_reference identifier.now) (state_of U.tables builder.old) (state_of U.tables builder.new) place.identifier.0) }
+    ensures sound { IfOk result (λ place. SoundExpression (seen_identifier_reference identifier.now) (state_of U.tables builder.old) (state_of U.tables builder.new) place) }
     ensures memory { IfErr result (λ e. e ≡ Stop.OutOfMemory) }
 {
     match names.meaning(alloc, identifier)? {
@@ -164,18 +174,18 @@ fn expression_of(argument: ArgumentTree<'_>) -> ExpressionTree<'_>
 
 /// Lowers arguments from left to right (`lowerArguments`).
 #[cycle(expressions)]
-fn lower_arguments(
+fn lower_arguments<U: ReadsUnit>(
     alloc: Global,
-    builder: &mut HirBuilder,
+    builder: &mut HirBuilder<'_, U, MapBlocks>,
     names: &FunctionNames<'_>,
     arguments: ArgumentTrees<'_>,
 ) -> Result<List<PlaceOrSpread>, Stop>
-    requires names { IsNamed (seen names.now) (state_of builder.old.env.now builder.old.work) }
+    requires names { IsNamed (seen names.now) (state_of U.tables builder.old) }
     requires covered { AreCovered (pieces_of (map syntax arguments.trees.now)) }
-    requires room { HasRoom (state_of builder.old.env.now builder.old.work) (4 * nodes_of (pieces_of (map syntax arguments.trees.now))) }
+    requires room { HasRoom (state_of U.tables builder.old) (4 * nodes_of (pieces_of (map syntax arguments.trees.now))) }
     ensures same_reference { builder.new.env.ghost_name ≡ builder.old.env.ghost_name }
-    ensures lowered { IfOk result (λ given. LowersArguments (seen names.now) (pieces_of (map syntax arguments.entry.trees.now)) (state_of builder.old.env.now builder.old.work) (state_of builder.new.env.now builder.new.work) given) }
-    ensures sound { IfOk result (λ given. SoundArguments (pieces_of (map syntax arguments.entry.trees.now)) (state_of builder.old.env.now builder.old.work) (state_of builder.new.env.now builder.new.work) given) }
+    ensures lowered { IfOk result (λ given. LowersArguments (seen names.now) (pieces_of (map syntax arguments.entry.trees.now)) (state_of U.tables builder.old) (state_of U.tables builder.new) given) }
+    ensures sound { IfOk result (λ given. SoundArguments (pieces_of (map syntax arguments.entry.trees.now)) (state_of U.tables builder.old) (state_of U.tables builder.new) given) }
     ensures memory { IfErr result (λ e. e ≡ Stop.OutOfMemory) }
 {
     let mut given = List::with_capacity(alloc, arguments.trees.len())?;
@@ -190,18 +200,18 @@ fn lower_arguments(
 
 /// Lowers an expression (`lowerExpression`). A refused one is lowered to other code, in a graph that no caller is given.
 #[cycle(expressions)]
-pub(crate) fn lower_expression(
+pub(crate) fn lower_expression<U: ReadsUnit>(
     alloc: Global,
-    builder: &mut HirBuilder,
+    builder: &mut HirBuilder<'_, U, MapBlocks>,
     names: &FunctionNames<'_>,
     expression: ExpressionTree<'_>,
 ) -> Result<Place, Stop>
-    requires names { IsNamed (seen names.now) (state_of builder.old.env.now builder.old.work) }
+    requires names { IsNamed (seen names.now) (state_of U.tables builder.old) }
     requires covered { IsCovered (syntax expression.tree.now) }
-    requires room { HasRoom (state_of builder.old.env.now builder.old.work) (4 * nodes (syntax expression.tree.now)) }
+    requires room { HasRoom (state_of U.tables builder.old) (4 * nodes (syntax expression.tree.now)) }
     ensures same_reference { builder.new.env.ghost_name ≡ builder.old.env.ghost_name }
-    ensures lowered { IfOk result (λ place. LowersExpression (seen names.now) (syntax expression.entry.tree.now) (state_of builder.old.env.now builder.old.work) (state_of builder.new.env.now builder.new.work) place.identifier.0) }
-    ensures sound { IfOk result (λ place. SoundExpression (syntax expression.entry.tree.now) (state_of builder.old.env.now builder.old.work) (state_of builder.new.env.now builder.new.work) place) }
+    ensures lowered { IfOk result (λ place. LowersExpression (seen names.now) (syntax expression.entry.tree.now) (state_of U.tables builder.old) (state_of U.tables builder.new) place.identifier.0) }
+    ensures sound { IfOk result (λ place. SoundExpression (syntax expression.entry.tree.now) (state_of U.tables builder.old) (state_of U.tables builder.new) place) }
     ensures memory { IfErr result (λ e. e ≡ Stop.OutOfMemory) }
 {
     match expression_view(expression) {

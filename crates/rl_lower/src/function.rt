@@ -8,11 +8,12 @@ ghost use Rattle.rl_ast.specs.FunctionViews.{seen_arrow, seen_arrow_body};
 ghost use Rattle.rl_base.specs.Reserved.{is_reserved};
 ghost use Rattle.rl_base.specs.declared.diagnostic.Diagnostic.{Diagnostic as Said};
 ghost use Rattle.rl_base.specs.declared.row.Row.TheVariants as row;
-ghost use Rattle.rl_builder.specs.Builder.{state_of, started};
+ghost use Rattle.rl_builder.specs.Builder.{state_of};
 ghost use Rattle.rl_grammar.specs.Fields.{maybe};
 ghost use Rattle.rl_hir.specs.Listing.{function as listed_function};
 ghost use Rattle.rl_hir.specs.Numbered.{IsNumbered};
-ghost use Rattle.rl_lower.specs.Endings.{IsGraphOf};
+ghost use Rattle.rl_lower.specs.Begun.{Tables, begun_by, tables_of};
+ghost use Rattle.rl_lower.specs.Endings.{IsGraphOf, graph_of};
 ghost use Rattle.rl_lower.specs.Lowering.{HasRoom, LowersBody};
 ghost use Rattle.rl_lower.specs.Named.{IsNamed};
 ghost use Rattle.rl_lower.specs.Parameters.{with_parameters};
@@ -39,12 +40,15 @@ use rl_ast::function::{Arrow, ArrowBody, arrow_body_view, function_body_view};
 use rl_ast::function_node::{Function, FunctionNode};
 use rl_base::diagnostic::Diagnostic;
 use rl_base::error::OutOfMemory;
-use rl_base::ids::EvaluationOrder;
+use rl_base::ids::{EvaluationOrder, ScopeId};
 use rl_base::list::List;
 use rl_base::row::Row;
 use rl_base::stop::Stop;
 use rl_base::text::Text;
-use rl_builder::builder::{Built, HirBuilder, create_temporary_place};
+use rl_builder::builder::{HirBuilder, create_temporary_place};
+use rl_builder::graph::Built;
+use rl_builder::unit_tables::{ReadsUnit, UnitTables};
+use rl_context::index::IdentifierLocIndex;
 use rl_grammar::sort::{BindingIdentifierTree, TextTrees};
 use rl_hir::blocks::MapBlocks;
 use rl_hir::environment::Environment;
@@ -56,12 +60,13 @@ use rl_names::parameters::{Parameter, parameters};
 use rl_syntax::numbered::At;
 use rl_syntax::parts::text_of;
 use std::alloc::Global;
+use std::collections::BTreeSet;
 
 /// A function's parameters, and its graph.
 #[derive(Drop)]
 struct Graph {
     params: List<Param>,
-    built: Built,
+    built: Built<MapBlocks>,
 }
 
 /// The parts of a function of any form that its graph shows.
@@ -141,16 +146,16 @@ fn own_name(
 }
 
 /// Gives each parameter an identifier, in order. On `Stop::Diagnostic` a parameter's name is reserved.
-fn lower_parameters(
+fn lower_parameters<U: ReadsUnit>(
     alloc: Global,
-    builder: &mut HirBuilder,
+    builder: &mut HirBuilder<'_, U, MapBlocks>,
     parameters: &[Parameter],
 ) -> Result<List<Param>, Stop>
-    requires nothing { (state_of builder.old.env.now builder.old.work).bindings ≡ [] }
+    requires nothing { (state_of U.tables builder.old).bindings ≡ [] }
     requires apart { AreApart parameters.now }
-    requires room { HasRoom (state_of builder.old.env.now builder.old.work) (length parameters.now) }
+    requires room { HasRoom (state_of U.tables builder.old) (length parameters.now) }
     ensures same_reference { builder.new.env.ghost_name ≡ builder.old.env.ghost_name }
-    ensures state { OnOk result (state_of builder.new.env.now builder.new.work ≡ with_parameters (state_of builder.old.env.now builder.old.work) parameters.now) }
+    ensures state { OnOk result (state_of U.tables builder.new ≡ with_parameters (state_of U.tables builder.old) parameters.now) }
     ensures places { IfOk result (λ params. params ≡ places_from (length builder.old.env.now.identifiers) parameters.now) }
     ensures goes_on { OnOk result (first_named (λ name. is_reserved name) parameters.now ≡ None) }
     ensures stopped { IfErr result (λ e. (d : Said) → e ≡ Stop.Diagnostic d → Some d ≡ stop_at row.S1 (first_named (λ name. is_reserved name) parameters.now) None) }
@@ -158,7 +163,8 @@ fn lower_parameters(
     let mut params = List::with_capacity(alloc, parameters.len())?;
     for parameter in parameters {
         let span = parameter.declaration;
-        let identifier = builder.resolve_binding(parameter.name.as_str(), parameter.symbol, span)?;
+        let name = parameter.name.as_str();
+        let identifier = builder.resolve_binding_with_span(name, parameter.symbol, span)?;
         params.push(Param::Place(Place {
             identifier,
             span: Some(span),
@@ -169,23 +175,23 @@ fn lower_parameters(
 
 /// Lowers a body up to its end. An expression's value is returned; the block behind that return is numbered before the
 /// expression is lowered.
-fn lower_body(
+fn lower_body<U: ReadsUnit>(
     alloc: Global,
-    builder: &mut HirBuilder,
+    builder: &mut HirBuilder<'_, U, MapBlocks>,
     names: &FunctionNames<'_>,
     body: ArrowBody<'_>,
 ) -> Result<(), Stop>
-    requires names { IsNamed (seen names.now) (state_of builder.old.env.now builder.old.work) }
+    requires names { IsNamed (seen names.now) (state_of U.tables builder.old) }
     requires covered { IsCovered (seen_arrow_body body) }
-    requires room { HasRoom (state_of builder.old.env.now builder.old.work) (4 * (nodes (seen_arrow_body body) + 1)) }
+    requires room { HasRoom (state_of U.tables builder.old) (4 * (nodes (seen_arrow_body body) + 1)) }
     ensures same_reference { builder.new.env.ghost_name ≡ builder.old.env.ghost_name }
-    ensures lowered { OnOk result (LowersBody (seen names.now) (seen_arrow_body body.entry) (state_of builder.old.env.now builder.old.work) (state_of builder.new.env.now builder.new.work)) }
-    ensures sound { OnOk result (StaysSound (IsSmallTree (seen_arrow_body body.entry)) (state_of builder.old.env.now builder.old.work) (state_of builder.new.env.now builder.new.work)) }
+    ensures lowered { OnOk result (LowersBody (seen names.now) (seen_arrow_body body.entry) (state_of U.tables builder.old) (state_of U.tables builder.new)) }
+    ensures sound { OnOk result (StaysSound (IsSmallTree (seen_arrow_body body.entry)) (state_of U.tables builder.old) (state_of U.tables builder.new)) }
     ensures memory { IfErr result (λ e. e ≡ Stop.OutOfMemory) }
 {
     match body {
         ArrowBody::Expression(expression) => {
-            let fallthrough = builder.reserve(BlockKind::Block);
+            let fallthrough = builder.reserve(BlockKind::Block)?;
             let value = lower_expression(alloc, builder, names, expression)?;
             builder.terminate_with_continuation(
                 Terminal {
@@ -207,37 +213,52 @@ fn lower_body(
     }
 }
 
-/// The graph of a function. The end of its body returns undefined, even if it is unreachable.
-fn lower_graph(
+/// The graph of a function, over the tables of its unit. The end of its body returns undefined, even if it is unreachable.
+fn lower_graph<U: ReadsUnit>(
     alloc: Global,
     names: &FunctionNames<'_>,
+    unit: U,
+    scope: ScopeId,
     parameters: &[Parameter],
     body: ArrowBody<'_>,
     env: &mut Environment,
 ) -> Result<Graph, Stop>
+    requires tables { (U.tables unit).semantic ≡ names.now.resolver.now.semantic.now }
     requires texts { HasTexts (seen names.now) }
     requires locals { AreLocals (seen names.now) parameters.now }
     requires apart { AreApart parameters.now }
     requires covered { IsCovered (seen_arrow_body body) }
-    requires room { HasRoom (started env.old BlockKind.Block) (4 * (nodes (seen_arrow_body body) + 2) + length parameters.now) }
-    ensures graph { IfOk result (λ graph. IsGraphOf (seen names.now) parameters.now (seen_arrow_body body.entry) env.old env.new graph.params graph.built) }
-    ensures sound { IfOk result (λ graph. IsSoundGraph parameters.now (seen_arrow_body body.entry) env.old env.new graph.built) }
+    requires room { HasRoom (begun_by env.old (tables_of names.now scope (U.tables unit).sites)) (4 * (nodes (seen_arrow_body body) + 2) + length parameters.now) }
+    ensures graph { IfOk result (λ graph. IsGraphOf (seen names.now) (tables_of names.now scope (U.tables unit).sites) parameters.now (seen_arrow_body body.entry) env.old env.new graph.params (graph_of graph.built)) }
+    ensures sound { IfOk result (λ graph. IsSoundGraph parameters.now (seen_arrow_body body.entry) env.old env.new (graph_of graph.built)) }
     ensures goes_on { OnOk result (first_named (λ name. is_reserved name) parameters.now ≡ None) }
     ensures stopped { IfErr result (λ e. (d : Said) → e ≡ Stop.Diagnostic d → Some d ≡ stop_at row.S1 (first_named (λ name. is_reserved name) parameters.now) None) }
 {
-    let mut builder = HirBuilder::new(alloc, &mut *env, BlockKind::Block);
+    let mut builder = HirBuilder::<U, MapBlocks>::over(
+        alloc,
+        &mut *env,
+        unit,
+        scope,
+        scope,
+        BTreeSet::new(alloc),
+        None,
+        None,
+        None,
+        None,
+    )?;
     let params = lower_parameters(alloc, &mut builder, parameters)?;
     lower_body(alloc, &mut builder, names, body)?;
     let undefined = InstructionValue::Primitive(PrimitiveValue::Undefined);
     let value = lower_value_to_temporary(&mut builder, undefined, None)?;
-    builder.terminate(Terminal {
+    let end = Terminal {
         order: EvaluationOrder(0),
         span: None,
         kind: TerminalKind::Return {
             variant: ReturnVariant::Void,
             value,
         },
-    })?;
+    };
+    builder.terminate(end, None)?;
     let built = builder.build()?;
     Ok(Graph { params, built })
 }
@@ -294,7 +315,7 @@ pub fn lower(
     requires covered { IsCoveredFunction (seen_function_node function) }
     requires body { body_in (seen_function_node function) ≢ Absent }
     requires fresh { env.old.pairs ≡ [] }
-    requires room { HasRoom (started env.old BlockKind.Block) (4 * nodes (seen_function_node function)) }
+    requires room { (tables : Tables) → HasRoom (begun_by env.old tables) (4 * nodes (seen_function_node function)) }
     ensures goes_on { OnOk result (stop_of (seen names.now) (seen_function_node function.entry) ≡ None) }
     ensures stopped { IfErr result (λ e. (d : Said) → e ≡ Stop.Diagnostic d → stop_of (seen names.now) (seen_function_node function.entry) ≡ Some d) }
     ensures refused { OnOk result (env.new.diagnostics ≡ env.old.diagnostics ++ refusals_of (seen names.now) (seen_function_node function.entry)) }
@@ -336,7 +357,20 @@ pub fn lower(
     }
     let parts = parts_of(function);
     let span = Some(parts.at.span);
-    let graph = lower_graph(alloc, names, parameters.as_slice(), parts.body, env)?;
+    let index = IdentifierLocIndex::of(alloc, &function)?;
+    let unit = UnitTables {
+        resolver: names.resolver,
+        identifier_spans: &index,
+    };
+    let graph = lower_graph(
+        alloc,
+        names,
+        unit,
+        parts.at.scope,
+        parameters.as_slice(),
+        parts.body,
+        env,
+    )?;
     let returns = create_temporary_place(env, span)?;
     Ok(HirFunction {
         span,

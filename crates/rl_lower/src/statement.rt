@@ -16,7 +16,9 @@ use rl_base::ids::EvaluationOrder;
 use rl_base::span::Span;
 use rl_base::stop::Stop;
 use rl_builder::builder::HirBuilder;
+use rl_builder::unit_tables::ReadsUnit;
 use rl_grammar::sort::{StatementTree, StatementTrees};
+use rl_hir::blocks::MapBlocks;
 use rl_hir::function::BlockKind;
 use rl_hir::instruction::{InstructionValue, Place, PrimitiveValue};
 use rl_hir::terminal::{ReturnVariant, Terminal, TerminalKind};
@@ -24,13 +26,17 @@ use rl_names::names::FunctionNames;
 use std::alloc::Global;
 
 /// Ends the block by a return of a value, and goes on in a fresh block, which is unreachable.
-fn lower_return(builder: &mut HirBuilder, span: Span, value: Place) -> Result<(), Stop>
-    requires { HasRoom (state_of builder.old.env.now builder.old.work) 1 }
+fn lower_return<U: ReadsUnit>(
+    builder: &mut HirBuilder<'_, U, MapBlocks>,
+    span: Span,
+    value: Place,
+) -> Result<(), Stop>
+    requires { HasRoom (state_of U.tables builder.old) 1 }
     ensures same_reference { builder.new.env.ghost_name ≡ builder.old.env.ghost_name }
-    ensures state { OnOk result (state_of builder.new.env.now builder.new.work ≡ returned_from (state_of builder.old.env.now builder.old.work) (Some span) ReturnVariant.Explicit value BlockKind.Block) }
+    ensures state { OnOk result (state_of U.tables builder.new ≡ returned_from (state_of U.tables builder.old) (Some span) ReturnVariant.Explicit value BlockKind.Block) }
     ensures memory { IfErr result (λ e. e ≡ Stop.OutOfMemory) }
 {
-    let next = builder.reserve(BlockKind::Block);
+    let next = builder.reserve(BlockKind::Block)?;
     builder.terminate_with_continuation(
         Terminal {
             order: EvaluationOrder(0),
@@ -46,18 +52,18 @@ fn lower_return(builder: &mut HirBuilder, span: Span, value: Place) -> Result<()
 }
 
 /// Lowers a statement (`lowerStatement`).
-fn lower_statement(
+fn lower_statement<U: ReadsUnit>(
     alloc: Global,
-    builder: &mut HirBuilder,
+    builder: &mut HirBuilder<'_, U, MapBlocks>,
     names: &FunctionNames<'_>,
     statement: StatementTree<'_>,
 ) -> Result<(), Stop>
-    requires names { IsNamed (seen names.now) (state_of builder.old.env.now builder.old.work) }
+    requires names { IsNamed (seen names.now) (state_of U.tables builder.old) }
     requires covered { IsCovered (syntax statement.tree.now) }
-    requires room { HasRoom (state_of builder.old.env.now builder.old.work) (4 * nodes (syntax statement.tree.now)) }
+    requires room { HasRoom (state_of U.tables builder.old) (4 * nodes (syntax statement.tree.now)) }
     ensures same_reference { builder.new.env.ghost_name ≡ builder.old.env.ghost_name }
-    ensures lowered { OnOk result (LowersStatement (seen names.now) (syntax statement.entry.tree.now) (state_of builder.old.env.now builder.old.work) (state_of builder.new.env.now builder.new.work)) }
-    ensures sound { OnOk result (StaysSound (IsSmallTree (syntax statement.entry.tree.now)) (state_of builder.old.env.now builder.old.work) (state_of builder.new.env.now builder.new.work)) }
+    ensures lowered { OnOk result (LowersStatement (seen names.now) (syntax statement.entry.tree.now) (state_of U.tables builder.old) (state_of U.tables builder.new)) }
+    ensures sound { OnOk result (StaysSound (IsSmallTree (syntax statement.entry.tree.now)) (state_of U.tables builder.old) (state_of U.tables builder.new)) }
     ensures memory { IfErr result (λ e. e ≡ Stop.OutOfMemory) }
 {
     match statement_view(statement) {
@@ -81,18 +87,18 @@ fn lower_statement(
 }
 
 /// Lowers statements in order. Those behind a return stand in an unreachable block.
-pub(crate) fn lower_statements(
+pub(crate) fn lower_statements<U: ReadsUnit>(
     alloc: Global,
-    builder: &mut HirBuilder,
+    builder: &mut HirBuilder<'_, U, MapBlocks>,
     names: &FunctionNames<'_>,
     statements: StatementTrees<'_>,
 ) -> Result<(), Stop>
-    requires names { IsNamed (seen names.now) (state_of builder.old.env.now builder.old.work) }
+    requires names { IsNamed (seen names.now) (state_of U.tables builder.old) }
     requires covered { AreCovered (pieces_of (map syntax statements.trees.now)) }
-    requires room { HasRoom (state_of builder.old.env.now builder.old.work) (4 * nodes_of (pieces_of (map syntax statements.trees.now))) }
+    requires room { HasRoom (state_of U.tables builder.old) (4 * nodes_of (pieces_of (map syntax statements.trees.now))) }
     ensures same_reference { builder.new.env.ghost_name ≡ builder.old.env.ghost_name }
-    ensures lowered { OnOk result (LowersStatements (seen names.now) (pieces_of (map syntax statements.entry.trees.now)) (state_of builder.old.env.now builder.old.work) (state_of builder.new.env.now builder.new.work)) }
-    ensures sound { OnOk result (StaysSound (AreSmallTrees (pieces_of (map syntax statements.entry.trees.now))) (state_of builder.old.env.now builder.old.work) (state_of builder.new.env.now builder.new.work)) }
+    ensures lowered { OnOk result (LowersStatements (seen names.now) (pieces_of (map syntax statements.entry.trees.now)) (state_of U.tables builder.old) (state_of U.tables builder.new)) }
+    ensures sound { OnOk result (StaysSound (AreSmallTrees (pieces_of (map syntax statements.entry.trees.now))) (state_of U.tables builder.old) (state_of U.tables builder.new)) }
     ensures memory { IfErr result (λ e. e ≡ Stop.OutOfMemory) }
 {
     let mut left = statements;

@@ -1,11 +1,12 @@
 -- The rows of refusals by node: the nodes of a tree that are refused or stop the lowering, and their diagnostics.
-use Rattle.std.specs.Prelude.{◌≡◌, ℕ, Bool, false, if◌then◌else◌, Option, Some, None, List, [], ◌∷◌, ◌++◌, codes}
+use Rattle.std.specs.Prelude.{◌≡◌, ℕ, Bool, false, if◌then◌else◌, Option, Some, None, unwrap_or, List, [], ◌∷◌, ◌++◌, codes}
 use Rattle.std.specs.Str.{bytes_eq}
 use Rattle.rl_base.specs.Diagnostics.{diagnostic_at}
 use Rattle.rl_base.specs.Reserved.{is_reserved}
 use Rattle.rl_base.specs.declared.diagnostic.Diagnostic.{Diagnostic}
 use Rattle.rl_base.specs.declared.row.Row.{Row}
 use Rattle.rl_base.specs.declared.row.Row.TheVariants as row
+use Rattle.rl_base.specs.declared.ids.SymbolId.{SymbolId}
 use Rattle.rl_base.specs.declared.span.Span.{Span}
 use Rattle.rl_text.specs.Numeral.{is_numeral}
 use Rattle.rl_syntax.specs.declared.word.Word.TheVariants as word
@@ -17,6 +18,7 @@ use Rattle.rl_names.specs.Names.{Names}
 use Rattle.rl_names.specs.declared.parameters.Parameter.{Parameter}
 use Rattle.rl_names.specs.declared.names.Meaning.{Meaning}
 use Rattle.rl_names.specs.declared.names.Meaning.TheVariants.{Local, Outer}
+use Rattle.rl_semantic.specs.Items.{of_item}
 
 -- The text is the given word.
 abbrev pub is_text : List ℕ → List ℕ → Bool
@@ -30,9 +32,13 @@ refusal r label = diagnostic_at r [] label
 abbrev pub stop : Row → Parameter → Diagnostic
 stop r p = diagnostic_at r p.name p.declaration
 
--- The diagnostics of a local variable that is read, by its name and declaration: F40 of `fbt`, at the declaration.
-abbrev pub said_of_local : (name : List ℕ) → (declaration : Span) → List Diagnostic
-said_of_local name declaration = if is_text (codes "fbt") name then refusal row.F40 declaration ∷ [] else []
+-- The diagnostics of a local variable by its name: F40 of `fbt`.
+abbrev pub said_of_local : (name : List ℕ) → (label : Span) → List Diagnostic
+said_of_local name label = if is_text (codes "fbt") name then refusal row.F40 label ∷ [] else []
+
+-- The label of F40 at a node with the span `at`: the declaration identifier of its symbol, where it has one.
+abbrev pub label_of : Names → (symbol : SymbolId) → (at : Span) → Span
+label_of names symbol at = unwrap_or (names.declaration symbol.0) at
 
 -- True of the global `eval`.
 abbrev pub is_eval : NonLocalBinding → Bool
@@ -45,14 +51,14 @@ said_of_outer b label = if is_eval b then refusal row.F2 label ∷ [] else []
 
 -- The diagnostics of a name that is read.
 abbrev pub said_of_name : Names → Meaning → (label : Span) → List Diagnostic
-said_of_name names (Local symbol) label = said_of_local (names.name symbol.0) (names.declaration symbol.0)
+said_of_name names (Local symbol) label = said_of_local (names.name symbol.0) (label_of names symbol label)
 said_of_name names (Outer binding) label = said_of_outer binding label
 
 -- The diagnostics of a node by itself.
 abbrev pub said_of : Names → Syntax → List Diagnostic
 said_of names (Node at word.Num (Then (Said text) End)) = if is_numeral text then [] else refusal row.F43 at.span ∷ []
 said_of names (Node at word.Id (Then (Said name) End)) = said_of_name names (names.meaning at.reference.0 name) at.span
-said_of names (Node at word.Bind (Then (Said name) type)) = if is_text (codes "fbt") name then refusal row.F40 at.span ∷ [] else []
+said_of names (Node at word.Bind (Then (Said name) type)) = said_of_local name (of_item at.span (λ symbol. label_of names symbol at.span) (names.declared at.id.0))
 said_of names _ = []
 
 abbrev mutual

@@ -1,8 +1,10 @@
 -- The local variables of a plain function are its parameters, each with a symbol and a name of its own.
-use Rattle.std.proofs.Common.{◌≡◌, ◌≤◌, ◌<◌, true, false, Some, None, [], ◌++◌, map, All, Contains, refl, sym, ap, subst, ◌∙◌, arith}
+use Rattle.std.proofs.Common.{◌≡◌, ◌≤◌, ◌<◌, true, false, ℕ, Option, Some, None, [], ◌++◌, map, All, Contains, refl, sym, ap, subst, ◌∙◌, arith}
 use Rattle.std.proofs.lemmas.List.Elements.{All-from_recursion}
 use Rattle.std.specs.List.{AllByRecursion, list_any}
+use Rattle.std.specs.Option.{option_map}
 use Rattle.rl_base.specs.declared.ids.SymbolId.{SymbolId}
+use Rattle.rl_base.specs.declared.span.Span.{Span}
 use Rattle.rl_ast.specs.Marked.{first, is_marked, marked_functions}
 use Rattle.rl_ast.specs.Units.{IsOfGrammar}
 use Rattle.rl_ast.proofs.MarkedFunctions.{Inside, IsMarked, first_found, marked_fits}
@@ -16,7 +18,7 @@ use Rattle.rl_bindings.specs.declared.event.Bound.{Bound}
 use Rattle.rl_resolver.specs.Imported.{import_data}
 use Rattle.rl_semantic.specs.Imports.{imports_in}
 use Rattle.rl_syntax.specs.Nodes.{entries}
-use Rattle.rl_resolver.specs.Lookups.{symbol_name, symbol_of_reference}
+use Rattle.rl_resolver.specs.Lookups.{declaration_ident, symbol_name, symbol_of_reference}
 use Rattle.rl_semantic.specs.Rules.{least_broken}
 use Rattle.rl_syntax.specs.Syntax.{Syntax, Node, Pieces, nodes, outset, IsPlaced}
 use Rattle.rl_syntax.specs.declared.numbered.At.{At}
@@ -29,10 +31,10 @@ use Rattle.rl_names.proofs.FunctionScopes.{IsOther, Splits, found, splits_furthe
 use Rattle.rl_names.proofs.MarkedScopes.{scope_above}
 use Rattle.rl_names.proofs.Marks.{keeps_named}
 use Rattle.rl_names.proofs.NameTexts.{IsKnown, texts_inside, texts_known}
-use Rattle.rl_names.proofs.ParameterNames.{IsTold, all_apart, all_named, are_declared, clashes_last, symbol_of_parameter}
+use Rattle.rl_names.proofs.ParameterNames.{IsTold, all_apart, all_named, all_spanned, are_declared, clashes_last, params_form, symbol_of_parameter}
 use Rattle.rl_names.proofs.PlainFunctions.{PlainParts, param_bounds, plain_parts}
 use Rattle.rl_names.proofs.ScopeNodes.{scope_of_function}
-use Rattle.rl_names.proofs.SymbolNumbers.{symbol_declared, symbols_numbered}
+use Rattle.rl_names.proofs.SymbolNumbers.{HasSymbol, symbol_declared, symbols_numbered}
 use Rattle.rl_names.proofs.UnitSymbols.{has_split, local_bound, meaning_local, not_repeated, split_has, told, unit_names}
 use Rattle.rl_names.proofs.Items.{Has, contains}
 
@@ -44,6 +46,10 @@ marked_again f at w ps is m =
 
 -- A function of a unit that is marked, and plain by its parts.
 module _ (u f : Syntax) (placed : IsPlaced outset u) (p : PlainParts f) (there : Inside (Node p.at p.w p.parts) u) where
+  -- The span of a symbol's declaration identifier.
+  abbrev declared_span : (symbol : ℕ) → Option Span
+  declared_span symbol = option_map (λ b. b.span) (declaration_ident (symbols_in u) symbol)
+
   -- The declarations of a unit that bind in the scope of the function are those of its parameters.
   params_split : 0 < p.at.scope.0 → Splits p.at.scope.0 (bounds (events_in u)) (param_bounds (names_in u) p.at p.items)
   params_split above =
@@ -72,6 +78,21 @@ module _ (u f : Syntax) (placed : IsPlaced outset u) (p : PlainParts f) (there :
         all_apart (names_in u) (symbols_in u) (unit_names u p.at) p.at p.items s.before s.after p.plain params_told params_known
         (clashes_last is_repeat [] s.before (param_bounds (names_in u) p.at p.items ++ s.after) (subst (λ l. clashes is_repeat [] l ≡ false) s.is (no_repeat kept)))
 
+    -- The first declaration of a parameter's symbol is a parameter's.
+    params_first : (b : Bound) → Has (param_bounds (names_in u) p.at p.items) b → (s : HasSymbol (symbols_in u) b) → Has (param_bounds (names_in u) p.at p.items) s.first
+    params_first b has s =
+        let all = bounds (events_in u) in
+        let form = params_form (names_in u) (symbols_in u) (unit_names u p.at) p.at p.items p.plain b has in
+        split_has p.at.scope.0 all (param_bounds (names_in u) p.at p.items) s.first (params_split above) (s.same_scope ∙ ap (λ x. x.0) form.scope_is)
+        (symbol_declared all s.number s.first s.there)
+
+    params_spanned : AllByRecursion (λ q. declared_span q.symbol.0 ≡ Some q.declaration) (parameters_among (unit_names u p.at) p.items)
+    params_spanned =
+        let s = params_split above in
+        all_spanned (names_in u) (symbols_in u) (unit_names u p.at) p.at p.items s.before s.after (λ n. refl) p.plain params_told params_known
+        (clashes_last is_repeat [] s.before (param_bounds (names_in u) p.at p.items ++ s.after) (subst (λ l. clashes is_repeat [] l ≡ false) s.is (no_repeat kept)))
+        params_first
+
     -- A local variable is a parameter.
     local_parameter : (symbol : SymbolId) → is_local p.at (scopes_in u) (symbols_in u) symbol.0 ≡ true → Has (map (λ q. q.symbol) (parameters_among (unit_names u p.at) p.items)) symbol
     local_parameter symbol local =
@@ -90,6 +111,8 @@ module _ (u f : Syntax) (placed : IsPlaced outset u) (p : PlainParts f) (there :
         named = subst (λ t. All (λ q. symbol_name (names_in u) (symbols_in u) q.symbol.0 ≡ q.name) (parameters_in (unit_names u p.at) t)) (sym p.params)
             (All-from_recursion (λ q. symbol_name (names_in u) (symbols_in u) q.symbol.0 ≡ q.name) (parameters_among (unit_names u p.at) p.items)
             (all_named (names_in u) (symbols_in u) (unit_names u p.at) p.at p.items (λ s. refl) p.plain params_told params_known));
+        spanned = subst (λ t. All (λ q. declared_span q.symbol.0 ≡ Some q.declaration) (parameters_in (unit_names u p.at) t)) (sym p.params)
+            (All-from_recursion (λ q. declared_span q.symbol.0 ≡ Some q.declaration) (parameters_among (unit_names u p.at) p.items) params_spanned);
         locals = λ reference name symbol is.
             subst (λ t. Contains (map (λ q. q.symbol) (parameters_in (unit_names u p.at) t)) symbol) (sym p.params)
             (contains (map (λ q. q.symbol) (parameters_among (unit_names u p.at) p.items)) symbol

@@ -1,18 +1,22 @@
 -- The parameters of a plain function, by what their declarations have in the tables of names.
-use Rattle.std.proofs.Common.{◌≡◌, ◌≢◌, ℕ, Bool, true, false, ◌&&◌, eq-eqb, true≢false, inl, inr, Option, Some, None, is_some, unwrap_or, List, [], ◌∷◌, ◌++◌, map, slice_get, append_assoc, append-nil, refl, sym, ap, subst, ◌∙◌}
+use Rattle.std.proofs.Common.{◌≡◌, ◌≢◌, ℕ, Bool, true, false, ◌&&◌, if◌then◌else◌, eq-eqb, true≢false, inl, inr, Option, Some, None, is_some, unwrap_or, List, [], ◌∷◌, ◌++◌, map, slice_get, append_assoc, append-nil, refl, sym, ap, subst, ◌∙◌}
 use Rattle.std.proofs.lemmas.Bool.{or_parts}
 use Rattle.std.proofs.lemmas.List.Elements.{All-from_recursion}
 use Rattle.std.proofs.lemmas.Slice.Eq.{bytes_eq-Decides}
 use Rattle.std.specs.List.{AllByRecursion, list_any}
+use Rattle.std.specs.Option.{option_map}
 use Rattle.std.specs.Str.{bytes_eq}
 use Rattle.rl_bindings.specs.Events.{bound_of}
 use Rattle.rl_bindings.specs.NameRules.{is_param, is_repeat, clashes}
 use Rattle.rl_bindings.specs.Names.{number_of, numbered, texts, texts_of}
 use Rattle.rl_bindings.specs.Symbols.{is_own, same}
+use Rattle.rl_bindings.specs.declared.event.BindKind.{BindKind}
 use Rattle.rl_bindings.specs.declared.event.BindKind.TheVariants as kind
 use Rattle.rl_bindings.specs.declared.event.Bound.{Bound}
 use Rattle.rl_bindings.specs.declared.names.Name.{Name}
-use Rattle.rl_resolver.specs.Lookups.{name_text, symbol_name}
+use Rattle.rl_base.specs.declared.span.Span.{Span}
+use Rattle.rl_resolver.specs.Kinds.{has_identifier}
+use Rattle.rl_resolver.specs.Lookups.{declaration_ident, identified, name_text, symbol_name}
 use Rattle.rl_semantic.specs.Items.{of_item}
 use Rattle.rl_syntax.specs.Syntax.{Node, Said, Pieces, End, Then}
 use Rattle.rl_syntax.specs.declared.numbered.At.{At}
@@ -80,10 +84,11 @@ module _ (table : List Name) (symbols : List Bound) (names : Names) (at : At) wh
     symbol : HasSymbol symbols bound
     number : p.symbol.0 ≡ symbol.number
     name_is : bound.name ≡ numbered table (p.name ∷ [])
+    span_is : p.declaration ≡ bound.span
     known : IsKnown table p.name
 
   of_more : (b : Bound) (bs : List Bound) (p : Parameter) → IsOf bs p → IsOf (b ∷ bs) p
-  of_more b bs p i = record { bound = i.bound; has = inr i.has; symbol = i.symbol; number = i.number; name_is = i.name_is; known = i.known }
+  of_more b bs p i = record { bound = i.bound; has = inr i.has; symbol = i.symbol; number = i.number; name_is = i.name_is; span_is = i.span_is; known = i.known }
 
   each_of : (ps : Pieces) → ArePlainParameters ps → AreTold ps → AllByRecursion (IsKnown table) (texts_of ps) → AllByRecursion (IsOf (param_bounds table at ps)) (parameters_among names ps)
   each_of End plain told known = tt
@@ -92,7 +97,7 @@ module _ (table : List Name) (symbols : List Bound) (names : Names) (at : At) wh
       let bs = param_bounds table at ps in
       let t = told b (inl refl) in
       subst (λ l. AllByRecursion (IsOf (b ∷ bs)) (l ++ parameters_among names ps)) (sym (one_parameter pat bind name type default t.symbol.number t.declared)) (
-        record { bound = b; has = inl refl; symbol = t.symbol; number = refl; name_is = refl; known = known.0 },
+        record { bound = b; has = inl refl; symbol = t.symbol; number = refl; name_is = refl; span_is = refl; known = known.0 },
         each_weaker (IsOf bs) (IsOf (b ∷ bs)) (parameters_among names ps) (of_more b bs)
             (each_of ps plain.1 (λ c has. told c (inr has)) (each_right (IsKnown table) (texts (Node pat word.Param (Then (Node bind word.Bind (Then (Said name) type)) default))) (texts_of ps) known)),
       )
@@ -154,7 +159,7 @@ module _ (table : List Name) (symbols : List Bound) (names : Names) (at : At) wh
       let bs = param_bounds table at ps in
       let t = told b (inl refl) in
       let p = parameter bind name t.symbol.number in
-      let i : IsOf (b ∷ bs) p = record { bound = b; has = inl refl; symbol = t.symbol; number = refl; name_is = refl; known = known.0 } in
+      let i : IsOf (b ∷ bs) p = record { bound = b; has = inl refl; symbol = t.symbol; number = refl; name_is = refl; span_is = refl; known = known.0 } in
       let rest = parameters_among names ps in
       let told_rest : AreTold ps = λ c has. told c (inr has) in
       let known_rest = each_right (IsKnown table) (texts param) (texts_of ps) known in
@@ -169,6 +174,50 @@ module _ (table : List Name) (symbols : List Bound) (names : Names) (at : At) wh
         all_apart ps (before ++ b ∷ []) after plain.1 told_rest known_rest none_rest,
       )
   all_apart (Then _ ps) before after plain told known none = absurd plain.0
+
+  -- A declaration of a parameter's name does not stand behind another.
+  never_again : (b c : Bound) (before bs after : List Bound) → IsParam b → IsParam c → clashes is_repeat (before ++ b ∷ []) (bs ++ after) ≡ false → Has bs c → b.name ≡ c.name → ⊥
+  never_again b c before bs after one other none has same =
+      true≢false (sym (repeated b c one.kind_is other.kind_is (ap (λ s. s.0) (one.scope_is ∙ sym other.scope_is)) same)
+      ∙ no_clash is_repeat (before ++ b ∷ []) (bs ++ after) b c none (has_right before (b ∷ []) b (inl refl)) (has_left bs after c has))
+
+  -- Two declarations of one name are one.
+  only_one : (bs before after : List Bound) → ((b : Bound) → Has bs b → IsParam b) → clashes is_repeat before (bs ++ after) ≡ false → (b c : Bound) → Has bs b → Has bs c → b.name ≡ c.name → b ≡ c
+  only_one [] before after form none b c one two same = absurd one
+  only_one (d ∷ bs) before after form none b c (inl first) (inl second) same = first ∙ sym second
+  only_one (d ∷ bs) before after form none b c (inl first) (inr late) same =
+      absurd (never_again d c before bs after (form d (inl refl)) (form c (inr late)) (or_parts (list_any (is_repeat d) before) (clashes is_repeat (before ++ d ∷ []) (bs ++ after)) none).1 late
+      (ap (λ x. x.name) (sym first) ∙ same))
+  only_one (d ∷ bs) before after form none b c (inr late) (inl second) same =
+      absurd (never_again d b before bs after (form d (inl refl)) (form b (inr late)) (or_parts (list_any (is_repeat d) before) (clashes is_repeat (before ++ d ∷ []) (bs ++ after)) none).1 late
+      (ap (λ x. x.name) (sym second) ∙ sym same))
+  only_one (d ∷ bs) before after form none b c (inr one) (inr two) same =
+      only_one bs (before ++ d ∷ []) after (λ e has. form e (inr has)) (or_parts (list_any (is_repeat d) before) (clashes is_repeat (before ++ d ∷ []) (bs ++ after)) none).1 b c one two same
+
+  -- The span of a symbol's declaration identifier.
+  abbrev declared_span : (symbol : ℕ) → Option Span
+  declared_span symbol = option_map (λ b. b.span) (declaration_ident symbols symbol)
+
+  -- The first declarations of symbols that the declarations have are among them.
+  abbrev HasFirsts : List Bound → Type 0
+  HasFirsts bs = (b : Bound) → Has bs b → (s : HasSymbol symbols b) → Has bs s.first
+
+  own_first : (bs before after : List Bound) → ((b : Bound) → Has bs b → IsParam b) → clashes is_repeat before (bs ++ after) ≡ false → HasFirsts bs → (p : Parameter) → IsOf bs p → declared_span p.symbol.0 ≡ Some p.declaration
+  own_first bs before after form none firsts p i =
+      let first : i.symbol.first ≡ i.bound = only_one bs before after form none i.symbol.first i.bound (firsts i.bound i.has i.symbol) i.has i.symbol.same_name in
+      ap declared_span i.number
+      ∙ ap (λ (o : Option Bound). option_map (λ b. b.span) (of_item None identified o)) i.symbol.there
+      ∙ ap (λ (x : Bound). option_map (λ b. b.span) (identified x)) first
+      ∙ ap (λ (k : BindKind). option_map (λ b. b.span) (if has_identifier k then Some i.bound else None)) (form i.bound i.has).kind_is
+      ∙ ap (λ (s : Span). Some s) (sym i.span_is)
+
+  -- Without two parameters of one name, the declaration identifier of each parameter's symbol is the parameter's.
+  pub all_spanned : (ps : Pieces) (before after : List Bound) → ((s : ℕ) → names.declaration s ≡ option_map (λ b. b.span) (declaration_ident symbols s)) → ArePlainParameters ps → AreTold ps → AllByRecursion (IsKnown table) (texts_of ps)
+      → clashes is_repeat before (param_bounds table at ps ++ after) ≡ false → HasFirsts (param_bounds table at ps) → AllByRecursion (λ p. names.declaration p.symbol.0 ≡ Some p.declaration) (parameters_among names ps)
+  all_spanned ps before after is plain told known none firsts =
+      each_weaker (IsOf (param_bounds table at ps)) (λ p. names.declaration p.symbol.0 ≡ Some p.declaration) (parameters_among names ps)
+      (λ p i. is p.symbol.0 ∙ own_first (param_bounds table at ps) before after (params_form ps plain) none firsts p i)
+      (each_of ps plain told known)
 
   -- The symbol of each declaration of a parameter is a parameter's.
   pub symbol_of_parameter : (ps : Pieces) → ArePlainParameters ps → AreTold ps → (b : Bound) → Has (param_bounds table at ps) b → (n : ℕ) → number_of_bound symbols b ≡ Some n → Has (map (λ p. p.symbol) (parameters_among names ps)) (record { 0 = n })

@@ -166,13 +166,14 @@ pub record HasSymbol (symbols : List Bound) (b : Bound) : Type 0 where
   pub first : Bound
   pub there : slice_get symbols number ≡ Some first
   pub same_name : first.name ≡ b.name
+  pub same_scope : first.scope.0 ≡ b.scope.0
 
 symbol_at : (symbols : List Bound) (b : Bound) (k : ℕ) → number_of_bound symbols b ≡ Some k → HasSymbol symbols b
 symbol_at symbols b k is =
     let f = found_at (is_at (is_own b.kind) b.scope.0 b.name) 0 k symbols is in
     let p = place_of (is_own b.kind) b.scope.0 b.name f.item f.passes in
     let at : f.index ≡ k = (let e = f.is in omega (arith, e)) in
-    record { number = k; is = is; first = f.item; there = subst (λ n. slice_get symbols n ≡ Some f.item) at f.there; same_name = p.name_is }
+    record { number = k; is = is; first = f.item; there = subst (λ n. slice_get symbols n ≡ Some f.item) at f.there; same_name = p.name_is; same_scope = p.scope_is }
 
 pub symbol_of : (symbols : List Bound) (b : Bound) → is_some (number_of_bound symbols b) ≡ true → HasSymbol symbols b
 symbol_of symbols b known = let n = some_number (number_of_bound symbols b) known in symbol_at symbols b n.0 n.1

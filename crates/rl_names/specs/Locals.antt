@@ -1,5 +1,5 @@
 -- Functions whose local variables are their parameters: those that the lowering covers.
-use Rattle.std.specs.Prelude.{◌≡◌, ◌≢◌, ℕ, true, false, is_some, List, [], ◌∷◌, All, Contains, map}
+use Rattle.std.specs.Prelude.{◌≡◌, ◌≢◌, ℕ, true, false, Some, is_some, List, [], ◌∷◌, All, Contains, map}
 use Rattle.std.specs.Str.{IsUtf8, bytes_eq}
 use Rattle.rl_base.specs.declared.ids.SymbolId.{SymbolId}
 use Rattle.rl_names.specs.Functions.{params_in, parameters_of}
@@ -36,9 +36,11 @@ abbrev pub AreApart : List Parameter → Type 0
 AreApart [] = Unit {0}
 AreApart (p ∷ ps) = All (IsApart p) ps × AreApart ps
 
--- Each of the parameters has the name of its symbol, and each local variable is one of them.
+-- Each of the parameters has the name of its symbol and stands at its symbol's declaration identifier, and each local variable is one
+-- of them.
 pub record AreLocals (names : Names) (parameters : List Parameter) : Type 0 where
   pub named : All (λ p. names.name p.symbol.0 ≡ p.name) parameters
+  pub spanned : All (λ p. names.declaration p.symbol.0 ≡ Some p.declaration) parameters
   pub locals : (reference : ℕ) (name : List ℕ) (symbol : SymbolId) → names.meaning reference name ≡ Local symbol → Contains (map (λ p. p.symbol) parameters) symbol
 
 -- Each parameter of the function that is a name declares a symbol, no two have one symbol or one name, and they are the local

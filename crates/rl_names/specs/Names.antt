@@ -1,6 +1,6 @@
 -- The meanings of the names of a unit in the lowering of its marked function: of a local variable its symbol, and of any other
 -- name the binding that the module gives to it.
-use Rattle.std.specs.Prelude.{ℕ, Bool, true, false, ◌&&◌, nat_eq, nat_le, nat_lt, if◌then◌else◌, unwrap_or, Option, Some, None, slice_get, List, [], ◌∷◌, ◌++◌}
+use Rattle.std.specs.Prelude.{ℕ, Bool, true, false, ◌&&◌, nat_eq, nat_le, nat_lt, if◌then◌else◌, unwrap_or, option_map, Option, Some, None, slice_get, List, [], ◌∷◌, ◌++◌}
 use Rattle.rl_base.specs.declared.ids.NodeId.{NodeId}
 use Rattle.rl_base.specs.declared.ids.ScopeId.{ScopeId}
 use Rattle.rl_base.specs.declared.ids.SymbolId.{SymbolId}
@@ -25,7 +25,7 @@ use Rattle.rl_semantic.specs.Imports.{imports_in}
 use Rattle.rl_semantic.specs.declared.imports.ImportBindingData.{ImportBindingData}
 use Rattle.rl_semantic.specs.declared.imports.ImportBindingKind.{ImportBindingKind}
 use Rattle.rl_semantic.specs.declared.imports.ImportBindingKind.TheVariants as import
-use Rattle.rl_resolver.specs.Lookups.{first_bind, symbol_name, symbol_of_reference, symbol_scope}
+use Rattle.rl_resolver.specs.Lookups.{declaration_ident, symbol_name, symbol_of_reference, symbol_scope}
 use Rattle.rl_semantic.specs.Items.{of_item}
 use Rattle.rl_syntax.specs.Nodes.{entries}
 use Rattle.rl_syntax.specs.Syntax.{Syntax, Node, Listed, Said, Pieces, End, Then}
@@ -41,8 +41,8 @@ pub record Names : Type 0 where
   pub declared : (node : ℕ) → Option SymbolId
   -- The name of a symbol.
   pub name : (symbol : ℕ) → List ℕ
-  -- The span of the first `bind` node of a symbol.
-  pub declaration : (symbol : ℕ) → Span
+  -- The span of the declaration identifier of a symbol. None of a symbol without one.
+  pub declaration : (symbol : ℕ) → Option Span
 
 -- True of a node that is the one with these ids, or stands inside it.
 abbrev pub is_inside : At → NodeId → Bool
@@ -95,7 +95,7 @@ names_by at nodes imports names scopes symbols declarations references = record 
   meaning = λ reference name. meaning_of (λ symbol. import_data nodes imports symbols symbol) at scopes symbols (symbol_of_reference references reference) name;
   declared = λ node. resolver.declared_symbol nodes declarations node;
   name = λ symbol. symbol_name names symbols symbol;
-  declaration = λ symbol. first_bind symbols symbol;
+  declaration = λ symbol. option_map (λ b. b.span) (declaration_ident symbols symbol);
 }
 
 -- The ids of no node.

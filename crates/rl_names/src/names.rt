@@ -253,12 +253,4 @@ impl<'s> FunctionNames<'s> {
     {
         self.resolver.symbol_name(symbol)
     }
-
-    /// The span of the first `bind` node of a symbol, a half-open byte range in the unit's text. Empty at offset 0 for a number
-    /// that is no symbol's.
-    pub fn declaration(&self, symbol: SymbolId) -> Span
-        ensures { result ≡ (seen self.now).declaration symbol.0 }
-    {
-        self.resolver.first_bind(symbol)
-    }
 }

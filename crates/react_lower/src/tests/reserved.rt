@@ -1,6 +1,6 @@
 //! Reserved words.
 
-use rl_builder::reserved::is_always_reserved_word;
+use rl_used_names::reserved::is_always_reserved_word;
 
 #[test]
 fn knows_reserved_words(rt: HostRuntime) {

@@ -4,7 +4,7 @@ use Rattle.rl_base.specs.declared.span.Span.{Span}
 use Rattle.rl_hir.specs.Identifiers.{changed_at, with_span}
 use Rattle.rl_hir.specs.declared.environment.Environment.{Environment}
 use Rattle.rl_hir.specs.declared.function.Identifier.{Identifier}
-use Rattle.rl_builder.proofs.NameLaws.{changed_at-last}
+use Rattle.rl_used_names.proofs.NameLaws.{changed_at-last}
 use Rattle.rl_builder.specs.Builder.{one_identifier_more}
 use Rattle.rl_builder.proofs.builder.new_temporary.Goals as goal
 

@@ -5,4 +5,4 @@ use Rattle.rl_builder.proofs.graph.table_of.Given as goal
 
 -- the table so far, with the blocks that are left
 abbrev pub invariant-loop-id : goal.invariant-loop-id
-invariant-loop-id l = fold (λ table p. with_block table p.0 p.1) l.blocks l.id-iterator.rest.items ≡ table_of l.fn.completed.items
+invariant-loop-id g l = fold (λ table p. with_block table p.0 p.1) (g.B.Blocks.pairs l.blocks) l.id-iterator.rest.items ≡ table_of l.fn.completed.items

@@ -21,33 +21,33 @@ use Rattle.rl_lower.proofs.expression.+expressions.Goals as goal
 -- Literals.
 
 pub lower_expression-returns-in-Null-clause-lowered : goal.lower_expression-returns-in-Null-clause-lowered
-lower_expression-returns-in-Null-clause-lowered t c =
+lower_expression-returns-in-Null-clause-lowered g t c =
     ok_given c.lower_value_to_temporary.result c.lower_value_to_temporary.ensures.state
     c.lower_value_to_temporary.ensures.place
     (λ place. null_call _ _ c.in-Null.at _ _ _ place (form_is c.expression_view.ensures c.in-Null.is))
 
 pub lower_expression-returns-in-Null-clause-sound : goal.lower_expression-returns-in-Null-clause-sound
-lower_expression-returns-in-Null-clause-sound t c =
+lower_expression-returns-in-Null-clause-sound g t c =
     ok_given c.lower_value_to_temporary.result c.lower_value_to_temporary.ensures.state
     c.lower_value_to_temporary.ensures.place
     (λ place. leaf_sound _ c.in-Null.at _ _ _ _ _ place (form_is c.expression_view.ensures c.in-Null.is) refl
     (λ small. null_writable))
 
 pub lower_expression-returns-in-Boolean-clause-lowered : goal.lower_expression-returns-in-Boolean-clause-lowered
-lower_expression-returns-in-Boolean-clause-lowered t c =
+lower_expression-returns-in-Boolean-clause-lowered g t c =
     ok_given c.lower_value_to_temporary-in-Boolean.result c.lower_value_to_temporary-in-Boolean.ensures.state
     c.lower_value_to_temporary-in-Boolean.ensures.place
     (λ place. boolean_call _ _ c.in-Boolean.at _ _ _ _ place (form_is c.expression_view.ensures c.in-Boolean.is))
 
 pub lower_expression-returns-in-Boolean-clause-sound : goal.lower_expression-returns-in-Boolean-clause-sound
-lower_expression-returns-in-Boolean-clause-sound t c =
+lower_expression-returns-in-Boolean-clause-sound g t c =
     ok_given c.lower_value_to_temporary-in-Boolean.result c.lower_value_to_temporary-in-Boolean.ensures.state
     c.lower_value_to_temporary-in-Boolean.ensures.place
     (λ place. leaf_sound _ c.in-Boolean.at _ _ _ _ _ place (form_is c.expression_view.ensures c.in-Boolean.is) refl
     (λ small. boolean_writable c.in-Boolean.value))
 
 pub lower_expression-returns-in-Some-clause-lowered : goal.lower_expression-returns-in-Some-clause-lowered
-lower_expression-returns-in-Some-clause-lowered t c =
+lower_expression-returns-in-Some-clause-lowered g t c =
     let told = parsed_some c.in-Number.text.now _ _ c.as_bytes.ensures c.in-Some.ensures in
     ok_given c.lower_value_to_temporary-in-Some.result c.lower_value_to_temporary-in-Some.ensures.state
     c.lower_value_to_temporary-in-Some.ensures.place
@@ -55,7 +55,7 @@ lower_expression-returns-in-Some-clause-lowered t c =
     (c.new-number.ensures ∙ told.1))
 
 pub lower_expression-returns-in-Some-clause-sound : goal.lower_expression-returns-in-Some-clause-sound
-lower_expression-returns-in-Some-clause-sound t c =
+lower_expression-returns-in-Some-clause-sound g t c =
     let told = parsed_some c.in-Number.text.now _ _ c.as_bytes.ensures c.in-Some.ensures in
     ok_given c.lower_value_to_temporary-in-Some.result c.lower_value_to_temporary-in-Some.ensures.state
     c.lower_value_to_temporary-in-Some.ensures.place
@@ -64,14 +64,14 @@ lower_expression-returns-in-Some-clause-sound t c =
 
 pub lower_expression-returns-in_ok-refuse-in-None-clause-lowered :
     goal.lower_expression-returns-in_ok-refuse-in-None-clause-lowered
-lower_expression-returns-in_ok-refuse-in-None-clause-lowered t c =
+lower_expression-returns-in_ok-refuse-in-None-clause-lowered g t c =
     ok_given c.lower_value_to_temporary-in-None.result c.lower_value_to_temporary-in-None.ensures.state
     c.lower_value_to_temporary-in-None.ensures.place
     (λ place. refused_call _ _ c.in-Number.at _ _ _ _ _ _ place (form_is c.expression_view.ensures c.in-Number.is)
     (parsed_none c.in-Number.text.now _ c.as_bytes.ensures c.in-None.ensures) refl c.in_ok-refuse-in-None.ensures.state)
 
 pub lower_expression-returns-in_ok-refuse-in-None-clause-sound : goal.lower_expression-returns-in_ok-refuse-in-None-clause-sound
-lower_expression-returns-in_ok-refuse-in-None-clause-sound t c =
+lower_expression-returns-in_ok-refuse-in-None-clause-sound g t c =
     ok_given c.lower_value_to_temporary-in-None.result c.lower_value_to_temporary-in-None.ensures.state
     c.lower_value_to_temporary-in-None.ensures.place
     (λ place. noted_sound _ c.in-Number.at _ _ _ _ _ _ _ place (form_is c.expression_view.ensures c.in-Number.is)
@@ -79,14 +79,14 @@ lower_expression-returns-in_ok-refuse-in-None-clause-sound t c =
 
 pub lower_expression-returns-in_ok-copy-in-String-clause-lowered :
     goal.lower_expression-returns-in_ok-copy-in-String-clause-lowered
-lower_expression-returns-in_ok-copy-in-String-clause-lowered t c =
+lower_expression-returns-in_ok-copy-in-String-clause-lowered g t c =
     ok_given c.lower_value_to_temporary-in-String.result c.lower_value_to_temporary-in-String.ensures.state
     c.lower_value_to_temporary-in-String.ensures.place
     (λ place. string_call _ _ c.in-String.at _ _ _ _ _ place (form_is c.expression_view.ensures c.in-String.is)
     c.in_ok-copy-in-String.ensures)
 
 pub lower_expression-returns-in_ok-copy-in-String-clause-sound : goal.lower_expression-returns-in_ok-copy-in-String-clause-sound
-lower_expression-returns-in_ok-copy-in-String-clause-sound t c =
+lower_expression-returns-in_ok-copy-in-String-clause-sound g t c =
     ok_given c.lower_value_to_temporary-in-String.result c.lower_value_to_temporary-in-String.ensures.state
     c.lower_value_to_temporary-in-String.ensures.place
     (λ place. leaf_sound _ c.in-String.at _ _ _ _ _ place (form_is c.expression_view.ensures c.in-String.is) refl
@@ -95,19 +95,19 @@ lower_expression-returns-in_ok-copy-in-String-clause-sound t c =
 -- Expressions with parts.
 
 pub lower_expression-returns-in-Parenthesized-clause-lowered : goal.lower_expression-returns-in-Parenthesized-clause-lowered
-lower_expression-returns-in-Parenthesized-clause-lowered t c =
+lower_expression-returns-in-Parenthesized-clause-lowered g t c =
     ok_so c.lower_expression.result c.lower_expression.ensures.lowered
     (λ place. parenthesized_call _ _ _ c.in-Parenthesized.at _ _ place.identifier.0
     (form_is c.expression_view.ensures c.in-Parenthesized.is))
 
 pub lower_expression-returns-in-Parenthesized-clause-sound : goal.lower_expression-returns-in-Parenthesized-clause-sound
-lower_expression-returns-in-Parenthesized-clause-sound t c =
+lower_expression-returns-in-Parenthesized-clause-sound g t c =
     ok_so c.lower_expression.result c.lower_expression.ensures.sound
     (λ place. parenthesized_sound _ _ c.in-Parenthesized.at _ _ place (form_is c.expression_view.ensures c.in-Parenthesized.is))
 
 pub lower_expression-returns-in_ok-right-in-Binary-clause-lowered :
     goal.lower_expression-returns-in_ok-right-in-Binary-clause-lowered
-lower_expression-returns-in_ok-right-in-Binary-clause-lowered t c =
+lower_expression-returns-in_ok-right-in-Binary-clause-lowered g t c =
     ok_given c.lower_value_to_temporary-in-Binary.result c.lower_value_to_temporary-in-Binary.ensures.state
     c.lower_value_to_temporary-in-Binary.ensures.place
     (λ place. binary_call _ _ _ _ c.in-Binary.at _ c.in_ok-left-in-Binary.left c.in_ok-right-in-Binary.right _ _ _ _ _ place
@@ -115,7 +115,7 @@ lower_expression-returns-in_ok-right-in-Binary-clause-lowered t c =
     c.in_ok-right-in-Binary.ensures.lowered)
 
 pub lower_expression-returns-in_ok-right-in-Binary-clause-sound : goal.lower_expression-returns-in_ok-right-in-Binary-clause-sound
-lower_expression-returns-in_ok-right-in-Binary-clause-sound t c =
+lower_expression-returns-in_ok-right-in-Binary-clause-sound g t c =
     ok_given c.lower_value_to_temporary-in-Binary.result c.lower_value_to_temporary-in-Binary.ensures.state
     c.lower_value_to_temporary-in-Binary.ensures.place
     (λ place. binary_sound _ _ _ c.in-Binary.at _ _ _ _ _ _ _ place (form_is c.expression_view.ensures c.in-Binary.is)
@@ -123,7 +123,7 @@ lower_expression-returns-in_ok-right-in-Binary-clause-sound t c =
 
 pub lower_expression-returns-in_ok-arguments-in-Call-clause-lowered :
     goal.lower_expression-returns-in_ok-arguments-in-Call-clause-lowered
-lower_expression-returns-in_ok-arguments-in-Call-clause-lowered t c =
+lower_expression-returns-in_ok-arguments-in-Call-clause-lowered g t c =
     let given = c.in_ok-arguments-in-Call.ensures.lowered in
     ok_given c.lower_value_to_temporary-in-Call.result c.lower_value_to_temporary-in-Call.ensures.state
     c.lower_value_to_temporary-in-Call.ensures.place
@@ -133,7 +133,7 @@ lower_expression-returns-in_ok-arguments-in-Call-clause-lowered t c =
 
 pub lower_expression-returns-in_ok-arguments-in-Call-clause-sound :
     goal.lower_expression-returns-in_ok-arguments-in-Call-clause-sound
-lower_expression-returns-in_ok-arguments-in-Call-clause-sound t c =
+lower_expression-returns-in_ok-arguments-in-Call-clause-sound g t c =
     ok_given c.lower_value_to_temporary-in-Call.result c.lower_value_to_temporary-in-Call.ensures.state
     c.lower_value_to_temporary-in-Call.ensures.place
     (λ place. call_sound _ _ _ c.in-Call.at _ _ _ _ _ _ place (call_plain _ _ _ _ _ (form_is c.expression_view.ensures c.in-Call.is) c.requires.covered)
@@ -142,7 +142,7 @@ lower_expression-returns-in_ok-arguments-in-Call-clause-sound t c =
 -- Arguments.
 
 pub lower_arguments-arguments-preserved : goal.lower_arguments-arguments-preserved
-lower_arguments-arguments-preserved t c =
+lower_arguments-arguments-preserved g t c =
     let loop = c.arguments.invariant in
     let place = c.in_ok-place.place in
     let lowered = c.in_ok-place.ensures.lowered in
@@ -151,7 +151,7 @@ lower_arguments-arguments-preserved t c =
     let first : Syntax = syntax c.expression_of.result.tree.now in
     let split : left ≡ Then first rest = c.in-Some.ensures ∙ ap (λ t. Then t rest) (sym c.expression_of.ensures) in
     let counted : nodes_of left ≡ nodes first + nodes_of rest = ap nodes_of split in
-    let now : State = state_of c.arguments.builder.env.now c.arguments.builder.work in
+    let now : State = state_of g.U.ReadsUnit.tables c.arguments.builder in
     record {
       same_reference = c.in_ok-place.ensures.same_reference ∙ loop.same_reference;
       names = lowered.keeps.named loop.names;
@@ -171,11 +171,11 @@ lower_arguments-arguments-preserved t c =
     }
 
 pub lower_arguments-returns-clause-lowered : goal.lower_arguments-returns-clause-lowered
-lower_arguments-returns-clause-lowered t c =
+lower_arguments-returns-clause-lowered g t c =
     let loop = c.arguments.invariant in
     let given = c.arguments.given in
     let done : pieces_of (map syntax c.arguments.left.trees.now) ≡ End = c.in_default.ensures in
-    let now : State = state_of c.arguments.builder.env.now c.arguments.builder.work in
+    let now : State = state_of g.U.ReadsUnit.tables c.arguments.builder in
     record {
       identifiers = map identifier_in given;
       lowers = subst (LowersExpressions _ _ _ now) (append-nil (map identifier_in given))

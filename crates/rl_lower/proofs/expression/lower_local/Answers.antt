@@ -1,4 +1,4 @@
-use Rattle.std.proofs.Common.{◌≡◌, ℕ, List, ap, ◌∙◌}
+use Rattle.std.proofs.Common.{◌≡◌, ℕ, List, Option, ap, ◌∙◌}
 use Rattle.rl_base.specs.declared.span.Span.{Span}
 use Rattle.rl_builder.specs.Builder.{State}
 use Rattle.rl_builder.specs.Names.{resolved}
@@ -9,21 +9,23 @@ use Rattle.rl_lower.proofs.Names.{variable_call}
 use Rattle.rl_lower.proofs.SoundKinds.{local_sound}
 use Rattle.rl_lower.proofs.expression.lower_local.Goals as goal
 
--- A symbol is resolved under its own name and declaration.
-resolved_so : (s mid : State) (said name : List ℕ) (symbol : ℕ) (at declaration : Span) → mid ≡ resolved s said symbol at → said ≡ name → at ≡ declaration → mid ≡ resolved s name symbol declaration
-resolved_so s mid said name symbol at declaration moved named declared =
-    moved ∙ ap (λ (n : List ℕ). resolved s n symbol at) named ∙ ap (λ (d : Span). resolved s name symbol d) declared
+-- A symbol is resolved under its own name.
+resolved_so : (s mid : State) (said name : List ℕ) (symbol : ℕ) (given : Option Span) → mid ≡ resolved s said symbol given → said ≡ name → mid ≡ resolved s name symbol given
+resolved_so s mid said name symbol given moved named = moved ∙ ap (λ (n : List ℕ). resolved s n symbol given) named
+
+pub lower_value_to_temporary-requires-clause-handlers : goal.lower_value_to_temporary-requires-clause-handlers
+lower_value_to_temporary-requires-clause-handlers g c = ap (λ (t : State). t.handlers) c.in_ok-identifier.ensures.state ∙ c.requires.names.handlers
 
 pub returns-clause-lowered : goal.returns-clause-lowered
-returns-clause-lowered c =
+returns-clause-lowered g c =
     let names : Names = seen c.args.names.now in
-    let moved = resolved_so _ _ _ (names.name c.args.symbol.0) c.args.symbol.0 _ (names.declaration c.args.symbol.0) c.in_ok-identifier.ensures.state c.name.ensures c.declaration-declaration.ensures in
+    let moved = resolved_so _ _ _ (names.name c.args.symbol.0) c.args.symbol.0 _ c.in_ok-identifier.ensures.state c.name-name.ensures in
     ok_given c.lower_value_to_temporary.result c.lower_value_to_temporary.ensures.state c.lower_value_to_temporary.ensures.place
-    (λ place ended placed name is. variable_call names c.args.at name c.args.symbol _ _ _ _ place c.requires.known is moved c.in_ok-identifier.ensures.identifier ended placed)
+    (λ place ended placed name is. variable_call names c.args.at name c.args.symbol _ _ _ _ place c.requires.names.declared c.requires.known is moved c.in_ok-identifier.ensures.identifier ended placed)
 
 pub returns-clause-sound : goal.returns-clause-sound
-returns-clause-sound c =
+returns-clause-sound g c =
     let names : Names = seen c.args.names.now in
-    let moved = resolved_so _ _ _ (names.name c.args.symbol.0) c.args.symbol.0 _ (names.declaration c.args.symbol.0) c.in_ok-identifier.ensures.state c.name.ensures c.declaration-declaration.ensures in
+    let moved = resolved_so _ _ _ (names.name c.args.symbol.0) c.args.symbol.0 _ c.in_ok-identifier.ensures.state c.name-name.ensures in
     ok_given c.lower_value_to_temporary.result c.lower_value_to_temporary.ensures.state c.lower_value_to_temporary.ensures.place
     (λ place ended placed name. local_sound c.args.at name (names.name c.args.symbol.0) c.args.symbol.0 _ c.in_ok-identifier.identifier _ _ _ place c.requires.known moved c.in_ok-identifier.ensures.identifier ended placed)

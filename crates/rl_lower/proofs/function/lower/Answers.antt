@@ -1,18 +1,16 @@
-use Rattle.std.proofs.Common.{◌≡◌, All, Err, IfErr, Ok, Result, Some, List, ap, sym, ◌∙◌, refl, subst, length}
+use Rattle.std.proofs.Common.{◌≡◌, All, Some, List, ap, sym, ◌∙◌, refl, subst, length}
 use Rattle.rl_ast.specs.FunctionNodes.{seen_function_node}
 use Rattle.rl_ast.specs.declared.function_node.FunctionNode.{FunctionNode}
 use Rattle.rl_ast.specs.declared.function_node.FunctionNode.TheVariants as function_node
-use Rattle.rl_base.specs.declared.diagnostic.Diagnostic.{Diagnostic}
 use Rattle.rl_base.specs.declared.span.Span.{Span}
-use Rattle.rl_base.specs.declared.stop.Stop.{Stop}
-use Rattle.rl_base.specs.declared.stop.Stop.TheVariants as stops
 use Rattle.rl_model.specs.Rows.{stop_of}
-use Rattle.std.specs.Result.{IsErrAnd}
 use Rattle.rl_hir.specs.declared.environment.Environment.{Environment}
 use Rattle.rl_hir.specs.Blocks.{Pair as BlockPair}
 use Rattle.rl_hir.specs.declared.function.HirFunction.{HirFunction}
+use Rattle.rl_lower.proofs.Answering.{says_nothing}
 use Rattle.rl_lower.proofs.FunctionGraphs.{graph_closed, identifiers_fit, types_fit, lower_bounded, lower_never_stuck, lower_fn_type, lower_functions, lower_given, lower_held, lower_pairs, lower_refused, lower_room, lower_same_runs}
 use Rattle.rl_lower.proofs.FunctionTrees.{IsFunction, function_form}
+use Rattle.rl_lower.specs.Named.{AreDeclaredAt}
 use Rattle.rl_lower.proofs.WellFormed.{graph_linked, graph_numbered}
 use Rattle.rl_lower.proofs.SoundGraphs.{function_identifiers, function_listed, function_pairs, function_places}
 use Rattle.rl_model.specs.Covered.{IsCoveredFunction}
@@ -58,62 +56,64 @@ span_is f at is = ap (λ (a : At). a.span) is ∙ span_shown f
 
 pub lower_graph-requires-clause-room : goal.lower_graph-requires-clause-room
 lower_graph-requires-clause-room c =
-    lower_room _ _ (seen c.args.names.now) _ _ (whole_form c.args.function _ c.requires.covered c.parts_of-parts.ensures.body) (c.as_slice-2.ensures ∙ c.in_ok-parameters.ensures) c.requires.room
+    lower_room _ _ (seen c.args.names.now) _ _ (whole_form c.args.function _ c.requires.covered c.parts_of-parts.ensures.body) (c.as_slice-2.ensures ∙ c.in_ok-parameters.ensures) (c.requires.room _)
 
 pub create_temporary_place-requires-clause-identifiers : goal.create_temporary_place-requires-clause-identifiers
 create_temporary_place-requires-clause-identifiers c =
-    identifiers_fit _ _ _ _ _ _ _ c.in_ok-graph.ensures.graph (are_apart _ _ (c.as_slice-2.ensures ∙ c.in_ok-parameters.ensures) c.requires.locals.apart)
-    (lower_room _ _ (seen c.args.names.now) _ _ (whole_form c.args.function _ c.requires.covered c.parts_of-parts.ensures.body) (c.as_slice-2.ensures ∙ c.in_ok-parameters.ensures) c.requires.room)
+    identifiers_fit _ _ _ _ _ _ _ _ c.in_ok-graph.ensures.graph (are_apart _ _ (c.as_slice-2.ensures ∙ c.in_ok-parameters.ensures) c.requires.locals.apart)
+    (lower_room _ _ (seen c.args.names.now) _ _ (whole_form c.args.function _ c.requires.covered c.parts_of-parts.ensures.body) (c.as_slice-2.ensures ∙ c.in_ok-parameters.ensures) (c.requires.room _))
 
 pub create_temporary_place-requires-clause-types : goal.create_temporary_place-requires-clause-types
 create_temporary_place-requires-clause-types c =
-    types_fit _ _ _ _ _ _ _ c.in_ok-graph.ensures.graph (are_apart _ _ (c.as_slice-2.ensures ∙ c.in_ok-parameters.ensures) c.requires.locals.apart)
-    (lower_room _ _ (seen c.args.names.now) _ _ (whole_form c.args.function _ c.requires.covered c.parts_of-parts.ensures.body) (c.as_slice-2.ensures ∙ c.in_ok-parameters.ensures) c.requires.room)
+    types_fit _ _ _ _ _ _ _ _ c.in_ok-graph.ensures.graph (are_apart _ _ (c.as_slice-2.ensures ∙ c.in_ok-parameters.ensures) c.requires.locals.apart)
+    (lower_room _ _ (seen c.args.names.now) _ _ (whole_form c.args.function _ c.requires.covered c.parts_of-parts.ensures.body) (c.as_slice-2.ensures ∙ c.in_ok-parameters.ensures) (c.requires.room _))
 
 pub returns-clause-refused : goal.returns-clause-refused
 returns-clause-refused c =
     ap (λ (e : Environment). e.diagnostics) c.in_ok-returns.ensures.ok
-    ∙ lower_refused _ _ _ _ _ _ _ _ (whole_form c.args.function _ c.requires.covered c.parts_of-parts.ensures.body) c.requires.locals.declared (c.as_slice-2.ensures ∙ c.in_ok-parameters.ensures) (are_apart _ _ (c.as_slice-2.ensures ∙ c.in_ok-parameters.ensures) c.requires.locals.apart) c.in_ok-graph.ensures.graph
+    ∙ lower_refused _ _ _ _ _ _ _ _ _ (whole_form c.args.function _ c.requires.covered c.parts_of-parts.ensures.body) c.requires.locals.declared (c.as_slice-2.ensures ∙ c.in_ok-parameters.ensures) (are_apart _ _ (c.as_slice-2.ensures ∙ c.in_ok-parameters.ensures) c.requires.locals.apart) c.in_ok-graph.ensures.graph
 
 pub returns-clause-closed : goal.returns-clause-closed
-returns-clause-closed c = graph_closed _ _ _ _ _ _ _ c.in_ok-graph.ensures.graph (are_apart _ _ (c.as_slice-2.ensures ∙ c.in_ok-parameters.ensures) c.requires.locals.apart)
+returns-clause-closed c = graph_closed _ _ _ _ _ _ _ _ c.in_ok-graph.ensures.graph (are_apart _ _ (c.as_slice-2.ensures ∙ c.in_ok-parameters.ensures) c.requires.locals.apart)
 
 pub returns-clause-same_runs : goal.returns-clause-same_runs
 returns-clause-same_runs c supported =
-    lower_same_runs _ _ _ _ _ _ _ _ (whole_form c.args.function _ c.requires.covered c.parts_of-parts.ensures.body) c.requires.locals.declared (c.as_slice-2.ensures ∙ c.in_ok-parameters.ensures) (are_apart _ _ (c.as_slice-2.ensures ∙ c.in_ok-parameters.ensures) c.requires.locals.apart) c.requires.fresh c.in_ok-graph.ensures.graph
+    lower_same_runs _ _ _ _ _ _ _ _ _ (whole_form c.args.function _ c.requires.covered c.parts_of-parts.ensures.body) c.requires.locals.declared (c.as_slice-2.ensures ∙ c.in_ok-parameters.ensures) (are_apart _ _ (c.as_slice-2.ensures ∙ c.in_ok-parameters.ensures) c.requires.locals.apart) c.requires.fresh c.in_ok-graph.ensures.graph
     supported (lowered c) _ (ap (λ (e : Environment). e.pairs) c.in_ok-returns.ensures.ok) refl refl refl
 
 pub returns-clause-never_stuck : goal.returns-clause-never_stuck
 returns-clause-never_stuck c supported =
-    lower_never_stuck _ _ _ _ _ _ _ _ (whole_form c.args.function _ c.requires.covered c.parts_of-parts.ensures.body) c.requires.locals.declared (c.as_slice-2.ensures ∙ c.in_ok-parameters.ensures) (are_apart _ _ (c.as_slice-2.ensures ∙ c.in_ok-parameters.ensures) c.requires.locals.apart) c.requires.fresh c.in_ok-graph.ensures.graph
+    lower_never_stuck _ _ _ _ _ _ _ _ _ (whole_form c.args.function _ c.requires.covered c.parts_of-parts.ensures.body) c.requires.locals.declared (c.as_slice-2.ensures ∙ c.in_ok-parameters.ensures) (are_apart _ _ (c.as_slice-2.ensures ∙ c.in_ok-parameters.ensures) c.requires.locals.apart) c.requires.fresh c.in_ok-graph.ensures.graph
     supported (lowered c) _ (ap (λ (e : Environment). e.pairs) c.in_ok-returns.ensures.ok) refl refl refl
 
 pub returns-clause-bounded : goal.returns-clause-bounded
 returns-clause-bounded c =
-    lower_bounded _ _ _ _ _ _ _ _ (whole_form c.args.function _ c.requires.covered c.parts_of-parts.ensures.body) (are_apart _ _ (c.as_slice-2.ensures ∙ c.in_ok-parameters.ensures) c.requires.locals.apart) c.in_ok-graph.ensures.graph
+    lower_bounded _ _ _ _ _ _ _ _ _ (whole_form c.args.function _ c.requires.covered c.parts_of-parts.ensures.body) (are_apart _ _ (c.as_slice-2.ensures ∙ c.in_ok-parameters.ensures) c.requires.locals.apart) c.in_ok-graph.ensures.graph
     (lowered c) refl refl
 
 pub returns-clause-functions : goal.returns-clause-functions
 returns-clause-functions c =
     ap (λ (e : Environment). e.functions) c.in_ok-returns.ensures.ok
-    ∙ lower_functions _ _ _ _ _ _ _ (are_apart _ _ (c.as_slice-2.ensures ∙ c.in_ok-parameters.ensures) c.requires.locals.apart) c.in_ok-graph.ensures.graph
+    ∙ lower_functions _ _ _ _ _ _ _ _ (are_apart _ _ (c.as_slice-2.ensures ∙ c.in_ok-parameters.ensures) c.requires.locals.apart) c.in_ok-graph.ensures.graph
 
 pub returns-clause-fn_type : goal.returns-clause-fn_type
 returns-clause-fn_type c =
     ap (λ (e : Environment). e.fn_type) c.in_ok-returns.ensures.ok
-    ∙ lower_fn_type _ _ _ _ _ _ _ (are_apart _ _ (c.as_slice-2.ensures ∙ c.in_ok-parameters.ensures) c.requires.locals.apart) c.in_ok-graph.ensures.graph
+    ∙ lower_fn_type _ _ _ _ _ _ _ _ (are_apart _ _ (c.as_slice-2.ensures ∙ c.in_ok-parameters.ensures) c.requires.locals.apart) c.in_ok-graph.ensures.graph
 
 pub returns-clause-pairs : goal.returns-clause-pairs
 returns-clause-pairs c =
-    lower_pairs (seen c.args.names.now) _ _ _ _ c.create_temporary_place.new.env _ _ _ (are_apart _ _ (c.as_slice-2.ensures ∙ c.in_ok-parameters.ensures) c.requires.locals.apart)
+    lower_pairs (seen c.args.names.now) _ _ _ _ _ c.create_temporary_place.new.env _ _ _ (are_apart _ _ (c.as_slice-2.ensures ∙ c.in_ok-parameters.ensures) c.requires.locals.apart)
     (subst (λ (l : List Parameter). All (λ p. (seen c.args.names.now).name p.symbol.0 ≡ p.name) l) (sym (c.as_slice-2.ensures ∙ c.in_ok-parameters.ensures)) c.requires.locals.locals.named)
     c.requires.fresh c.in_ok-graph.ensures.graph c.in_ok-returns.ensures.ok
 
 pub returns-clause-given : goal.returns-clause-given
 returns-clause-given c =
     subst (λ (l : List Parameter). AreGiven c.create_temporary_place.new.env.identifiers c.create_temporary_place.new.env.pairs (length c.args.env.now.identifiers) c.args.env.now.next_type l) (c.as_slice-2.ensures ∙ c.in_ok-parameters.ensures)
-    (lower_given (seen c.args.names.now) _ _ _ _ c.create_temporary_place.new.env _ _ _ (are_apart _ _ (c.as_slice-2.ensures ∙ c.in_ok-parameters.ensures) c.requires.locals.apart)
-    c.requires.fresh c.in_ok-graph.ensures.graph c.in_ok-returns.ensures.ok)
+    (lower_given (seen c.args.names.now) _ _ _ _ _ c.create_temporary_place.new.env _ _ _ (are_apart _ _ (c.as_slice-2.ensures ∙ c.in_ok-parameters.ensures) c.requires.locals.apart)
+    c.requires.fresh c.in_ok-graph.ensures.graph
+    (subst (λ (l : List Parameter). AreDeclaredAt c.args.names.now.resolver.now.semantic.now l) (sym (c.as_slice-2.ensures ∙ c.in_ok-parameters.ensures)) c.requires.locals.locals.spanned)
+    c.in_ok-returns.ensures.ok)
 
 pub returns-clause-paired : goal.returns-clause-paired
 returns-clause-paired c =
@@ -122,14 +122,14 @@ returns-clause-paired c =
 
 pub returns-clause-held : goal.returns-clause-held
 returns-clause-held c =
-    lower_held _ _ _ _ _ _ _ _ (whole_form c.args.function _ c.requires.covered c.parts_of-parts.ensures.body) (are_apart _ _ (c.as_slice-2.ensures ∙ c.in_ok-parameters.ensures) c.requires.locals.apart) c.in_ok-graph.ensures.graph
+    lower_held _ _ _ _ _ _ _ _ _ (whole_form c.args.function _ c.requires.covered c.parts_of-parts.ensures.body) (are_apart _ _ (c.as_slice-2.ensures ∙ c.in_ok-parameters.ensures) c.requires.locals.apart) c.in_ok-graph.ensures.graph
     (lowered c) refl refl
 
 pub returns-clause-numbered : goal.returns-clause-numbered
-returns-clause-numbered c = graph_numbered _ _ _ _ _ _ _ c.in_ok-graph.ensures.graph (are_apart _ _ (c.as_slice-2.ensures ∙ c.in_ok-parameters.ensures) c.requires.locals.apart)
+returns-clause-numbered c = graph_numbered _ _ _ _ _ _ _ _ c.in_ok-graph.ensures.graph (are_apart _ _ (c.as_slice-2.ensures ∙ c.in_ok-parameters.ensures) c.requires.locals.apart)
 
 pub returns-clause-linked : goal.returns-clause-linked
-returns-clause-linked c = graph_linked _ _ _ _ _ _ _ c.in_ok-graph.ensures.graph (are_apart _ _ (c.as_slice-2.ensures ∙ c.in_ok-parameters.ensures) c.requires.locals.apart) _ refl refl
+returns-clause-linked c = graph_linked _ _ _ _ _ _ _ _ c.in_ok-graph.ensures.graph (are_apart _ _ (c.as_slice-2.ensures ∙ c.in_ok-parameters.ensures) c.requires.locals.apart) _ refl refl
 
 pub returns-clause-places : goal.returns-clause-places
 returns-clause-places c =
@@ -153,12 +153,6 @@ returns-clause-known c =
 pub returns-clause-span : goal.returns-clause-span
 returns-clause-span c = ap (λ (s : Span). Some s) (span_is c.args.function _ c.parts_of-parts.ensures.at)
 
--- An error that is out of memory says no diagnostic.
-says_nothing : {X : Type 0} (r : Result X Stop) (P : Diagnostic → Type 0) → IsErrAnd r (λ e. e ≡ stops.OutOfMemory)
-    → IfErr r (λ e. (d : Diagnostic) → e ≡ stops.Diagnostic d → P d)
-says_nothing (Ok x) P h = absurd h
-says_nothing (Err e) P h = λ d is. absurd (let never : stops.OutOfMemory ≡ stops.Diagnostic d = sym h ∙ is in cc)
-
 pub returns-in_err-returns-clause-stopped : goal.returns-in_err-returns-clause-stopped
 returns-in_err-returns-clause-stopped c =
     says_nothing c.from_residual-in_err-returns.result (λ d. stop_of (seen c.args.names.now) (seen_function_node c.args.function) ≡ Some d) c.from_residual-in_err-returns.ensures.1
@@ -166,3 +160,7 @@ returns-in_err-returns-clause-stopped c =
 pub returns-in_err-own_name-clause-stopped : goal.returns-in_err-own_name-clause-stopped
 returns-in_err-own_name-clause-stopped c =
     says_nothing c.from_residual-in_err-own_name.result (λ d. stop_of (seen c.args.names.now) (seen_function_node c.args.function) ≡ Some d) c.from_residual-in_err-own_name.ensures.1
+
+pub returns-in_err-directives_of-clause-stopped : goal.returns-in_err-directives_of-clause-stopped
+returns-in_err-directives_of-clause-stopped c =
+    says_nothing c.from_residual-in_err-directives_of.result (λ d. stop_of (seen c.args.names.now) (seen_function_node c.args.function) ≡ Some d) c.from_residual-in_err-directives_of.ensures.1

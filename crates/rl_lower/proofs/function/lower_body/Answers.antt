@@ -1,4 +1,4 @@
-use Rattle.std.proofs.Common.{None, map, ap, sym, subst, ◌∙◌}
+use Rattle.std.proofs.Common.{◌≡◌, None, Ok, Result, map, ap, sym, subst, ◌∙◌}
 use Rattle.rl_ast.specs.FunctionViews.{seen_arrow_body}
 use Rattle.rl_syntax.specs.Syntax.{Listed, Pieces, pieces_of, syntax}
 use Rattle.rl_hir.specs.declared.function.BlockKind.TheVariants as kinds
@@ -11,20 +11,23 @@ use Rattle.rl_lower.proofs.Keeping.{keeps_reserved}
 use Rattle.rl_lower.proofs.SoundKinds.{expression_body_sound, statements_body_sound}
 use Rattle.rl_lower.proofs.function.lower_body.Goals as goal
 
+same_ok : {X E : Type 0} (x y : X) → ◌≡◌ {A = Result X E} (Ok x) (Ok y) → x ≡ y
+same_ok x y is = cc
+
 pub lower_expression-requires-clause-names : goal.lower_expression-requires-clause-names
-lower_expression-requires-clause-names c =
-    subst (λ (o : State). IsNamed (seen c.args.names.now) o) (sym c.reserve-fallthrough.ensures.state)
+lower_expression-requires-clause-names g c =
+    subst (λ (o : State). IsNamed (seen c.args.names.now) o) (sym c.reserve.ensures.state)
     ((keeps_reserved _).named c.requires.names)
 
 pub returns-in_ok-terminate_with_continuation-in-Expression-clause-lowered : goal.returns-in_ok-terminate_with_continuation-in-Expression-clause-lowered
-returns-in_ok-terminate_with_continuation-in-Expression-clause-lowered c =
+returns-in_ok-terminate_with_continuation-in-Expression-clause-lowered g c =
     expression_body_call _ _ _ _ _ _ _ c.in_ok-value-in-Expression.value _ kinds.Block None
     (ap seen_arrow_body c.in-Expression.is) c.in-Expression.expression.fit
-    c.reserve-fallthrough.ensures.state c.reserve-fallthrough.ensures.block c.in_ok-value-in-Expression.ensures.lowered
+    c.reserve.ensures.state (same_ok _ _ c.in_ok-fallthrough-in-Expression.ensures.block) c.in_ok-value-in-Expression.ensures.lowered
     c.in_ok-terminate_with_continuation-in-Expression.ensures.state
 
 pub returns-in-Body-clause-lowered : goal.returns-in-Body-clause-lowered
-returns-in-Body-clause-lowered c =
+returns-in-Body-clause-lowered g c =
     let directives : Pieces = pieces_of (map syntax c.function_body_view-body.result.directives.trees.now) in
     let statements : Pieces = pieces_of (map syntax c.function_body_view-body.result.statements.trees.now) in
     done_so c.lower_statements.result c.lower_statements.ensures.lowered
@@ -32,13 +35,13 @@ returns-in-Body-clause-lowered c =
     c.function_body_view-body.result.directives.fit (ap seen_arrow_body c.in-Body.is ∙ sym c.function_body_view-body.ensures) l)
 
 pub returns-in_ok-terminate_with_continuation-in-Expression-clause-sound : goal.returns-in_ok-terminate_with_continuation-in-Expression-clause-sound
-returns-in_ok-terminate_with_continuation-in-Expression-clause-sound c =
+returns-in_ok-terminate_with_continuation-in-Expression-clause-sound g c =
     expression_body_sound _ _ _ _ _ _ c.in_ok-value-in-Expression.value _ kinds.Block
-    (ap seen_arrow_body c.in-Expression.is) c.reserve-fallthrough.ensures.state
-    c.reserve-fallthrough.ensures.block c.in_ok-value-in-Expression.ensures.sound c.in_ok-terminate_with_continuation-in-Expression.ensures.state
+    (ap seen_arrow_body c.in-Expression.is) c.reserve.ensures.state
+    (same_ok _ _ c.in_ok-fallthrough-in-Expression.ensures.block) c.in_ok-value-in-Expression.ensures.sound c.in_ok-terminate_with_continuation-in-Expression.ensures.state
 
 pub returns-in-Body-clause-sound : goal.returns-in-Body-clause-sound
-returns-in-Body-clause-sound c =
+returns-in-Body-clause-sound g c =
     let directives : Pieces = pieces_of (map syntax c.function_body_view-body.result.directives.trees.now) in
     let statements : Pieces = pieces_of (map syntax c.function_body_view-body.result.statements.trees.now) in
     done_so c.lower_statements.result c.lower_statements.ensures.sound

@@ -11,12 +11,12 @@ use Rattle.rl_lower.proofs.function.lower_parameters.Given as goal
 
 -- The parameters that are left get their identifiers, and with them all have; none of them has one yet.
 abbrev pub invariant-loop-parameter : goal.invariant-loop-parameter
-invariant-loop-parameter l = record {
+invariant-loop-parameter g l = record {
   same_reference : l.builder.env.ghost_name ≡ l.initial.builder.env.ghost_name;
-  room : HasRoom (state_of l.builder.env.now l.builder.work) (length (drop l.parameter-index l.parameters));
-  state : with_parameters (state_of l.builder.env.now l.builder.work) (drop l.parameter-index l.parameters) ≡ with_parameters (state_of l.initial.builder.env.now l.initial.builder.work) l.parameters;
+  room : HasRoom (state_of g.U.ReadsUnit.tables l.builder) (length (drop l.parameter-index l.parameters));
+  state : with_parameters (state_of g.U.ReadsUnit.tables l.builder) (drop l.parameter-index l.parameters) ≡ with_parameters (state_of g.U.ReadsUnit.tables l.initial.builder) l.parameters;
   places : l.params ++ places_from (length l.builder.env.now.identifiers) (drop l.parameter-index l.parameters) ≡ places_from (length l.initial.builder.env.now.identifiers) l.parameters;
-  unbound : All (λ p. identifier_of (state_of l.builder.env.now l.builder.work).bindings p.symbol.0 ≡ None) (drop l.parameter-index l.parameters);
+  unbound : All (λ p. identifier_of (state_of g.U.ReadsUnit.tables l.builder).bindings p.symbol.0 ≡ None) (drop l.parameter-index l.parameters);
   apart : AreApart (drop l.parameter-index l.parameters);
   names : first_named (λ name. is_reserved name) (drop l.parameter-index l.parameters) ≡ first_named (λ name. is_reserved name) l.parameters;
 }

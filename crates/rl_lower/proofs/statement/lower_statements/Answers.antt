@@ -11,8 +11,8 @@ use Rattle.rl_lower.proofs.SoundMoves.{sound_then}
 use Rattle.rl_lower.proofs.statement.lower_statements.Goals as goal
 
 pub statements-preserved : goal.statements-preserved
-statements-preserved c =
-    let here : State = state_of c.statements.builder.env.now c.statements.builder.work in
+statements-preserved g c =
+    let here : State = state_of g.U.ReadsUnit.tables c.statements.builder in
     let left : Pieces = pieces_of (map syntax c.statements.left.trees.now) in
     let first : Syntax = syntax c.in-Some.statement.tree.now in
     let rest : Pieces = pieces_of (map syntax c.in-Some.rest.trees.now) in
@@ -34,8 +34,8 @@ statements-preserved c =
     }
 
 pub returns-clause-lowered : goal.returns-clause-lowered
-returns-clause-lowered c =
-    let here : State = state_of c.statements.builder.env.now c.statements.builder.work in
+returns-clause-lowered g c =
+    let here : State = state_of g.U.ReadsUnit.tables c.statements.builder in
     c.statements.invariant.lowers here
     (subst (λ (ss : Pieces). LowersStatements (seen c.args.names.now) ss here here) (sym c.in_default.ensures)
     (none_lowered (seen c.args.names.now) here))

@@ -10,16 +10,16 @@ use Rattle.rl_lower.specs.Sound.{AreSmallTrees, StaysSound}
 use Rattle.rl_lower.proofs.statement.lower_statements.Given as goal
 
 abbrev pub decreases-statements : goal.decreases-statements
-decreases-statements l = size_of (pieces_of (map syntax l.left.trees.now))
+decreases-statements g l = size_of (pieces_of (map syntax l.left.trees.now))
 
 -- The statements that are left may be lowered, and with them all are.
 abbrev pub invariant-statements : goal.invariant-statements
-invariant-statements l = record {
+invariant-statements g l = record {
   same_reference : l.builder.env.ghost_name ≡ l.initial.builder.env.ghost_name;
-  names : IsNamed (seen l.names) (state_of l.builder.env.now l.builder.work);
+  names : IsNamed (seen l.names) (state_of g.U.ReadsUnit.tables l.builder);
   covered : AreCovered (pieces_of (map syntax l.left.trees.now));
-  room : HasRoom (state_of l.builder.env.now l.builder.work) (4 * nodes_of (pieces_of (map syntax l.left.trees.now)));
-  lowers : (new : State) → LowersStatements (seen l.names) (pieces_of (map syntax l.left.trees.now)) (state_of l.builder.env.now l.builder.work) new → LowersStatements (seen l.names) (pieces_of (map syntax l.statements.trees.now)) (state_of l.initial.builder.env.now l.initial.builder.work) new;
+  room : HasRoom (state_of g.U.ReadsUnit.tables l.builder) (4 * nodes_of (pieces_of (map syntax l.left.trees.now)));
+  lowers : (new : State) → LowersStatements (seen l.names) (pieces_of (map syntax l.left.trees.now)) (state_of g.U.ReadsUnit.tables l.builder) new → LowersStatements (seen l.names) (pieces_of (map syntax l.statements.trees.now)) (state_of g.U.ReadsUnit.tables l.initial.builder) new;
   small : AreSmallTrees (pieces_of (map syntax l.statements.trees.now)) → AreSmallTrees (pieces_of (map syntax l.left.trees.now));
-  sound : StaysSound (AreSmallTrees (pieces_of (map syntax l.statements.trees.now))) (state_of l.initial.builder.env.now l.initial.builder.work) (state_of l.builder.env.now l.builder.work);
+  sound : StaysSound (AreSmallTrees (pieces_of (map syntax l.statements.trees.now))) (state_of g.U.ReadsUnit.tables l.initial.builder) (state_of g.U.ReadsUnit.tables l.builder);
 }

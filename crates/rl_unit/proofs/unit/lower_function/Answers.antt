@@ -14,9 +14,17 @@ use Rattle.rl_names.specs.Seen.{seen}
 use Rattle.rl_names.specs.declared.parameters.Parameter.{Parameter}
 use Rattle.rl_syntax.specs.Syntax.{Syntax}
 use Rattle.rl_text.specs.Notation.{IsWritable}
+use Rattle.rl_unit.proofs.Room.{fresh_room}
 use Rattle.rl_unit.proofs.Small.{all_writable, result_writable, small_symbol}
 use Rattle.rl_unit.specs.Functions.{IsResultOf}
 use Rattle.rl_unit.proofs.unit.lower_function.Goals as goal
+
+-- An environment in which nothing was made leaves room, whatever tables there are.
+pub lower-requires-clause-room : goal.lower-requires-clause-room
+lower-requires-clause-room c tables =
+    fresh_room _ _ (ap (λ (e : Environment). e.next_block) c.fresh_environment-env.ensures)
+    (ap (λ (e : Environment). e.next_type) c.fresh_environment-env.ensures)
+    (ap (λ (e : Environment). e.identifiers) c.fresh_environment-env.ensures) c.requires.may.few tables
 
 -- The result of a function of which nothing is said.
 pub returns-clause-lowered : goal.returns-clause-lowered

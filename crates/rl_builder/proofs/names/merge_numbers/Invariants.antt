@@ -1,6 +1,0 @@
-use Rattle.rl_builder.specs.NameSearch.{KeepsTried}
-use Rattle.rl_builder.proofs.names.merge_numbers.Given as goal
-
--- The numbers that were raised stay right.
-abbrev pub invariant-loop-index : goal.invariant-loop-index
-invariant-loop-index l = KeepsTried l.initial.numbers.items l.numbers.items l.entries l.child

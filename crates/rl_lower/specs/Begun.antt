@@ -1,0 +1,36 @@
+-- The builder of a function before anything of it is lowered.
+use Rattle.std.specs.Prelude.{List, []}
+use Rattle.rl_base.specs.declared.ids.ScopeId.{ScopeId}
+use Rattle.rl_builder.specs.Builder.{State}
+use Rattle.rl_builder.specs.Started.{Given, started}
+use Rattle.rl_context.specs.declared.site.Site.{Site}
+use Rattle.rl_hir.specs.declared.environment.Environment.{Environment}
+use Rattle.rl_hir.specs.declared.function.BlockKind.TheVariants as kinds
+use Rattle.rl_names.specs.declared.names.FunctionNames.{FunctionNames}
+use Rattle.rl_semantic.specs.declared.semantic.Semantic.{Semantic}
+
+-- The tables by which the marked function is lowered: those of its unit, its scope, and its index.
+pub record Tables : Type 0 where
+  pub semantic : Semantic
+  pub scope : ScopeId
+  pub sites : List Site
+
+abbrev pub tables_of : FunctionNames → (scope : ScopeId) → (sites : List Site) → Tables
+tables_of names scope sites = record { semantic = names.resolver.now.semantic.now; scope = scope; sites = sites }
+
+-- The parts that its builder is given. No function around it has names or captures.
+abbrev pub given_by : Tables → Given
+given_by t = record {
+  semantic = t.semantic;
+  sites = t.sites;
+  function_scope = t.scope;
+  component_scope = t.scope;
+  context_identifiers = [];
+  bindings = [];
+  context = [];
+  used_names = [];
+}
+
+-- Its first state.
+abbrev pub begun_by : Environment → Tables → State
+begun_by env t = started env (given_by t) kinds.Block

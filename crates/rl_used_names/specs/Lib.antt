@@ -1,0 +1,6 @@
+pub mod Apart
+pub mod Choosing
+pub mod IdentifierNames
+pub mod Merged
+pub mod NameSearch
+pub mod UsedName
