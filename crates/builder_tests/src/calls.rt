@@ -1,0 +1,459 @@
+//! Calls of the builder of a small unit's marked function, and what they answer as one text each.
+
+ghost use Rattle.std.specs.Prelude.{◌+◌, ◌<◌, ◌^◌, IsTrue, length};
+ghost use Rattle.rl_builder.specs.Builder.{state_of};
+
+use rl_ast::function_node::FunctionNode;
+use rl_ast::read::read_tree;
+use rl_ast::unit::Unit;
+use rl_atoms::entity_table::EntityTable;
+use rl_base::error::OutOfMemory;
+use rl_base::ids::{BlockId, EvaluationOrder, IdentifierId, ScopeId, SymbolId};
+use rl_base::stop::Stop;
+use rl_base::text::Text;
+use rl_builder::builder::HirBuilder;
+use rl_builder::jumps::{JumpError, JumpScope};
+use rl_builder::unit_tables::{ReadsUnit, UnitTables};
+use rl_context::index::IdentifierLocIndex;
+use rl_hir::blocks::MapBlocks;
+use rl_hir::environment::Environment;
+use rl_hir::function::{IdentifierName, ReactFunctionType};
+use rl_hir::instruction::{Instruction, InstructionValue, Place, PrimitiveValue};
+use rl_resolver::resolver::ScopeResolver;
+use rl_semantic::semantic::Semantic;
+use rl_used_names::names::{Bindings, UsedNames};
+use std::alloc::Global;
+use std::collections::BTreeSet;
+use std::process::Abort;
+use std::test::Fail;
+
+/// A builder of tests.
+type Builder<'e, U> = HirBuilder<'e, U, MapBlocks>;
+
+/// Calls of a builder.
+#[derive(Clone, Copy)]
+pub enum Calls {
+    /// Jumps in a `switch` without a label (break 2) in a loop `outer` (continue 0, break 1).
+    JumpsInSwitch,
+    /// Jumps in a statement labelled `L` (break 5) that is no loop.
+    JumpsInLabel,
+    /// Jumps behind two scopes, a loop's (continue 0, break 1) and a labelled statement's (`L`, break 5), where a closure stopped in
+    /// the inner one.
+    JumpsBehindStop,
+    /// Jumps behind the same scopes, where the closure succeeded.
+    JumpsBehindScopes,
+    /// The name that each symbol gets, or the row that refuses it; then the diagnostics and the renames.
+    Names,
+    /// The symbol of the function declaration `f` from each scope, before and after the symbols got their identifiers.
+    Functions,
+    /// The names that the first two symbols get, where the names of another builder are merged between them; then the identifiers of
+    /// both, where other ones of both are merged behind the first.
+    Merges,
+    /// The fresh block ids before and behind an instruction under the handler 7, and that handler.
+    Handler,
+}
+
+/// Appends the block that a jump goes to, or the cause for which there is none.
+fn push_target(
+    alloc: Global,
+    text: &mut String,
+    target: Result<BlockId, JumpError>,
+) -> Result<(), OutOfMemory> {
+    match target {
+        Ok(block) => {
+            let number = block.0;
+            text.push_str(format!(in alloc; "{number} ")?.as_str())?;
+        }
+        Err(error) => text.push_str(format!(in alloc; "{error:?} ")?.as_str())?,
+    }
+    Ok(())
+}
+
+/// Where `break` and `continue` go, without a label and with `label`.
+fn jumps<U: ReadsUnit>(
+    alloc: Global,
+    builder: &Builder<'_, U>,
+    label: &str,
+) -> Result<String, Stop> {
+    let mut text = String::new(alloc);
+    push_target(alloc, &mut text, builder.lookup_break(None))?;
+    push_target(alloc, &mut text, builder.lookup_break(Some(label)))?;
+    push_target(alloc, &mut text, builder.lookup_continue(None))?;
+    push_target(alloc, &mut text, builder.lookup_continue(Some(label)))?;
+    Ok(text)
+}
+
+fn jumps_in_switch<U: ReadsUnit>(
+    alloc: Global,
+    builder: &mut Builder<'_, U>,
+) -> Result<String, Stop> {
+    let outer = Text::from_str(alloc, "outer")?;
+    builder.open_scope(JumpScope::Loop {
+        label: Some(outer),
+        continue_block: BlockId(0),
+        break_block: BlockId(1),
+    })?;
+    builder.open_scope(JumpScope::Switch {
+        label: None,
+        break_block: BlockId(2),
+    })?;
+    jumps(alloc, builder, "outer")
+}
+
+fn jumps_in_label<U: ReadsUnit>(
+    alloc: Global,
+    builder: &mut Builder<'_, U>,
+) -> Result<String, Stop> {
+    let label = Text::from_str(alloc, "L")?;
+    builder.label_scope(label, BlockId(5), |builder| jumps(alloc, builder, "L"))
+}
+
+/// Opens a loop and a labelled statement, and stops in it or not.
+fn in_two_scopes<U: ReadsUnit>(
+    builder: &mut Builder<'_, U>,
+    label: Text,
+    stops: bool,
+) -> Result<(), Stop> {
+    builder.loop_scope(None, BlockId(0), BlockId(1), |builder| {
+        builder.label_scope(label, BlockId(5), |_builder| {
+            if stops {
+                Err(Stop::OutOfMemory)
+            } else {
+                Ok(())
+            }
+        })
+    })
+}
+
+fn jumps_behind<U: ReadsUnit>(
+    alloc: Global,
+    builder: &mut Builder<'_, U>,
+    stops: bool,
+) -> Result<String, Stop> {
+    let label = Text::from_str(alloc, "L")?;
+    match in_two_scopes(builder, label, stops) {
+        Ok(()) => jumps(alloc, builder, "L"),
+        Err(_) => jumps(alloc, builder, "L"),
+    }
+}
+
+/// True while a builder may hand out many more ids.
+fn has_room<U: ReadsUnit>(builder: &Builder<'_, U>) -> bool
+    ensures identifiers { IsTrue result → length (state_of U.tables builder.now).env.identifiers < 2 ^ 32 }
+    ensures types { IsTrue result → (state_of U.tables builder.now).env.next_type + 1 < 2 ^ 32 }
+    ensures blocks { IsTrue result → (state_of U.tables builder.now).env.next_block + 1 < 2 ^ 32 }
+{
+    let env = builder.environment();
+    env.identifiers.len() < 1000 && env.next_type < 1000 && env.next_block < 1000
+}
+
+/// Gives a symbol its identifier, and appends its name, or the row that refuses it.
+fn push_name<U: ReadsUnit>(
+    alloc: Global,
+    text: &mut String,
+    builder: &mut Builder<'_, U>,
+    name: &str,
+    symbol: SymbolId,
+) -> Result<(), OutOfMemory> {
+    if !has_room(builder) {
+        return Err(OutOfMemory);
+    }
+    match builder.resolve_binding(name, symbol) {
+        Ok(identifier) => push_identifier(alloc, text, builder, identifier),
+        Err(Stop::Diagnostic(diagnostic)) => {
+            let row = diagnostic.row.name();
+            text.push_str(format!(in alloc; "{row} ")?.as_str())?;
+            Ok(())
+        }
+        Err(Stop::OutOfMemory) => Err(OutOfMemory),
+    }
+}
+
+/// Appends the name of an identifier.
+fn push_identifier<U: ReadsUnit>(
+    alloc: Global,
+    text: &mut String,
+    builder: &Builder<'_, U>,
+    identifier: IdentifierId,
+) -> Result<(), OutOfMemory> {
+    let Some(entry) = builder.environment().identifiers.get(identifier.0 as usize) else {
+        return Ok(());
+    };
+    if let Some(IdentifierName::Named(name)) = &entry.name {
+        let name = name.as_str();
+        text.push_str(format!(in alloc; "{name} ")?.as_str())?;
+    }
+    Ok(())
+}
+
+/// Appends the diagnostics and the renames.
+fn push_records(alloc: Global, text: &mut String, env: &Environment) -> Result<(), OutOfMemory> {
+    for diagnostic in env.diagnostics.as_slice() {
+        let row = diagnostic.row.name();
+        text.push_str(format!(in alloc; "{row}! ")?.as_str())?;
+    }
+    for rename in env.renames.as_slice() {
+        let reference = rename.reference.0;
+        let name = rename.name.as_str();
+        text.push_str(format!(in alloc; "{reference}:{name} ")?.as_str())?;
+    }
+    Ok(())
+}
+
+fn names<U: ReadsUnit>(
+    alloc: Global,
+    builder: &mut Builder<'_, U>,
+    resolver: &ScopeResolver<'_>,
+) -> Result<String, Stop> {
+    let mut text = String::new(alloc);
+    for symbol in resolver.symbols() {
+        push_name(
+            alloc,
+            &mut text,
+            builder,
+            resolver.symbol_name(symbol),
+            symbol,
+        )?;
+    }
+    push_records(alloc, &mut text, builder.environment())?;
+    Ok(text)
+}
+
+/// Appends the symbol of the function declaration `f` from each scope, or `-`.
+fn push_functions<U: ReadsUnit>(
+    alloc: Global,
+    text: &mut String,
+    builder: &Builder<'_, U>,
+    resolver: &ScopeResolver<'_>,
+) -> Result<(), OutOfMemory> {
+    let mut scope = 0;
+    for _ in resolver.semantic.bindings.scopes.as_slice() {
+        match builder.get_function_declaration_binding(ScopeId(scope), "f") {
+            Some(symbol) => {
+                let number = symbol.0;
+                text.push_str(format!(in alloc; "{number} ")?.as_str())?;
+            }
+            None => text.push_str("- ")?,
+        }
+        scope = scope.saturating_add(1);
+    }
+    Ok(())
+}
+
+fn functions<U: ReadsUnit>(
+    alloc: Global,
+    builder: &mut Builder<'_, U>,
+    resolver: &ScopeResolver<'_>,
+) -> Result<String, Stop> {
+    let mut text = String::new(alloc);
+    push_functions(alloc, &mut text, builder, resolver)?;
+    for symbol in resolver.symbols() {
+        push_name(
+            alloc,
+            &mut text,
+            builder,
+            resolver.symbol_name(symbol),
+            symbol,
+        )?;
+    }
+    push_functions(alloc, &mut text, builder, resolver)?;
+    Ok(text)
+}
+
+/// Appends the identifier of a symbol, or `-`.
+fn push_binding<U: ReadsUnit>(
+    alloc: Global,
+    text: &mut String,
+    builder: &Builder<'_, U>,
+    symbol: SymbolId,
+) -> Result<(), OutOfMemory> {
+    match builder.bindings().get(symbol) {
+        Some(identifier) => {
+            let number = identifier.0;
+            text.push_str(format!(in alloc; "{number} ")?.as_str())?;
+        }
+        None => text.push_str("- ")?,
+    }
+    Ok(())
+}
+
+fn merges<U: ReadsUnit>(alloc: Global, builder: &mut Builder<'_, U>) -> Result<String, Stop> {
+    let mut text = String::new(alloc);
+    push_name(alloc, &mut text, builder, "x", SymbolId(0))?;
+    let mut child = UsedNames::new(alloc);
+    child.claim(alloc, "x", SymbolId(7))?;
+    child.claim(alloc, "x_0", SymbolId(8))?;
+    builder.merge_used_names(child)?;
+    push_name(alloc, &mut text, builder, "x", SymbolId(1))?;
+    let mut child = Bindings::new(alloc);
+    child.insert(SymbolId(0), IdentifierId(5))?;
+    child.insert(SymbolId(2), IdentifierId(6))?;
+    builder.merge_bindings(child)?;
+    push_binding(alloc, &mut text, builder, SymbolId(0))?;
+    push_binding(alloc, &mut text, builder, SymbolId(2))?;
+    Ok(text)
+}
+
+/// An instruction that puts undefined into the identifier 0.
+fn undefined() -> Instruction {
+    Instruction {
+        order: EvaluationOrder(0),
+        lvalue: Place {
+            identifier: IdentifierId(0),
+            span: None,
+        },
+        value: InstructionValue::Primitive(PrimitiveValue::Undefined),
+        span: None,
+    }
+}
+
+/// The block ids that were handed out between two moments, and the block that throws go to, or `-`.
+fn blocks(
+    alloc: Global,
+    before: u32,
+    after: u32,
+    handler: Option<BlockId>,
+) -> Result<String, OutOfMemory> {
+    match handler {
+        Some(block) => {
+            let number = block.0;
+            Ok(format!(in alloc; "{before} {after} {number} ")?)
+        }
+        None => Ok(format!(in alloc; "{before} {after} - ")?),
+    }
+}
+
+fn handler<U: ReadsUnit>(alloc: Global, builder: &mut Builder<'_, U>) -> Result<String, Stop>
+    requires { length (state_of U.tables builder.old).table < 2 ^ 32 }
+{
+    if !has_room(builder) {
+        return Err(Stop::OutOfMemory);
+    }
+    let before = builder.environment().next_block;
+    builder.open_handler(BlockId(7))?;
+    builder.push(undefined())?;
+    let after = builder.environment().next_block;
+    Ok(blocks(alloc, before, after, builder.resolve_throw_handler())?)
+}
+
+/// What the calls answer.
+fn answer<U: ReadsUnit>(
+    alloc: Global,
+    builder: &mut Builder<'_, U>,
+    resolver: &ScopeResolver<'_>,
+    calls: Calls,
+) -> Result<String, Stop>
+    requires { length (state_of U.tables builder.old).table < 2 ^ 32 }
+{
+    match calls {
+        Calls::JumpsInSwitch => jumps_in_switch(alloc, builder),
+        Calls::JumpsInLabel => jumps_in_label(alloc, builder),
+        Calls::JumpsBehindStop => jumps_behind(alloc, builder, true),
+        Calls::JumpsBehindScopes => jumps_behind(alloc, builder, false),
+        Calls::Names => names(alloc, builder, resolver),
+        Calls::Functions => functions(alloc, builder, resolver),
+        Calls::Merges => merges(alloc, builder),
+        Calls::Handler => handler(alloc, builder),
+    }
+}
+
+/// What the calls answer in the builder of the marked function, whose scope is `scope`.
+fn answer_in<U: ReadsUnit>(
+    alloc: Global,
+    unit: U,
+    resolver: &ScopeResolver<'_>,
+    scope: ScopeId,
+    calls: Calls,
+) -> Result<String, Stop> {
+    let mut env = Environment::new(alloc, ReactFunctionType::Other, EntityTable::new(alloc))?;
+    let mut builder = Builder::over(
+        alloc,
+        &mut env,
+        unit,
+        scope,
+        scope,
+        BTreeSet::new(alloc),
+        None,
+        None,
+        None,
+        None,
+    )?;
+    answer(alloc, &mut builder, resolver, calls)
+}
+
+/// What the calls answer in the builder of a function.
+fn answer_of(
+    alloc: Global,
+    resolver: &ScopeResolver<'_>,
+    function: &FunctionNode<'_>,
+    calls: Calls,
+) -> Result<String, Stop> {
+    let index = IdentifierLocIndex::of(alloc, function)?;
+    let unit = UnitTables {
+        resolver,
+        identifier_spans: &index,
+    };
+    match function.scope_id() {
+        Some(scope) => answer_in(alloc, unit, resolver, scope, calls),
+        None => Ok(String::new(alloc)),
+    }
+}
+
+/// Checks what calls answer in the builder of the marked function.
+fn check_resolver(
+    rt: &impl Abort,
+    alloc: Global,
+    unit: &Unit,
+    resolver: &ScopeResolver<'_>,
+    calls: Calls,
+    wanted: &str,
+) -> Result<(), Fail> {
+    if let Some(function) = unit.marked_function() {
+        let text = answer_of(alloc, resolver, &function, calls)?;
+        assert_eq!(rt; text.as_str(), wanted);
+    }
+    Ok(())
+}
+
+/// Checks what calls answer, under semantic tables.
+fn check_semantic(
+    rt: &impl Abort,
+    alloc: Global,
+    unit: &Unit,
+    semantic: &Semantic<'_>,
+    calls: Calls,
+    wanted: &str,
+) -> Result<(), Fail> {
+    let resolver = ScopeResolver::new(alloc, semantic)?;
+    check_resolver(rt, alloc, unit, &resolver, calls, wanted)
+}
+
+/// Checks what calls answer, of a unit that was read.
+fn check_unit(
+    rt: &impl Abort,
+    alloc: Global,
+    unit: &Unit,
+    calls: Calls,
+    wanted: &str,
+) -> Result<(), Fail> {
+    let semantic = Semantic::of(alloc, unit)?;
+    check_semantic(rt, alloc, unit, &semantic, calls, wanted)
+}
+
+/// The unit of these statements.
+fn read(alloc: Global, statements: &str) -> Result<Unit, Fail> {
+    let text = format!(in alloc; "(unit [] (program [{statements}]))")?;
+    Ok(read_tree(alloc, text.as_bytes())?)
+}
+
+/// Checks what calls answer in the builder of the marked function of a unit. Each answer ends with a space.
+pub fn check(
+    rt: &impl Abort,
+    alloc: Global,
+    statements: &str,
+    calls: Calls,
+    wanted: &str,
+) -> Result<(), Fail> {
+    let unit = read(alloc, statements)?;
+    check_unit(rt, alloc, &unit, calls, wanted)
+}
