@@ -1,4 +1,4 @@
--- What `build` asks of the graph with an `if`: it is whole, its blocks list entries of the table, and there is room for its orders.
+-- The conditions of `build` for the graph with an `if`: it is whole, its blocks list entries of the table, and its orders have room.
 use Rattle.std.proofs.Common.{◌≡◌, ◌+◌, ◌<◌, ◌^◌, false, All, None, [], ◌∷◌, length, refl, ap, ◌∙◌, arith}
 use Rattle.std.proofs.lemmas.List.Elements.{All-from_recursion, All-nil}
 use Rattle.builder_tests.specs.Branch.{with_empty_if}

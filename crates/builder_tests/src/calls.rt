@@ -69,7 +69,7 @@ fn push_target(
     Ok(())
 }
 
-/// Where `break` and `continue` go, without a label and with `label`.
+/// The targets of `break` without a label and with `label`, and then those of `continue`.
 fn jumps<U: ReadsUnit>(
     alloc: Global,
     builder: &Builder<'_, U>,
@@ -336,7 +336,7 @@ fn handler<U: ReadsUnit>(alloc: Global, builder: &mut Builder<'_, U>) -> Result<
     Ok(blocks(alloc, before, after, builder.resolve_throw_handler())?)
 }
 
-/// What the calls answer.
+/// The answers of `calls`, as one text.
 fn answer<U: ReadsUnit>(
     alloc: Global,
     builder: &mut Builder<'_, U>,
@@ -357,7 +357,7 @@ fn answer<U: ReadsUnit>(
     }
 }
 
-/// What the calls answer in the builder of the marked function, whose scope is `scope`.
+/// As `answer`, in a fresh builder of the marked function, whose scope is `scope`.
 fn answer_in<U: ReadsUnit>(
     alloc: Global,
     unit: U,
@@ -381,7 +381,7 @@ fn answer_in<U: ReadsUnit>(
     answer(alloc, &mut builder, resolver, calls)
 }
 
-/// What the calls answer in the builder of a function.
+/// As `answer`, in a fresh builder of `function`.
 fn answer_of(
     alloc: Global,
     resolver: &ScopeResolver<'_>,
