@@ -1,3 +1,4 @@
 pub mod Walking
+pub mod Places
 pub mod Captured
 pub mod Examples

@@ -1,14 +1,15 @@
 -- The sites of a tree, by its form.
-use Rattle.std.proofs.Common.{◌≡◌, ℕ, Bool, true, false, if◌then◌else◌, List, [], ◌++◌, map, append_assoc, append-nil, ap, sym, refl, ◌∙◌}
-use Rattle.rl_context.specs.Roles.{role_of, top}
+use Rattle.std.proofs.Common.{◌≡◌, ℕ, ◌+◌, Bool, true, false, if◌then◌else◌, List, [], ◌++◌, map, append_assoc, append-nil, ap, sym, refl, ◌∙◌}
+use Rattle.rl_context.specs.Roles.{role_of, is_even, even_below, below, top}
 use Rattle.rl_context.specs.Sites.{is_class, site_of, sites, sites_from, sites_among}
 use Rattle.rl_context.specs.declared.role.Above.{Above}
 use Rattle.rl_context.specs.declared.site.Site.{Site}
-use Rattle.rl_syntax.specs.Syntax.{Syntax, Said, Count, Flag, Absent, pieces_of, syntax}
+use Rattle.rl_syntax.specs.Syntax.{Syntax, Pieces, End, Then, Said, Count, Flag, Absent, pieces_of, syntax}
 use Rattle.rl_syntax.specs.declared.numbered.At.{At}
 use Rattle.rl_syntax.specs.declared.numbered.Numbered.{Numbered}
 use Rattle.rl_syntax.specs.declared.numbered.Numbered.TheVariants as numbered
 use Rattle.rl_syntax.specs.declared.word.Word.{Word}
+use Rattle.rl_syntax.specs.declared.word.Word.TheVariants as word
 use Rattle.rl_syntax.proofs.Layers.{syntax_node, syntax_list, syntax_text, syntax_number, syntax_flag, syntax_absent}
 
 behind : (out : List Site) (a : Above) (tree : Numbered) (form : Syntax) → syntax tree ≡ form → out ++ sites a form ≡ out ++ sites a (syntax tree)
@@ -61,3 +62,32 @@ function_walked name params body out o1 o2 o3 e1 e2 e3 =
 
 pub arrow_walked : (params body : Syntax) (out o1 o2 : List Site) → o1 ≡ out ++ sites top params → o2 ≡ o1 ++ sites top body → o2 ≡ out ++ (sites top params ++ (sites top body ++ []))
 arrow_walked params body out o1 o2 e1 e2 = e2 ∙ ap (λ o. o ++ sites top body) e1 ∙ simp (append_assoc, append-nil) refl
+
+-- The parts of a node whose parts all have the same summary.
+even_word : (w : Word) → is_even w ≡ true → (a : Above) (at : At) (index : ℕ) → below a at w index ≡ even_below a
+even_word word.Arrow is a at index = absurd (cc)
+even_word word.Fundecl is a at index = absurd (cc)
+even_word word.Funexpr is a at index = absurd (cc)
+even_word word.Method is a at index = absurd (cc)
+even_word word.Get is a at index = absurd (cc)
+even_word word.Set is a at index = absurd (cc)
+even_word word.Type is a at index = absurd (cc)
+even_word word.Instantiate is a at index = absurd (cc)
+even_word word.Opening is a at index = absurd (cc)
+even_word word.Tagmember is a at index = absurd (cc)
+even_word word.Assign is a at index = absurd (cc)
+even_word word.Update is a at index = absurd (cc)
+even_word word.Arraytarget is a at index = absurd (cc)
+even_word word.Objecttarget is a at index = absurd (cc)
+even_word word.Rest is a at index = absurd (cc)
+even_word word.Short is a at index = absurd (cc)
+even_word word.Default is a at index = absurd (cc)
+even_word word.Keyed is a at index = absurd (cc)
+even_word _ is a at index = refl
+
+even_from : (w : Word) → is_even w ≡ true → (a : Above) (at : At) (index : ℕ) (ps : Pieces) → sites_from a at w index ps ≡ sites_among (even_below a) ps
+even_from w is a at index End = refl
+even_from w is a at index (Then p ps) = (λ i. sites (even_word w is a at index i) p ++ even_from w is a at (index + 1) ps i)
+
+pub even_parts : (w : Word) (a : Above) (at : At) (ps : Pieces) (out o1 : List Site) → is_even w ≡ true → o1 ≡ out ++ sites_among (even_below a) ps → o1 ≡ out ++ sites_from a at w 0 ps
+even_parts w a at ps out o1 is e = e ∙ ap (λ ss. out ++ ss) (sym (even_from w is a at 0 ps))

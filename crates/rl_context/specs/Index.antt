@@ -1,6 +1,5 @@
 -- Look-ups in the sites of a function: the entry of a reference, and the span of a symbol's declaration.
 use Rattle.std.specs.Prelude.{◌≡◌, ℕ, Bool, false, if◌then◌else◌, nat_eq, Option, Some, None, List, [], ◌∷◌}
-use Rattle.std.specs.BTreeMap.{BTreeMap, get_by}
 use Rattle.std.specs.BTreeSet.{BTreeSet, contains_by}
 use Rattle.std.specs.List.{list_any}
 use Rattle.std.specs.Ordering.{nat_cmp}
@@ -11,6 +10,7 @@ use Rattle.rl_context.specs.declared.site.IdentEntry.{IdentEntry}
 use Rattle.rl_context.specs.declared.site.Site.{Site}
 use Rattle.rl_context.specs.declared.site.Site.TheVariants as site
 use Rattle.rl_resolver.specs.Lookups.{declaration_ident}
+use Rattle.rl_semantic.specs.Buckets.{first_at}
 use Rattle.rl_semantic.specs.Items.{of_item}
 
 -- The entry of a site, if it is the reference with the id `reference`.
@@ -40,9 +40,9 @@ span_among ss b = if declares b.node.0 ss then Some b.span else None
 abbrev pub declaration_span : List Site → List Bound → (symbol : ℕ) → Option Span
 declaration_span ss symbols symbol = of_item None (span_among ss) (declaration_ident symbols symbol)
 
--- The map has the entry of each reference among the sites.
-pub record AreEntries (entries : BTreeMap ℕ IdentEntry) (ss : List Site) : Type 0 where
-  pub at : (reference : ℕ) → get_by (nat_cmp reference) entries ≡ entry_among reference ss
+-- The table has the entry of each reference among the sites, at the number of the reference.
+pub record AreEntries (entries : List (Option IdentEntry)) (ss : List Site) : Type 0 where
+  pub at : (reference : ℕ) → first_at entries reference ≡ entry_among reference ss
 
 -- The set has the `bind` nodes among the sites.
 pub record AreDeclarations (declarations : BTreeSet ℕ) (ss : List Site) : Type 0 where

@@ -72,16 +72,17 @@ fn captured_at(scope: &ScopeResolver<'_>, site: &Site) -> Option<SymbolId>
     ensures { result ≡ spec.captured_at scope.now.semantic.now.bindings site.now }
 {
     match site {
-        Site::Reference(found) => match scope.symbol_of_reference(found.reference) {
-            Some(symbol) => {
-                if is_outside(scope, found.function, symbol) {
-                    Some(symbol)
-                } else {
-                    None
-                }
+        Site::Reference(found) => {
+            if found.function.is_none() {
+                return None;
             }
-            None => None,
-        },
+            let symbol = scope.symbol_of_reference(found.reference)?;
+            if is_outside(scope, found.function, symbol) {
+                Some(symbol)
+            } else {
+                None
+            }
+        }
         Site::Declaration(_) => None,
         Site::Wrapped(_) => None,
     }

@@ -1,13 +1,12 @@
 //! Index of a function: its references and declarations by number.
 
-ghost use Rattle.std.specs.Prelude.{◌≡◌, ℕ, if◌then◌else◌, nat_eq, Some, None, IfOk, OnOk};
-ghost use Rattle.std.specs.BTreeMap.{get_by};
+ghost use Rattle.std.specs.Prelude.{◌≡◌, ◌<◌, ℕ, if◌then◌else◌, length, nat_eq, Some, None, IfOk, OnOk};
 ghost use Rattle.std.specs.Option.{option_copied};
-ghost use Rattle.std.specs.Ordering.{nat_cmp};
 ghost use Rattle.rl_ast.specs.FunctionNodes.{seen_function_node};
 ghost use Rattle.rl_bindings.specs.Symbols.{option_or};
 ghost use Rattle.rl_context.specs.Index as spec;
 ghost use Rattle.rl_context.specs.Sites.{sites_in};
+ghost use Rattle.rl_semantic.specs.Buckets.{first_at};
 
 use crate::site::{IdentEntry, Site};
 use crate::walk::sites_of;
@@ -18,31 +17,46 @@ use rl_base::list::List;
 use rl_base::span::Span;
 use rl_resolver::resolver::ScopeResolver;
 use std::alloc::Global;
-use std::collections::{BTreeMap, BTreeSet};
+use std::collections::BTreeSet;
 use std::marker::Model;
 
-/// Gives an entry to a reference that has none yet. On `OutOfMemory`, an allocation failed.
-fn add_entry(
-    entries: &mut BTreeMap<u32, IdentEntry>,
-    reference: u32,
-    entry: IdentEntry,
-) -> Result<(), OutOfMemory>
-    ensures { OnOk result ((n : ℕ) → get_by (nat_cmp n) entries.new ≡ option_or (get_by (nat_cmp n) entries.old) (if nat_eq reference n then Some entry else None)) }
+/// Lengthens a table of entries so that it has a place for a reference, and gives no entry to any. On `OutOfMemory`, an allocation
+/// failed.
+#[tactic(auto, using(crate::proofs::Places::place_added))]
+fn make_place(entries: &mut Vec<Option<IdentEntry>>, reference: usize) -> Result<(), OutOfMemory>
+    ensures place { OnOk result (reference < length entries.new.items) }
+    ensures same { OnOk result ((n : ℕ) → first_at entries.new.items n ≡ first_at entries.old.items n) }
 {
-    if !entries.contains_key(&reference) {
-        entries.insert(reference, entry)?;
+    while entries.len() <= reference {
+        entries.push(None)?;
     }
     Ok(())
 }
 
-/// The entries of the references among sites, by number. On `OutOfMemory`, an allocation failed.
-fn entries_of(alloc: Global, sites: &[Site]) -> Result<BTreeMap<u32, IdentEntry>, OutOfMemory>
-    ensures { IfOk result (λ entries. spec.AreEntries entries sites.now) }
+/// Gives an entry to a reference that has none yet. On `OutOfMemory`, an allocation failed.
+fn add_entry(
+    entries: &mut Vec<Option<IdentEntry>>,
+    reference: usize,
+    entry: IdentEntry,
+) -> Result<(), OutOfMemory>
+    ensures { OnOk result ((n : ℕ) → first_at entries.new.items n ≡ option_or (first_at entries.old.items n) (if nat_eq reference n then Some entry else None)) }
 {
-    let mut entries = BTreeMap::new(alloc);
+    make_place(entries, reference)?;
+    match entries[reference] {
+        Some(_) => {}
+        None => entries[reference] = Some(entry),
+    }
+    Ok(())
+}
+
+/// The entries of the references among sites, each at the number of its reference. On `OutOfMemory`, an allocation failed.
+fn entries_of(alloc: Global, sites: &[Site]) -> Result<Vec<Option<IdentEntry>>, OutOfMemory>
+    ensures { IfOk result (λ entries. spec.AreEntries entries.items sites.now) }
+{
+    let mut entries = Vec::new(alloc);
     for site in sites {
         if let Site::Reference(found) = site {
-            add_entry(&mut entries, found.reference.0, found.entry)?;
+            add_entry(&mut entries, found.reference.0 as usize, found.entry)?;
         }
     }
     Ok(entries)
@@ -67,7 +81,7 @@ fn declarations_of(alloc: Global, sites: &[Site]) -> Result<BTreeSet<u32>, OutOf
 #[derive(Drop)]
 pub struct IdentifierLocIndex {
     list: List<Site>,
-    entries: BTreeMap<u32, IdentEntry>,
+    entries: Vec<Option<IdentEntry>>,
     declarations: BTreeSet<u32>,
 }
 
@@ -80,12 +94,13 @@ impl Model for IdentifierLocIndex {
 
     ghost view = { λ index. index.list };
 
-    ghost invariant = { λ index. AreEntries index.entries index.list × AreDeclarations index.declarations index.list };
+    ghost invariant = { λ index. AreEntries index.entries.items index.list × AreDeclarations index.declarations index.list };
 }
 
 impl IdentifierLocIndex {
-    /// The index of a function: `build_identifier_loc_index` of the original. It takes time that is linear in the nodes, up to
-    /// the logarithm of the look-ups. On `OutOfMemory`, an allocation failed.
+    /// The index of a function: `build_identifier_loc_index` of the original. It takes time that is linear in the nodes of the
+    /// function and the references before it, up to the logarithm of the look-ups of declarations. On `OutOfMemory`, an
+    /// allocation failed.
     pub fn of(alloc: Global, func: &FunctionNode<'_>) -> Result<IdentifierLocIndex, OutOfMemory>
         ensures { IfOk result (λ index. index ≡ sites_in (seen_function_node func.now)) }
     {
@@ -110,7 +125,10 @@ impl IdentifierLocIndex {
     pub fn reference(&self, reference: ReferenceId) -> Option<&IdentEntry>
         ensures { option_copied result ≡ spec.entry_among reference.0 self.now }
     {
-        self.entries.get(&reference.0)
+        match self.entries.get(reference.0 as usize) {
+            Some(entry) => entry.as_ref(),
+            None => None,
+        }
     }
 
     /// The span of the declaration identifier of a symbol, a half-open byte range in the unit's text. `None` if the index does

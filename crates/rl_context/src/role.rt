@@ -156,6 +156,47 @@ fn target_below(target: Target, at: At, word: Word, index: usize) -> Target
     }
 }
 
+/// True of the words of nodes whose parts all have the same summary: that of the node, but that none of them names an element or is
+/// a target.
+#[inline(always)]
+pub(crate) fn is_even(word: Word) -> bool
+    ensures { result ≡ spec.is_even word }
+{
+    match word {
+        Word::Arrow => false,
+        Word::Fundecl => false,
+        Word::Funexpr => false,
+        Word::Method => false,
+        Word::Get => false,
+        Word::Set => false,
+        Word::Type => false,
+        Word::Instantiate => false,
+        Word::Opening => false,
+        Word::Tagmember => false,
+        Word::Assign => false,
+        Word::Update => false,
+        Word::Arraytarget => false,
+        Word::Objecttarget => false,
+        Word::Rest => false,
+        Word::Short => false,
+        Word::Default => false,
+        Word::Keyed => false,
+        _ => true,
+    }
+}
+
+/// The summary for the parts of such a node.
+#[inline(always)]
+pub(crate) fn even_below(above: Above) -> Above
+    ensures { result ≡ spec.even_below above }
+{
+    Above {
+        opening: None,
+        target: Target::Nothing,
+        ..above
+    }
+}
+
 /// The summary for the part at an index of a node.
 pub(crate) fn below(above: Above, at: At, word: Word, index: usize) -> Above
     ensures { result ≡ spec.below above at word index }

@@ -8,7 +8,7 @@ ghost use Rattle.rl_context.specs.Sites as spec;
 ghost use Rattle.rl_grammar.specs.Fields.{maybe};
 ghost use Rattle.rl_syntax.specs.Syntax.{pieces_of, syntax};
 
-use crate::role::{Above, Role, Target, below, role_of, top};
+use crate::role::{Above, Role, Target, below, even_below, is_even, role_of, top};
 use crate::site::{IdentEntry, ReferenceSite, Site, WrappedSite};
 use rl_ast::function::Arrow;
 use rl_ast::function_node::{Function, FunctionNode};
@@ -31,8 +31,8 @@ fn is_assigned(target: Target) -> bool
 }
 
 /// The reference that an `id` node is.
-fn reference_of(above: Above, at: At) -> ReferenceSite
-    ensures { result ≡ spec.reference_of above at }
+fn reference_of(above: &Above, at: &At) -> ReferenceSite
+    ensures { result ≡ spec.reference_of above.now at.now }
 {
     ReferenceSite {
         reference: at.reference,
@@ -47,8 +47,8 @@ fn reference_of(above: Above, at: At) -> ReferenceSite
 }
 
 /// Appends the site that a node itself is, if it is one. On `OutOfMemory`, an allocation failed.
-fn push_site(out: &mut List<Site>, role: Role, above: Above, at: At) -> Result<(), OutOfMemory>
-    ensures { OnOk result (out.new ≡ out.old ++ spec.site_of role above at) }
+fn push_site(out: &mut List<Site>, role: Role, above: &Above, at: &At) -> Result<(), OutOfMemory>
+    ensures { OnOk result (out.new ≡ out.old ++ spec.site_of role above.now at.now) }
 {
     match role {
         Role::Reference => {
@@ -91,9 +91,10 @@ fn is_class(role: Role) -> bool
 
 /// Appends the sites of a tree, by what stands above it. On `OutOfMemory`, an allocation failed.
 #[cycle(walking)]
+#[inline(always)]
 #[tactic(auto, using(crate::proofs::Walking::by_form, rl_syntax::proofs::Layers::by_layer))]
-fn push_sites(out: &mut List<Site>, above: Above, tree: &Numbered) -> Result<(), OutOfMemory>
-    ensures { OnOk result (out.new ≡ out.old ++ spec.sites above (syntax tree.now)) }
+fn push_sites(out: &mut List<Site>, above: &Above, tree: &Numbered) -> Result<(), OutOfMemory>
+    ensures { OnOk result (out.new ≡ out.old ++ spec.sites above.now (syntax tree.now)) }
 {
     match tree {
         Numbered::Node(at, word, parts) => {
@@ -101,8 +102,8 @@ fn push_sites(out: &mut List<Site>, above: Above, tree: &Numbered) -> Result<(),
             if is_class(role) {
                 return Ok(());
             }
-            push_site(out, role, above, *at)?;
-            push_from(out, above, *at, *word, parts.as_slice())?;
+            push_site(out, role, above, at)?;
+            push_parts(out, above, at, *word, parts.as_slice())?;
             Ok(())
         }
         Numbered::List(items) => {
@@ -118,25 +119,45 @@ fn push_sites(out: &mut List<Site>, above: Above, tree: &Numbered) -> Result<(),
 
 /// Appends the sites of the parts of a node of the word `word`. On `OutOfMemory`, an allocation failed.
 #[cycle(walking)]
-fn push_from(
+#[tactic(auto, using(crate::proofs::Walking::even_parts))]
+fn push_parts(
     out: &mut List<Site>,
-    above: Above,
-    at: At,
+    above: &Above,
+    at: &At,
     word: Word,
     parts: &[Numbered],
 ) -> Result<(), OutOfMemory>
-    ensures { OnOk result (out.new ≡ out.old ++ spec.sites_from above at word 0 (pieces_of (map syntax parts.now))) }
+    ensures { OnOk result (out.new ≡ out.old ++ spec.sites_from above.now at.now word 0 (pieces_of (map syntax parts.now))) }
+{
+    if is_even(word) {
+        push_among(out, &even_below(*above), parts)?;
+        return Ok(());
+    }
+    push_from(out, above, at, word, parts)?;
+    Ok(())
+}
+
+/// As `push_parts`, with a summary of its own for each part. On `OutOfMemory`, an allocation failed.
+#[cycle(walking)]
+fn push_from(
+    out: &mut List<Site>,
+    above: &Above,
+    at: &At,
+    word: Word,
+    parts: &[Numbered],
+) -> Result<(), OutOfMemory>
+    ensures { OnOk result (out.new ≡ out.old ++ spec.sites_from above.now at.now word 0 (pieces_of (map syntax parts.now))) }
 {
     'parts: for (index, part) in parts.iter().enumerate() {
-        push_sites(out, below(above, at, word, index), part)?;
+        push_sites(out, &below(*above, *at, word, index), part)?;
     }
     Ok(())
 }
 
 /// Appends the sites of trees in a row that have the same above them. On `OutOfMemory`, an allocation failed.
 #[cycle(walking)]
-fn push_among(out: &mut List<Site>, above: Above, trees: &[Numbered]) -> Result<(), OutOfMemory>
-    ensures { OnOk result (out.new ≡ out.old ++ spec.sites_among above (pieces_of (map syntax trees.now))) }
+fn push_among(out: &mut List<Site>, above: &Above, trees: &[Numbered]) -> Result<(), OutOfMemory>
+    ensures { OnOk result (out.new ≡ out.old ++ spec.sites_among above.now (pieces_of (map syntax trees.now))) }
 {
     'trees: for tree in trees {
         push_sites(out, above, tree)?;
@@ -150,7 +171,7 @@ fn push_maybe<K: Sort>(out: &mut List<Site>, part: Option<Tree<'_, K>>) -> Resul
 {
     match part {
         Some(part) => {
-            push_sites(out, top(), part.tree)?;
+            push_sites(out, &top(), part.tree)?;
             Ok(())
         }
         None => Ok(()),
@@ -163,7 +184,7 @@ fn push_function(out: &mut List<Site>, function: &Function<'_>) -> Result<(), Ou
     ensures { OnOk result (out.new ≡ out.old ++ spec.sites_in (seen_function function.now)) }
 {
     push_maybe(out, function.name)?;
-    push_sites(out, top(), function.params.tree)?;
+    push_sites(out, &top(), function.params.tree)?;
     push_maybe(out, function.body)?;
     Ok(())
 }
@@ -173,8 +194,8 @@ fn push_function(out: &mut List<Site>, function: &Function<'_>) -> Result<(), Ou
 fn push_arrow(out: &mut List<Site>, arrow: &Arrow<'_>) -> Result<(), OutOfMemory>
     ensures { OnOk result (out.new ≡ out.old ++ spec.sites_in (seen_arrow arrow.now)) }
 {
-    push_sites(out, top(), arrow.params.tree)?;
-    push_sites(out, top(), arrow.body.tree)?;
+    push_sites(out, &top(), arrow.params.tree)?;
+    push_sites(out, &top(), arrow.body.tree)?;
     Ok(())
 }
 

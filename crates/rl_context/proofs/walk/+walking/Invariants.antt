@@ -1,17 +1,20 @@
-use Rattle.std.proofs.Common.{◌≡◌, ◌≤◌, ◌++◌, map, drop}
+use Rattle.std.proofs.Common.{◌≡◌, ◌+◌, ◌*◌, ◌≤◌, ◌++◌, map, drop}
 use Rattle.rl_context.specs.Sites.{sites_from, sites_among}
 use Rattle.rl_syntax.specs.Sizes.{size, size_of}
 use Rattle.rl_syntax.specs.Syntax.{pieces_of, syntax}
 use Rattle.rl_context.proofs.walk.+walking.Given as goal
 
 abbrev pub decreases-push_sites : goal.decreases-push_sites
-decreases-push_sites l = size (syntax l.tree.now)
+decreases-push_sites l = 2 * size (syntax l.tree.now)
+
+abbrev pub decreases-push_parts : goal.decreases-push_parts
+decreases-push_parts l = 2 * size_of (pieces_of (map syntax l.parts.now)) + 1
 
 abbrev pub decreases-push_from : goal.decreases-push_from
-decreases-push_from l = size_of (pieces_of (map syntax l.parts.now))
+decreases-push_from l = 2 * size_of (pieces_of (map syntax l.parts.now))
 
 abbrev pub decreases-push_among : goal.decreases-push_among
-decreases-push_among l = size_of (pieces_of (map syntax l.trees.now))
+decreases-push_among l = 2 * size_of (pieces_of (map syntax l.trees.now))
 
 abbrev pub invariant-push_from-parts : goal.invariant-push_from-parts
 invariant-push_from-parts l = record {
