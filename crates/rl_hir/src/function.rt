@@ -14,7 +14,7 @@ use rl_base::text::Text;
 use std::alloc::Global;
 
 /// The construct that a block belongs to.
-#[derive(Clone, Copy, Debug, PartialEq, Eq)]
+#[derive(Clone, Copy)]
 pub enum BlockKind {
     /// Statements in a row.
     Block,
@@ -87,7 +87,7 @@ pub struct Hir<B> {
 }
 
 /// The role that React gives a function.
-#[derive(Clone, Copy, Debug, PartialEq, Eq)]
+#[derive(Clone, Copy)]
 pub enum ReactFunctionType {
     /// A function that React renders.
     Component,
@@ -98,7 +98,7 @@ pub enum ReactFunctionType {
 }
 
 /// A parameter of a function.
-#[derive(Clone, Copy, Debug, PartialEq, Eq)]
+#[derive(Clone, Copy)]
 pub enum Param {
     /// Takes one argument.
     Place(Place),
@@ -164,7 +164,7 @@ pub struct InnerFunction {
 }
 
 /// A symbol of the source, and the identifier that stands for it in every graph of the unit.
-#[derive(Clone, Copy, Debug, PartialEq, Eq)]
+#[derive(Clone, Copy)]
 pub struct Pair {
     /// The symbol, which is in one pair at most.
     pub symbol: SymbolId,

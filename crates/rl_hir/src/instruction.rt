@@ -12,7 +12,7 @@ use rl_base::span::Span;
 use rl_base::text::Text;
 
 /// A use of an identifier.
-#[derive(Clone, Copy, Debug, PartialEq, Eq)]
+#[derive(Clone, Copy)]
 pub struct Place {
     /// The variable or temporary that is used; an index into the unit's table of identifiers.
     pub identifier: IdentifierId,
@@ -185,7 +185,7 @@ pub enum InstructionValue {
 }
 
 /// The kind of a store or a declaration.
-#[derive(Clone, Copy, Debug, PartialEq, Eq)]
+#[derive(Clone, Copy)]
 pub enum InstructionKind {
     /// A declaration by `const`, or of a temporary.
     Const,
@@ -206,7 +206,7 @@ pub enum InstructionKind {
 }
 
 /// The type that a cast asserts.
-#[derive(Clone, Copy, Debug, PartialEq, Eq)]
+#[derive(Clone, Copy)]
 pub enum HirType {
     /// Any other type, as a type variable.
     Var(TypeId),
@@ -246,7 +246,7 @@ pub enum Pattern {
 }
 
 /// An element of an array literal, or of an array pattern.
-#[derive(Clone, Copy, Debug, PartialEq, Eq)]
+#[derive(Clone, Copy)]
 pub enum ArrayElement {
     /// One item.
     Place(Place),
@@ -315,7 +315,7 @@ pub struct MethodCall {
 }
 
 /// Writes `value` to a property of `object`.
-#[derive(Clone, Copy, Debug, PartialEq, Eq)]
+#[derive(Clone, Copy)]
 pub struct ComputedStore {
     /// The object.
     pub object: Place,
@@ -393,7 +393,7 @@ pub struct ImportSpecifier {
 }
 
 /// An argument of a call.
-#[derive(Clone, Copy, Debug, PartialEq, Eq)]
+#[derive(Clone, Copy)]
 pub enum PlaceOrSpread {
     /// An argument that is one value.
     Place(Place),

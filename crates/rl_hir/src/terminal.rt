@@ -140,7 +140,7 @@ pub enum TerminalKind {
 }
 
 /// The reason for which a block goes on in another.
-#[derive(Clone, Copy, Debug, PartialEq, Eq)]
+#[derive(Clone, Copy)]
 pub enum GotoVariant {
     /// It leaves a construct, or goes on behind it.
     Break,
@@ -151,7 +151,7 @@ pub enum GotoVariant {
 }
 
 /// A case of a `switch`.
-#[derive(Clone, Copy, Debug, PartialEq, Eq)]
+#[derive(Clone, Copy)]
 pub struct Case {
     /// The place that the value of the `switch` is compared with; `None` for the default.
     pub test: Option<Place>,
@@ -160,7 +160,7 @@ pub struct Case {
 }
 
 /// The form of the source that a return comes from.
-#[derive(Clone, Copy, Debug, PartialEq, Eq)]
+#[derive(Clone, Copy)]
 pub enum ReturnVariant {
     /// The body of an arrow that is an expression.
     Implicit,
