@@ -8,6 +8,7 @@ pub mod places;
 pub mod predecessors;
 pub mod prune;
 pub mod removals;
+mod room;
 mod step;
 pub mod tasks;
 pub mod tries;

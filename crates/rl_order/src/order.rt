@@ -31,7 +31,7 @@ fn walk<B: Blocks, L: Ledger>(
     ensures walk { IfOk result (λ walked. WalksFrom (B.pairs blocks.now) entry walked) }
     ensures cost { steps.new ≤ steps.old + 2 * length (B.pairs blocks.now) }
 {
-    let mut walked = Walked::new(alloc);
+    let mut walked = Walked::new(alloc, blocks.len())?;
     let mut tasks = Vec::new(alloc);
     tasks.push(Task::Enter(Visit {
         id: entry,

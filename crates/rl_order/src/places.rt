@@ -5,9 +5,10 @@ ghost use Rattle.std.specs.Map.{keys_of, values_of};
 ghost use Rattle.rl_hir.specs.Blocks.{HaveOwnIds, with_block_at};
 ghost use Rattle.rl_hir.specs.declared.function.BasicBlock.{BasicBlock};
 
+use crate::room::set_with_room;
 use rl_base::error::OutOfMemory;
 use rl_base::ids::BlockId;
-use rl_hir::block_sets::{BlockSet, new_set};
+use rl_hir::block_sets::BlockSet;
 use rl_hir::blocks::Blocks;
 use rl_hir::function::BasicBlock;
 use std::alloc::Global;
@@ -30,7 +31,7 @@ pub fn place_index<B: Blocks>(alloc: Global, blocks: &B) -> Result<BlockSet, Out
     ensures keys { IfOk result (λ places. places.keys ≡ keys_of (B.pairs blocks.now)) }
     ensures distinct { HaveOwnIds (B.pairs blocks.now) }
 {
-    let mut places = new_set(alloc);
+    let mut places = set_with_room(alloc, blocks.len())?;
     for place in 0..blocks.len() {
         let (id, _) = blocks.at(place);
         places.insert(id)?;

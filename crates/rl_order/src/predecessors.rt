@@ -5,6 +5,7 @@ ghost use Rattle.rl_order.specs.Predecessors.{IsMarked, PredecessorsReached, Wal
 ghost use Rattle.rl_order.specs.Walked.{Goes, left_of, trail_of, with_lists, with_source, worklist};
 
 use crate::places::{place_index, take_block};
+use crate::room::set_with_room;
 use rl_base::error::OutOfMemory;
 use rl_base::ids::BlockId;
 use rl_base::list::List;
@@ -92,8 +93,8 @@ fn walk_along<B: Blocks>(
     ensures { IfOk result (λ edges. WalksAlong (B.pairs blocks.now) entry edges.items) }
 {
     let mut walk = Walk {
-        seen: new_set(alloc),
-        edges: Vec::new(alloc),
+        seen: set_with_room(alloc, blocks.len())?,
+        edges: Vec::with_capacity(alloc, blocks.len())?,
         left: Vec::new(alloc),
     };
     walk.seen.insert(entry)?;

@@ -1,12 +1,13 @@
 //! The state of a walk over a graph.
 
-ghost use Rattle.std.specs.Prelude.{◌≡◌, ◌++◌, [], IfNone, OnOk, option_to_list};
+ghost use Rattle.std.specs.Prelude.{◌≡◌, ◌++◌, [], IfNone, IfOk, OnOk, option_to_list};
 ghost use Rattle.rl_order.specs.Walk.{appended, entered, is_first, is_noted, is_passed, is_used, nothing};
 
+use crate::room::map_with_room;
 use crate::tasks::Visit;
 use rl_base::error::OutOfMemory;
 use rl_base::ids::BlockId;
-use rl_hir::block_sets::{BlockMap, BlockSet, new_map, new_set};
+use rl_hir::block_sets::{BlockMap, BlockSet, new_set};
 use std::alloc::Global;
 use std::marker::Model;
 
@@ -28,15 +29,15 @@ impl Model for Walked {
 }
 
 impl Walked {
-    /// A walk that has visited nothing. Allocates nothing.
-    pub(crate) fn new(alloc: Global) -> Walked
-        ensures { result ≡ nothing }
+    /// A walk that has visited nothing, with room for `count` blocks. On `OutOfMemory` an allocation failed.
+    pub(crate) fn new(alloc: Global, count: usize) -> Result<Walked, OutOfMemory>
+        ensures { IfOk result (λ walked. walked ≡ nothing) }
     {
-        Walked {
-            seen: new_map(alloc),
+        Ok(Walked {
+            seen: map_with_room(alloc, count)?,
             noted: new_set(alloc),
-            appended: Vec::new(alloc),
-        }
+            appended: Vec::with_capacity(alloc, count)?,
+        })
     }
 
     /// True of a visit that is passed over: the block was visited before, and it is used already or this visit is not used.

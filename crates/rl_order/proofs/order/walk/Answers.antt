@@ -4,8 +4,8 @@ use Rattle.rl_order.proofs.order.walk.Goals as goal
 pub loop-task-init : goal.loop-task-init
 loop-task-init g c =
     begins (g.B.Blocks.pairs c.args.blocks.now) c.args.entry c.new-tasks.result.items c.push.new.self.items
-    c.new-walked.result c.args.steps.now c.requires c.new-tasks.ensures.items c.in_ok-push.ensures.items
-    c.new-walked.ensures
+    c.in_ok-walked.walked c.args.steps.now c.requires c.new-tasks.ensures.items c.in_ok-push.ensures.items
+    c.in_ok-walked.ensures
 
 pub loop-task-smaller : goal.loop-task-smaller
 loop-task-smaller g c =

@@ -1,5 +1,4 @@
-use Rattle.std.proofs.Common.{◌≡◌, ◌∙◌, arith}
-use Rattle.rl_hir.specs.Blocks.{Pair}
+use Rattle.std.proofs.Common.{arith}
 use Rattle.rl_order.proofs.Pruning.{ordered_once, ordered_orders, ordered_within}
 use Rattle.rl_order.proofs.prune.prune.Goals as goal
 
