@@ -4,7 +4,7 @@ use rl_base::ids::IdentifierId;
 use rl_base::text::Text;
 
 /// The kind of a variable's first declaration: that of the resolver by its name.
-#[derive(Clone, Copy)]
+#[derive(Clone, Copy, Debug, PartialEq, Eq)]
 pub enum BindingKind {
     /// A variable of `var`.
     Var,

@@ -14,7 +14,7 @@ use rl_base::text::Text;
 use std::alloc::Global;
 
 /// The construct that a block belongs to.
-#[derive(Clone, Copy)]
+#[derive(Clone, Copy, Debug, PartialEq, Eq)]
 pub enum BlockKind {
     /// Statements in a row.
     Block,
@@ -87,7 +87,7 @@ pub struct Hir<B> {
 }
 
 /// The role that React gives a function.
-#[derive(Clone, Copy)]
+#[derive(Clone, Copy, Debug, PartialEq, Eq)]
 pub enum ReactFunctionType {
     /// A function that React renders.
     Component,

@@ -12,7 +12,7 @@ use rl_base::span::Span;
 use rl_base::text::Text;
 
 /// A use of an identifier.
-#[derive(Clone, Copy)]
+#[derive(Clone, Copy, Debug, PartialEq, Eq)]
 pub struct Place {
     /// The variable or temporary that is used; an index into the unit's table of identifiers.
     pub identifier: IdentifierId,
@@ -185,7 +185,7 @@ pub enum InstructionValue {
 }
 
 /// The kind of a store or a declaration.
-#[derive(Clone, Copy)]
+#[derive(Clone, Copy, Debug, PartialEq, Eq)]
 pub enum InstructionKind {
     /// A declaration by `const`, or of a temporary.
     Const,

@@ -140,7 +140,7 @@ pub enum TerminalKind {
 }
 
 /// The reason for which a block goes on in another.
-#[derive(Clone, Copy)]
+#[derive(Clone, Copy, Debug, PartialEq, Eq)]
 pub enum GotoVariant {
     /// It leaves a construct, or goes on behind it.
     Break,
@@ -160,7 +160,7 @@ pub struct Case {
 }
 
 /// The form of the source that a return comes from.
-#[derive(Clone, Copy)]
+#[derive(Clone, Copy, Debug, PartialEq, Eq)]
 pub enum ReturnVariant {
     /// The body of an arrow that is an expression.
     Implicit,
