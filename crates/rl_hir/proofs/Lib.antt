@@ -1,4 +1,5 @@
 pub mod Identifiers
+pub mod Keeping
 pub mod Listings
 pub mod OwnIds
 pub mod ReadBack

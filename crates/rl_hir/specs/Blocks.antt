@@ -1,5 +1,6 @@
 -- Blocks as a list of pairs, each of an id and a block.
-use Rattle.std.specs.Prelude.{ℕ, Bool, nat_eq, Option, List, map}
+use Rattle.std.specs.Prelude.{ℕ, Bool, not, nat_eq, Option, List, filter, map}
+use Rattle.std.specs.List.{list_any}
 use Rattle.std.specs.Map.{lookup, remove_entry}
 use Rattle.indexmap.specs.IndexMap.{insert_entry, set_value_at}
 use Rattle.rl_base.specs.Distinct.{AreDistinct}
@@ -36,3 +37,7 @@ without_block pairs id = remove_entry (same_id id) pairs
 -- With another block in the pair at a place; past the end nothing changes.
 abbrev pub with_block_at : List Pair → (place : ℕ) → BasicBlock → List Pair
 with_block_at pairs place block = set_value_at pairs place block
+
+-- The blocks whose ids are not listed.
+abbrev pub kept : (lost : List BlockId) → List Pair → List Pair
+kept lost pairs = filter (λ p. not (list_any (same_id p.0) lost)) pairs

@@ -1,12 +1,13 @@
 //! The blocks of a graph, by id and in order.
 
-ghost use Rattle.std.specs.Prelude.{◌≡◌, ◌<◌, [], List, Some, length, OnOk, OnErr, option_copied, slice_get};
+ghost use Rattle.std.specs.Prelude.{◌≡◌, ◌<◌, [], List, Some, length, not, OnOk, OnErr, option_copied, slice_get};
+ghost use Rattle.std.specs.List.{list_any};
 ghost use Rattle.std.specs.Map.{values_of};
 ghost use Rattle.rl_base.specs.declared.ids.BlockId.{BlockId};
-ghost use Rattle.rl_hir.specs.Blocks.{HaveOwnIds, block_at, with_block, with_block_at, without_block};
+ghost use Rattle.rl_hir.specs.Blocks.{HaveOwnIds, block_at, kept, same_id, with_block, with_block_at, without_block};
 ghost use Rattle.rl_hir.specs.declared.function.BasicBlock.{BasicBlock};
 
-use crate::block_sets::{BlockMap, new_map};
+use crate::block_sets::{BlockMap, BlockSet, new_map};
 use crate::function::BasicBlock;
 use rl_base::error::OutOfMemory;
 use rl_base::ids::BlockId;
@@ -36,6 +37,19 @@ pub trait Blocks: Drop {
     fn remove(&mut self, id: BlockId) -> Option<BasicBlock>
         ensures value { result ≡ block_at (pairs self.old) id }
         ensures removed { pairs self.new ≡ without_block (pairs self.old) id };
+
+    /// Takes out the pairs with these ids; the others stay, in order. As it stands here, it removes one after another, and a table that
+    /// moves pairs in `remove` does better to move each once.
+    fn keep(&mut self, lost: &BlockSet)
+        ensures { pairs self.new ≡ kept lost.now.keys (pairs self.old) }
+    {
+        if self.len() == 0 {
+            return;
+        }
+        for id in lost.as_slice() {
+            let _ = self.remove(*id);
+        }
+    }
 
     /// The number of pairs.
     fn len(&self) -> usize
@@ -95,6 +109,14 @@ impl Blocks for MapBlocks {
 
     fn remove(&mut self, id: BlockId) -> Option<BasicBlock> {
         self.map.shift_remove(&id)
+    }
+
+    fn keep(&mut self, lost: &BlockSet) {
+        self.map.retain(
+            |id: &BlockId, block: &mut BasicBlock| -> bool
+                ensures { (result ≡ not (list_any (same_id id.now) lost.entry.now.keys)) × (block.new ≡ block.old) }
+            { !lost.contains(id) },
+        );
     }
 
     fn len(&self) -> usize {

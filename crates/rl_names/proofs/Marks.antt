@@ -5,7 +5,7 @@ use Rattle.std.proofs.lemmas.List.{map-append}
 use Rattle.rl_ast.specs.Marked.{is_marked, marked_functions, marked_among}
 use Rattle.rl_bindings.specs.Tables as names
 use Rattle.rl_semantic.specs.Rules.{least, least_broken, least_broken_form}
-use Rattle.rl_rules.specs.Marks.{bodies, bodies_among, body_of, has_body, is_one_true, keeps_mark}
+use Rattle.rl_rules.specs.Marks.{bodies, bodies_among, has_body, is_one_true, keeps_mark}
 use Rattle.rl_rules.specs.Marks as marks
 use Rattle.rl_rules.specs.Pieces.{is_yes, first_is}
 use Rattle.rl_syntax.specs.Syntax.{Syntax, Node, Listed, Said, Count, Flag, Absent, Pieces, End, Then}

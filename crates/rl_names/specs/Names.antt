@@ -84,7 +84,7 @@ module_binding import_data scope name = if is_program_scope scope then of_item (
 abbrev pub symbol_binding : (import_data : ℕ → Option ImportBindingData) → List Bound → (symbol : ℕ) → (name : List ℕ) → NonLocalBinding
 symbol_binding import_data symbols symbol name = of_item (binding.Global name) (λ b. if is_variable b.kind then module_binding (import_data symbol) (symbol_scope symbols symbol) name else binding.Global name) (slice_get symbols symbol)
 
--- What a name stands for that resolves to `symbol`, if it resolves.
+-- The meaning of a name that resolves to `symbol`: a global, where it does not resolve.
 abbrev pub meaning_of : (import_data : ℕ → Option ImportBindingData) → At → List ScopeEntry → List Bound → (symbol : Option SymbolId) → (name : List ℕ) → Meaning
 meaning_of import_data at scopes symbols None name = Outer (binding.Global name)
 meaning_of import_data at scopes symbols (Some symbol) name = if is_local at scopes symbols symbol.0 then Local symbol else Outer (symbol_binding import_data symbols symbol.0 name)

@@ -1,4 +1,4 @@
-//! What the names of a unit stand for in the lowering of one of its functions.
+//! The meanings of the names of a unit in the lowering of one of its functions.
 #![tactic(auto)]
 
 pub mod names;

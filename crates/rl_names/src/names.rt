@@ -1,8 +1,7 @@
-//! What the names of a unit stand for in the lowering of one of its functions.
+//! The meanings of the names of a unit in the lowering of one of its functions.
 
 ghost use Rattle.std.specs.Prelude.{◌≡◌, [], IfOk, map, option_map, slice_get, unwrap_or};
 ghost use Rattle.rl_ast.specs.FunctionNodes.{seen_function_node};
-ghost use Rattle.rl_bindings.specs.Tables as tables;
 ghost use Rattle.rl_names.specs.Names as spec;
 ghost use Rattle.rl_names.specs.Seen.{seen};
 ghost use Rattle.rl_resolver.specs.Imported.{import_data};
@@ -24,7 +23,7 @@ use rl_syntax::nodes::NodeEntry;
 use rl_syntax::numbered::At;
 use std::alloc::Global;
 
-/// What a name stands for, by its symbol (`VariableBinding` of the compiler, which has the identifier in place of the symbol).
+/// The meaning of a name, a local variable by its symbol (`VariableBinding` of the compiler has the identifier in its place).
 #[derive(Drop)]
 pub enum Meaning {
     /// A local variable of the function that is lowered.
@@ -218,7 +217,7 @@ impl<'s> FunctionNames<'s> {
         }
     }
 
-    /// What an identifier stands for (`resolveIdentifier`). On `OutOfMemory`, an allocation failed.
+    /// The meaning of an identifier (`resolveIdentifier`). On `OutOfMemory`, an allocation failed.
     pub fn meaning(
         &self,
         alloc: Global,

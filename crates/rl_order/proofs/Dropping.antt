@@ -1,5 +1,5 @@
--- Blocks that are changed by their places, and blocks that are kept.
-use Rattle.std.proofs.Common.{◌≡◌, ℕ, zero, suc, ◌+◌, ◌<◌, inl, inr, Bool, true, false, not, ◌&&◌, ◌||◌, if◌then◌else◌, Option, List, [], ◌∷◌, ◌++◌, length, map, filter, fold, get_or, take, drop, position, IfSome, slice_get, Some, None, ap, sym, ◌∙◌, refl, subst, arith, add-one, append_assoc, eq-eqb}
+-- Blocks that are changed by their places, and blocks that stay.
+use Rattle.std.proofs.Common.{◌≡◌, ℕ, zero, suc, ◌+◌, ◌<◌, inl, inr, Bool, true, false, not, ◌&&◌, ◌||◌, if◌then◌else◌, Option, List, [], ◌∷◌, ◌++◌, length, map, filter, fold, get_or, drop, position, IfSome, slice_get, Some, None, ap, sym, ◌∙◌, refl, subst, arith, add-one, append_assoc, eq-eqb}
 use Rattle.std.specs.List.{list_any}
 use Rattle.std.proofs.Math.Seq.{drop-cons}
 use Rattle.std.specs.Option.{option_to_list}
@@ -10,12 +10,12 @@ use Rattle.indexmap.specs.IndexSet.{insert_key}
 use Rattle.rl_base.specs.Distinct.{AreDistinct}
 use Rattle.rl_base.proofs.DistinctLists.{distinct_tail}
 use Rattle.rl_base.specs.declared.ids.BlockId.{BlockId}
-use Rattle.rl_hir.specs.Blocks.{Pair, HaveOwnIds, block_at, ids, same_id, with_block, with_block_at}
+use Rattle.rl_hir.specs.Blocks.{HaveOwnIds, Pair, block_at, ids, kept, same_id, with_block_at}
 use Rattle.rl_hir.specs.declared.function.BasicBlock.{BasicBlock}
 use Rattle.rl_order.proofs.Following.{one_id}
 use Rattle.rl_order.proofs.Reached.{In}
-use Rattle.rl_order.proofs.SourceLists.{apart, fresh_id, get_keys, id_at, passes}
-use Rattle.rl_order.specs.Kept.{changed_at, kept}
+use Rattle.rl_order.proofs.SourceLists.{apart, get_keys, passes}
+use Rattle.rl_order.specs.Kept.{changed_at}
 use Rattle.rl_order.specs.Removals.{dead_tries, dead_try, is_alone, is_lost, with_changed, without_predecessor, without_try, ended_by_goto}
 use Rattle.rl_order.specs.TrySteps.{has_alone}
 use Rattle.rl_order.specs.declared.tries.DeadTry.{DeadTry}
@@ -29,28 +29,6 @@ drop_pair1 (q ∷ graph) (suc place) p at = drop_pair1 graph place p at
 
 pub drop_pair : (graph : List Pair) (place : ℕ) (p : Pair) → slice_get graph place ≡ Some p → drop place graph ≡ p ∷ drop (place + 1) graph
 drop_pair graph place p at = rw add-one (drop_pair1 graph place p at)
-
-take_next1 : (graph rest : List Pair) (place : ℕ) (p : Pair) → drop place graph ≡ p ∷ rest → take (suc place) graph ≡ take place graph ++ p ∷ []
-take_next1 [] rest zero p at = absurd (cc)
-take_next1 [] rest (suc place) p at = absurd (cc)
-take_next1 (q ∷ graph) rest zero p at = let same : q ≡ p = cc in ap (λ (r : Pair). r ∷ []) same
-take_next1 (q ∷ graph) rest (suc place) p at = ap (λ (t : List Pair). q ∷ t) (take_next1 graph rest place p at)
-
-get_from_drop : (graph rest : List Pair) (place : ℕ) (p : Pair) → drop place graph ≡ p ∷ rest → slice_get graph place ≡ Some p
-get_from_drop [] rest zero p at = absurd (cc)
-get_from_drop [] rest (suc place) p at = absurd (cc)
-get_from_drop (q ∷ graph) rest zero p at = let same : q ≡ p = cc in ap (λ (r : Pair). Some r) same
-get_from_drop (q ∷ graph) rest (suc place) p at = get_from_drop graph rest place p at
-
-drop_set : (graph : List Pair) (place : ℕ) (block : BasicBlock) → drop (suc place) (with_block_at graph place block) ≡ drop (suc place) graph
-drop_set [] place block = refl
-drop_set (p ∷ graph) zero block = refl
-drop_set (p ∷ graph) (suc place) block = drop_set graph place block
-
--- A block that is taken out leaves those behind it.
-pub later_stays : (graph after : List Pair) (place : ℕ) (block : BasicBlock) → with_block_at after place block ≡ with_block_at graph place block → drop (place + 1) after ≡ drop (place + 1) graph
-later_stays graph after place block same =
-    rw add-one (sym (drop_set after place block) ∙ ap (λ (t : List Pair). drop (suc place) t) same ∙ drop_set graph place block)
 
 -- The list of dead `try`s
 
@@ -67,75 +45,6 @@ module _ (there : BlockId → Bool) (graph : List Pair) (place : ℕ) (p : Pair)
       ∙ append_assoc tries (dead ∷ []) (dead_tries there (drop (place + 1) graph))
       ∙ ap (λ (o : Option DeadTry). tries ++ (option_to_list o ++ dead_tries there (drop (place + 1) graph))) some
       ∙ ap (λ (t : List Pair). tries ++ dead_tries there t) (sym (drop_pair graph place p at))
-
--- Blocks that are kept
-
-kept_skip : (lost : List BlockId) (xs : List Pair) (p : Pair) → list_any (same_id p.0) lost ≡ true → kept lost (xs ++ p ∷ []) ≡ kept lost xs
-kept_skip lost [] p h = rw h refl
-kept_skip lost (x ∷ xs) p h = by_head (list_any (same_id x.0) lost) refl (kept_skip lost xs p h)
-  where
-    by_head : (b : Bool) → list_any (same_id x.0) lost ≡ b → kept lost (xs ++ p ∷ []) ≡ kept lost xs → kept lost (x ∷ xs ++ p ∷ []) ≡ kept lost (x ∷ xs)
-    by_head true e rest = rw e rest
-    by_head false e rest = rw e (ap (λ (t : List Pair). x ∷ t) rest)
-
-kept_one : (lost : List BlockId) (xs : List Pair) (p : Pair) → list_any (same_id p.0) lost ≡ false → kept lost (xs ++ p ∷ []) ≡ kept lost xs ++ p ∷ []
-kept_one lost [] p h = rw h refl
-kept_one lost (x ∷ xs) p h = by_head (list_any (same_id x.0) lost) refl (kept_one lost xs p h)
-  where
-    by_head : (b : Bool) → list_any (same_id x.0) lost ≡ b → kept lost (xs ++ p ∷ []) ≡ kept lost xs ++ p ∷ [] → kept lost (x ∷ xs ++ p ∷ []) ≡ kept lost (x ∷ xs) ++ p ∷ []
-    by_head true e rest = rw e rest
-    by_head false e rest = rw e (ap (λ (t : List Pair). x ∷ t) rest)
-
-pub kept_all : (pairs : List Pair) → kept [] pairs ≡ pairs
-kept_all [] = refl
-kept_all (p ∷ pairs) = ap (λ (t : List Pair). p ∷ t) (kept_all pairs)
-
-fewer_keys : (lost : List BlockId) (id : BlockId) (xs : List Pair) → list_any (same_id id) (keys_of xs) ≡ false → list_any (same_id id) (keys_of (kept lost xs)) ≡ false
-fewer_keys lost id [] h = refl
-fewer_keys lost id (x ∷ xs) h = by_head (same_id id x.0) refl h (fewer_keys lost id xs)
-  where
-    by_lost : (b : Bool) → list_any (same_id x.0) lost ≡ b → same_id id x.0 ≡ false → list_any (same_id id) (keys_of (kept lost xs)) ≡ false → list_any (same_id id) (keys_of (kept lost (x ∷ xs))) ≡ false
-    by_lost true e first rest = rw e rest
-    by_lost false e first rest = rw (e, first) rest
-
-    by_head : (b : Bool) → same_id id x.0 ≡ b → list_any (same_id id) (keys_of (x ∷ xs)) ≡ false → (list_any (same_id id) (keys_of xs) ≡ false → list_any (same_id id) (keys_of (kept lost xs)) ≡ false)
-        → list_any (same_id id) (keys_of (kept lost (x ∷ xs))) ≡ false
-    by_head true e h1 rest = absurd (let never : true ≡ false = rw e at h1 in cc)
-    by_head false e h1 rest = by_lost (list_any (same_id x.0) lost) refl e (rest (rw e at h1))
-
-keys_take : (graph : List Pair) (place : ℕ) → keys_of (take place graph) ≡ take place (keys_of graph)
-keys_take [] zero = refl
-keys_take [] (suc place) = refl
-keys_take (p ∷ graph) zero = refl
-keys_take (p ∷ graph) (suc place) = ap (λ (t : List BlockId). p.0 ∷ t) (keys_take graph place)
-
-put_last : (xs : List Pair) (id : BlockId) (block : BasicBlock) → list_any (same_id id) (keys_of xs) ≡ false → with_block xs id block ≡ xs ++ (id, block) ∷ []
-put_last [] id block h = refl
-put_last (x ∷ xs) id block h = by_head (same_id id x.0) refl h (put_last xs id block)
-  where
-    by_head : (b : Bool) → same_id id x.0 ≡ b → list_any (same_id id) (keys_of (x ∷ xs)) ≡ false → (list_any (same_id id) (keys_of xs) ≡ false → with_block xs id block ≡ xs ++ (id, block) ∷ [])
-        → with_block (x ∷ xs) id block ≡ x ∷ xs ++ (id, block) ∷ []
-    by_head true e h1 rest = absurd (let never : true ≡ false = rw e at h1 in cc)
-    by_head false e h1 rest = rw e (ap (λ (t : List Pair). x ∷ t) (rest (rw e at h1)))
-
-module _ (lost : List BlockId) (graph now rest : List Pair) (place : ℕ) (p : Pair) (same : drop place now ≡ drop place graph) (at : slice_get now place ≡ Some p) where
-  split : drop place graph ≡ p ∷ drop (place + 1) now
-  split = sym same ∙ drop_pair now place p at
-
-  next : take (place + 1) graph ≡ take place graph ++ p ∷ []
-  next = rw add-one (take_next1 graph (drop (place + 1) now) place p split)
-
-  pub skipped : rest ≡ kept lost (take place graph) → list_any (same_id p.0) lost ≡ true → rest ≡ kept lost (take (place + 1) graph)
-  skipped is h = is ∙ sym (kept_skip lost (take place graph) p h) ∙ ap (kept lost) (sym next)
-
-  pub put_behind : (rest1 : List Pair) → HaveOwnIds graph → rest ≡ kept lost (take place graph) → list_any (same_id p.0) lost ≡ false → rest1 ≡ with_block rest p.0 p.1
-      → rest1 ≡ kept lost (take (place + 1) graph)
-  put_behind rest1 own is h put =
-      let fresh : list_any (same_id p.0) (keys_of (take place graph)) ≡ false =
-      ap (list_any (same_id p.0)) (keys_take graph place) ∙ fresh_id graph place p.0 own (id_at graph place p (get_from_drop graph (drop (place + 1) now) place p split)) in
-      put ∙ ap (λ (t : List Pair). with_block t p.0 p.1) is
-      ∙ put_last (kept lost (take place graph)) p.0 p.1 (fewer_keys lost p.0 (take place graph) fresh)
-      ∙ sym (kept_one lost (take place graph) p h) ∙ ap (kept lost) (sym next)
 
 -- Changes by places
 

@@ -3,8 +3,8 @@
 ghost use Rattle.std.specs.Prelude.{◌≡◌, ◌<◌, [], IfOk, IfSome, OnOk, Some, None, filter, if◌then◌else◌, length, not};
 ghost use Rattle.std.specs.Map.{keys_of};
 ghost use Rattle.indexmap.specs.IndexSet.{insert_key};
-ghost use Rattle.rl_hir.specs.Blocks.{HaveOwnIds, block_at, same_id};
-ghost use Rattle.rl_order.specs.Kept.{changed_at, kept};
+ghost use Rattle.rl_hir.specs.Blocks.{HaveOwnIds, block_at, kept, same_id};
+ghost use Rattle.rl_order.specs.Kept.{changed_at};
 ghost use Rattle.rl_order.specs.Removals.{dead_tries, dead_try, ended_by_goto, is_alone, is_there, without_dead_tries, without_predecessor, without_try};
 ghost use Rattle.rl_order.specs.TrySteps.{has_alone};
 
@@ -155,26 +155,6 @@ fn note_lost(lost: &mut BlockSet, id: BlockId, is_lost: bool) -> Result<(), OutO
     Ok(())
 }
 
-/// Keeps the blocks that are not lost, in order. Nothing changes if none is. On `OutOfMemory`, an allocation failed, blocks are lost.
-fn keep_rest<B: Blocks>(alloc: Global, blocks: &mut B, lost: &BlockSet) -> Result<(), OutOfMemory>
-    ensures { OnOk result (B.pairs blocks.new ≡ kept lost.now.keys (B.pairs blocks.old)) }
-{
-    if lost.is_empty() {
-        return Ok(());
-    }
-    let mut rest = B::empty(alloc);
-    for place in 0..blocks.len() {
-        let (id, _) = blocks.at(place);
-        if lost.contains(&id) {
-            continue;
-        }
-        let block = take_block(blocks, place);
-        rest.put(id, block)?;
-    }
-    *blocks = rest;
-    Ok(())
-}
-
 /// Drops a `try` from the blocks: its block ends with a goto, and its handler is taken from the predecessors of the fallthrough, which
 /// is listed as lost if it had no other. On `OutOfMemory`, an allocation failed.
 fn drop_try<B: Blocks>(
@@ -203,7 +183,7 @@ fn drop_try<B: Blocks>(
 
 /// Makes a goto to its block of each `try` whose handler is missing (`removeUnnecessaryTryCatch`), with order 0 and its span. A
 /// fallthrough with the handler as its only predecessor is removed; from the predecessors of others the handler is taken. On
-/// `OutOfMemory`, an allocation failed, and blocks may be lost.
+/// `OutOfMemory`, an allocation failed, and some of these `try`s may be gotos already.
 pub fn remove_unnecessary_try_catch<B: Blocks>(
     alloc: Global,
     hir: &mut Hir<B>,
@@ -220,6 +200,6 @@ pub fn remove_unnecessary_try_catch<B: Blocks>(
     for dead in tries.as_slice() {
         drop_try(alloc, &mut hir.blocks, &places, &mut lost, *dead)?;
     }
-    keep_rest(alloc, &mut hir.blocks, &lost)?;
+    hir.blocks.keep(&lost);
     Ok(())
 }

@@ -1,6 +1,6 @@
 use Rattle.std.proofs.Common.{◌≡◌, drop, fold}
 use Rattle.std.specs.Map.{keys_of}
-use Rattle.rl_order.specs.Kept.{kept}
+use Rattle.rl_hir.specs.Blocks.{kept}
 use Rattle.rl_order.specs.Removals.{without_dead_tries, without_try}
 use Rattle.rl_order.proofs.tries.remove_unnecessary_try_catch.Given as goal
 
