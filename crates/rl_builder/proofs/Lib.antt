@@ -5,3 +5,4 @@ pub mod NameLaws
 pub mod Pruned
 pub mod Refusals
 pub mod Renaming
+pub mod Resolving

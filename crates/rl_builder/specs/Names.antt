@@ -1,13 +1,16 @@
 -- Identifiers of symbols, and the names that they get. Symbols and identifiers are ids; `known` is the identifier of a
 -- symbol, if it has one, and `given` the span of the node at which it is resolved, if there is one.
 use Rattle.std.specs.Prelude.{◌≡◌, ℕ, ◌+◌, true, ◌&&◌, if◌then◌else◌, List, [], ◌∷◌, ◌++◌, length, map, unwrap_or}
-use Rattle.std.specs.Prelude.{Option, Some, None}
+use Rattle.std.specs.Prelude.{Option, Some, None, false, Result, OnOk, IfOk, IfErr}
 use Rattle.std.specs.Option.{option_map_or, option_or}
 use Rattle.std.specs.Str.{bytes_eq}
 use Rattle.rl_base.specs.Reserved.{is_reserved}
 use Rattle.rl_base.specs.declared.diagnostic.Diagnostic.{Diagnostic}
+use Rattle.rl_base.specs.declared.ids.IdentifierId.{IdentifierId}
 use Rattle.rl_base.specs.declared.ids.ReferenceId.{ReferenceId}
 use Rattle.rl_base.specs.declared.span.Span.{Span}
+use Rattle.rl_base.specs.declared.stop.Stop.{Stop}
+use Rattle.rl_base.specs.declared.stop.Stop.TheVariants as stops
 use Rattle.rl_context.specs.Index.{declaration_span}
 use Rattle.rl_hir.specs.Pairs.{identifier_of, pair}
 use Rattle.rl_hir.specs.declared.environment.Environment.{Environment}
@@ -17,6 +20,7 @@ use Rattle.rl_hir.specs.declared.function.IdentifierName.TheVariants as names
 use Rattle.rl_resolver.specs.Listed.{reference_ids}
 use Rattle.rl_resolver.specs.Lookups.{declaration_ident, first_bind}
 use Rattle.rl_builder.specs.Builder.{State}
+use Rattle.rl_used_names.specs.Apart.{AreApart}
 use Rattle.rl_used_names.specs.Choosing.{with_user, chosen}
 use Rattle.rl_used_names.specs.IdentifierNames.{fbt, is_fbt, fbt_diagnostic, reserved_diagnostic, AreNamed}
 
@@ -108,3 +112,15 @@ resolved_identifier s symbol = option_map_or (λ known. known) (identifier_of s.
 -- The names and identifiers of a builder agree.
 abbrev pub NamesAgree : State → Type 0
 NamesAgree s = AreNamed s.bindings s.used_names s.env.identifiers
+
+-- A call that resolves a symbol returns `result`, and takes the builder from the state `old` to `new`. On `Ok` the result is the
+-- symbol's identifier; names and identifiers agree if they did, and no two symbols share one; and if the symbol had no identifier,
+-- the name is not reserved. On a diagnostic the name is reserved, the symbol has no identifier, and nothing changed.
+pub record Resolves (old new : State) (name : List ℕ) (symbol : ℕ) (given : Option Span) (result : Result IdentifierId Stop) : Type 0 where
+  pub state : OnOk result (new ≡ resolved old name symbol given)
+  pub identifier : IfOk result (λ i. identifier_of new.bindings symbol ≡ Some i.0)
+  pub names : OnOk result (NamesAgree old → NamesAgree new)
+  pub apart : OnOk result (NamesAgree old → AreApart new.bindings new.env.identifiers)
+  pub allowed : OnOk result (identifier_of old.bindings symbol ≡ None → is_reserved name ≡ false)
+  pub stopped : IfErr result (λ e. (d : Diagnostic) → e ≡ stops.Diagnostic d → IsStopped old name symbol given d)
+  pub unchanged : IfErr result (λ e. (d : Diagnostic) → e ≡ stops.Diagnostic d → new ≡ old)

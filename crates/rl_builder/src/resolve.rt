@@ -1,14 +1,13 @@
 //! The identifiers that symbols get and their names, and look-ups of names.
 
-ghost use Rattle.std.specs.Prelude.{◌≡◌, ◌+◌, ◌++◌, ◌<◌, ◌^◌, None, Some, OnOk, IfOk, IfErr, OnErr, false, length, map};
+ghost use Rattle.std.specs.Prelude.{◌≡◌, ◌+◌, ◌++◌, ◌<◌, ◌^◌, None, Some, OnOk, IfOk, IfErr, OnErr, length, map};
 ghost use Rattle.std.specs.Option.{option_map};
-ghost use Rattle.rl_base.specs.Reserved.{is_reserved};
 ghost use Rattle.rl_base.specs.declared.diagnostic.Diagnostic.{Diagnostic};
 ghost use Rattle.rl_builder.specs.Builder.{state_of, names_of, with_context_identifier};
 ghost use Rattle.rl_builder.specs.Closures.{KeepsStacks};
 ghost use Rattle.rl_builder.specs.FunctionNames as spec;
 ghost use Rattle.rl_builder.specs.Meanings.{converted, has_local_binding, is_context, is_of_program, outer_variable, symbol_at, variable_of, with_variable, IsStoppedAt};
-ghost use Rattle.rl_builder.specs.Names.{fbt_label, reserved_label, new_span, renamed, renames_among, with_refused, with_binding, resolved, IsStopped, NamesAgree};
+ghost use Rattle.rl_builder.specs.Names.{fbt_label, reserved_label, new_span, renamed, renames_among, with_refused, with_binding, NamesAgree, Resolves};
 ghost use Rattle.rl_context.specs.Index.{declaration_span};
 ghost use Rattle.rl_hir.specs.Identifiers.{changed_at, with_span};
 ghost use Rattle.rl_hir.specs.Pairs.{identifier_of};
@@ -16,7 +15,6 @@ ghost use Rattle.rl_names.specs.Names.{is_scope_inside};
 ghost use Rattle.rl_resolver.specs.Around.{ancestors};
 ghost use Rattle.rl_resolver.specs.Listed.{bindings_in};
 ghost use Rattle.rl_resolver.specs.Lookups.{get_binding};
-ghost use Rattle.rl_used_names.specs.Apart.{AreApart};
 ghost use Rattle.rl_used_names.specs.IdentifierNames.{AreNamed};
 ghost use Rattle.rl_used_names.specs.Merged.{merged_bindings, merged_names};
 
@@ -167,13 +165,7 @@ impl<'e, U: ReadsUnit, B> Over<'e, Work<U, B>> {
         requires types { self.old.env.now.next_type + 1 < 2 ^ 32 }
         ensures same_reference { self.new.env.ghost_name ≡ self.old.env.ghost_name }
         ensures kept { KeepsStacks self.old result self.new }
-        ensures state { OnOk result (state_of U.tables self.new ≡ resolved (state_of U.tables self.old) name.now symbol.0 None) }
-        ensures identifier { IfOk result (λ i. identifier_of self.new.work.bindings symbol.0 ≡ Some i.0) }
-        ensures names { OnOk result (NamesAgree (state_of U.tables self.old) → NamesAgree (state_of U.tables self.new)) }
-        ensures apart { OnOk result (NamesAgree (state_of U.tables self.old) → AreApart (state_of U.tables self.new).bindings (state_of U.tables self.new).env.identifiers) }
-        ensures allowed { OnOk result (identifier_of self.old.work.bindings symbol.0 ≡ None → is_reserved name.now ≡ false) }
-        ensures stopped { IfErr result (λ e. (d : Diagnostic) → e ≡ Stop.Diagnostic d → IsStopped (state_of U.tables self.old) name.now symbol.0 None d) }
-        ensures unchanged { IfErr result (λ e. (d : Diagnostic) → e ≡ Stop.Diagnostic d → state_of U.tables self.new ≡ state_of U.tables self.old) }
+        ensures resolves { Resolves (state_of U.tables self.old) (state_of U.tables self.new) name.now symbol.0 None result }
     {
         self.resolve(name, symbol, None)
     }
@@ -190,13 +182,7 @@ impl<'e, U: ReadsUnit, B> Over<'e, Work<U, B>> {
         requires types { self.old.env.now.next_type + 1 < 2 ^ 32 }
         ensures same_reference { self.new.env.ghost_name ≡ self.old.env.ghost_name }
         ensures kept { KeepsStacks self.old result self.new }
-        ensures state { OnOk result (state_of U.tables self.new ≡ resolved (state_of U.tables self.old) name.now symbol.0 (Some span)) }
-        ensures identifier { IfOk result (λ i. identifier_of self.new.work.bindings symbol.0 ≡ Some i.0) }
-        ensures names { OnOk result (NamesAgree (state_of U.tables self.old) → NamesAgree (state_of U.tables self.new)) }
-        ensures apart { OnOk result (NamesAgree (state_of U.tables self.old) → AreApart (state_of U.tables self.new).bindings (state_of U.tables self.new).env.identifiers) }
-        ensures allowed { OnOk result (identifier_of self.old.work.bindings symbol.0 ≡ None → is_reserved name.now ≡ false) }
-        ensures stopped { IfErr result (λ e. (d : Diagnostic) → e ≡ Stop.Diagnostic d → IsStopped (state_of U.tables self.old) name.now symbol.0 (Some span) d) }
-        ensures unchanged { IfErr result (λ e. (d : Diagnostic) → e ≡ Stop.Diagnostic d → state_of U.tables self.new ≡ state_of U.tables self.old) }
+        ensures resolves { Resolves (state_of U.tables self.old) (state_of U.tables self.new) name.now symbol.0 (Some span) result }
     {
         self.resolve(name, symbol, Some(span))
     }
@@ -212,13 +198,7 @@ impl<'e, U: ReadsUnit, B> Over<'e, Work<U, B>> {
         requires types { self.old.env.now.next_type + 1 < 2 ^ 32 }
         ensures same_reference { self.new.env.ghost_name ≡ self.old.env.ghost_name }
         ensures kept { KeepsStacks self.old result self.new }
-        ensures state { OnOk result (state_of U.tables self.new ≡ resolved (state_of U.tables self.old) name.now symbol.0 given) }
-        ensures identifier { IfOk result (λ i. identifier_of self.new.work.bindings symbol.0 ≡ Some i.0) }
-        ensures names { OnOk result (NamesAgree (state_of U.tables self.old) → NamesAgree (state_of U.tables self.new)) }
-        ensures apart { OnOk result (NamesAgree (state_of U.tables self.old) → AreApart (state_of U.tables self.new).bindings (state_of U.tables self.new).env.identifiers) }
-        ensures allowed { OnOk result (identifier_of self.old.work.bindings symbol.0 ≡ None → is_reserved name.now ≡ false) }
-        ensures stopped { IfErr result (λ e. (d : Diagnostic) → e ≡ Stop.Diagnostic d → IsStopped (state_of U.tables self.old) name.now symbol.0 given d) }
-        ensures unchanged { IfErr result (λ e. (d : Diagnostic) → e ≡ Stop.Diagnostic d → state_of U.tables self.new ≡ state_of U.tables self.old) }
+        ensures resolves { Resolves (state_of U.tables self.old) (state_of U.tables self.new) name.now symbol.0 given result }
     {
         let known = self.work.bindings.get(symbol);
         self.refuse_fbt(name, known, symbol, given)?;

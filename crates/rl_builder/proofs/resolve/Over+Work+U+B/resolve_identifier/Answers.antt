@@ -21,7 +21,7 @@ returns-in-Ok-clause-binding g c =
     let meaning : (names_of s).meaning at.reference.0 c.args.identifier.now.name.now ≡ Local symbol = sym c.in_ok-symbol.ensures ∙ c.in-Local.is in
     let number : c.in-Ok.id.0 ≡ resolved_identifier s symbol.0 =
     same_Some c.in-Ok.id.0 (resolved_identifier s symbol.0)
-    (sym c.in-Ok.ensures.identifier ∙ ap (λ (t : State). identifier_of t.bindings symbol.0) c.in-Ok.ensures.state ∙ identifier_of-resolved s c.as_str-name.result.now symbol.0 (Some at.span)) in
+    (sym c.in-Ok.ensures.resolves.identifier ∙ ap (λ (t : State). identifier_of t.bindings symbol.0) c.in-Ok.ensures.resolves.state ∙ identifier_of-resolved s c.as_str-name.result.now symbol.0 (Some at.span)) in
     let kind : c.convert_binding_kind.result ≡ converted (lookups.binding_kind s.semantic.bindings.symbols symbol.0) = c.convert_binding_kind.ensures ∙ ap converted (c.binding_kind-kind.ensures ∙ ap (λ (m : Semantic). lookups.binding_kind m.bindings.symbols symbol.0) c.resolver-resolver.ensures) in
     ap (λ (n : ℕ). variable.Identifier (record { 0 = n }) c.convert_binding_kind.result) number
     ∙ ap (λ (k : BindingKind). variable.Identifier (record { 0 = resolved_identifier s symbol.0 }) k) kind
@@ -35,4 +35,4 @@ returns-in-Err-clause-stopped g c d is =
     let symbol = c.in-Local.symbol in
     let meaning : (names_of s).meaning at.reference.0 name ≡ Local symbol = sym c.in_ok-symbol.ensures ∙ c.in-Local.is in
     subst (λ (m : Meaning). IsStoppedAt s m name at.span d) (sym meaning)
-    (subst (λ (n : List ℕ). IsStopped s n symbol.0 (Some at.span) d) c.as_str-name.ensures (c.in-Err.ensures.stopped d is))
+    (subst (λ (n : List ℕ). IsStopped s n symbol.0 (Some at.span) d) c.as_str-name.ensures (c.in-Err.ensures.resolves.stopped d is))
