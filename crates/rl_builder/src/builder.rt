@@ -32,7 +32,7 @@ use rl_names::names::FunctionNames;
 use rl_order::prune::clean;
 use rl_resolver::resolver::ScopeResolver;
 use rl_syntax::numbered::At;
-use rl_used_names::names::{Bindings, UsedNames};
+pub use rl_used_names::names::{Bindings, UsedNames};
 use std::alloc::Global;
 use std::collections::BTreeSet;
 use std::marker::PhantomData;
