@@ -1,13 +1,11 @@
 -- The graph that is made of a builder's blocks.
 use Rattle.std.specs.Prelude.{◌≡◌, List, [], ◌++◌, All, fold}
 use Rattle.rl_base.specs.Distinct.{AreDistinct}
-use Rattle.rl_base.specs.declared.ids.BlockId.{BlockId}
 use Rattle.rl_builder.specs.Builder.{State}
 use Rattle.rl_builder.specs.Dropped.{refused_blocks}
 use Rattle.rl_hir.specs.Blocks.{HaveOwnIds, Pair, with_block}
 use Rattle.rl_hir.specs.Numbered.{IsNumbered, listed_in}
 use Rattle.rl_hir.specs.declared.environment.Environment.{Environment}
-use Rattle.rl_hir.specs.declared.instruction.Instruction.{Instruction}
 use Rattle.rl_machine.specs.Closed.{IsClosed}
 use Rattle.rl_machine.specs.Conditions.{KeepsRuns, MayOrder}
 use Rattle.rl_machine.specs.Machine.{Graph}

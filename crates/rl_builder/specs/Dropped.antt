@@ -4,7 +4,6 @@ use Rattle.rl_base.specs.Diagnostics.{diagnostic_at}
 use Rattle.rl_base.specs.declared.diagnostic.Diagnostic.{Diagnostic}
 use Rattle.rl_base.specs.declared.ids.InstructionId.{InstructionId}
 use Rattle.rl_base.specs.declared.row.Row.TheVariants as rows
-use Rattle.rl_base.specs.declared.span.Span.{Span}
 use Rattle.rl_hir.specs.Blocks.{Pair, block_at}
 use Rattle.rl_hir.specs.declared.instruction.Instruction.{Instruction}
 use Rattle.rl_hir.specs.declared.instruction.InstructionValue.{InstructionValue}

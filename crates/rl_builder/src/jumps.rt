@@ -1,6 +1,6 @@
 //! Scopes of loops, labels and switches, and the targets of `break` and `continue` among them.
 
-ghost use Rattle.std.specs.Prelude.{◌≡◌, ◌∷◌, [], Ok, Err, option_map, reverse};
+ghost use Rattle.std.specs.Prelude.{◌≡◌, Ok, Err, option_map};
 ghost use Rattle.rl_builder.specs.Jumps as spec;
 
 use rl_base::ids::BlockId;

@@ -1,6 +1,6 @@
 //! The program `lower` over any source and sink, and the parts that other programs share with it.
 
-ghost use Rattle.std.specs.Prelude.{◌≡◌, ◌≢◌, ◌≤◌, ◌<◌, ◌↔◌, ◌⊎◌, [], ◌∷◌, map, length, IfOk, IfErr, MatchResult, IsTrue, IsErrOf, string_bytes, codes};
+ghost use Rattle.std.specs.Prelude.{◌≡◌, ◌≢◌, ◌<◌, ◌↔◌, ◌⊎◌, [], ◌∷◌, map, IfOk, IfErr, MatchResult, IsTrue, IsErrOf, string_bytes, codes};
 ghost use Rattle.std.specs.Io.KnownBytes.{Keeps};
 ghost use Rattle.rl_base.specs.Faults.{Rose};
 ghost use Rattle.rl_base.specs.Diagnostics.{line_of};

@@ -1,4 +1,4 @@
-use Rattle.std.proofs.Common.{◌≡◌, sym, ◌∙◌}
+use Rattle.std.proofs.Common.{sym, ◌∙◌}
 use Rattle.rl_builder.proofs.Refusals.{function_found, function_missed, function_next}
 use Rattle.rl_builder.proofs.graph.first_function.Goals as goal
 

@@ -1,4 +1,4 @@
-use Rattle.std.proofs.Common.{◌≡◌, ◌+◌, List, drop, sym, ap, ◌∙◌, arith}
+use Rattle.std.proofs.Common.{◌+◌, List, drop, ap, ◌∙◌, arith}
 use Rattle.rl_builder.specs.Dropped.{refused_blocks}
 use Rattle.rl_builder.proofs.Refusals.{all_refused, one_more_refused, with_more}
 use Rattle.rl_hir.specs.Blocks.{Pair}
