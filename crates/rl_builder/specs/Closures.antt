@@ -1,4 +1,4 @@
--- Calls that run a closure over the builder: what each closure owes, and what stands after the call.
+-- Calls that run a closure over the builder: the condition on each closure, and the state after the call.
 use Rattle.std.specs.Prelude.{◌≡◌, List, ◌++◌, Result, Ok, Err, MatchResult}
 use Rattle.std.specs.Borrow.{MutBor}
 use Rattle.std.specs.Fn.{Once, FnOnceTakesAtMut, FnOnceReturnsAtMut}
@@ -11,7 +11,7 @@ use Rattle.rl_builder.specs.declared.builder.Work.{Work}
 use Rattle.rl_builder.specs.declared.jumps.JumpScope.{JumpScope}
 use Rattle.rl_hir.specs.declared.terminal.Terminal.{Terminal}
 
--- What each closure owes at least: it leaves the handlers as it found them, and the scopes too where it succeeds; where it stops,
+-- The least that each closure owes: it leaves the handlers as it found them, and the scopes too where it succeeds; where it stops,
 -- others may stand above those that it found.
 pub record KeepsStacks {U B T E : Type 0} (old : Over (Work U B)) (result : Result T E) (new : Over (Work U B)) : Type 0 where
   pub same_reference : new.env.ghost_name ≡ old.env.ghost_name

@@ -37,11 +37,11 @@ use std::alloc::Global;
 use std::collections::BTreeSet;
 use std::marker::PhantomData;
 
-/// The parts of a builder beside the environment. `U` shows what it reads of its unit, `B` is the table of blocks that `build` makes.
+/// The parts of a builder beside the environment. `U` shows the tables of its unit, `B` is the table of blocks that `build` makes.
 #[derive(Drop)]
 pub struct Work<U, B> {
     pub(crate) alloc: Global,
-    /// What is read of the unit.
+    /// The tables of the unit that calls read.
     pub(crate) unit: U,
     /// Ids and span of the marked function.
     pub(crate) function: At,
@@ -243,7 +243,7 @@ impl<'e, 's, B> Over<'e, Work<UnitTables<'s>, B>> {
 }
 
 impl<'e, U: ReadsUnit, B> Over<'e, Work<U, B>> {
-    /// As `new`, over what `unit` shows of the unit.
+    /// As `new`, over the tables that `unit` shows.
     #[allow(clippy::too_many_arguments)]
     pub fn over(
         alloc: Global,

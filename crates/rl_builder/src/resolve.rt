@@ -116,7 +116,7 @@ fn add_renames(
 
 impl<'e, U: ReadsUnit, B> Over<'e, Work<U, B>> {
     /// The span of the declaration identifier of a symbol, a half-open byte range in the unit's text (`declarationSpan`). `None`
-    /// where it is not in the marked function, and for a symbol without one.
+    /// for a symbol without one, and for one whose declaration identifier stands outside the marked function.
     pub fn declaration_span(&self, symbol: SymbolId) -> Option<Span>
         ensures { result ≡ declaration_span (state_of U.tables self.now).sites (state_of U.tables self.now).semantic.bindings.symbols symbol.0 }
     {

@@ -1,4 +1,4 @@
-//! What a builder reads of its unit.
+//! The tables of a unit that a builder reads.
 
 ghost use Rattle.std.specs.Prelude.{◌≡◌};
 ghost use Rattle.rl_builder.specs.Tables.{tables_of};
@@ -10,7 +10,7 @@ use rl_resolver::resolver::ScopeResolver;
 /// The tables of a unit that a builder reads. It is a trait so that the type of a builder names no lifetime but that of its
 /// environment, as closures over the builder need it.
 pub trait ReadsUnit: Drop {
-    /// What the tables say.
+    /// The contents of the tables.
     ghost tables: { Self → Shown };
 
     /// The names of the unit by number.
