@@ -194,7 +194,7 @@ entry_alone entry (p ∷ pairs) block own found = by_test (same_id entry p.0) re
         rw (is, left) (λ i. (id i, same i) ∷ [])
     by_test false is found1 rest = let later : block_at pairs entry ≡ Some block = rw is at found1 in rw is (rest later)
 
--- What is built of a state whose entry block leads nowhere.
+-- The graph that is built of a state whose entry block leads nowhere.
 pub alone_built : (s : State) (block : BasicBlock) (built : Graph) (env : Environment) → HaveOwnIds s.completed → block_at s.completed s.entry ≡ Some block
     → named_ids block.terminal ≡ [] → block.preds ≡ [] → IsBuilt s built env → built ≡ built_of s
 alone_built s block built env own found none unlinked b =

@@ -11,7 +11,7 @@ use Rattle.rl_model.specs.Covered.{IsCovered}
 pub form_is : {view form : Expression} {tree : Syntax} → seen_expression view ≡ tree → view ≡ form → tree ≡ seen_expression form
 form_is seen is = sym seen ∙ ap seen_expression is
 
--- What a view shows of a covered tree is covered.
+-- The tree that a view shows of a covered one is covered.
 pub form_covered : {view form : Expression} {tree : Syntax} → seen_expression view ≡ tree → view ≡ form → IsCovered tree
     → IsCovered (seen_expression form)
 form_covered seen is covered = subst IsCovered (form_is seen is) covered

@@ -220,7 +220,7 @@ env_with s done = record s.env {
   diagnostics = s.env.diagnostics ++ said_from s done;
 }
 
--- the same for a builder that had none
+-- the state after those symbols got identifiers, where none had one before
 abbrev pub state_with : State → List Parameter → State
 state_with s done = record s { env = env_with s done; bindings = pairs_from (length s.env.identifiers) done; used_names = users_of done }
 

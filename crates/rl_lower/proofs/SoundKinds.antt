@@ -170,7 +170,7 @@ outer_places (text ∷ said) = outer_places said
 pub outer_none : (binding : NonLocalBinding) → value_places (values.LoadGlobal binding) ≡ []
 outer_none binding = outer_places (binding_texts binding)
 
--- what is known of the places of arguments
+-- a property of the places of arguments holds of the places of their pieces
 arguments_known : (P : Place → Type 0) (given : List PlaceOrSpread) → All (λ a. P (argument_place a)) given
     → All P (operand_places (operands (gathered argument_pieces given)))
 arguments_known P [] all = All-nil P
