@@ -16,7 +16,7 @@ use Rattle.rl_order.specs.Numbering.{orders_of}
 use Rattle.rl_order.specs.Walk.{IsWhole}
 use Rattle.rl_lower.specs.Values.{temporary}
 use Rattle.rl_machine.specs.Machine.{Graph}
-use Rattle.rl_lower.specs.Begun.{Tables, begun_by, given_by}
+use Rattle.rl_lower.specs.Begun.{FunctionTables, begun_by, given_by}
 use Rattle.rl_lower.specs.Endings.{return_of, with_undefined, closed_off, IsGraphOf}
 use Rattle.rl_lower.specs.Listed.{AreBelow}
 use Rattle.rl_lower.specs.Lowering.{HasRoom, LowersBody}
@@ -28,7 +28,7 @@ use Rattle.rl_semantic.specs.declared.semantic.Semantic.{Semantic}
 use Rattle.rl_lower.proofs.Builds.{closed_below, closed_env, closed_orders, closed_whole}
 
 -- A builder that is given no names, over tables that show the unit, begins with none.
-pub begun_from : (env : Environment) (tables : Tables) (semantic : Semantic) (keys : List SymbolId) (s : State)
+pub begun_from : (env : Environment) (tables : FunctionTables) (semantic : Semantic) (keys : List SymbolId) (s : State)
     → s ≡ started env (record (given_by tables) { semantic = semantic; context_identifiers = keys }) kinds.Block → semantic ≡ tables.semantic → keys ≡ [] → s ≡ begun_by env tables
 begun_from env tables semantic keys s is same none =
     is ∙ ap (λ (m : Semantic). started env (record (given_by tables) { semantic = m; context_identifiers = keys }) kinds.Block) same
@@ -54,7 +54,7 @@ pub orders_call : (names : Names) (begun : State) (body : Syntax) (s s1 s2 : Sta
 orders_call names begun body s s1 s2 place fresh l given placed ended room =
     subst (λ (t : State). 1 + orders_of (graph_of t) < 2 ^ 32) (sym (closed_is s s1 s2 place given placed ended)) (closed_orders names begun body s fresh l room)
 
-pub graph_call : (names : Names) (tables : Tables) (parameters : List Parameter) (env new : Environment) (body : Syntax) (begun s s1 s2 : State) (place : Place) (params : List Param) (built : Graph) → TellDeclarations names tables.semantic → IsFresh begun → begun ≡ with_parameters (begun_by env tables) parameters → params ≡ places_from (length env.identifiers) parameters → LowersBody names body begun s → s1 ≡ with_undefined s → place ≡ temporary s None → s2 ≡ completed_by s1 (return_of None returns.Void place) placeholder
+pub graph_call : (names : Names) (tables : FunctionTables) (parameters : List Parameter) (env new : Environment) (body : Syntax) (begun s s1 s2 : State) (place : Place) (params : List Param) (built : Graph) → TellDeclarations names tables.semantic → IsFresh begun → begun ≡ with_parameters (begun_by env tables) parameters → params ≡ places_from (length env.identifiers) parameters → LowersBody names body begun s → s1 ≡ with_undefined s → place ≡ temporary s None → s2 ≡ completed_by s1 (return_of None returns.Void place) placeholder
     → IsBuilt s2 built new → IsGraphOf names tables parameters body env new params built
 graph_call names tables parameters env new body begun s s1 s2 place params built told fresh is given_params l given placed ended graph = record {
   state = s;

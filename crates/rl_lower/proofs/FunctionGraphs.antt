@@ -36,7 +36,7 @@ use Rattle.rl_machine.specs.Traces.{Store, ValueCont, returned, threw, unset, wa
 use Rattle.rl_model.specs.Meanings.{set_all}
 use Rattle.rl_base.specs.declared.ids.BlockId.{BlockId}
 use Rattle.rl_hir.specs.declared.function.Hir.{Hir}
-use Rattle.rl_lower.specs.Begun.{Tables, begun_by}
+use Rattle.rl_lower.specs.Begun.{FunctionTables, begun_by}
 use Rattle.rl_lower.specs.Endings.{closed_off, with_undefined, IsGraphOf, hir_of}
 use Rattle.rl_lower.specs.Listed.{IsListed}
 use Rattle.rl_lower.specs.Named.{AreDeclaredAt}
@@ -65,20 +65,20 @@ use Rattle.rl_lower.proofs.Finished.{finished_may_order}
 
 -- The builder behind the parameters.
 
-pub begun_fresh : (env : Environment) (tables : Tables) (parameters : List Parameter) → IsFresh (state_with (begun_by env tables) parameters)
+pub begun_fresh : (env : Environment) (tables : FunctionTables) (parameters : List Parameter) → IsFresh (state_with (begun_by env tables) parameters)
 begun_fresh env tables parameters = record { completed = refl; instructions = refl; table = refl; entry = refl; below = omega arith }
 
-pub begun_is : (env : Environment) (tables : Tables) (parameters : List Parameter) → AreApart parameters
+pub begun_is : (env : Environment) (tables : FunctionTables) (parameters : List Parameter) → AreApart parameters
     → with_parameters (begun_by env tables) parameters ≡ state_with (begun_by env tables) parameters
 begun_is env tables parameters distinct = parameters_given (begun_by env tables) parameters refl refl distinct
 
-pub begun_call : (env : Environment) (tables : Tables) (parameters : List Parameter) (s0 begun : State) → AreApart parameters
+pub begun_call : (env : Environment) (tables : FunctionTables) (parameters : List Parameter) (s0 begun : State) → AreApart parameters
     → s0 ≡ begun_by env tables → begun ≡ with_parameters s0 parameters → begun ≡ state_with (begun_by env tables) parameters
 begun_call env tables parameters s0 begun distinct is moved =
     moved ∙ ap (λ (s : State). with_parameters s parameters) is ∙ begun_is env tables parameters distinct
 
 -- The room that is left behind them.
-pub begun_room : (env : Environment) (tables : Tables) (parameters : List Parameter) (more : ℕ)
+pub begun_room : (env : Environment) (tables : FunctionTables) (parameters : List Parameter) (more : ℕ)
     → HasRoom (begun_by env tables) (more + length parameters) → HasRoom (state_with (begun_by env tables) parameters) more
 begun_room env tables parameters more room =
     let given : length (env.identifiers ++ known_from (begun_by env tables) env.next_type parameters) ≡ length env.identifiers + length parameters = length-append env.identifiers (known_from (begun_by env tables) env.next_type parameters) ∙ ap (λ (n : ℕ). length env.identifiers + n) (known_length (begun_by env tables) env.next_type parameters) in
@@ -90,39 +90,39 @@ begun_room env tables parameters more room =
       completed = omega (arith, room.completed);
     }
 
-pub lowered_from : (names : Names) (tables : Tables) (parameters : List Parameter) (body : Syntax) (env new : Environment) (params : List Param) (built : Graph)
+pub lowered_from : (names : Names) (tables : FunctionTables) (parameters : List Parameter) (body : Syntax) (env new : Environment) (params : List Param) (built : Graph)
     (g : IsGraphOf names tables parameters body env new params built) → AreApart parameters
     → LowersBody names body (state_with (begun_by env tables) parameters) g.state
 lowered_from names tables parameters body env new params built g distinct =
     subst (λ (o : State). LowersBody names body o g.state) (begun_is env tables parameters distinct) g.lowers
 
 -- The graph is the entry block alone.
-pub graph_is : (names : Names) (tables : Tables) (parameters : List Parameter) (body : Syntax) (env new : Environment) (params : List Param) (built : Graph)
+pub graph_is : (names : Names) (tables : FunctionTables) (parameters : List Parameter) (body : Syntax) (env new : Environment) (params : List Param) (built : Graph)
     (g : IsGraphOf names tables parameters body env new params built) → AreApart parameters → built ≡ built_of (closed_off g.state)
 graph_is names tables parameters body env new params built g distinct =
     closed_built names (state_with (begun_by env tables) parameters) body g.state (begun_fresh env tables parameters)
     (lowered_from names tables parameters body env new params built g distinct) built new g.graph
 
 -- The state behind the graph.
-graph_keeps : (names : Names) (tables : Tables) (parameters : List Parameter) (body : Syntax) (env new : Environment) (params : List Param) (built : Graph)
+graph_keeps : (names : Names) (tables : FunctionTables) (parameters : List Parameter) (body : Syntax) (env new : Environment) (params : List Param) (built : Graph)
     (g : IsGraphOf names tables parameters body env new params built) → AreApart parameters
     → Preserves names (state_with (begun_by env tables) parameters) (closed_off g.state) (4 * (nodes body + 1) + 2)
 graph_keeps names tables parameters body env new params built g distinct =
     keeps_then (state_with (begun_by env tables) parameters) g.state (closed_off g.state) (4 * (nodes body + 1)) 2 (lowered_from names tables parameters body env new params built g distinct).keeps (keeps_closed g.state)
 
-graph_extends : (names : Names) (tables : Tables) (parameters : List Parameter) (body : Syntax) (env new : Environment) (params : List Param) (built : Graph)
+graph_extends : (names : Names) (tables : FunctionTables) (parameters : List Parameter) (body : Syntax) (env new : Environment) (params : List Param) (built : Graph)
     (g : IsGraphOf names tables parameters body env new params built) → AreApart parameters
     → Extends (state_with (begun_by env tables) parameters) (closed_off g.state)
 graph_extends names tables parameters body env new params built g distinct =
     extends_then (state_with (begun_by env tables) parameters) g.state (closed_off g.state) (lowered_from names tables parameters body env new params built g distinct).blocks.extends (extends_closed g.state)
 
 -- Names are sound, where the environment had no pairs before.
-graph_names : (names : Names) (tables : Tables) (parameters : List Parameter) (body : Syntax) (env new : Environment) (params : List Param) (built : Graph)
+graph_names : (names : Names) (tables : FunctionTables) (parameters : List Parameter) (body : Syntax) (env new : Environment) (params : List Param) (built : Graph)
     (g : IsGraphOf names tables parameters body env new params built) → AreApart parameters → env.pairs ≡ [] → HasSoundNames (closed_off g.state)
 graph_names names tables parameters body env new params built g distinct none =
     (graph_extends names tables parameters body env new params built g distinct).sound (parameters_sound (begun_by env tables) parameters none distinct)
 
-pub identifiers_fit : (names : Names) (tables : Tables) (parameters : List Parameter) (body : Syntax) (env new : Environment) (params : List Param) (built : Graph)
+pub identifiers_fit : (names : Names) (tables : FunctionTables) (parameters : List Parameter) (body : Syntax) (env new : Environment) (params : List Param) (built : Graph)
     → IsGraphOf names tables parameters body env new params built → AreApart parameters
     → HasRoom (begun_by env tables) (4 * (nodes body + 2) + length parameters) → length new.identifiers < 2 ^ 32
 identifiers_fit names tables parameters body env new params built g distinct room =
@@ -133,7 +133,7 @@ identifiers_fit names tables parameters body env new params built g distinct roo
     let same : length new.identifiers ≡ length (closed_off g.state).env.identifiers = ap (λ (e : Environment). length e.identifiers) g.after in
     omega (arith, given, used, free, same)
 
-pub types_fit : (names : Names) (tables : Tables) (parameters : List Parameter) (body : Syntax) (env new : Environment) (params : List Param) (built : Graph)
+pub types_fit : (names : Names) (tables : FunctionTables) (parameters : List Parameter) (body : Syntax) (env new : Environment) (params : List Param) (built : Graph)
     → IsGraphOf names tables parameters body env new params built → AreApart parameters
     → HasRoom (begun_by env tables) (4 * (nodes body + 2) + length parameters) → new.next_type + 1 < 2 ^ 32
 types_fit names tables parameters body env new params built g distinct room =
@@ -143,7 +143,7 @@ types_fit names tables parameters body env new params built g distinct room =
     let same : new.next_type ≡ (closed_off g.state).env.next_type = ap (λ (e : Environment). e.next_type) g.after in
     omega (arith, used, free, same)
 
-pub graph_refused : (names : Names) (tables : Tables) (parameters : List Parameter) (body : Syntax) (env new : Environment) (params : List Param) (built : Graph)
+pub graph_refused : (names : Names) (tables : FunctionTables) (parameters : List Parameter) (body : Syntax) (env new : Environment) (params : List Param) (built : Graph)
     → IsGraphOf names tables parameters body env new params built → AreApart parameters
     → new.diagnostics ≡ env.diagnostics ++ (said_of_parameters names parameters ++ refusals names body)
 graph_refused names tables parameters body env new params built g distinct =
@@ -151,17 +151,17 @@ graph_refused names tables parameters body env new params built g distinct =
     ∙ ap (λ (l : List Diagnostic). env.diagnostics ++ (l ++ refusals names body)) (said_told names (begun_by env tables) parameters g.declared)
 
 -- No completed block has a predecessor.
-graph_unlinked : (names : Names) (tables : Tables) (parameters : List Parameter) (body : Syntax) (env new : Environment) (params : List Param) (built : Graph)
+graph_unlinked : (names : Names) (tables : FunctionTables) (parameters : List Parameter) (body : Syntax) (env new : Environment) (params : List Param) (built : Graph)
     (g : IsGraphOf names tables parameters body env new params built) → AreApart parameters → All (λ p. p.1.preds ≡ []) (closed_off g.state).completed
 graph_unlinked names tables parameters body env new params built g distinct =
     (closed_listed names (state_with (begun_by env tables) parameters) body g.state (begun_fresh env tables parameters) (lowered_from names tables parameters body env new params built g distinct)).predecessors
 
-graph_table : (names : Names) (tables : Tables) (parameters : List Parameter) (body : Syntax) (env new : Environment) (params : List Param) (built : Graph)
+graph_table : (names : Names) (tables : FunctionTables) (parameters : List Parameter) (body : Syntax) (env new : Environment) (params : List Param) (built : Graph)
     (g : IsGraphOf names tables parameters body env new params built) → AreApart parameters → graph_of (closed_off g.state) ≡ (closed_off g.state).completed
 graph_table names tables parameters body env new params built g distinct =
     closed_table names (state_with (begun_by env tables) parameters) body g.state (begun_fresh env tables parameters) (lowered_from names tables parameters body env new params built g distinct)
 
-pub graph_closed : (names : Names) (tables : Tables) (parameters : List Parameter) (body : Syntax) (env new : Environment) (params : List Param) (built : Graph)
+pub graph_closed : (names : Names) (tables : FunctionTables) (parameters : List Parameter) (body : Syntax) (env new : Environment) (params : List Param) (built : Graph)
     → IsGraphOf names tables parameters body env new params built → AreApart parameters → IsClosed (hir_of built)
 graph_closed names tables parameters body env new params built g distinct =
     let last : State = closed_off g.state in
@@ -208,7 +208,7 @@ fewer p (x ∷ xs) = by_test (fewer p xs) (p x)
     by_test rest true = omega (arith, rest)
     by_test rest false = omega (arith, rest)
 
-pub graph_bounded : (names : Names) (tables : Tables) (parameters : List Parameter) (body : Syntax) (env new : Environment) (params : List Param) (built : Graph)
+pub graph_bounded : (names : Names) (tables : FunctionTables) (parameters : List Parameter) (body : Syntax) (env new : Environment) (params : List Param) (built : Graph)
     → IsGraphOf names tables parameters body env new params built → AreApart parameters → (f : HirFunction (List BlockPair)) (count : ℕ)
     → f.body ≡ hir_of built → f.instructions ≡ built.table → nodes body + 2 ≤ count → function_size f ≤ 64 * count
 graph_bounded names tables parameters body env new params built g distinct f count body_is instructions_is counted =
@@ -227,7 +227,7 @@ calls_plain : (xs : List Instruction) → calls_of (map without_order xs) ≡ ca
 calls_plain [] = refl
 calls_plain (x ∷ xs) = ap (λ (l : List (Option Span)). call_at x ++ l) (calls_plain xs)
 
-pub graph_calls_held : (names : Names) (tables : Tables) (parameters : List Parameter) (body : Syntax) (env new : Environment) (params : List Param) (built : Graph)
+pub graph_calls_held : (names : Names) (tables : FunctionTables) (parameters : List Parameter) (body : Syntax) (env new : Environment) (params : List Param) (built : Graph)
     → IsGraphOf names tables parameters body env new params built → AreApart parameters → (f : HirFunction (List BlockPair))
     → f.instructions ≡ built.table → calls_of f.instructions ≡ calls_in body
 graph_calls_held names tables parameters body env new params built g distinct f instructions_is =
@@ -237,7 +237,7 @@ graph_calls_held names tables parameters body env new params built g distinct f 
     ∙ Rattle.rl_lower.proofs.Calls.calls_same g.state.table _ refl ∙ (lowered_from names tables parameters body env new params built g distinct).calls
 
 -- The calls that its blocks list.
-pub graph_blocks_held : (names : Names) (tables : Tables) (parameters : List Parameter) (body : Syntax) (env new : Environment) (params : List Param) (built : Graph)
+pub graph_blocks_held : (names : Names) (tables : FunctionTables) (parameters : List Parameter) (body : Syntax) (env new : Environment) (params : List Param) (built : Graph)
     → IsGraphOf names tables parameters body env new params built → AreApart parameters → (f : HirFunction (List BlockPair)) → f.body ≡ hir_of built
     → f.instructions ≡ built.table → graph_calls f.instructions f.body.blocks ≡ live_in_body body
 graph_blocks_held names tables parameters body env new params built g distinct f body_is instructions_is =
@@ -274,7 +274,7 @@ lower_room f body names parameters s w is room =
     let counted : nodes body + 2 + 2 * length (parameters_of names f) ≤ nodes f = function_nodes names f body w in
     room_less s (4 * nodes f) (4 * (nodes body + 2) + length parameters) (omega (arith, same, counted)) room
 
-pub lower_refused : (f body : Syntax) (names : Names) (tables : Tables) (parameters : List Parameter) (env new : Environment) (params : List Param) (built : Graph)
+pub lower_refused : (f body : Syntax) (names : Names) (tables : FunctionTables) (parameters : List Parameter) (env new : Environment) (params : List Param) (built : Graph)
     → IsFunction f body → DeclaresAll names (params_in f) → parameters ≡ parameters_of names f → AreApart parameters
     → IsGraphOf names tables parameters body env new params built → new.diagnostics ≡ env.diagnostics ++ refusals_of names f
 lower_refused f body names tables parameters env new params built w declared is distinct g =
@@ -282,7 +282,7 @@ lower_refused f body names tables parameters env new params built w declared is 
     ∙ ap (λ (l : List Parameter). env.diagnostics ++ (said_of_parameters names l ++ refusals names body)) is
     ∙ ap (λ (l : List Diagnostic). env.diagnostics ++ l) (sym (function_refusals names f body w declared))
 
-lower_runs_by : (f body : Syntax) (names : Names) (tables : Tables) (parameters : List Parameter) (env new : Environment) (params : List Param) (built : Graph)
+lower_runs_by : (f body : Syntax) (names : Names) (tables : FunctionTables) (parameters : List Parameter) (env new : Environment) (params : List Param) (built : Graph)
     → IsFunction f body → DeclaresAll names (params_in f) → parameters ≡ parameters_of names f → AreApart parameters → env.pairs ≡ []
     → IsGraphOf names tables parameters body env new params built → refusals_of names f ≡ []
     → (h : HirFunction (List BlockPair)) (pairs : List Pair) → pairs ≡ new.pairs → h.body ≡ hir_of built → h.instructions ≡ built.table → h.params ≡ params
@@ -333,7 +333,7 @@ lower_runs_by f body names tables given env new params built w declared is disti
         ((graph_extends names tables parameters body env new params built graph apart).names.kept p.symbol.0 (length env.identifiers + place)
         (sym (sound.same p.symbol.0) ∙ pair_found (length env.identifiers) parameters place p apart there))
 
-pub lower_same_runs : (f body : Syntax) (names : Names) (tables : Tables) (parameters : List Parameter) (env new : Environment) (params : List Param) (built : Graph)
+pub lower_same_runs : (f body : Syntax) (names : Names) (tables : FunctionTables) (parameters : List Parameter) (env new : Environment) (params : List Param) (built : Graph)
     → IsFunction f body → DeclaresAll names (params_in f) → parameters ≡ parameters_of names f → AreApart parameters → env.pairs ≡ []
     → IsGraphOf names tables parameters body env new params built → refusals_of names f ≡ []
     → (h : HirFunction (List BlockPair)) (pairs : List Pair) → pairs ≡ new.pairs → h.body ≡ hir_of built → h.instructions ≡ built.table → h.params ≡ params
@@ -341,7 +341,7 @@ pub lower_same_runs : (f body : Syntax) (names : Names) (tables : Tables) (param
 lower_same_runs f body names tables parameters env new params built w declared is distinct none g supported h pairs final body_is instructions_is params_is start arguments answers =
     lower_runs_by f body names tables parameters env new params built w declared is distinct none g supported h pairs final body_is instructions_is params_is waiting start arguments answers
 
-pub lower_never_stuck : (f body : Syntax) (names : Names) (tables : Tables) (parameters : List Parameter) (env new : Environment) (params : List Param) (built : Graph)
+pub lower_never_stuck : (f body : Syntax) (names : Names) (tables : FunctionTables) (parameters : List Parameter) (env new : Environment) (params : List Param) (built : Graph)
     → IsFunction f body → DeclaresAll names (params_in f) → parameters ≡ parameters_of names f → AreApart parameters → env.pairs ≡ []
     → IsGraphOf names tables parameters body env new params built → refusals_of names f ≡ []
     → (h : HirFunction (List BlockPair)) (pairs : List Pair) → pairs ≡ new.pairs → h.body ≡ hir_of built → h.instructions ≡ built.table → h.params ≡ params
@@ -350,20 +350,20 @@ lower_never_stuck f body names tables parameters env new params built w declared
     lower_runs_by f body names tables parameters env new params built w declared is distinct none g supported h pairs final body_is instructions_is params_is stuck start arguments answers
     ∙ sym (lower_same_runs f body names tables parameters env new params built w declared is distinct none g supported h pairs final body_is instructions_is params_is start arguments answers)
 
-pub lower_bounded : (f body : Syntax) (names : Names) (tables : Tables) (parameters : List Parameter) (env new : Environment) (params : List Param) (built : Graph)
+pub lower_bounded : (f body : Syntax) (names : Names) (tables : FunctionTables) (parameters : List Parameter) (env new : Environment) (params : List Param) (built : Graph)
     → IsFunction f body → AreApart parameters → IsGraphOf names tables parameters body env new params built
     → (h : HirFunction (List BlockPair)) → h.body ≡ hir_of built → h.instructions ≡ built.table → function_size h ≤ 64 * nodes f
 lower_bounded f body names tables parameters env new params built w distinct g h body_is instructions_is =
     let counted : nodes body + 2 + 2 * length (parameters_of names f) ≤ nodes f = function_nodes names f body w in
     graph_bounded names tables parameters body env new params built g distinct h (nodes f) body_is instructions_is (omega (arith, counted))
 
-pub lower_functions : (names : Names) (tables : Tables) (parameters : List Parameter) (body : Syntax) (env new : Environment) (params : List Param) (built : Graph)
+pub lower_functions : (names : Names) (tables : FunctionTables) (parameters : List Parameter) (body : Syntax) (env new : Environment) (params : List Param) (built : Graph)
     → AreApart parameters → IsGraphOf names tables parameters body env new params built → new.functions ≡ env.functions
 lower_functions names tables parameters body env new params built distinct g =
     ap (λ (e : Environment). e.functions) g.after ∙ (graph_keeps names tables parameters body env new params built g distinct).functions
 
 -- The pairs behind the graph and one identifier more, that of the returned place.
-pub lower_pairs : (names : Names) (tables : Tables) (parameters : List Parameter) (body : Syntax) (env new last : Environment) (params : List Param)
+pub lower_pairs : (names : Names) (tables : FunctionTables) (parameters : List Parameter) (body : Syntax) (env new last : Environment) (params : List Param)
     (built : Graph) (span : Option Span) → AreApart parameters → All (λ p. names.name p.symbol.0 ≡ p.name) parameters → env.pairs ≡ []
     → IsGraphOf names tables parameters body env new params built → last ≡ one_identifier_more new span → ArePairs names last.identifiers last.pairs
 lower_pairs names tables parameters body env new last params built span distinct own none g more =
@@ -374,7 +374,7 @@ lower_pairs names tables parameters body env new last params built span distinct
     ((graph_keeps names tables parameters body env new params built g distinct).pairs (parameters_pairs (begun_by env tables) names parameters none own))))
 
 -- The identifiers of parameters there.
-pub lower_given : (names : Names) (tables : Tables) (parameters : List Parameter) (body : Syntax) (env new last : Environment) (params : List Param)
+pub lower_given : (names : Names) (tables : FunctionTables) (parameters : List Parameter) (body : Syntax) (env new last : Environment) (params : List Param)
     (built : Graph) (span : Option Span) → AreApart parameters → env.pairs ≡ []
     → IsGraphOf names tables parameters body env new params built → AreDeclaredAt tables.semantic parameters → last ≡ one_identifier_more new span
     → AreGiven last.identifiers last.pairs (length env.identifiers) env.next_type parameters
@@ -384,12 +384,12 @@ lower_given names tables parameters body env new last params built span distinct
     (λ identifier known is named. keeps_named (closed_off g.state).env.identifiers _ identifier known
     ((graph_keeps names tables parameters body env new params built g distinct).identifiers identifier known is named) named))
 
-pub lower_fn_type : (names : Names) (tables : Tables) (parameters : List Parameter) (body : Syntax) (env new : Environment) (params : List Param) (built : Graph)
+pub lower_fn_type : (names : Names) (tables : FunctionTables) (parameters : List Parameter) (body : Syntax) (env new : Environment) (params : List Param) (built : Graph)
     → AreApart parameters → IsGraphOf names tables parameters body env new params built → new.fn_type ≡ env.fn_type
 lower_fn_type names tables parameters body env new params built distinct g =
     ap (λ (e : Environment). e.fn_type) g.after ∙ (graph_keeps names tables parameters body env new params built g distinct).fn_type
 
-pub lower_held : (f body : Syntax) (names : Names) (tables : Tables) (parameters : List Parameter) (env new : Environment) (params : List Param) (built : Graph)
+pub lower_held : (f body : Syntax) (names : Names) (tables : FunctionTables) (parameters : List Parameter) (env new : Environment) (params : List Param) (built : Graph)
     → IsFunction f body → AreApart parameters → IsGraphOf names tables parameters body env new params built
     → (h : HirFunction (List BlockPair)) → h.body ≡ hir_of built → h.instructions ≡ built.table → HoldsCalls f h
 lower_held f body names tables parameters env new params built w distinct g h body_is instructions_is = record {

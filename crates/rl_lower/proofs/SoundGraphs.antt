@@ -36,7 +36,7 @@ use Rattle.rl_model.specs.WellFormed.{AreKnown, HasKnownPlaces, instruction_plac
 use Rattle.rl_names.specs.Functions.{name_in, parameters_of}
 use Rattle.rl_names.specs.Names.{Names}
 use Rattle.rl_names.specs.declared.parameters.Parameter.{Parameter}
-use Rattle.rl_lower.specs.Begun.{Tables, begun_by}
+use Rattle.rl_lower.specs.Begun.{FunctionTables, begun_by}
 use Rattle.rl_lower.specs.Endings.{closed_off, return_of, with_undefined, hir_of}
 use Rattle.rl_lower.specs.Named.{AreDeclaredAt, declared_span}
 use Rattle.rl_lower.specs.Lowering.{CountersGrowBy, HasRoom, LowersBody}
@@ -87,23 +87,23 @@ params_writable base (x ∷ parameters) small fits =
 
 -- a builder behind the parameters, and one that was closed off
 
-abbrev begun : Environment → Tables → List Parameter → State
+abbrev begun : Environment → FunctionTables → List Parameter → State
 begun env tables parameters = state_with (begun_by env tables) parameters
 
-begun_longer : (env : Environment) (tables : Tables) (parameters : List Parameter)
+begun_longer : (env : Environment) (tables : FunctionTables) (parameters : List Parameter)
     → length (env.identifiers ++ known_from (begun_by env tables) env.next_type parameters) ≡ length env.identifiers + length parameters
 begun_longer env tables parameters =
     length-append env.identifiers (known_from (begun_by env tables) env.next_type parameters)
     ∙ ap (λ (n : ℕ). length env.identifiers + n) (known_length (begun_by env tables) env.next_type parameters)
 
-begun_known : (env : Environment) (tables : Tables) (parameters : List Parameter) → HasKnownParts (begun env tables parameters)
+begun_known : (env : Environment) (tables : FunctionTables) (parameters : List Parameter) → HasKnownParts (begun env tables parameters)
 begun_known env tables parameters = record {
   table = All-nil (λ (i : Instruction). AreKnown (length (begun env tables parameters).env.identifiers) (instruction_places i));
   terminals = All-nil (λ (b : BlockPair). AreKnown (length (begun env tables parameters).env.identifiers)
       (terminal_places b.1.terminal));
 }
 
-begun_writable : (env : Environment) (tables : Tables) (parameters : List Parameter) → HasSmallCounters (begun env tables parameters)
+begun_writable : (env : Environment) (tables : FunctionTables) (parameters : List Parameter) → HasSmallCounters (begun env tables parameters)
     → HasWritableParts (begun env tables parameters)
 begun_writable env tables parameters fits = record {
   table = All-nil (λ (i : Instruction). IsWritable (listing.instruction i));
@@ -112,7 +112,7 @@ begun_writable env tables parameters fits = record {
   listed = All-nil (λ (id : InstructionId). id.0 ≤ largest);
 }
 
-begun_identifiers : (env : Environment) (tables : Tables) (parameters : List Parameter) → AreDeclaredAt tables.semantic parameters → All IsSmallParameter parameters
+begun_identifiers : (env : Environment) (tables : FunctionTables) (parameters : List Parameter) → AreDeclaredAt tables.semantic parameters → All IsSmallParameter parameters
     → HasSmallCounters (begun env tables parameters) → AreWritableIdentifiers env.identifiers
     → AreWritableIdentifiers (begun env tables parameters).env.identifiers
 begun_identifiers env tables parameters spanned small fits w =
@@ -128,7 +128,7 @@ pairs_writable base (x ∷ parameters) small fits =
     ((lit< tt, refl), (omega (arith, here), (omega (arith, fits), tt)))
     (pairs_writable (base + 1) parameters (All-tail HasSmallSymbol x parameters small) (omega (arith, fits)))
 
-begun_pairs : (env : Environment) (tables : Tables) (parameters : List Parameter) → All HasSmallSymbol parameters
+begun_pairs : (env : Environment) (tables : FunctionTables) (parameters : List Parameter) → All HasSmallSymbol parameters
     → HasSmallCounters (begun env tables parameters) → AreWritablePairs env.pairs → AreWritablePairs (begun env tables parameters).env.pairs
 begun_pairs env tables parameters small fits w =
     All-append (λ (p : Pair). IsWritable (listing.pair p)) env.pairs (pairs_from (length env.identifiers) parameters) w
@@ -151,7 +151,7 @@ small_behind old new more uses room = record {
 }
 
 -- the graph of a function whose body was lowered and closed off
-pub graph_sound : (tables : Tables) (parameters : List Parameter) (body : Syntax) (env new : Environment) (s : State) (more : ℕ) (built : Graph)
+pub graph_sound : (tables : FunctionTables) (parameters : List Parameter) (body : Syntax) (env new : Environment) (s : State) (more : ℕ) (built : Graph)
     → StaysSound (IsSmallTree body) (begun env tables parameters) s → CountersGrowBy (begun env tables parameters) (closed_off s) more
     → HasRoom (begun env tables parameters) more → s.entry ≡ (begun env tables parameters).entry
     → 1 + orders_of (closed_off s).completed < 2 ^ 32 → AreDeclaredAt tables.semantic parameters → built ≡ built_of (closed_off s)
@@ -186,7 +186,7 @@ graph_sound tables parameters body env new s more built sound uses room entry or
     at_entry = ap (λ (id : BlockId). id.0) entry
 
 -- as `graph_sound`, from the states that the code goes through
-pub graph_sound_call : (names : Names) (tables : Tables) (parameters : List Parameter) (body : Syntax) (env new : Environment) (before s s1 s2 : State) (p : Place)
+pub graph_sound_call : (names : Names) (tables : FunctionTables) (parameters : List Parameter) (body : Syntax) (env new : Environment) (before s s1 s2 : State) (p : Place)
     (built : Graph) → before ≡ begun env tables parameters → AreDeclaredAt tables.semantic parameters → LowersBody names body before s → StaysSound (IsSmallTree body) before s
     → HasRoom (begun env tables parameters) (4 * (nodes body + 2)) → s1 ≡ with_undefined s → p ≡ temporary s None
     → s2 ≡ completed_by s1 (return_of None returns.Void p) placeholder → IsBuilt s2 built new

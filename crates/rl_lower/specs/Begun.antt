@@ -10,16 +10,17 @@ use Rattle.rl_names.specs.declared.names.FunctionNames.{FunctionNames}
 use Rattle.rl_semantic.specs.declared.semantic.Semantic.{Semantic}
 
 -- The tables by which the marked function is lowered: those of its unit, its scope, and its index.
-pub record Tables : Type 0 where
+pub record FunctionTables : Type 0 where
   pub semantic : Semantic
   pub scope : ScopeId
   pub sites : List Site
 
-abbrev pub tables_of : FunctionNames → (scope : ScopeId) → (sites : List Site) → Tables
-tables_of names scope sites = record { semantic = names.resolver.now.semantic.now; scope = scope; sites = sites }
+-- The tables that `names` reads, with the scope and the index.
+abbrev pub function_tables : FunctionNames → (scope : ScopeId) → (sites : List Site) → FunctionTables
+function_tables names scope sites = record { semantic = names.resolver.now.semantic.now; scope = scope; sites = sites }
 
 -- The parts that its builder is given. No function around it has names or captures.
-abbrev pub given_by : Tables → Given
+abbrev pub given_by : FunctionTables → Given
 given_by t = record {
   semantic = t.semantic;
   sites = t.sites;
@@ -32,5 +33,5 @@ given_by t = record {
 }
 
 -- Its first state.
-abbrev pub begun_by : Environment → Tables → State
+abbrev pub begun_by : Environment → FunctionTables → State
 begun_by env t = started env (given_by t) kinds.Block

@@ -16,7 +16,7 @@ use Rattle.rl_builder.specs.Build.{IsBuilt}
 use Rattle.rl_builder.specs.declared.graph.Built.{Built}
 use Rattle.rl_hir.specs.Blocks.{Pair as BlockPair}
 use Rattle.rl_hir.specs.declared.function.Hir.{Hir}
-use Rattle.rl_lower.specs.Begun.{Tables, begun_by}
+use Rattle.rl_lower.specs.Begun.{FunctionTables, begun_by}
 use Rattle.rl_lower.specs.Named.{TellDeclarations}
 use Rattle.rl_machine.specs.Machine.{Graph}
 use Rattle.rl_syntax.specs.Syntax.{Syntax}
@@ -54,7 +54,7 @@ graph_of built = record { blocks = built.hir.blocks; table = built.instructions;
 
 -- `built` is the graph of a builder that gave the parameters their identifiers, lowered the body, and was closed off. `old`
 -- and `new` are the environment before and after it.
-pub record IsGraphOf (names : Names) (tables : Tables) (parameters : List Parameter) (body : Syntax) (old new : Environment) (params : List Param) (built : Graph) : Type 0 where
+pub record IsGraphOf (names : Names) (tables : FunctionTables) (parameters : List Parameter) (body : Syntax) (old new : Environment) (params : List Param) (built : Graph) : Type 0 where
   pub state : State
   pub declared : TellDeclarations names tables.semantic
   pub places : params ≡ places_from (length old.identifiers) parameters

@@ -12,7 +12,7 @@ ghost use Rattle.rl_builder.specs.Builder.{state_of};
 ghost use Rattle.rl_grammar.specs.Fields.{maybe};
 ghost use Rattle.rl_hir.specs.Listing.{function as listed_function};
 ghost use Rattle.rl_hir.specs.Numbered.{IsNumbered};
-ghost use Rattle.rl_lower.specs.Begun.{Tables, begun_by, tables_of};
+ghost use Rattle.rl_lower.specs.Begun.{FunctionTables, begun_by, function_tables};
 ghost use Rattle.rl_lower.specs.Endings.{IsGraphOf, graph_of};
 ghost use Rattle.rl_lower.specs.Lowering.{HasRoom, LowersBody};
 ghost use Rattle.rl_lower.specs.Named.{IsNamed};
@@ -228,8 +228,8 @@ fn lower_graph<U: ReadsUnit>(
     requires locals { AreLocals (seen names.now) parameters.now }
     requires apart { AreApart parameters.now }
     requires covered { IsCovered (seen_arrow_body body) }
-    requires room { HasRoom (begun_by env.old (tables_of names.now scope (U.tables unit).sites)) (4 * (nodes (seen_arrow_body body) + 2) + length parameters.now) }
-    ensures graph { IfOk result (λ graph. IsGraphOf (seen names.now) (tables_of names.now scope (U.tables unit).sites) parameters.now (seen_arrow_body body.entry) env.old env.new graph.params (graph_of graph.built)) }
+    requires room { HasRoom (begun_by env.old (function_tables names.now scope (U.tables unit).sites)) (4 * (nodes (seen_arrow_body body) + 2) + length parameters.now) }
+    ensures graph { IfOk result (λ graph. IsGraphOf (seen names.now) (function_tables names.now scope (U.tables unit).sites) parameters.now (seen_arrow_body body.entry) env.old env.new graph.params (graph_of graph.built)) }
     ensures sound { IfOk result (λ graph. IsSoundGraph parameters.now (seen_arrow_body body.entry) env.old env.new (graph_of graph.built)) }
     ensures goes_on { OnOk result (first_named (λ name. is_reserved name) parameters.now ≡ None) }
     ensures stopped { IfErr result (λ e. (d : Said) → e ≡ Stop.Diagnostic d → Some d ≡ stop_at row.S1 (first_named (λ name. is_reserved name) parameters.now) None) }
@@ -315,7 +315,7 @@ pub fn lower(
     requires covered { IsCoveredFunction (seen_function_node function) }
     requires body { body_in (seen_function_node function) ≢ Absent }
     requires fresh { env.old.pairs ≡ [] }
-    requires room { (tables : Tables) → HasRoom (begun_by env.old tables) (4 * nodes (seen_function_node function)) }
+    requires room { (tables : FunctionTables) → HasRoom (begun_by env.old tables) (4 * nodes (seen_function_node function)) }
     ensures goes_on { OnOk result (stop_of (seen names.now) (seen_function_node function.entry) ≡ None) }
     ensures stopped { IfErr result (λ e. (d : Said) → e ≡ Stop.Diagnostic d → stop_of (seen names.now) (seen_function_node function.entry) ≡ Some d) }
     ensures refused { OnOk result (env.new.diagnostics ≡ env.old.diagnostics ++ refusals_of (seen names.now) (seen_function_node function.entry)) }

@@ -13,7 +13,7 @@ use Rattle.rl_hir.specs.Blocks.{Pair as BlockPair}
 use Rattle.rl_hir.specs.declared.function.HirFunction.{HirFunction}
 use Rattle.rl_hir.specs.declared.function.InnerFunction.{InnerFunction}
 use Rattle.rl_model.specs.Size.{function_size, inner_size}
-use Rattle.rl_lower.specs.Begun.{Tables, begun_by}
+use Rattle.rl_lower.specs.Begun.{FunctionTables, begun_by}
 use Rattle.rl_lower.specs.Lowering.{HasRoom}
 
 pub unit_nodes : (bytes : List ℕ) (u : Syntax) → Spells bytes u → (IsTooLarge bytes → ⊥) → nodes u ≤ 65536
@@ -36,7 +36,7 @@ alone_bounded u f h found few inner none =
     omega (arith, few, nothing, inside)
 
 -- An environment in which nothing was made leaves room.
-pub fresh_room : (env : Environment) (n : ℕ) → env.next_block ≡ 0 → env.next_type ≡ 0 → env.identifiers ≡ [] → n ≤ 65536 → (tables : Tables) → HasRoom (begun_by env tables) (4 * n)
+pub fresh_room : (env : Environment) (n : ℕ) → env.next_block ≡ 0 → env.next_type ≡ 0 → env.identifiers ≡ [] → n ≤ 65536 → (tables : FunctionTables) → HasRoom (begun_by env tables) (4 * n)
 fresh_room env n blocks types identifiers few tables =
     let none : length env.identifiers ≡ 0 = ap (λ (l : List Identifier). length l) identifiers in
     record {

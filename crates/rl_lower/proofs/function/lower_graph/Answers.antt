@@ -4,7 +4,7 @@ use Rattle.rl_syntax.specs.Syntax.{nodes}
 use Rattle.rl_ast.specs.FunctionViews.{seen_arrow_body}
 use Rattle.rl_names.specs.Seen.{seen}
 use Rattle.rl_builder.specs.Builder.{State}
-use Rattle.rl_lower.specs.Begun.{begun_by, tables_of}
+use Rattle.rl_lower.specs.Begun.{begun_by, function_tables}
 use Rattle.rl_hir.specs.declared.environment.Environment.{Environment}
 use Rattle.rl_lower.specs.Endings.{graph_of, IsGraphOf}
 use Rattle.rl_lower.specs.Sound.{IsSoundGraph}
@@ -22,40 +22,40 @@ use Rattle.rl_lower.proofs.SoundGraphs.{graph_sound_call}
 use Rattle.rl_lower.proofs.function.lower_graph.Goals as goal
 
 pub lower_parameters-requires-clause-nothing : goal.lower_parameters-requires-clause-nothing
-lower_parameters-requires-clause-nothing g c = ap (λ (s : State). s.bindings) (begun_from _ (tables_of c.args.names.now c.args.scope (g.U.ReadsUnit.tables c.args.unit).sites) _ _ _ c.in_ok-builder.ensures.state c.requires.tables (nil_from_length _ c.new.ensures.len))
+lower_parameters-requires-clause-nothing g c = ap (λ (s : State). s.bindings) (begun_from _ (function_tables c.args.names.now c.args.scope (g.U.ReadsUnit.tables c.args.unit).sites) _ _ _ c.in_ok-builder.ensures.state c.requires.tables (nil_from_length _ c.new.ensures.len))
 
 pub lower_parameters-requires-clause-room : goal.lower_parameters-requires-clause-room
-lower_parameters-requires-clause-room g c = subst (λ (s : State). HasRoom s (length c.args.parameters.now)) (sym (begun_from _ (tables_of c.args.names.now c.args.scope (g.U.ReadsUnit.tables c.args.unit).sites) _ _ _ c.in_ok-builder.ensures.state c.requires.tables (nil_from_length _ c.new.ensures.len))) (room_less _ _ (length c.args.parameters.now) (omega arith) c.requires.room)
+lower_parameters-requires-clause-room g c = subst (λ (s : State). HasRoom s (length c.args.parameters.now)) (sym (begun_from _ (function_tables c.args.names.now c.args.scope (g.U.ReadsUnit.tables c.args.unit).sites) _ _ _ c.in_ok-builder.ensures.state c.requires.tables (nil_from_length _ c.new.ensures.len))) (room_less _ _ (length c.args.parameters.now) (omega arith) c.requires.room)
 
 pub lower_body-requires-clause-names : goal.lower_body-requires-clause-names
 lower_body-requires-clause-names g c =
-    let begun = begun_call _ _ _ _ _ c.requires.apart (begun_from _ (tables_of c.args.names.now c.args.scope (g.U.ReadsUnit.tables c.args.unit).sites) _ _ _ c.in_ok-builder.ensures.state c.requires.tables (nil_from_length _ c.new.ensures.len)) c.in_ok-params.ensures.state in
+    let begun = begun_call _ _ _ _ _ c.requires.apart (begun_from _ (function_tables c.args.names.now c.args.scope (g.U.ReadsUnit.tables c.args.unit).sites) _ _ _ c.in_ok-builder.ensures.state c.requires.tables (nil_from_length _ c.new.ensures.len)) c.in_ok-params.ensures.state in
     subst (λ (s : State). IsNamed (seen c.args.names.now) s) (sym begun)
-    (parameters_named (begun_by c.args.env.now (tables_of c.args.names.now c.args.scope (g.U.ReadsUnit.tables c.args.unit).sites)) (seen c.args.names.now) c.args.parameters.now c.requires.texts refl (λ symbol. refl) c.requires.apart c.requires.locals)
+    (parameters_named (begun_by c.args.env.now (function_tables c.args.names.now c.args.scope (g.U.ReadsUnit.tables c.args.unit).sites)) (seen c.args.names.now) c.args.parameters.now c.requires.texts refl (λ symbol. refl) c.requires.apart c.requires.locals)
 
 pub lower_body-requires-clause-room : goal.lower_body-requires-clause-room
 lower_body-requires-clause-room g c =
-    let begun = begun_call _ _ _ _ _ c.requires.apart (begun_from _ (tables_of c.args.names.now c.args.scope (g.U.ReadsUnit.tables c.args.unit).sites) _ _ _ c.in_ok-builder.ensures.state c.requires.tables (nil_from_length _ c.new.ensures.len)) c.in_ok-params.ensures.state in
+    let begun = begun_call _ _ _ _ _ c.requires.apart (begun_from _ (function_tables c.args.names.now c.args.scope (g.U.ReadsUnit.tables c.args.unit).sites) _ _ _ c.in_ok-builder.ensures.state c.requires.tables (nil_from_length _ c.new.ensures.len)) c.in_ok-params.ensures.state in
     let count = nodes (seen_arrow_body c.args.body) in
     subst (λ (s : State). HasRoom s (4 * (count + 1))) (sym begun)
     (room_less _ (4 * (count + 2)) (4 * (count + 1)) (omega arith) (begun_room _ _ _ (4 * (count + 2)) c.requires.room))
 
 pub lower_value_to_temporary-requires-clause-handlers : goal.lower_value_to_temporary-requires-clause-handlers
 lower_value_to_temporary-requires-clause-handlers g c =
-    let begun = begun_call _ _ _ _ _ c.requires.apart (begun_from _ (tables_of c.args.names.now c.args.scope (g.U.ReadsUnit.tables c.args.unit).sites) _ _ _ c.in_ok-builder.ensures.state c.requires.tables (nil_from_length _ c.new.ensures.len)) c.in_ok-params.ensures.state in
+    let begun = begun_call _ _ _ _ _ c.requires.apart (begun_from _ (function_tables c.args.names.now c.args.scope (g.U.ReadsUnit.tables c.args.unit).sites) _ _ _ c.in_ok-builder.ensures.state c.requires.tables (nil_from_length _ c.new.ensures.len)) c.in_ok-params.ensures.state in
     (c.in_ok-lower_body.ensures.lowered.keeps.named (subst (λ (s : State). IsNamed (seen c.args.names.now) s) (sym begun)
-    (parameters_named (begun_by c.args.env.now (tables_of c.args.names.now c.args.scope (g.U.ReadsUnit.tables c.args.unit).sites)) (seen c.args.names.now) c.args.parameters.now c.requires.texts refl (λ symbol. refl) c.requires.apart c.requires.locals))).handlers
+    (parameters_named (begun_by c.args.env.now (function_tables c.args.names.now c.args.scope (g.U.ReadsUnit.tables c.args.unit).sites)) (seen c.args.names.now) c.args.parameters.now c.requires.texts refl (λ symbol. refl) c.requires.apart c.requires.locals))).handlers
 
 pub lower_value_to_temporary-requires-clause-room : goal.lower_value_to_temporary-requires-clause-room
 lower_value_to_temporary-requires-clause-room g c =
-    let begun = begun_call _ _ _ _ _ c.requires.apart (begun_from _ (tables_of c.args.names.now c.args.scope (g.U.ReadsUnit.tables c.args.unit).sites) _ _ _ c.in_ok-builder.ensures.state c.requires.tables (nil_from_length _ c.new.ensures.len)) c.in_ok-params.ensures.state in
+    let begun = begun_call _ _ _ _ _ c.requires.apart (begun_from _ (function_tables c.args.names.now c.args.scope (g.U.ReadsUnit.tables c.args.unit).sites) _ _ _ c.in_ok-builder.ensures.state c.requires.tables (nil_from_length _ c.new.ensures.len)) c.in_ok-params.ensures.state in
     let count = nodes (seen_arrow_body c.args.body) in
     room_behind _ _ (4 * (count + 1)) 1 (4 * (count + 2)) (omega arith) c.in_ok-lower_body.ensures.lowered.keeps.uses
     (subst (λ (s : State). HasRoom s (4 * (count + 2))) (sym begun) (begun_room _ _ _ (4 * (count + 2)) c.requires.room))
 
 pub terminate-requires : goal.terminate-requires
 terminate-requires g c =
-    let begun = begun_call _ _ _ _ _ c.requires.apart (begun_from _ (tables_of c.args.names.now c.args.scope (g.U.ReadsUnit.tables c.args.unit).sites) _ _ _ c.in_ok-builder.ensures.state c.requires.tables (nil_from_length _ c.new.ensures.len)) c.in_ok-params.ensures.state in
+    let begun = begun_call _ _ _ _ _ c.requires.apart (begun_from _ (function_tables c.args.names.now c.args.scope (g.U.ReadsUnit.tables c.args.unit).sites) _ _ _ c.in_ok-builder.ensures.state c.requires.tables (nil_from_length _ c.new.ensures.len)) c.in_ok-params.ensures.state in
     let count = nodes (seen_arrow_body c.args.body) in
     let room = room_behind _ _ (4 * (count + 1)) 1 (4 * (count + 2)) (omega arith) c.in_ok-lower_body.ensures.lowered.keeps.uses
     (subst (λ (s : State). HasRoom s (4 * (count + 2))) (sym begun) (begun_room _ _ _ (4 * (count + 2)) c.requires.room)) in
@@ -64,21 +64,21 @@ terminate-requires g c =
 
 pub build-requires-clause-whole : goal.build-requires-clause-whole
 build-requires-clause-whole g c =
-    let begun = begun_call _ _ _ _ _ c.requires.apart (begun_from _ (tables_of c.args.names.now c.args.scope (g.U.ReadsUnit.tables c.args.unit).sites) _ _ _ c.in_ok-builder.ensures.state c.requires.tables (nil_from_length _ c.new.ensures.len)) c.in_ok-params.ensures.state in
+    let begun = begun_call _ _ _ _ _ c.requires.apart (begun_from _ (function_tables c.args.names.now c.args.scope (g.U.ReadsUnit.tables c.args.unit).sites) _ _ _ c.in_ok-builder.ensures.state c.requires.tables (nil_from_length _ c.new.ensures.len)) c.in_ok-params.ensures.state in
     whole_call (seen c.args.names.now) _ (seen_arrow_body c.args.body) _ _ _ _
     (subst IsFresh (sym begun) (begun_fresh c.args.env.now _ c.args.parameters.now))
     c.in_ok-lower_body.ensures.lowered c.in_ok-value.ensures.state c.in_ok-value.ensures.place c.in_ok-terminate.ensures.state
 
 pub build-requires-clause-listed : goal.build-requires-clause-listed
 build-requires-clause-listed g c =
-    let begun = begun_call _ _ _ _ _ c.requires.apart (begun_from _ (tables_of c.args.names.now c.args.scope (g.U.ReadsUnit.tables c.args.unit).sites) _ _ _ c.in_ok-builder.ensures.state c.requires.tables (nil_from_length _ c.new.ensures.len)) c.in_ok-params.ensures.state in
+    let begun = begun_call _ _ _ _ _ c.requires.apart (begun_from _ (function_tables c.args.names.now c.args.scope (g.U.ReadsUnit.tables c.args.unit).sites) _ _ _ c.in_ok-builder.ensures.state c.requires.tables (nil_from_length _ c.new.ensures.len)) c.in_ok-params.ensures.state in
     listed_call (seen c.args.names.now) _ (seen_arrow_body c.args.body) _ _ _ _
     (subst IsFresh (sym begun) (begun_fresh c.args.env.now _ c.args.parameters.now))
     c.in_ok-lower_body.ensures.lowered c.in_ok-value.ensures.state c.in_ok-value.ensures.place c.in_ok-terminate.ensures.state
 
 pub build-requires-clause-room : goal.build-requires-clause-room
 build-requires-clause-room g c =
-    let begun = begun_call _ _ _ _ _ c.requires.apart (begun_from _ (tables_of c.args.names.now c.args.scope (g.U.ReadsUnit.tables c.args.unit).sites) _ _ _ c.in_ok-builder.ensures.state c.requires.tables (nil_from_length _ c.new.ensures.len)) c.in_ok-params.ensures.state in
+    let begun = begun_call _ _ _ _ _ c.requires.apart (begun_from _ (function_tables c.args.names.now c.args.scope (g.U.ReadsUnit.tables c.args.unit).sites) _ _ _ c.in_ok-builder.ensures.state c.requires.tables (nil_from_length _ c.new.ensures.len)) c.in_ok-params.ensures.state in
     let count = nodes (seen_arrow_body c.args.body) in
     orders_call (seen c.args.names.now) _ (seen_arrow_body c.args.body) _ _ _ _
     (subst IsFresh (sym begun) (begun_fresh c.args.env.now _ c.args.parameters.now))
@@ -87,7 +87,7 @@ build-requires-clause-room g c =
 
 pub returns-clause-graph : goal.returns-clause-graph
 returns-clause-graph g c =
-    let tables = tables_of c.args.names.now c.args.scope (g.U.ReadsUnit.tables c.args.unit).sites in
+    let tables = function_tables c.args.names.now c.args.scope (g.U.ReadsUnit.tables c.args.unit).sites in
     let from = begun_from _ tables _ _ _ c.in_ok-builder.ensures.state c.requires.tables (nil_from_length _ c.new.ensures.len) in
     let begun = begun_call _ _ _ _ _ c.requires.apart from c.in_ok-params.ensures.state in
     let left : c.build.new.self.0 ≡ c.env-2-1.given.0 = search rules in
@@ -101,7 +101,7 @@ returns-clause-graph g c =
 
 pub returns-clause-sound : goal.returns-clause-sound
 returns-clause-sound g c =
-    let tables = tables_of c.args.names.now c.args.scope (g.U.ReadsUnit.tables c.args.unit).sites in
+    let tables = function_tables c.args.names.now c.args.scope (g.U.ReadsUnit.tables c.args.unit).sites in
     let from = begun_from _ tables _ _ _ c.in_ok-builder.ensures.state c.requires.tables (nil_from_length _ c.new.ensures.len) in
     let left : c.build.new.self.0 ≡ c.env-2-1.given.0 = search rules in
     subst (λ (e : Environment). IsSoundGraph c.args.parameters.now (seen_arrow_body c.args.body) c.args.env.now e (graph_of c.in_ok-built.built)) left
