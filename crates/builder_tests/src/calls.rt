@@ -185,6 +185,28 @@ fn push_identifier<U: ReadsUnit>(
     Ok(())
 }
 
+/// Gives each symbol an identifier under its own name, and appends the names that they get, or the rows that refuse them.
+fn push_names<U: ReadsUnit>(
+    alloc: Global,
+    text: &mut String,
+    builder: &mut Builder<'_, U>,
+    resolver: &ScopeResolver<'_>,
+) -> Result<(), OutOfMemory> {
+    for symbol in resolver.symbols() {
+        push_name(alloc, text, builder, resolver.symbol_name(symbol), symbol)?;
+    }
+    Ok(())
+}
+
+/// Appends a number, or `-`.
+fn push_number(alloc: Global, text: &mut String, number: Option<u32>) -> Result<(), OutOfMemory> {
+    match number {
+        Some(number) => text.push_str(format!(in alloc; "{number} ")?.as_str())?,
+        None => text.push_str("- ")?,
+    }
+    Ok(())
+}
+
 /// Appends the diagnostics and the renames.
 fn push_records(alloc: Global, text: &mut String, env: &Environment) -> Result<(), OutOfMemory> {
     for diagnostic in env.diagnostics.as_slice() {
@@ -205,15 +227,7 @@ fn names<U: ReadsUnit>(
     resolver: &ScopeResolver<'_>,
 ) -> Result<String, Stop> {
     let mut text = String::new(alloc);
-    for symbol in resolver.symbols() {
-        push_name(
-            alloc,
-            &mut text,
-            builder,
-            resolver.symbol_name(symbol),
-            symbol,
-        )?;
-    }
+    push_names(alloc, &mut text, builder, resolver)?;
     push_records(alloc, &mut text, builder.environment())?;
     Ok(text)
 }
@@ -227,13 +241,8 @@ fn push_functions<U: ReadsUnit>(
 ) -> Result<(), OutOfMemory> {
     let mut scope = 0;
     for _ in resolver.semantic.bindings.scopes.as_slice() {
-        match builder.get_function_declaration_binding(ScopeId(scope), "f") {
-            Some(symbol) => {
-                let number = symbol.0;
-                text.push_str(format!(in alloc; "{number} ")?.as_str())?;
-            }
-            None => text.push_str("- ")?,
-        }
+        let symbol = builder.get_function_declaration_binding(ScopeId(scope), "f");
+        push_number(alloc, text, symbol.map(|symbol| symbol.0))?;
         scope = scope.saturating_add(1);
     }
     Ok(())
@@ -246,15 +255,7 @@ fn functions<U: ReadsUnit>(
 ) -> Result<String, Stop> {
     let mut text = String::new(alloc);
     push_functions(alloc, &mut text, builder, resolver)?;
-    for symbol in resolver.symbols() {
-        push_name(
-            alloc,
-            &mut text,
-            builder,
-            resolver.symbol_name(symbol),
-            symbol,
-        )?;
-    }
+    push_names(alloc, &mut text, builder, resolver)?;
     push_functions(alloc, &mut text, builder, resolver)?;
     Ok(text)
 }
@@ -266,14 +267,8 @@ fn push_binding<U: ReadsUnit>(
     builder: &Builder<'_, U>,
     symbol: SymbolId,
 ) -> Result<(), OutOfMemory> {
-    match builder.bindings().get(symbol) {
-        Some(identifier) => {
-            let number = identifier.0;
-            text.push_str(format!(in alloc; "{number} ")?.as_str())?;
-        }
-        None => text.push_str("- ")?,
-    }
-    Ok(())
+    let identifier = builder.bindings().get(symbol);
+    push_number(alloc, text, identifier.map(|identifier| identifier.0))
 }
 
 fn merges<U: ReadsUnit>(alloc: Global, builder: &mut Builder<'_, U>) -> Result<String, Stop> {
