@@ -5,11 +5,12 @@ use Rattle.rl_base.proofs.DistinctLists.{IsIn, in_head, in_tail, distinct_none, 
 use Rattle.rl_base.specs.declared.ids.BlockId.{BlockId}
 use Rattle.rl_hir.specs.Blocks.{Pair, HaveOwnIds, ids, kept, same_id, without_block}
 
+-- All blocks stay where no ids are listed.
 pub kept_all : (pairs : List Pair) → kept [] pairs ≡ pairs
 kept_all [] = refl
 kept_all (p ∷ pairs) = ap (λ (t : List Pair). p ∷ t) (kept_all pairs)
 
--- An id that no block has.
+-- An id that no block has takes out no block.
 absent : (lost : List BlockId) (id : BlockId) (pairs : List Pair) → (IsIn (ids pairs) id.0 → ⊥) → kept (id ∷ lost) pairs ≡ kept lost pairs
 absent lost id [] none = refl
 absent lost id (p ∷ pairs) none = by_id (same_id p.0 id) refl (absent lost id pairs (λ h. none (in_tail p.0.0 (ids pairs) id.0 h)))
@@ -22,7 +23,7 @@ absent lost id (p ∷ pairs) none = by_id (same_id p.0 id) refl (absent lost id 
     by_id true e rest = absurd (none (subst (λ (n : ℕ). IsIn (p.0.0 ∷ ids pairs) n) (eqb-true p.0.0 id.0 e) (in_head p.0.0 (ids pairs))))
     by_id false e rest = by_lost (list_any (same_id p.0) lost) refl e rest
 
--- One block that is taken out, and then others.
+-- The block with `id` taken out first, and those with the ids `lost` after it: all blocks with the ids `id ∷ lost` are out.
 pub first_out : (lost : List BlockId) (id : BlockId) (pairs : List Pair) → HaveOwnIds pairs → kept lost (without_block pairs id) ≡ kept (id ∷ lost) pairs
 first_out lost id [] own = refl
 first_out lost id (p ∷ pairs) own = by_id (same_id id p.0) refl (first_out lost id pairs (distinct_tail p.0.0 (ids pairs) own))
@@ -43,7 +44,7 @@ first_out lost id (p ∷ pairs) own = by_id (same_id id p.0) refl (first_out los
         rw (e, back) (sym (absent lost id pairs (λ h. distinct_head p.0.0 (ids pairs) own (subst (λ (n : ℕ). IsIn (ids pairs) n) same h))))
     by_id false e rest = by_lost (list_any (same_id p.0) lost) refl e (flipped e (same_id p.0 id) refl) rest
 
--- An id among those that stay is one of the old ones.
+-- An id of a block that stays is an id of the old blocks.
 in_kept : (lost : List BlockId) (pairs : List Pair) (other : ℕ) → IsIn (ids (kept lost pairs)) other → IsIn (ids pairs) other
 in_kept lost [] other h = h
 in_kept lost (p ∷ pairs) other h = by_lost (list_any (same_id p.0) lost) refl (in_kept lost pairs other) h
@@ -56,7 +57,7 @@ in_kept lost (p ∷ pairs) other h = by_lost (list_any (same_id p.0) lost) refl 
     by_lost true e rest i = let i1 = rw e at i in in_tail p.0.0 (ids pairs) other (rest i1)
     by_lost false e rest i = let i1 = rw e at i in by_index i1.index i1.found rest
 
--- Those that stay have ids of their own.
+-- Blocks that stay have ids of their own.
 pub kept_own : (lost : List BlockId) (pairs : List Pair) → HaveOwnIds pairs → HaveOwnIds (kept lost pairs)
 kept_own lost [] own = distinct_none
 kept_own lost (p ∷ pairs) own = by_lost (list_any (same_id p.0) lost) refl (kept_own lost pairs (distinct_tail p.0.0 (ids pairs) own))

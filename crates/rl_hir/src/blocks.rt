@@ -38,15 +38,15 @@ pub trait Blocks: Drop {
         ensures value { result ≡ block_at (pairs self.old) id }
         ensures removed { pairs self.new ≡ without_block (pairs self.old) id };
 
-    /// Takes out the pairs with these ids; the others stay, in order. As it stands here, it removes one after another, and a table that
-    /// moves pairs in `remove` does better to move each once.
-    fn keep(&mut self, lost: &BlockSet)
-        ensures { pairs self.new ≡ kept lost.now.keys (pairs self.old) }
+    /// Takes out the pairs with the ids `ids`; the others stay, in order. The body here removes them one by one; a table that moves
+    /// pairs in `remove` does better to move each once.
+    fn remove_all(&mut self, ids: &BlockSet)
+        ensures { pairs self.new ≡ kept ids.now.keys (pairs self.old) }
     {
         if self.len() == 0 {
             return;
         }
-        for id in lost.as_slice() {
+        for id in ids.as_slice() {
             let _ = self.remove(*id);
         }
     }
@@ -111,11 +111,11 @@ impl Blocks for MapBlocks {
         self.map.shift_remove(&id)
     }
 
-    fn keep(&mut self, lost: &BlockSet) {
+    fn remove_all(&mut self, ids: &BlockSet) {
         self.map.retain(
             |id: &BlockId, block: &mut BasicBlock| -> bool
-                ensures { (result ≡ not (list_any (same_id id.now) lost.entry.now.keys)) × (block.new ≡ block.old) }
-            { !lost.contains(id) },
+                ensures { (result ≡ not (list_any (same_id id.now) ids.entry.now.keys)) × (block.new ≡ block.old) }
+            { !ids.contains(id) },
         );
     }
 

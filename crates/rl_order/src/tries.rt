@@ -200,6 +200,6 @@ pub fn remove_unnecessary_try_catch<B: Blocks>(
     for dead in tries.as_slice() {
         drop_try(alloc, &mut hir.blocks, &places, &mut lost, *dead)?;
     }
-    hir.blocks.keep(&lost);
+    hir.blocks.remove_all(&lost);
     Ok(())
 }

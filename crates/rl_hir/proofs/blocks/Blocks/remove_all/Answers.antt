@@ -5,7 +5,7 @@ use Rattle.rl_base.specs.declared.ids.BlockId.{BlockId}
 use Rattle.rl_hir.specs.Blocks.{HaveOwnIds, Pair, kept}
 use Rattle.rl_hir.proofs.Keeping.{first_out, kept_all}
 use Rattle.rl_hir.proofs.OwnIds.{removed}
-use Rattle.rl_hir.proofs.blocks.Blocks.keep.Goals as goal
+use Rattle.rl_hir.proofs.blocks.Blocks.remove_all.Goals as goal
 
 pub loop-id-init : goal.loop-id-init
 loop-id-init g c =
