@@ -13,8 +13,7 @@ use rl_order::checks::{has_orders, is_whole};
 use rl_order::numbering::mark_instruction_ids;
 use rl_order::order::get_reverse_postordered_blocks;
 use rl_order::predecessors::mark_predecessors;
-use rl_order::removals::{remove_dead_do_while_statements, remove_unreachable_for_updates};
-use rl_order::tries::remove_unnecessary_try_catch;
+use rl_order::prune::remove_dead_ends;
 use std::alloc::Global;
 use std::io;
 use std::marker::Brand;
@@ -116,9 +115,7 @@ fn times_by<L: Ledger>(
         blocks,
     };
     let start = Instant::now(rt)?;
-    remove_unreachable_for_updates(&mut ordered);
-    remove_dead_do_while_statements(&mut ordered);
-    remove_unnecessary_try_catch(alloc, &mut ordered)?;
+    remove_dead_ends(alloc, &mut ordered)?;
     let removals = start.elapsed(rt)?;
     if !has_orders(&ordered, graph.table.len()) {
         return Err(SequenceError::TooMany);

@@ -30,21 +30,15 @@ drop_pair1 (q ∷ graph) (suc place) p at = drop_pair1 graph place p at
 pub drop_pair : (graph : List Pair) (place : ℕ) (p : Pair) → slice_get graph place ≡ Some p → drop place graph ≡ p ∷ drop (place + 1) graph
 drop_pair graph place p at = rw add-one (drop_pair1 graph place p at)
 
--- The list of dead `try`s
-
-module _ (there : BlockId → Bool) (graph : List Pair) (place : ℕ) (p : Pair) (at : slice_get graph place ≡ Some p) (tries : List DeadTry) where
-  pub no_try : None ≡ dead_try there p.0 p.1.terminal.kind → tries ++ dead_tries there (drop (place + 1) graph) ≡ tries ++ dead_tries there (drop place graph)
-  no_try none =
-      ap (λ (o : Option DeadTry). tries ++ (option_to_list o ++ dead_tries there (drop (place + 1) graph))) none
-      ∙ ap (λ (t : List Pair). tries ++ dead_tries there t) (sym (drop_pair graph place p at))
-
-  pub one_try : (tries1 : List DeadTry) (dead : DeadTry) → Some dead ≡ dead_try there p.0 p.1.terminal.kind → tries1 ≡ tries ++ dead ∷ []
-      → tries1 ++ dead_tries there (drop (place + 1) graph) ≡ tries ++ dead_tries there (drop place graph)
-  one_try tries1 dead some is =
-      ap (λ (t : List DeadTry). t ++ dead_tries there (drop (place + 1) graph)) is
-      ∙ append_assoc tries (dead ∷ []) (dead_tries there (drop (place + 1) graph))
-      ∙ ap (λ (o : Option DeadTry). tries ++ (option_to_list o ++ dead_tries there (drop (place + 1) graph))) some
-      ∙ ap (λ (t : List Pair). tries ++ dead_tries there t) (sym (drop_pair graph place p at))
+-- The dead `try` at a place is listed behind those before it.
+pub next_try : (there : BlockId → Bool) (graph : List Pair) (place : ℕ) (p : Pair) → drop place graph ≡ p ∷ drop (place + 1) graph
+    → (dead : Option DeadTry) → dead ≡ dead_try there p.0 p.1.terminal.kind → (tries listed : List DeadTry) → listed ≡ tries ++ option_to_list dead
+    → listed ++ dead_tries there (drop (place + 1) graph) ≡ tries ++ dead_tries there (drop place graph)
+next_try there graph place p at dead tells tries listed is =
+    ap (λ (t : List DeadTry). t ++ dead_tries there (drop (place + 1) graph)) is
+    ∙ append_assoc tries (option_to_list dead) (dead_tries there (drop (place + 1) graph))
+    ∙ ap (λ (o : Option DeadTry). tries ++ (option_to_list o ++ dead_tries there (drop (place + 1) graph))) tells
+    ∙ ap (λ (t : List Pair). tries ++ dead_tries there t) (sym at)
 
 -- Changes by places
 

@@ -1,3 +1,4 @@
+pub mod DeadEnds
 pub mod Dropping
 pub mod Examples
 pub mod Fallthroughs

@@ -23,7 +23,6 @@ use Rattle.rl_order.specs.Numbering.{ordered_blocks, orders_of}
 use Rattle.rl_order.specs.Predecessors.{IsMarked, LeadsTo, PredecessorsReached, sources, with_predecessors}
 use Rattle.rl_order.specs.Prune.{IsPruned, cleaned}
 use Rattle.rl_order.specs.Reached.{Begins, Goes, IsReached}
-use Rattle.rl_order.specs.Removals.{without_dead_do_whiles, without_dead_tries, without_unreachable_updates}
 use Rattle.rl_order.specs.Walk.{IsOrdered}
 use Rattle.rl_order.specs.declared.predecessors.Edge.{Edge}
 
@@ -198,11 +197,6 @@ ordered_once graph entry ordered o once = fewer_times graph ordered (λ n. order
 
 pub cleaned_once : (ordered : List Pair) → AreDistinct (listed_in ordered) → AreDistinct (listed_in (cleaned ordered))
 cleaned_once ordered once = fewer_times ordered (cleaned ordered) (λ n. cleaned_total (times_of n) ordered) once
-
--- The blocks behind the removals, one after the other.
-pub cleaned_by : (pairs updated tested left : List Pair) → updated ≡ without_unreachable_updates pairs → tested ≡ without_dead_do_whiles updated
-    → left ≡ without_dead_tries tested → left ≡ cleaned pairs
-cleaned_by pairs updated tested left u t l = l ∙ ap without_dead_tries (t ∙ ap without_dead_do_whiles u)
 
 pub marked_same : (graph graph1 marked : List Pair) (entry entry1 : BlockId) → graph ≡ graph1 → entry ≡ entry1 → IsMarked graph entry marked → IsMarked graph1 entry1 marked
 marked_same graph graph1 marked entry entry1 same at m =

@@ -7,13 +7,14 @@ ghost use Rattle.rl_hir.specs.Numbered.{IsNumbered, listed_in};
 ghost use Rattle.rl_order.specs.Numbering.{ordered_blocks, ordered_table, orders_of};
 ghost use Rattle.rl_order.specs.Predecessors.{IsMarked, PredecessorsReached};
 ghost use Rattle.rl_order.specs.Prune.{IsPruned, cleaned};
+ghost use Rattle.rl_order.specs.Removals.{dead_tries, is_there, without_dead_do_whiles, without_unreachable_updates};
 ghost use Rattle.rl_order.specs.Walk.{IsWhole};
 
 use crate::numbering::mark_instruction_ids;
 use crate::order::get_reverse_postordered_blocks;
 use crate::predecessors::mark_predecessors;
-use crate::removals::{remove_dead_do_while_statements, remove_unreachable_for_updates};
-use crate::tries::remove_unnecessary_try_catch;
+use crate::removals::{change_kind, live_kind};
+use crate::tries::{DeadTry, dead_try, drop_tries, note_dead};
 use rl_base::error::OutOfMemory;
 use rl_base::steps::Steps;
 use rl_hir::blocks::Blocks;
@@ -27,6 +28,35 @@ fn tell_own_ids<B: Blocks>(blocks: &B)
     ensures { HaveOwnIds (B.pairs blocks.now) }
 {
     let _ = blocks.len();
+}
+
+/// Gives the terminals that name a missing update or test another kind, and lists the `try`s whose handlers are missing, in block
+/// order. On `OutOfMemory`, an allocation failed, and some of the kinds may have changed.
+fn drop_dead_ends<B: Blocks>(alloc: Global, blocks: &mut B) -> Result<Vec<DeadTry>, OutOfMemory>
+    ensures blocks { OnOk result (B.pairs blocks.new ≡ without_dead_do_whiles (without_unreachable_updates (B.pairs blocks.old))) }
+    ensures tries { IfOk result (λ tries. tries.items ≡ dead_tries (is_there (B.pairs blocks.new)) (B.pairs blocks.new)) }
+{
+    let mut tries = Vec::new(alloc);
+    for place in 0..blocks.len() {
+        let (id, block) = blocks.at(place);
+        let dead = dead_try(blocks, id, &block.terminal.kind);
+        let kind = live_kind(blocks, &block.terminal.kind);
+        note_dead(&mut tries, dead)?;
+        change_kind(blocks, place, kind);
+    }
+    Ok(tries)
+}
+
+/// The three removals in one walk over the blocks: as `remove_unreachable_for_updates`, `remove_dead_do_while_statements` and
+/// `remove_unnecessary_try_catch`, one after the other. On `OutOfMemory`, an allocation failed, and some of the terminals may have
+/// changed.
+pub fn remove_dead_ends<B: Blocks>(alloc: Global, hir: &mut Hir<B>) -> Result<(), OutOfMemory>
+    ensures entry { hir.new.entry ≡ hir.old.entry }
+    ensures blocks { OnOk result (B.pairs hir.new.blocks ≡ cleaned (B.pairs hir.old.blocks)) }
+{
+    let tries = drop_dead_ends(alloc, &mut hir.blocks)?;
+    drop_tries(alloc, &mut hir.blocks, tries.as_slice())?;
+    Ok(())
 }
 
 /// The passes behind the ordering: takes out what names missing blocks, gives evaluation orders from 1 to terminals and to the
@@ -47,9 +77,7 @@ pub fn clean<B: Blocks>(
     ensures predecessors { OnOk result (PredecessorsReached (B.pairs hir.new.blocks) hir.new.entry (B.pairs hir.new.blocks)) }
     ensures length { length table.new ≡ length table.old }
 {
-    remove_unreachable_for_updates(hir);
-    remove_dead_do_while_statements(hir);
-    remove_unnecessary_try_catch(alloc, hir)?;
+    remove_dead_ends(alloc, hir)?;
     mark_instruction_ids(hir, table);
     mark_predecessors(alloc, hir)?;
     tell_own_ids(&hir.blocks);

@@ -21,7 +21,7 @@ pub fn is_there<B: Blocks>(blocks: &B, id: BlockId) -> bool
 
 /// Gives the terminal of the block at a place another kind, if there is one.
 #[tactic(auto, using(crate::proofs::RemovalSteps::unchanged))]
-fn change_kind<B: Blocks>(blocks: &mut B, place: usize, kind: Option<TerminalKind>)
+pub(crate) fn change_kind<B: Blocks>(blocks: &mut B, place: usize, kind: Option<TerminalKind>)
     requires { place < length (B.pairs blocks.old) }
     ensures { (block : BasicBlock) → slice_get (values_of (B.pairs blocks.old)) place ≡ Some block → B.pairs blocks.new ≡ with_block_at (B.pairs blocks.old) place (with_kind block (unwrap_or kind block.terminal.kind)) }
 {
@@ -80,6 +80,17 @@ fn without_test<B: Blocks>(blocks: &B, kind: &TerminalKind) -> Option<TerminalKi
                 variant: GotoVariant::Break,
             })
         }
+        _ => None,
+    }
+}
+
+/// The kind in place of that of a loop whose update or test is missing.
+pub(crate) fn live_kind<B: Blocks>(blocks: &B, kind: &TerminalKind) -> Option<TerminalKind>
+    ensures { unwrap_or result kind.now ≡ live_do_while (is_there (B.pairs blocks.now)) (live_for (is_there (B.pairs blocks.now)) kind.now) }
+{
+    match kind {
+        TerminalKind::For { .. } => without_update(blocks, kind),
+        TerminalKind::DoWhile { .. } => without_test(blocks, kind),
         _ => None,
     }
 }

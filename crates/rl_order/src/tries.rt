@@ -1,7 +1,8 @@
 //! The removal of each `try` whose handler was dropped.
 
-ghost use Rattle.std.specs.Prelude.{◌≡◌, ◌<◌, [], IfOk, IfSome, OnOk, Some, None, filter, if◌then◌else◌, length, not};
+ghost use Rattle.std.specs.Prelude.{◌≡◌, ◌<◌, ◌++◌, [], IfOk, IfSome, OnOk, Some, None, filter, fold, if◌then◌else◌, length, not};
 ghost use Rattle.std.specs.Map.{keys_of};
+ghost use Rattle.std.specs.Option.{option_to_list};
 ghost use Rattle.indexmap.specs.IndexSet.{insert_key};
 ghost use Rattle.rl_hir.specs.Blocks.{HaveOwnIds, block_at, kept, same_id};
 ghost use Rattle.rl_order.specs.Kept.{changed_at};
@@ -33,7 +34,7 @@ pub struct DeadTry {
 }
 
 /// The `try` that ends a block, if its handler is missing.
-fn dead_try<B: Blocks>(blocks: &B, id: BlockId, kind: &TerminalKind) -> Option<DeadTry>
+pub(crate) fn dead_try<B: Blocks>(blocks: &B, id: BlockId, kind: &TerminalKind) -> Option<DeadTry>
     ensures { result ≡ dead_try (is_there (B.pairs blocks.now)) id kind.now }
 {
     match kind {
@@ -57,6 +58,16 @@ fn dead_try<B: Blocks>(blocks: &B, id: BlockId, kind: &TerminalKind) -> Option<D
     }
 }
 
+/// Lists a `try` behind others, if there is one. On `OutOfMemory`, an allocation failed.
+pub(crate) fn note_dead(tries: &mut Vec<DeadTry>, dead: Option<DeadTry>) -> Result<(), OutOfMemory>
+    ensures { OnOk result (tries.new.items ≡ tries.old.items ++ option_to_list dead) }
+{
+    if let Some(dead) = dead {
+        tries.push(dead)?;
+    }
+    Ok(())
+}
+
 /// The `try`s whose handlers are missing, in block order. On `OutOfMemory`, an allocation failed.
 fn dead_tries<B: Blocks>(alloc: Global, blocks: &B) -> Result<Vec<DeadTry>, OutOfMemory>
     ensures { IfOk result (λ tries. tries.items ≡ dead_tries (is_there (B.pairs blocks.now)) (B.pairs blocks.now)) }
@@ -64,10 +75,8 @@ fn dead_tries<B: Blocks>(alloc: Global, blocks: &B) -> Result<Vec<DeadTry>, OutO
     let mut tries = Vec::new(alloc);
     for place in 0..blocks.len() {
         let (id, block) = blocks.at(place);
-        let Some(dead) = dead_try(blocks, id, &block.terminal.kind) else {
-            continue;
-        };
-        tries.push(dead)?;
+        let dead = dead_try(blocks, id, &block.terminal.kind);
+        note_dead(&mut tries, dead)?;
     }
     Ok(tries)
 }
@@ -181,6 +190,26 @@ fn drop_try<B: Blocks>(
     Ok(())
 }
 
+/// Drops `try`s from the blocks, one after the other. On `OutOfMemory`, an allocation failed, and some of them may be gotos already.
+pub(crate) fn drop_tries<B: Blocks>(
+    alloc: Global,
+    blocks: &mut B,
+    tries: &[DeadTry],
+) -> Result<(), OutOfMemory>
+    ensures { OnOk result (B.pairs blocks.new ≡ fold (λ now dead. without_try dead now) (B.pairs blocks.old) tries.now) }
+{
+    if tries.is_empty() {
+        return Ok(());
+    }
+    let places = place_index(alloc, blocks)?;
+    let mut lost = new_set(alloc);
+    for dead in tries {
+        drop_try(alloc, blocks, &places, &mut lost, *dead)?;
+    }
+    blocks.remove_all(&lost);
+    Ok(())
+}
+
 /// Makes a goto to its block of each `try` whose handler is missing (`removeUnnecessaryTryCatch`), with order 0 and its span. A
 /// fallthrough with the handler as its only predecessor is removed; from the predecessors of others the handler is taken. On
 /// `OutOfMemory`, an allocation failed, and some of these `try`s may be gotos already.
@@ -192,14 +221,6 @@ pub fn remove_unnecessary_try_catch<B: Blocks>(
     ensures blocks { OnOk result (B.pairs hir.new.blocks ≡ without_dead_tries (B.pairs hir.old.blocks)) }
 {
     let tries = dead_tries(alloc, &hir.blocks)?;
-    if tries.is_empty() {
-        return Ok(());
-    }
-    let places = place_index(alloc, &hir.blocks)?;
-    let mut lost = new_set(alloc);
-    for dead in tries.as_slice() {
-        drop_try(alloc, &mut hir.blocks, &places, &mut lost, *dead)?;
-    }
-    hir.blocks.remove_all(&lost);
+    drop_tries(alloc, &mut hir.blocks, tries.as_slice())?;
     Ok(())
 }
