@@ -19,26 +19,33 @@ abbrev pub live_kind : (there : BlockId → Bool) → TerminalKind → TerminalK
 live_kind there kind = live_do_while there (live_for there kind)
 
 -- Other kinds of terminals leave the blocks that are there.
-there_kinds : (change : TerminalKind → TerminalKind) (pairs : List Pair) (id : BlockId) → is_there (with_kinds change pairs) id ≡ is_there pairs id
+there_kinds : (change : TerminalKind → TerminalKind) (pairs : List Pair) (id : BlockId)
+    → is_there (with_kinds change pairs) id ≡ is_there pairs id
 there_kinds change [] id = refl
 there_kinds change (p ∷ pairs) id = by_head (same_id id p.0) refl (there_kinds change pairs id)
   where
-    by_head : (b : Bool) → same_id id p.0 ≡ b → is_there (with_kinds change pairs) id ≡ is_there pairs id → is_there (with_kinds change (p ∷ pairs)) id ≡ is_there (p ∷ pairs) id
+    by_head : (b : Bool) → same_id id p.0 ≡ b → is_there (with_kinds change pairs) id ≡ is_there pairs id
+        → is_there (with_kinds change (p ∷ pairs)) id ≡ is_there (p ∷ pairs) id
     by_head true e rest = rw e refl
     by_head false e rest = rw e rest
 
-kinds_twice : (first second : TerminalKind → TerminalKind) (pairs : List Pair) → with_kinds (λ kind. second (first kind)) pairs ≡ with_kinds second (with_kinds first pairs)
+kinds_twice : (first second : TerminalKind → TerminalKind) (pairs : List Pair)
+    → with_kinds (λ kind. second (first kind)) pairs ≡ with_kinds second (with_kinds first pairs)
 kinds_twice first second [] = refl
-kinds_twice first second (p ∷ pairs) = ap (λ (t : List Pair). (p.0, with_kind p.1 (second (first p.1.terminal.kind))) ∷ t) (kinds_twice first second pairs)
+kinds_twice first second (p ∷ pairs) =
+    ap (λ (t : List Pair). (p.0, with_kind p.1 (second (first p.1.terminal.kind))) ∷ t) (kinds_twice first second pairs)
 
-both_kinds : (pairs : List Pair) → with_kinds (live_kind (is_there pairs)) pairs ≡ without_dead_do_whiles (without_unreachable_updates pairs)
+both_kinds : (pairs : List Pair)
+    → with_kinds (live_kind (is_there pairs)) pairs ≡ without_dead_do_whiles (without_unreachable_updates pairs)
 both_kinds pairs =
     let updated : List Pair = without_unreachable_updates pairs in
     let there : is_there updated ≡ is_there pairs = λ j. λ id. there_kinds (live_for (is_there pairs)) pairs id j in
-    kinds_twice (live_for (is_there pairs)) (live_do_while (is_there pairs)) pairs ∙ ap (λ t. with_kinds (live_do_while t) updated) (sym there)
+    kinds_twice (live_for (is_there pairs)) (live_do_while (is_there pairs)) pairs
+    ∙ ap (λ t. with_kinds (live_do_while t) updated) (sym there)
 
 -- Such a change neither makes nor takes a `try`.
-same_try : (there : BlockId → Bool) (id : BlockId) (kind : TerminalKind) → dead_try there id (live_kind there kind) ≡ dead_try there id kind
+same_try : (there : BlockId → Bool) (id : BlockId) (kind : TerminalKind)
+    → dead_try there id (live_kind there kind) ≡ dead_try there id kind
 same_try there id (kinds.DoWhile body test fallthrough) = by_test (there test)
   where
     by_test : (b : Bool) → dead_try there id (if b then kinds.DoWhile body test fallthrough else kinds.Goto body gotos.Break) ≡ None
@@ -46,7 +53,8 @@ same_try there id (kinds.DoWhile body test fallthrough) = by_test (there test)
     by_test false = refl
 same_try there id _ = refl
 
-same_tries : (there : BlockId → Bool) (pairs : List Pair) → dead_tries there (with_kinds (live_kind there) pairs) ≡ dead_tries there pairs
+same_tries : (there : BlockId → Bool) (pairs : List Pair)
+    → dead_tries there (with_kinds (live_kind there) pairs) ≡ dead_tries there pairs
 same_tries there [] = refl
 same_tries there (p ∷ pairs) =
     ap (λ (o : Option DeadTry). option_to_list o ++ dead_tries there (with_kinds (live_kind there) pairs)) (same_try there p.0 p.1.terminal.kind)
@@ -60,10 +68,12 @@ pub record Ending (pairs now : List Pair) (listed : List DeadTry) (place : ℕ) 
 pub ending_begin : (pairs : List Pair) → Ending pairs pairs [] 0
 ending_begin pairs = record { kinds = changing_begin (live_kind (is_there pairs)) pairs; tries = refl }
 
-pub ending_step : (pairs now after : List Pair) (listed more : List DeadTry) (place : ℕ) (p : Pair) (dead : Option DeadTry) (kind : TerminalKind)
+pub ending_step : (pairs now after : List Pair) (listed more : List DeadTry)
+    (place : ℕ) (p : Pair) (dead : Option DeadTry) (kind : TerminalKind)
     → Ending pairs now listed place → slice_get now place ≡ Some p
     → dead ≡ dead_try (is_there now) p.0 p.1.terminal.kind → more ≡ listed ++ option_to_list dead
-    → kind ≡ live_kind (is_there now) p.1.terminal.kind → after ≡ with_block_at now place (with_kind p.1 kind) → Ending pairs after more (place + 1)
+    → kind ≡ live_kind (is_there now) p.1.terminal.kind → after ≡ with_block_at now place (with_kind p.1 kind)
+    → Ending pairs after more (place + 1)
 ending_step pairs now after listed more place p dead kind h at tells lists is put =
     let there : is_there now ≡ is_there pairs = λ j. λ id. h.kinds.there id j in
     let here : drop place pairs ≡ p ∷ drop (place + 1) pairs =
@@ -73,15 +83,19 @@ ending_step pairs now after listed more place p dead kind h at tells lists is pu
           changing_step (live_kind (is_there pairs)) pairs now after place p.1 kind h.kinds (value_at now place p at)
           (is ∙ ap (λ t. live_kind t p.1.terminal.kind) there) put;
       tries =
-          next_try (is_there pairs) pairs place p here dead (tells ∙ ap (λ t. dead_try t p.0 p.1.terminal.kind) there) listed more lists
+          next_try (is_there pairs) pairs place p here dead (tells ∙ ap (λ t. dead_try t p.0 p.1.terminal.kind) there)
+          listed more lists
           ∙ h.tries;
     }
 
-pub ending_kinds : (pairs now : List Pair) (listed : List DeadTry) (place : ℕ) → Ending pairs now listed place → length pairs ≡ place
+pub ending_kinds : (pairs now : List Pair) (listed : List DeadTry) (place : ℕ)
+    → Ending pairs now listed place → length pairs ≡ place
     → now ≡ without_dead_do_whiles (without_unreachable_updates pairs)
-ending_kinds pairs now listed place h all = changing_end (live_kind (is_there pairs)) pairs now place h.kinds all ∙ both_kinds pairs
+ending_kinds pairs now listed place h all =
+    changing_end (live_kind (is_there pairs)) pairs now place h.kinds all ∙ both_kinds pairs
 
-pub ending_tries : (pairs now : List Pair) (listed : List DeadTry) (place : ℕ) → Ending pairs now listed place → length pairs ≡ place
+pub ending_tries : (pairs now : List Pair) (listed : List DeadTry) (place : ℕ)
+    → Ending pairs now listed place → length pairs ≡ place
     → listed ≡ dead_tries (is_there now) now
 ending_tries pairs now listed place h all =
     let there : is_there now ≡ is_there pairs = λ j. λ id. h.kinds.there id j in
@@ -93,6 +107,10 @@ ending_tries pairs now listed place h all =
     ∙ ap (λ t. dead_tries t now) (sym there)
 
 -- The blocks behind the removals.
-pub cleaned_by : (pairs tested left : List Pair) (tries : List DeadTry) → tested ≡ without_dead_do_whiles (without_unreachable_updates pairs)
-    → tries ≡ dead_tries (is_there tested) tested → left ≡ fold (λ now dead. without_try dead now) tested tries → left ≡ cleaned pairs
-cleaned_by pairs tested left tries t d l = l ∙ ap (λ (all : List DeadTry). fold (λ now dead. without_try dead now) tested all) d ∙ ap without_dead_tries t
+pub cleaned_by : (pairs tested left : List Pair) (tries : List DeadTry)
+    → tested ≡ without_dead_do_whiles (without_unreachable_updates pairs)
+    → tries ≡ dead_tries (is_there tested) tested
+    → left ≡ fold (λ now dead. without_try dead now) tested tries → left ≡ cleaned pairs
+cleaned_by pairs tested left tries t d l =
+    l ∙ ap (λ (all : List DeadTry). fold (λ now dead. without_try dead now) tested all) d
+    ∙ ap without_dead_tries t

@@ -47,9 +47,8 @@ fn drop_dead_ends<B: Blocks>(alloc: Global, blocks: &mut B) -> Result<Vec<DeadTr
     Ok(tries)
 }
 
-/// The three removals in one walk over the blocks: as `remove_unreachable_for_updates`, `remove_dead_do_while_statements` and
-/// `remove_unnecessary_try_catch`, one after the other. On `OutOfMemory`, an allocation failed, and some of the terminals may have
-/// changed.
+/// Makes the three removals in one walk over the blocks: `remove_unreachable_for_updates`, `remove_dead_do_while_statements` and
+/// `remove_unnecessary_try_catch`. On `OutOfMemory`, an allocation failed, and some of the terminals may have changed.
 pub fn remove_dead_ends<B: Blocks>(alloc: Global, hir: &mut Hir<B>) -> Result<(), OutOfMemory>
     ensures entry { hir.new.entry ≡ hir.old.entry }
     ensures blocks { OnOk result (B.pairs hir.new.blocks ≡ cleaned (B.pairs hir.old.blocks)) }

@@ -190,7 +190,8 @@ fn drop_try<B: Blocks>(
     Ok(())
 }
 
-/// Drops `try`s from the blocks, one after the other. On `OutOfMemory`, an allocation failed, and some of them may be gotos already.
+/// Drops `try`s from the blocks, one after the other. On `OutOfMemory`, an allocation failed, and some of them may be gotos
+/// already.
 pub(crate) fn drop_tries<B: Blocks>(
     alloc: Global,
     blocks: &mut B,
