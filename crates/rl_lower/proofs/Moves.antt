@@ -17,7 +17,8 @@ use Rattle.rl_machine.specs.Traces.{Store}
 use Rattle.rl_machine.specs.Machine.{Item, Runs, Ends, Code, Next, step}
 use Rattle.rl_machine.specs.Ends.{Notes}
 use Rattle.rl_builder.proofs.NameLaws.{OneMore-resolved}
-use Rattle.rl_lower.specs.Simulation.{IsCurrentOrCompleted, InBlock, InWip, Extends, HasSoundNames, IsContainedIn, Nobody, TracesAt, TracesFrom, walk}
+use Rattle.rl_lower.specs.Simulation.{IsCurrentOrCompleted, InBlock, InWip, Extends, HasSoundNames, IsContainedIn, Nobody, TracesAt, TracesFrom}
+use Rattle.rl_machine.specs.Silence.{walk}
 use Rattle.rl_lower.proofs.FinalNames.{covers_before, names_refl, names_resolved, names_then, nobody_fresh, sound_more, sound_resolved}
 use Rattle.rl_lower.proofs.Steps.{get_more, get_seam, steps_on}
 

@@ -15,7 +15,7 @@ use Rattle.rl_machine.specs.Prunes.{Point, exec_once, is_passed}
 use Rattle.rl_machine.specs.Traces.{Store}
 use Rattle.rl_machine.specs.declared.trace.Answer.{Answer}
 use Rattle.rl_machine.specs.declared.trace.Trace.{Trace}
-use Rattle.rl_lower.specs.Simulation.{walk}
+use Rattle.rl_machine.specs.Silence.{walk}
 
 -- The block has instructions below index `bound` alone, at it a terminal that names no block, and nothing above it. It has no handler.
 pub record LeadsNowhere (c : Code) (block bound : ℕ) : Type 0 where

@@ -33,7 +33,8 @@ use Rattle.rl_hir.specs.Pieces.{Says, argument_pieces, gathered, operands, texts
 use Rattle.rl_hir.specs.declared.instruction.PlaceOrSpread.TheVariants as arguments
 use Rattle.rl_hir.specs.Instructions.{argument_place, argument_shape, binding_texts}
 use Rattle.rl_lower.specs.Endings.{return_of, returned_from}
-use Rattle.rl_lower.specs.Simulation.{Agrees, Eventually, Continues, Extends, HasSoundNames, IsContainedIn, Nobody, TracesFrom, TracesAt, Later, Throws, RunsAll, RunsExpression, RunsStatement, walk}
+use Rattle.rl_lower.specs.Simulation.{Agrees, Eventually, Continues, Extends, HasSoundNames, IsContainedIn, Nobody, TracesFrom, TracesAt, Later, Throws, RunsAll, RunsExpression, RunsStatement}
+use Rattle.rl_machine.specs.Silence.{walk}
 use Rattle.rl_lower.proofs.Asking.{graph_unchanged, none_kept, source_unchanged}
 use Rattle.rl_lower.proofs.Steps.{agrees_set, set_same, comes_at_once, steps_on, later_refl, later_then, later_set}
 use Rattle.rl_lower.proofs.Moves.{extends_refl, extends_then, extends_value, contained_before, instruction_met, terminal_met, push_runs, value_free, value_made}

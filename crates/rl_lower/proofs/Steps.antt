@@ -3,7 +3,8 @@ use Rattle.std.proofs.Common.{◌≡◌, ℕ, zero, suc, ◌≤◌, ◌++◌, Li
 use Rattle.std.proofs.lemmas.Bool.{ne_eqb}
 use Rattle.std.proofs.Common.{eq-eqb}
 use Rattle.rl_builder.specs.Builder.{State}
-use Rattle.rl_lower.specs.Simulation.{Agrees, Eventually, Later, Nobody, TracesAt, walk}
+use Rattle.rl_lower.specs.Simulation.{Agrees, Eventually, Later, Nobody, TracesAt}
+use Rattle.rl_machine.specs.Silence.{walk}
 use Rattle.rl_machine.specs.declared.trace.Value.{Value}
 use Rattle.rl_machine.specs.declared.trace.Answer.{Answer}
 use Rattle.rl_machine.specs.declared.trace.Trace.{Trace}

@@ -1,5 +1,5 @@
 -- The simulation: the graph that is built between two states of the builder has the traces of a part of the source.
-use Rattle.std.specs.Prelude.{◌≡◌, ℕ, zero, suc, ◌<◌, ◌≤◌, ◌⊎◌, Option, None, Some, List, [], All, length, map, slice_get}
+use Rattle.std.specs.Prelude.{◌≡◌, ℕ, ◌<◌, ◌≤◌, ◌⊎◌, Option, None, Some, List, [], All, length, map, slice_get}
 use Rattle.rl_base.specs.Distinct.{AreDistinct}
 use Rattle.rl_base.specs.declared.ids.InstructionId.{InstructionId}
 use Rattle.rl_hir.specs.declared.instruction.Instruction.{Instruction}
@@ -18,7 +18,8 @@ use Rattle.rl_model.specs.Meanings.{ExprMeaning, ExprsMeaning, StmtMeaning, Exit
 use Rattle.rl_hir.specs.Terminals.{named_ids}
 use Rattle.rl_hir.specs.declared.terminal.Terminal.{Terminal}
 use Rattle.rl_hir.specs.declared.terminal.TerminalKind.TheVariants as kinds
-use Rattle.rl_machine.specs.Machine.{Item, Runs, Ends, Code, Next, step}
+use Rattle.rl_machine.specs.Machine.{Item, Runs, Ends, Code, Next}
+use Rattle.rl_machine.specs.Silence.{walk}
 use Rattle.rl_machine.specs.Ends.{Notes}
 
 -- An item at an index of a block. The terminal's index is the number of instructions.
@@ -153,13 +154,6 @@ pub record PreservesBlocks (old new : State) : Type 0 where
   pub extends : Extends old new
   pub ids : PreservesIds old new
   pub ended : AreEnded old.completed → AreEnded new.completed
-
--- The run of at most `steps` steps, with no bound on the silent ones. A run that is stuck or comes to its bound has the
--- trace `stuck`.
-abbrev pub walk : (stuck : Trace) → Code → (steps : ℕ) → Next
-walk stuck code zero id place store notes answers = stuck
-walk stuck code (suc steps) id place store notes answers =
-    step stuck code (code.item id place) (walk stuck code steps) (walk stuck code steps) id place store notes answers
 
 -- From some number of steps on, `f` of the run has the trace `t`, whatever trace a stuck run has: so the run is not stuck.
 pub record Eventually (c : Code) (f : (stuck : Trace) → Next → Trace) (t : Trace) : Type 0 where

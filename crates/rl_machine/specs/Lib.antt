@@ -4,4 +4,5 @@ pub mod Conditions
 pub mod Ends
 pub mod Machine
 pub mod Prunes
+pub mod Silence
 pub mod Traces
