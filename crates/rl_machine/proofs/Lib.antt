@@ -6,4 +6,5 @@ pub mod Points
 pub mod Pruned
 mod Reading
 pub mod StaysClosed
+pub mod Silence
 mod Tables
