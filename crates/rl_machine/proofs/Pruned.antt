@@ -12,7 +12,7 @@ use Rattle.rl_machine.specs.declared.trace.Value.{Value}
 use Rattle.rl_machine.proofs.Following.{SameNotes, SilentFollows, LoudFollows, item_same}
 use Rattle.rl_machine.proofs.Points.{AreAmong, Nothing, Another, at_most}
 
-becomes_refl : (read : ℕ → Type 0) (o : Option Item) → Becomes read o o
+pub becomes_refl : (read : ℕ → Type 0) (o : Option Item) → Becomes read o o
 becomes_refl read None = tt
 becomes_refl read (Some (Runs i)) = (refl, refl)
 becomes_refl read (Some (Ends t)) = Stays (leaving t.kind)
@@ -141,6 +141,29 @@ module _ (stuck : Trace) (kept read steps : ℕ → Type 0) (c : Code) (p : Prun
       (goes_on left quiet passed answers id place item k is sum among (is_passed (id, place) passed) refl (λ q e more. counted left q ((id, place) ∷ passed) answers (omega (arith, sum, e)) more))
       (λ i q st n n1 ans fewer kb sn. counted left most [] ans (omega arith) Nothing i q st n n1 kb sn) id place store notes notes1 k s)
 
+-- The runs of a code from its entry within a bound that is large enough are those without one, where no silent row passes a point twice.
+pub bound_free : (kept read steps : ℕ → Type 0) (c : Code) → Prunes kept read steps c c → (entry : BlockId) (params : List ℕ) → kept entry.0
+    → PassesOnce c entry params → (all : List Point)
+    → ((id place : ℕ) (item : Item) → kept id → c.item id place ≡ Some item → is_passed (id, place) all ≡ true)
+    → (most : ℕ) → length all ≤ most
+    → (stuck : Trace) (start : List Assignment) (arguments : List Value) (answers : List Answer) (left : ℕ) → steps_for answers most ≤ left
+    → trace_in stuck c most entry params start arguments answers
+    ≡ exec_once stuck (λ rest passed. no_way stuck) c left [] entry.0 0 (start_store c params start arguments) no_notes answers
+bound_free kept read steps c p entry params k once all within most large stuck start arguments answers left many =
+    more ∙ counted stuck kept read steps c p all within most large left most [] answers (omega arith) Nothing entry.0 0 store no_notes no_notes k none
+    ∙ once stuck (again stuck kept read steps c p all within most large) left start arguments answers
+  where
+    store : Store
+    store = start_store c params start arguments
+
+    none : SameNotes kept read steps no_notes no_notes
+    none = no_notes_same kept read steps
+
+    more : trace_in stuck c most entry params start arguments answers ≡ exec stuck c most left most entry.0 0 store no_notes answers
+    more =
+        let e : steps_for answers most ≡ most + 1 + steps_by most (length answers) = steps_for_by answers most in
+        sym (enough stuck kept read steps c p most (steps_for answers most) left most answers (omega (arith, e)) (omega (arith, e, many)) entry.0 0 store no_notes no_notes k none)
+
 -- The runs of a code from its entry are those within any other bound that is large enough, where no silent row passes a point twice.
 pub bounds_free : (kept read steps : ℕ → Type 0) (c : Code) → Prunes kept read steps c c → (entry : BlockId) (params : List ℕ) → kept entry.0
     → PassesOnce c entry params → (all all1 : List Point)
@@ -150,32 +173,9 @@ pub bounds_free : (kept read steps : ℕ → Type 0) (c : Code) → Prunes kept 
     → (stuck : Trace) (start : List Assignment) (arguments : List Value) (answers : List Answer)
     → trace_in stuck c most entry params start arguments answers ≡ trace_in stuck c most1 entry params start arguments answers
 bounds_free kept read steps c p entry params k once all all1 within within1 most most1 large large1 stuck start arguments answers =
-    more most most1 ∙ sym (free most all within large) ∙ free most1 all1 within1 large1 ∙ sym (more1 most most1)
-  where
-    store : Store
-    store = start_store c params start arguments
-
-    both : ℕ
-    both = steps_for answers most + steps_for answers most1
-
-    none : SameNotes kept read steps no_notes no_notes
-    none = no_notes_same kept read steps
-
-    free : (bound : ℕ) (points : List Point) → ((id place : ℕ) (item : Item) → kept id → c.item id place ≡ Some item → is_passed (id, place) points ≡ true) → length points ≤ bound
-        → exec_once stuck (λ left passed. no_way stuck) c both [] entry.0 0 store no_notes answers ≡ exec stuck c bound both bound entry.0 0 store no_notes answers
-    free bound points inside enough_all =
-        sym (once stuck (again stuck kept read steps c p points inside bound enough_all) both start arguments answers)
-        ∙ sym (counted stuck kept read steps c p points inside bound enough_all both bound [] answers (omega arith) Nothing entry.0 0 store no_notes no_notes k none)
-
-    more : (a b : ℕ) → trace_in stuck c most entry params start arguments answers ≡ exec stuck c most both most entry.0 0 store no_notes answers
-    more a b =
-        let e : steps_for answers most ≡ most + 1 + steps_by most (length answers) = steps_for_by answers most in
-        sym (enough stuck kept read steps c p most (steps_for answers most) both most answers (omega (arith, e)) (omega (arith, e)) entry.0 0 store no_notes no_notes k none)
-
-    more1 : (a b : ℕ) → trace_in stuck c most1 entry params start arguments answers ≡ exec stuck c most1 both most1 entry.0 0 store no_notes answers
-    more1 a b =
-        let e : steps_for answers most1 ≡ most1 + 1 + steps_by most1 (length answers) = steps_for_by answers most1 in
-        sym (enough stuck kept read steps c p most1 (steps_for answers most1) both most1 answers (omega (arith, e)) (omega (arith, e)) entry.0 0 store no_notes no_notes k none)
+    let both : ℕ = steps_for answers most + steps_for answers most1 in
+    bound_free kept read steps c p entry params k once all within most large stuck start arguments answers both (omega arith)
+    ∙ sym (bound_free kept read steps c p entry params k once all1 within1 most1 large1 stuck start arguments answers both (omega arith))
 
 -- Pruned codes have the same traces, each within a bound that its program points give.
 pub pruned_traces : (kept read steps : ℕ → Type 0) (c c1 : Code) → Prunes kept read steps c c1 → (entry : BlockId) (params : List ℕ) → kept entry.0
