@@ -11,6 +11,7 @@ pub mod NumberedOrders
 pub mod NumberingSteps
 pub mod Ordering
 pub mod PassExamples
+pub mod PrunedBlocks
 pub mod Pruning
 pub mod PlaceSteps
 pub mod Reached
