@@ -9,7 +9,7 @@ use Rattle.rl_hir.specs.Listing as spec
 use Rattle.rl_hir.specs.Pieces.{Operand, Use, Key, Piece, used, texts, operands, operand_tree, row_parts}
 use Rattle.rl_hir.specs.Terminals.{Field, Leads, MayLead, Chooses, Follows, Names, MayName, Reads, MayBind, Says, Holds, fields_of, terminal_word}
 use Rattle.rl_hir.specs.Trees as trees
-use Rattle.rl_hir.specs.Values.{Form, Silent, Asks, Assigns, form_of, form_tree, value}
+use Rattle.rl_hir.specs.Values.{Form, Silent, Asks, Assigns, form_of, form_tree, form_word, value, value_word}
 use Rattle.rl_hir.specs.declared.pieces.Row.{Row}
 use Rattle.rl_hir.specs.declared.pieces.Row.TheVariants as rows
 use Rattle.rl_hir.specs.declared.instruction.HirType.{HirType}
@@ -86,22 +86,17 @@ shown (Silent word fields) = fields
 shown (Asks word pieces) = []
 shown (Assigns word head texts value targets) = head
 
-abbrev word_of : Form → List ℕ
-word_of (Silent word fields) = word
-word_of (Asks word pieces) = word
-word_of (Assigns word head texts value targets) = word
-
 joined_worded : (head rest : List Tree) → AreWorded (parts_of head) → AreWorded (parts_of rest) → AreWorded (parts_of (head ++ rest))
 joined_worded [] rest first second = second
 joined_worded (tree ∷ head) rest first second = (first.0, joined_worded head rest first.1 second)
 
-form_worded : (f : Form) → IsWord (word_of f) → AreWorded (parts_of (shown f)) → IsWorded (form_tree f)
+form_worded : (f : Form) → IsWord (form_word f) → AreWorded (parts_of (shown f)) → IsWorded (form_tree f)
 form_worded (Silent word fields) is_word each = (is_word, each)
 form_worded (Asks word pieces) is_word each = (is_word, (row_worded rows.Texts pieces, (row_worded rows.Operands pieces, tt)))
 form_worded (Assigns word head texts value targets) is_word each =
     (is_word, joined_worded head _ each (row_worded rows.Texts texts, (row_worded rows.Operands (used value ∷ []), (row_worded rows.Operands targets, tt))))
 
-word_is_word : (v : InstructionValue) → IsWord (word_of (form_of v))
+word_is_word : (v : InstructionValue) → IsWord (value_word v)
 word_is_word values.Debugger = (lit< tt, refl)
 word_is_word _ = (lit< tt, refl)
 

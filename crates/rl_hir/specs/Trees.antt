@@ -1,6 +1,6 @@
 -- Trees of the notation, and those of the small parts of a listing.
 use Rattle.std.specs.Prelude.{◌≡◌, ℕ, Option, Some, None, List, [], ◌∷◌, ◌++◌, map, codes}
-use Rattle.rl_text.specs.Notation.{Tree, Node, Listed, Said, Count, Flag, Absent, Parts, IsWritable, AreWritable, spelling}
+use Rattle.rl_text.specs.Notation.{Tree, Node, Listed, Said, Count, Flag, Absent, Parts, IsWord, IsWritable, AreWritable, spelling}
 use Rattle.rl_text.specs.Raw.{parts_of}
 use Rattle.rl_text.specs.Spaced.{spaced}
 use Rattle.rl_base.specs.declared.span.Span.{Span}
@@ -20,6 +20,11 @@ node word parts = Node word (parts_of parts)
 
 abbrev pub listed : List Tree → Tree
 listed parts = Listed (parts_of parts)
+
+-- `word` is `wanted`, and the notation can write it as the word of a node.
+pub record IsWordOf (wanted word : List ℕ) : Type 0 where
+  pub same : word ≡ wanted
+  pub writable : IsWord word
 
 -- `new` is `old` followed by the spelling of `tree`, which the notation can write.
 pub record IsListed (old new : List ℕ) (tree : Tree) : Type 0 where

@@ -21,8 +21,8 @@ pub data Form : Type 0 where
   -- a value with an event that gives values to places: those of `targets`
   Assigns : (word : List ℕ) (head : List Tree) (texts : List Piece) (value : Place) (targets : List Piece) → Form
 
-abbrev pub destructure_form : Destructure → Form
-destructure_form d = Assigns (codes "destructure") (kind d.kind ∷ []) (pattern_pieces d.pattern) d.value (pattern_pieces d.pattern)
+abbrev pub destructure_form : (word : List ℕ) → Destructure → Form
+destructure_form word d = Assigns word (kind d.kind ∷ []) (pattern_pieces d.pattern) d.value (pattern_pieces d.pattern)
 
 -- `value` is read, and `place` takes the new value.
 abbrev pub update_form : (word : List ℕ) → UpdateOperator → (place value : Place) → Form
@@ -41,7 +41,7 @@ form_of (values.StoreLocal k variable value) = Silent (codes "storelocal") (kind
 form_of (values.StoreContext k variable value) = Silent (codes "storecontext") (kind k ∷ place variable ∷ place value ∷ [])
 form_of (values.LoadGlobal binding) = Asks (codes "loadglobal") (binding_pieces binding)
 form_of (values.StoreGlobal name value) = Asks (codes "storeglobal") (Says name ∷ used value ∷ [])
-form_of (values.Destructure destructure) = destructure_form destructure
+form_of (values.Destructure destructure) = destructure_form (codes "destructure") destructure
 form_of (values.BinaryExpression operator left right) = Asks (codes "binary") (Says (operator_text operator) ∷ used left ∷ used right ∷ [])
 form_of (values.UnaryExpression operator value) = Asks (codes "unary") (Says (unary_text operator) ∷ used value ∷ [])
 form_of (values.PrefixUpdate operator variable value) = update_form (codes "prefixupdate") operator variable value
@@ -82,3 +82,12 @@ form_tree (Assigns word head pieces value targets) = node word (head ++ row rows
 
 abbrev pub value : InstructionValue → Tree
 value v = form_tree (form_of v)
+
+abbrev pub form_word : Form → List ℕ
+form_word (Silent word fields) = word
+form_word (Asks word pieces) = word
+form_word (Assigns word head texts value targets) = word
+
+-- The word of a value's listing.
+abbrev pub value_word : InstructionValue → List ℕ
+value_word v = form_word (form_of v)

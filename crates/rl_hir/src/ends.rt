@@ -2,9 +2,8 @@
 
 ghost use Rattle.std.specs.Prelude.{◌≡◌, OnOk};
 ghost use Rattle.rl_hir.specs.Listing as spec;
-ghost use Rattle.rl_text.specs.Notation.{IsWord};
-ghost use Rattle.rl_hir.specs.Trees.{IsListed};
-ghost use Rattle.rl_hir.specs.Terminals.{goto_variant, return_variant};
+ghost use Rattle.rl_hir.specs.Trees.{IsListed, IsWordOf};
+ghost use Rattle.rl_hir.specs.Terminals.{goto_variant, return_variant, terminal_word};
 
 use crate::terminal::{Case, GotoVariant, ReturnVariant, Terminal, TerminalKind};
 use crate::terminal_table::with_terminals;
@@ -46,20 +45,45 @@ impl Written for Case {
     }
 }
 
-/// Appends the listing of a terminal with the given word and fields. On `OutOfMemory` an allocation failed, and `out` may hold a
-/// part of it.
+/// The word of a terminal of a kind.
+macro_rules! word_of {
+    (($kind:expr) $($name:ident $word:literal ($($tells:ident $field:ident),*))*) => {
+        match $kind {
+            $(TerminalKind::$name { .. } => $word,)*
+        }
+    };
+}
+
+impl TerminalKind {
+    /// The word of the terminal in a listing.
+    fn word(&self) -> &'static str
+        ensures { IsWordOf (terminal_word self.now) result.now }
+    {
+        with_terminals!(word_of(self))
+    }
+}
+
+/// Appends the listing of a terminal with the given fields. On `OutOfMemory` an allocation failed, and `out` may hold a part of it.
 fn write_end<P: WrittenParts + Drop>(
-    word: &str,
     terminal: &Terminal,
     fields: P,
     out: &mut Vec<u8>,
 ) -> Result<(), OutOfMemory>
-    requires { IsWord word.now }
-    ensures { OnOk result (IsListed out.old.items out.new.items (spec.ended word.now terminal.now (P.parts fields))) }
+    ensures { OnOk result (IsListed out.old.items out.new.items (spec.ended (terminal_word terminal.now.kind) terminal.now (P.parts fields))) }
 {
     let parts = Both((terminal.order, terminal.span), fields);
-    write_node(word, &parts, out)?;
+    write_node(terminal.kind.word(), &parts, out)?;
     Ok(())
+}
+
+/// The pattern of a field: a copy of it, but for a list.
+macro_rules! listed_pattern {
+    (chooses $cases:ident) => {
+        ref $cases
+    };
+    ($tells:ident $field:ident) => {
+        $field
+    };
 }
 
 /// The listing of a field.
@@ -67,20 +91,17 @@ macro_rules! listed {
     (says $text:ident) => {
         Literal($text.as_str())
     };
-    (chooses $cases:ident) => {
-        $cases
-    };
     ($tells:ident $field:ident) => {
-        *$field
+        $field
     };
 }
 
 /// Appends the listing of a terminal.
 macro_rules! write_terminal {
     (($out:ident, $terminal:expr) $($name:ident $word:literal ($($tells:ident $field:ident),*))*) => {
-        match &$terminal.kind {
-            $(TerminalKind::$name { $($field,)* } => {
-                write_end($word, $terminal, ($(listed!($tells $field),)*), $out)
+        match $terminal.kind {
+            $(TerminalKind::$name { $($field: listed_pattern!($tells $field),)* } => {
+                write_end($terminal, ($(listed!($tells $field),)*), $out)
             })*
         }
     };

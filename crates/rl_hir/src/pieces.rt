@@ -16,7 +16,7 @@ use rl_base::text::Text;
 use rl_text::written::{Decimal, Dotted, Literal, WrittenParts};
 
 /// One of the two lists that an event is listed with.
-#[derive(Clone, Copy, Debug, PartialEq, Eq)]
+#[derive(Clone, Copy)]
 pub enum Row {
     /// Its texts.
     Texts,

@@ -1,13 +1,14 @@
 //! Listings of places and values.
 
 ghost use Rattle.std.specs.Prelude.{◌≡◌, OnOk};
-ghost use Rattle.rl_text.specs.Notation.{Node, IsWord};
+ghost use Rattle.rl_text.specs.Notation.{Node};
 ghost use Rattle.rl_hir.specs.Trees as trees;
-ghost use Rattle.rl_hir.specs.Trees.{IsListed};
+ghost use Rattle.rl_hir.specs.Trees.{IsListed, IsWordOf};
 ghost use Rattle.rl_hir.specs.Values as spec;
 
 use crate::instruction::{
-    Destructure, HirType, InstructionKind, InstructionValue, Place, PrimitiveValue, PropertyLiteral,
+    Destructure, HirType, InstructionKind, InstructionValue as Value, Place, PrimitiveValue,
+    PropertyLiteral,
 };
 use crate::pieces::{InRow, Pieces, Row, Used};
 use rl_base::closed_text::ClosedText;
@@ -86,188 +87,156 @@ impl Written for HirType {
     }
 }
 
+/// The table of values, handed to the macro `write` behind `given`: of each value its fields, behind `in` the field that is a
+/// box, its word, and the function that lists it, with the parts that it takes.
+macro_rules! with_values {
+    ($write:ident $given:tt) => {
+        $write! {
+            $given
+            Primitive(ref value) "primitive" write_silent((value,));
+            JsxText(ref text) "jsxtext" write_silent((text,));
+            LoadLocal(place) "loadlocal" write_silent((place,));
+            LoadContext(place) "loadcontext" write_silent((place,));
+            TypeCastExpression { value, cast, span } "typecast" write_silent((value, cast, span));
+            DeclareLocal { kind, place } "declarelocal" write_silent((kind, place));
+            DeclareContext { kind, place } "declarecontext" write_silent((kind, place));
+            StoreLocal { kind, place, value } "storelocal" write_silent((kind, place, value));
+            StoreContext { kind, place, value } "storecontext" write_silent((kind, place, value));
+            LoadGlobal(ref binding) "loadglobal" write_event(binding);
+            StoreGlobal { ref name, value } "storeglobal" write_event((name, Used(value)));
+            Destructure(ref destructure) in destructure "destructure" write_destructure(destructure);
+            BinaryExpression { operator, left, right } "binary"
+                write_event((Literal(operator.as_str()), Used(left), Used(right)));
+            UnaryExpression { operator, value } "unary" write_event((Literal(operator.as_str()), Used(value)));
+            PrefixUpdate { operator, place, value } "prefixupdate" write_update(operator, place, value);
+            PostfixUpdate { operator, place, value } "postfixupdate" write_update(operator, place, value);
+            RegExpLiteral(ref literal) in literal "regexp" write_event((&literal.pattern, &literal.flags));
+            TemplateLiteral(ref template) in template "template" write_event(template);
+            TaggedTemplateExpression { tag, ref template } in template "tagged" write_event((tag, template));
+            ArrayExpression(ref elements) "array" write_event(elements);
+            ObjectExpression(ref properties) "object" write_event(properties);
+            MetaProperty {} "metaproperty" write_event(());
+            Debugger {} "debugger" write_event(());
+            FunctionExpression(node) "function" write_event(node);
+            ObjectMethod(node) "objectmethod" write_event(node);
+            CallExpression { callee, ref arguments } "call" write_event((Used(callee), arguments));
+            NewExpression { callee, ref arguments } "new" write_event((Used(callee), arguments));
+            MethodCall(ref call) in call "methodcall" write_event((Used(call.receiver), Used(call.property), &call.arguments));
+            PropertyLoad { object, ref property } in property "propertyload" write_event((Used(object), property));
+            PropertyStore { object, ref property, value } in property "propertystore"
+                write_event((Used(object), property, Used(value)));
+            PropertyDelete { object, ref property } in property "propertydelete" write_event((Used(object), property));
+            ComputedLoad { object, property } "computedload" write_event((Used(object), Used(property)));
+            ComputedStore(ref store) in store "computedstore"
+                write_event((Used(store.object), Used(store.property), Used(store.value)));
+            ComputedDelete { object, property } "computeddelete" write_event((Used(object), Used(property)));
+            JsxExpression(ref jsx) in jsx "jsx" write_event((&jsx.tag, &jsx.props, &jsx.children));
+            JsxFragment(ref children) "jsxfragment" write_event(children);
+            Await(value) "await" write_event(Used(value));
+            GetIterator(value) "getiterator" write_event(Used(value));
+            IteratorNext { iterator, collection } "iteratornext" write_event((Used(iterator), Used(collection)));
+            NextPropertyOf(value) "nextpropertyof" write_event(Used(value));
+        }
+    };
+}
+
+/// The word of a value.
+macro_rules! word_of {
+    (($value:expr) $($name:ident $fields:tt $(in $boxed:ident)? $word:literal $write:ident($($part:expr),*);)*) => {
+        match $value {
+            $(Value::$name { .. } => $word,)*
+        }
+    };
+}
+
+impl Value {
+    /// The word of the value in a listing.
+    fn word(&self) -> &'static str
+        ensures { IsWordOf (spec.value_word self.now) result.now }
+    {
+        with_values!(word_of(self))
+    }
+}
+
 /// Appends the listing of a value without an event. On `OutOfMemory` an allocation failed, and `out` may hold a part of it.
 fn write_silent<P: WrittenParts + Drop>(
-    word: &str,
+    op: &Value,
     fields: P,
     out: &mut Vec<u8>,
 ) -> Result<(), OutOfMemory>
-    requires { IsWord word.now }
-    ensures { OnOk result (IsListed out.old.items out.new.items (Node word.now (P.parts fields))) }
+    ensures { OnOk result (IsListed out.old.items out.new.items (Node (spec.value_word op.now) (P.parts fields))) }
 {
-    write_node(word, &fields, out)?;
+    write_node(op.word(), &fields, out)?;
     Ok(())
 }
 
 /// Appends the listing of a value with an event. On `OutOfMemory` an allocation failed, and `out` may hold a part of it.
 fn write_event<P: Pieces + Drop>(
-    word: &str,
+    op: &Value,
     pieces: P,
     out: &mut Vec<u8>,
 ) -> Result<(), OutOfMemory>
-    requires { IsWord word.now }
-    ensures { OnOk result (IsListed out.old.items out.new.items (spec.form_tree (spec.Asks word.now (P.pieces pieces)))) }
+    ensures { OnOk result (IsListed out.old.items out.new.items (spec.form_tree (spec.Asks (spec.value_word op.now) (P.pieces pieces)))) }
 {
     let texts = Bracketed(InRow(&pieces, Row::Texts));
     let operands = Bracketed(InRow(&pieces, Row::Operands));
-    write_node(word, &(texts, operands), out)?;
+    write_node(op.word(), &(texts, operands), out)?;
     Ok(())
 }
 
 /// Appends the listing of `destructure`. On `OutOfMemory` an allocation failed, and `out` may hold a part of it.
-fn write_destructure(destructure: &Destructure, out: &mut Vec<u8>) -> Result<(), OutOfMemory>
-    ensures { OnOk result (IsListed out.old.items out.new.items (spec.form_tree (spec.destructure_form destructure.now))) }
+fn write_destructure(
+    op: &Value,
+    destructure: &Destructure,
+    out: &mut Vec<u8>,
+) -> Result<(), OutOfMemory>
+    ensures { OnOk result (IsListed out.old.items out.new.items (spec.form_tree (spec.destructure_form (spec.value_word op.now) destructure.now))) }
 {
     let texts = Bracketed(InRow(&destructure.pattern, Row::Texts));
     let value = Bracketed(InRow(Used(destructure.value), Row::Operands));
     let targets = Bracketed(InRow(&destructure.pattern, Row::Operands));
-    write_node(
-        "destructure",
-        &(destructure.kind, texts, value, targets),
-        out,
-    )?;
+    let parts = (destructure.kind, texts, value, targets);
+    write_node(op.word(), &parts, out)?;
     Ok(())
 }
 
 /// Appends the listing of an update. On `OutOfMemory` an allocation failed, and `out` may hold a part of it.
 fn write_update(
-    word: &str,
+    op: &Value,
     operator: UpdateOperator,
     place: Place,
     value: Place,
     out: &mut Vec<u8>,
 ) -> Result<(), OutOfMemory>
-    requires { IsWord word.now }
-    ensures { OnOk result (IsListed out.old.items out.new.items (spec.form_tree (spec.update_form word.now operator place value))) }
+    ensures { OnOk result (IsListed out.old.items out.new.items (spec.form_tree (spec.update_form (spec.value_word op.now) operator place value))) }
 {
     let texts = Bracketed(InRow(Literal(operator.as_str()), Row::Texts));
     let value = Bracketed(InRow(Used(value), Row::Operands));
     let target = Bracketed(InRow(Used(place), Row::Operands));
-    write_node(word, &(texts, value, target), out)?;
+    write_node(op.word(), &(texts, value, target), out)?;
     Ok(())
 }
 
-/// Appends the listing of a value. On `OutOfMemory` an allocation failed, and `out` may hold a part of it.
-fn write_value(operation: &InstructionValue, out: &mut Vec<u8>) -> Result<(), OutOfMemory>
-    ensures { OnOk result (IsListed out.old.items out.new.items (spec.value operation.now)) }
-{
-    match operation {
-        InstructionValue::Primitive(value) => write_silent("primitive", (value,), out),
-        InstructionValue::JsxText(text) => write_silent("jsxtext", (text,), out),
-        InstructionValue::LoadLocal(place) => write_silent("loadlocal", (*place,), out),
-        InstructionValue::LoadContext(place) => write_silent("loadcontext", (*place,), out),
-        InstructionValue::TypeCastExpression { value, cast, span } => {
-            write_silent("typecast", (*value, *cast, *span), out)
+/// Appends the listing of a value.
+macro_rules! written_of {
+    (($value:ident, $out:ident) $($name:ident $fields:tt $(in $boxed:ident)? $word:literal $write:ident($($part:expr),*);)*) => {
+        match *$value {
+            $(Value::$name $fields => {
+                $(let $boxed = $boxed.get();)?
+                $write($value, $($part,)* $out)
+            })*
         }
-        InstructionValue::DeclareLocal { kind, place } => {
-            write_silent("declarelocal", (*kind, *place), out)
-        }
-        InstructionValue::DeclareContext { kind, place } => {
-            write_silent("declarecontext", (*kind, *place), out)
-        }
-        InstructionValue::StoreLocal { kind, place, value } => {
-            write_silent("storelocal", (*kind, *place, *value), out)
-        }
-        InstructionValue::StoreContext { kind, place, value } => {
-            write_silent("storecontext", (*kind, *place, *value), out)
-        }
-        InstructionValue::LoadGlobal(binding) => write_event("loadglobal", binding, out),
-        InstructionValue::StoreGlobal { name, value } => {
-            write_event("storeglobal", (name, Used(*value)), out)
-        }
-        InstructionValue::Destructure(destructure) => write_destructure(destructure.get(), out),
-        InstructionValue::BinaryExpression {
-            operator,
-            left,
-            right,
-        } => {
-            let operator = Literal(operator.as_str());
-            write_event("binary", (operator, Used(*left), Used(*right)), out)
-        }
-        InstructionValue::UnaryExpression { operator, value } => {
-            let operator = Literal(operator.as_str());
-            write_event("unary", (operator, Used(*value)), out)
-        }
-        InstructionValue::PrefixUpdate {
-            operator,
-            place,
-            value,
-        } => write_update("prefixupdate", *operator, *place, *value, out),
-        InstructionValue::PostfixUpdate {
-            operator,
-            place,
-            value,
-        } => write_update("postfixupdate", *operator, *place, *value, out),
-        InstructionValue::RegExpLiteral(literal) => {
-            let literal = literal.get();
-            write_event("regexp", (&literal.pattern, &literal.flags), out)
-        }
-        InstructionValue::TemplateLiteral(template) => {
-            write_event("template", template.get(), out)
-        }
-        InstructionValue::TaggedTemplateExpression { tag, template } => {
-            write_event("tagged", (tag, template.get()), out)
-        }
-        InstructionValue::ArrayExpression(elements) => write_event("array", elements, out),
-        InstructionValue::ObjectExpression(properties) => write_event("object", properties, out),
-        InstructionValue::MetaProperty => write_event("metaproperty", (), out),
-        InstructionValue::Debugger => write_event("debugger", (), out),
-        InstructionValue::FunctionExpression(node) => write_event("function", node, out),
-        InstructionValue::ObjectMethod(node) => write_event("objectmethod", node, out),
-        InstructionValue::CallExpression { callee, arguments } => {
-            write_event("call", (Used(*callee), arguments), out)
-        }
-        InstructionValue::NewExpression { callee, arguments } => {
-            write_event("new", (Used(*callee), arguments), out)
-        }
-        InstructionValue::MethodCall(call) => {
-            let call = call.get();
-            let operands = (Used(call.receiver), Used(call.property), &call.arguments);
-            write_event("methodcall", operands, out)
-        }
-        InstructionValue::PropertyLoad { object, property } => {
-            write_event("propertyload", (Used(*object), property.get()), out)
-        }
-        InstructionValue::PropertyStore {
-            object,
-            property,
-            value,
-        } => {
-            let operands = (Used(*object), property.get(), Used(*value));
-            write_event("propertystore", operands, out)
-        }
-        InstructionValue::PropertyDelete { object, property } => {
-            write_event("propertydelete", (Used(*object), property.get()), out)
-        }
-        InstructionValue::ComputedLoad { object, property } => {
-            write_event("computedload", (Used(*object), Used(*property)), out)
-        }
-        InstructionValue::ComputedStore(store) => {
-            let store = store.get();
-            let operands = (Used(store.object), Used(store.property), Used(store.value));
-            write_event("computedstore", operands, out)
-        }
-        InstructionValue::ComputedDelete { object, property } => {
-            write_event("computeddelete", (Used(*object), Used(*property)), out)
-        }
-        InstructionValue::JsxExpression(jsx) => {
-            let jsx = jsx.get();
-            write_event("jsx", (&jsx.tag, &jsx.props, &jsx.children), out)
-        }
-        InstructionValue::JsxFragment(children) => write_event("jsxfragment", children, out),
-        InstructionValue::Await(value) => write_event("await", Used(*value), out),
-        InstructionValue::GetIterator(value) => write_event("getiterator", Used(*value), out),
-        InstructionValue::IteratorNext {
-            iterator,
-            collection,
-        } => write_event("iteratornext", (Used(*iterator), Used(*collection)), out),
-        InstructionValue::NextPropertyOf(value) => {
-            write_event("nextpropertyof", Used(*value), out)
-        }
-    }
+    };
 }
 
-impl Written for InstructionValue {
+/// Appends the listing of a value. On `OutOfMemory` an allocation failed, and `out` may hold a part of it.
+fn write_value(op: &Value, out: &mut Vec<u8>) -> Result<(), OutOfMemory>
+    ensures { OnOk result (IsListed out.old.items out.new.items (spec.value op.now)) }
+{
+    with_values!(written_of(op, out))
+}
+
+impl Written for Value {
     ghost shown = { spec.value };
 
     fn write(&self, out: &mut Vec<u8>) -> Result<(), OutOfMemory> {
