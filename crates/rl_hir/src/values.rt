@@ -160,60 +160,60 @@ impl Value {
 
 /// Appends the listing of a value without an event. On `OutOfMemory` an allocation failed, and `out` may hold a part of it.
 fn write_silent<P: WrittenParts + Drop>(
-    op: &Value,
+    operation: &Value,
     fields: P,
     out: &mut Vec<u8>,
 ) -> Result<(), OutOfMemory>
-    ensures { OnOk result (IsListed out.old.items out.new.items (Node (spec.value_word op.now) (P.parts fields))) }
+    ensures { OnOk result (IsListed out.old.items out.new.items (Node (spec.value_word operation.now) (P.parts fields))) }
 {
-    write_node(op.word(), &fields, out)?;
+    write_node(operation.word(), &fields, out)?;
     Ok(())
 }
 
 /// Appends the listing of a value with an event. On `OutOfMemory` an allocation failed, and `out` may hold a part of it.
 fn write_event<P: Pieces + Drop>(
-    op: &Value,
+    operation: &Value,
     pieces: P,
     out: &mut Vec<u8>,
 ) -> Result<(), OutOfMemory>
-    ensures { OnOk result (IsListed out.old.items out.new.items (spec.form_tree (spec.Asks (spec.value_word op.now) (P.pieces pieces)))) }
+    ensures { OnOk result (IsListed out.old.items out.new.items (spec.form_tree (spec.Asks (spec.value_word operation.now) (P.pieces pieces)))) }
 {
     let texts = Bracketed(InRow(&pieces, Row::Texts));
     let operands = Bracketed(InRow(&pieces, Row::Operands));
-    write_node(op.word(), &(texts, operands), out)?;
+    write_node(operation.word(), &(texts, operands), out)?;
     Ok(())
 }
 
 /// Appends the listing of `destructure`. On `OutOfMemory` an allocation failed, and `out` may hold a part of it.
 fn write_destructure(
-    op: &Value,
+    operation: &Value,
     destructure: &Destructure,
     out: &mut Vec<u8>,
 ) -> Result<(), OutOfMemory>
-    ensures { OnOk result (IsListed out.old.items out.new.items (spec.form_tree (spec.destructure_form (spec.value_word op.now) destructure.now))) }
+    ensures { OnOk result (IsListed out.old.items out.new.items (spec.form_tree (spec.destructure_form (spec.value_word operation.now) destructure.now))) }
 {
     let texts = Bracketed(InRow(&destructure.pattern, Row::Texts));
     let value = Bracketed(InRow(Used(destructure.value), Row::Operands));
     let targets = Bracketed(InRow(&destructure.pattern, Row::Operands));
     let parts = (destructure.kind, texts, value, targets);
-    write_node(op.word(), &parts, out)?;
+    write_node(operation.word(), &parts, out)?;
     Ok(())
 }
 
 /// Appends the listing of an update. On `OutOfMemory` an allocation failed, and `out` may hold a part of it.
 fn write_update(
-    op: &Value,
+    operation: &Value,
     operator: UpdateOperator,
     place: Place,
     value: Place,
     out: &mut Vec<u8>,
 ) -> Result<(), OutOfMemory>
-    ensures { OnOk result (IsListed out.old.items out.new.items (spec.form_tree (spec.update_form (spec.value_word op.now) operator place value))) }
+    ensures { OnOk result (IsListed out.old.items out.new.items (spec.form_tree (spec.update_form (spec.value_word operation.now) operator place value))) }
 {
     let texts = Bracketed(InRow(Literal(operator.as_str()), Row::Texts));
     let value = Bracketed(InRow(Used(value), Row::Operands));
     let target = Bracketed(InRow(Used(place), Row::Operands));
-    write_node(op.word(), &(texts, value, target), out)?;
+    write_node(operation.word(), &(texts, value, target), out)?;
     Ok(())
 }
 
@@ -230,10 +230,10 @@ macro_rules! written_of {
 }
 
 /// Appends the listing of a value. On `OutOfMemory` an allocation failed, and `out` may hold a part of it.
-fn write_value(op: &Value, out: &mut Vec<u8>) -> Result<(), OutOfMemory>
-    ensures { OnOk result (IsListed out.old.items out.new.items (spec.value op.now)) }
+fn write_value(operation: &Value, out: &mut Vec<u8>) -> Result<(), OutOfMemory>
+    ensures { OnOk result (IsListed out.old.items out.new.items (spec.value operation.now)) }
 {
-    with_values!(written_of(op, out))
+    with_values!(written_of(operation, out))
 }
 
 impl Written for Value {
