@@ -102,7 +102,7 @@ no_preds_change : (change : Pair → BasicBlock) (pairs : List Pair) → ((p : P
 no_preds_change change [] keeps n = n
 no_preds_change change (p ∷ pairs) keeps n = (keeps p n.0, no_preds_change change pairs keeps n.1)
 
-no_preds_kinds : (change : TerminalKind → TerminalKind) (pairs : List Pair) → NoPreds pairs → NoPreds (with_kinds change pairs)
+pub no_preds_kinds : (change : TerminalKind → TerminalKind) (pairs : List Pair) → NoPreds pairs → NoPreds (with_kinds change pairs)
 no_preds_kinds change pairs n = no_preds_change (λ p. with_kind p.1 (change p.1.terminal.kind)) pairs (λ p e. e) n
 
 no_preds_changed : (x : BlockId) (change : BasicBlock → BasicBlock) (pairs : List Pair) → ((block : BasicBlock) → block.preds ≡ [] → (change block).preds ≡ []) → NoPreds pairs
@@ -125,13 +125,13 @@ none_lost dead (p ∷ pairs) n =
     never true = refl
     never false = refl
 
-tried : (dead : DeadTry) (now : List Pair) → NoPreds now
+pub tried : (dead : DeadTry) (now : List Pair) → NoPreds now
     → without_try dead now ≡ with_changed dead.fallthrough (without_predecessor dead.handler) (with_changed dead.id (ended_by_goto dead.block) now)
 tried dead now n =
     ap (λ (t : List Pair). with_changed dead.fallthrough (without_predecessor dead.handler) t)
     (none_lost dead (with_changed dead.id (ended_by_goto dead.block) now) (no_preds_changed dead.id (ended_by_goto dead.block) now (λ block e. e) n))
 
-no_preds_tried : (dead : DeadTry) (now : List Pair) → NoPreds now → NoPreds (without_try dead now)
+pub no_preds_tried : (dead : DeadTry) (now : List Pair) → NoPreds now → NoPreds (without_try dead now)
 no_preds_tried dead now n =
     subst (λ (t : List Pair). NoPreds t) (sym (tried dead now n))
     (no_preds_changed dead.fallthrough (without_predecessor dead.handler) (with_changed dead.id (ended_by_goto dead.block) now)

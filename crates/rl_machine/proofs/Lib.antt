@@ -1,10 +1,11 @@
+pub mod Cleaned
 mod Examples
 pub mod Following
-mod Found
+pub mod Found
 pub mod KeptRuns
 pub mod Points
 pub mod Pruned
 mod Reading
-pub mod StaysClosed
 pub mod Silence
+pub mod StaysClosed
 mod Tables

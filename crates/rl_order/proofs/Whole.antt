@@ -64,7 +64,7 @@ kept_whole graph w (x ∷ ids) id among used = by_head (same_id id x) refl (λ t
     by_head false e rest = kept_skip graph w x ids id e ∙ rest (sym (ap (λ b. b || list_any (same_id id) ids) e) ∙ among)
 
 -- A used block was appended when the walk has ended.
-used_done : (graph : List Pair) (entry : BlockId) (end : Walk) → WalksFrom graph entry end → (id : BlockId)
+pub used_done : (graph : List Pair) (entry : BlockId) (end : Walk) → WalksFrom graph entry end → (id : BlockId)
     → is_used end id ≡ true → is_done end id ≡ true
 used_done graph entry end walk id used = by_done (is_done end id) refl
   where
