@@ -1,5 +1,5 @@
 -- Each call of a function is held once in its graph.
-use Rattle.std.specs.Prelude.{◌≡◌, Bool, true, false, Option, Some, None, List, [], ◌∷◌, ◌++◌, slice_get, if◌then◌else◌}
+use Rattle.std.specs.Prelude.{◌≡◌, Bool, true, false, Option, Some, None, IsPermutation, List, [], ◌∷◌, ◌++◌, slice_get, if◌then◌else◌}
 use Rattle.rl_base.specs.declared.span.Span.{Span}
 use Rattle.rl_base.specs.declared.ids.InstructionId.{InstructionId}
 use Rattle.rl_syntax.specs.declared.word.Word.TheVariants as word
@@ -65,4 +65,4 @@ graph_calls table (b ∷ blocks) = listed_calls table b.1.instructions ++ graph_
 -- reachable, each once.
 pub record HoldsCalls (function : Syntax) (f : HirFunction (List BlockPair)) : Type 0 where
   pub table : calls_of f.instructions ≡ calls_in function
-  pub blocks : graph_calls f.instructions f.body.blocks ≡ live_calls_in function
+  pub blocks : IsPermutation (live_calls_in function) (graph_calls f.instructions f.body.blocks)
