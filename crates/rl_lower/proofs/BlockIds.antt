@@ -1,5 +1,5 @@
--- The ids of blocks stay distinct, and complete blocks do not end as unreachable.
-use Rattle.std.proofs.Common.{◌≡◌, ℕ, zero, suc, ◌+◌, ◌<◌, ◌≤◌, ◌⊎◌, inl, inr, ◌++◌, List, [], ◌∷◌, map, slice_get, Some, refl, sym, ap, ◌∙◌, subst, arith}
+-- The ids of blocks stay distinct, and complete blocks end plainly.
+use Rattle.std.proofs.Common.{◌≡◌, ℕ, zero, suc, ◌+◌, ◌<◌, ◌≤◌, ◌⊎◌, inl, inr, ◌++◌, true, List, [], ◌∷◌, map, slice_get, Some, refl, sym, ap, ◌∙◌, subst, arith}
 use Rattle.std.proofs.lemmas.List.{map-append}
 use Rattle.std.proofs.lemmas.List.Elements.{All-append}
 use Rattle.rl_base.specs.Distinct.{AreDistinct}
@@ -9,7 +9,7 @@ use Rattle.rl_hir.specs.Blocks.{Pair as BlockPair}
 use Rattle.rl_hir.specs.declared.function.BlockKind.{BlockKind}
 use Rattle.rl_builder.specs.Builder.{State, reserved, new_block, ended_by, completed_by}
 use Rattle.rl_builder.specs.declared.blocks.WipBlock.{WipBlock}
-use Rattle.rl_lower.specs.Simulation.{IsCompleted, UniqueIds, IsOwn, PreservesUniqueIds, PreservesIds, AreEnded, LeavesFunction}
+use Rattle.rl_lower.specs.Simulation.{IsCompleted, UniqueIds, IsOwn, PreservesUniqueIds, PreservesIds, AreEnded, is_plain}
 
 -- An element of a list with one more at its end.
 pub added_cases : (xs : List BlockPair) (x : BlockPair) (place : ℕ) (b : BlockPair)
@@ -132,11 +132,11 @@ ids_fresh s t kind =
     ids_ended (reserved s) t (new_block s.env.next_block kind) (ids_counted s.completed s.current.id.0 s.env.next_block (s.env.next_block + 1) (omega arith)) (inr (omega arith))
     (λ c. free_fresh s.completed s.current.id.0 s.env.next_block (s.env.next_block + 1) s.env.next_block c (omega arith) (omega arith))
 
-only_one : (b : BlockPair) → LeavesFunction b.1.terminal → AreEnded (b ∷ [])
+only_one : (b : BlockPair) → is_plain b.1.terminal.kind ≡ true → AreEnded (b ∷ [])
 only_one b end zero d below = end
 only_one b end (suc k) d below = absurd (omega arith)
 
-pub ended_more : (completed : List BlockPair) (b : BlockPair) → LeavesFunction b.1.terminal
+pub ended_more : (completed : List BlockPair) (b : BlockPair) → is_plain b.1.terminal.kind ≡ true
     → AreEnded completed → AreEnded (completed ++ b ∷ [])
 ended_more completed b end all =
-    All-append (λ (x : BlockPair). LeavesFunction x.1.terminal) completed (b ∷ []) all (only_one b end)
+    All-append (λ (x : BlockPair). is_plain x.1.terminal.kind ≡ true) completed (b ∷ []) all (only_one b end)

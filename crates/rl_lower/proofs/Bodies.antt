@@ -25,7 +25,7 @@ use Rattle.rl_model.specs.Meanings.{Exits}
 use Rattle.rl_model.specs.Source.{eval_expr}
 use Rattle.rl_lower.specs.Lowering.{LowersExpression, LowersStatements, LowersBody, exec_before_end}
 use Rattle.rl_lower.proofs.Blocks.{blocks_value_returned}
-use Rattle.rl_lower.proofs.Keeping.{keeps_then, keeps_more, keeps_reserved, keeps_completed, listed_reserved}
+use Rattle.rl_lower.proofs.Keeping.{keeps_then, keeps_more, keeps_reserved, keeps_completed}
 use Rattle.rl_lower.specs.Endings.{return_of}
 use Rattle.rl_lower.proofs.Functions.{value_returned}
 use Rattle.rl_lower.proofs.Parts.{means_same}
@@ -54,7 +54,7 @@ expression_body_call names tree e s later mid new place next kind span is fit op
       blocks = blocks_value_returned s mid span place kind l2.blocks;
       refused = l2.refused;
       calls = l2.calls;
-      reachable = adds_same (calls_in e) _ false _ s _ (returns_value e fit).reached (returns_value e fit).ends (adds_value_returned s mid (calls_in e) (return_of span returns.Implicit place) kind l2.reachable (λ listed. l2.keeps.listed (listed_reserved s listed)));
+      reachable = adds_same (calls_in e) _ false _ s _ (returns_value e fit).reached (returns_value e fit).ends (adds_value_returned s mid (calls_in e) (return_of span returns.Implicit place) kind refl l2.blocks l2.reachable);
       runs = λ supported. means_same s _ ((returns_value e fit).means names) (value_returned s mid (eval_expr names e) place.identifier.0 span place kind refl (l2.runs supported));
     }))
 

@@ -42,14 +42,6 @@ filtered P p (x ∷ xs) all = by_test (filtered P p xs (All-tail P x xs all)) (p
     by_test rest true = All-cons P x (filter p xs) (All-head P x xs all) rest
     by_test rest false = rest
 
-pub fewer_orders : (p : BlockPair → Bool) (xs : List BlockPair) → orders_of (filter p xs) ≤ orders_of xs
-fewer_orders p [] = omega arith
-fewer_orders p (x ∷ xs) = let rest : orders_of (filter p xs) ≤ orders_of xs = fewer_orders p xs in by_test rest (p x)
-  where
-    by_test : orders_of (filter p xs) ≤ orders_of xs → (b : Bool) → orders_of (cond b (x ∷ filter p xs) (filter p xs)) ≤ orders_of (x ∷ xs)
-    by_test rest true = omega (arith, rest)
-    by_test rest false = omega (arith, rest)
-
 pub closed_listed : (names : Names) (begun : State) (body : Syntax) (s : State) → IsFresh begun
     → LowersBody names body begun s → IsListed (closed_off s)
 closed_listed names begun body s fresh l = (keeps_closed {names = names} s).listed (l.keeps.listed (listed_fresh begun fresh))

@@ -1,16 +1,13 @@
--- A builder that was closed off can be built, and its graph is its entry block.
+-- A builder that was closed off can be built.
 use Rattle.std.proofs.Common.{◌≡◌, ◌+◌, ◌*◌, ◌<◌, ◌^◌, Bool, true, false, if◌then◌else◌, Option, Some, None, is_some, List, [], ◌∷◌, ◌++◌, All, length, slice_get, append-nil, refl, sym, ap, ◌∙◌, subst}
-use Rattle.std.specs.List.{list_all}
 use Rattle.rl_base.specs.declared.diagnostic.Diagnostic.{Diagnostic}
 use Rattle.rl_base.specs.declared.ids.InstructionId.{InstructionId}
 use Rattle.rl_builder.specs.Dropped.{first_function, function_or, is_function_expression, refused_blocks, refused_function}
 use Rattle.rl_hir.specs.Blocks.{Pair as BlockPair, block_at}
 use Rattle.rl_hir.specs.declared.environment.Environment.{Environment}
 use Rattle.rl_hir.specs.declared.instruction.Instruction.{Instruction}
-use Rattle.rl_hir.specs.Terminals.{fields_of, listed_id, named_ids, successor_ids}
-use Rattle.rl_hir.specs.declared.function.BasicBlock.{BasicBlock}
 use Rattle.rl_order.specs.Numbering.{orders_of}
-use Rattle.rl_order.specs.Walk.{IsWhole, has_block, leads_to}
+use Rattle.rl_order.specs.Walk.{IsWhole}
 use Rattle.rl_builder.specs.Build.{IsBuilt, graph_of}
 use Rattle.rl_builder.specs.Builder.{State}
 use Rattle.rl_machine.specs.Machine.{Graph}
@@ -19,25 +16,11 @@ use Rattle.rl_names.specs.Names.{Names}
 use Rattle.rl_lower.specs.Endings.{closed_off}
 use Rattle.rl_lower.specs.Listed.{AreBelow}
 use Rattle.rl_lower.specs.Lowering.{HasRoom, LowersBody}
-use Rattle.rl_lower.proofs.Alone.{alone_built, built_of, follows_none, leads_none, table_same}
 use Rattle.rl_lower.proofs.Building.{IsFresh, closed_listed, orders_fit}
-use Rattle.rl_lower.proofs.Finished.{IsFinished, entry_block, found_holds, found_leaves}
+use Rattle.rl_lower.proofs.Finished.{IsFinished, finished_whole}
 use Rattle.rl_lower.proofs.Functions.{function_finished}
 use Rattle.rl_lower.proofs.Parameters.{all_at}
-
--- The blocks of a finished builder lead to its blocks alone.
-finished_whole : (s : State) → IsFinished s → IsWhole s.completed s.entry
-finished_whole s fin = record {
-  entry_there = ap (λ o. is_some o) (entry_block s fin (λ symbol. None));
-  leads = λ id block found.
-      let none = (found_leaves s fin id block found).0 in
-      ap (λ ids. list_all (has_block s.completed) ids) (nowhere block none);
-}
-  where
-    nowhere : (block : BasicBlock) → named_ids block.terminal ≡ [] → leads_to block ≡ []
-    nowhere block none =
-        ap (λ o. listed_id o ++ successor_ids block.terminal) (follows_none (fields_of block.terminal.kind) none)
-        ∙ leads_none (fields_of block.terminal.kind) none
+use Rattle.rl_lower.proofs.Tables.{table_same}
 
 -- Blocks are not refused without instructions that make functions.
 
@@ -77,12 +60,6 @@ module _ (names : Names) (begun : State) (body : Syntax) (s : State) (fresh : Is
   pub closed_orders : HasRoom begun (4 * (nodes body + 2)) → 1 + orders_of (graph_of (closed_off s)) < 2 ^ 32
   closed_orders room =
       subst (λ (pairs : List BlockPair). 1 + orders_of pairs < 2 ^ 32) (sym closed_table) (orders_fit names begun body s fresh l room)
-
-  pub closed_built : (built : Graph) (env : Environment) → IsBuilt (closed_off s) built env → built ≡ built_of (closed_off s)
-  closed_built built env b =
-      alone_built (closed_off s) finished.entry.block.1 built env finished.apart (entry_block (closed_off s) finished (λ symbol. None)) (found_leaves (closed_off s) finished (closed_off s).entry finished.entry.block.1 (entry_block (closed_off s) finished (λ symbol. None))).0
-      (found_holds (λ (p : BlockPair). p.1.preds ≡ []) (closed_off s).completed (closed_off s).entry finished.entry.block.1
-      (closed_listed names begun body s fresh l).predecessors (entry_block (closed_off s) finished (λ symbol. None))).1 b
 
   -- No block makes a function, so none is refused.
   pub closed_env : (built : Graph) (env : Environment) → IsBuilt (closed_off s) built env → env ≡ (closed_off s).env

@@ -1,44 +1,50 @@
--- A finished builder: its blocks as a graph, which may be ordered, and the graph's runs.
-use Rattle.std.proofs.Common.{◌≡◌, ℕ, ◌+◌, ◌<◌, inl, inr, Bool, true, false, cond, List, [], ◌∷◌, All, Option, Some, None, length, slice_get, nat_eq, refl, sym, ap, ◌∙◌, subst, arith}
-use Rattle.std.proofs.lemmas.Bool.{ne_eqb}
+-- A finished builder: its blocks as a graph, which may be ordered, and whose silent rows end.
+use Rattle.std.proofs.Common.{◌≡◌, ℕ, ◌<◌, ◌≤◌, inl, inr, Bool, true, false, true≢false, ◌&&◌, is_some, List, [], ◌∷◌, All, Option, Some, None, length, slice_get, nat_eq, refl, sym, ap, ◌∙◌, subst, arith}
+use Rattle.std.proofs.lemmas.Bool.Decides.{eqb_tells}
+use Rattle.std.specs.List.{list_all, list_any}
 use Rattle.std.proofs.lemmas.List.Elements.{All-head, All-tail}
-use Rattle.std.proofs.lemmas.Option.{slice_get_past, slice_get_within}
+use Rattle.std.proofs.lemmas.Option.{slice_get_within}
 use Rattle.rl_base.specs.declared.ids.BlockId.{BlockId}
 use Rattle.rl_base.specs.declared.ids.InstructionId.{InstructionId}
 use Rattle.rl_hir.specs.Blocks.{Pair as BlockPair, block_at, same_id}
-use Rattle.rl_hir.specs.Terminals.{fields_of, names}
 use Rattle.rl_hir.specs.declared.function.BasicBlock.{BasicBlock}
 use Rattle.rl_hir.specs.declared.instruction.Instruction.{Instruction}
-use Rattle.rl_hir.specs.declared.terminal.Terminal.{Terminal}
 use Rattle.rl_hir.specs.declared.terminal.TerminalKind.{TerminalKind}
 use Rattle.rl_hir.specs.declared.terminal.TerminalKind.TheVariants as kinds
 use Rattle.rl_builder.specs.Builder.{State}
 use Rattle.rl_machine.specs.Conditions.{EndsAs, MayOrder, Reached, loop_blocks}
 use Rattle.rl_machine.specs.Machine.{Graph}
-use Rattle.rl_machine.specs.Ends.{catcher_of, no_notes}
-use Rattle.rl_machine.specs.Machine.{Code, Item, Runs, Ends, block_of, catcher_at, code_in, exec, item_at, item_by, item_in, no_way, positions, start_store, steps_for}
-use Rattle.rl_machine.specs.Prunes.{Each, PassesOnce}
-use Rattle.rl_machine.specs.Traces.{Store, alone}
-use Rattle.rl_machine.specs.declared.trace.Answer.{Answer}
-use Rattle.rl_machine.specs.declared.trace.Trace.{Trace}
-use Rattle.rl_lower.proofs.Graphs.{Apart, found_by, item_met}
-use Rattle.rl_lower.proofs.NeverStuck.{LeadsNowhere, exec_walks, passes_once}
-use Rattle.rl_lower.specs.Simulation.{AreEnded, CoversNames, Fact, HasItem, InCompleted, InWip, IsCompleted, IsContainedIn, LeavesFunction, TracesAt}
+use Rattle.rl_machine.specs.Ends.{catcher_of}
+use Rattle.rl_machine.specs.Machine.{Code, Item, Runs, Ends, block_of, catcher_at, code_in, item_at, item_by, item_in}
+use Rattle.rl_machine.specs.Prunes.{Each}
+use Rattle.rl_machine.specs.Silence.{AlwaysSettles, Settles}
+use Rattle.rl_machine.specs.Traces.{alone}
+use Rattle.rl_machine.proofs.Silence.{settles_nothing}
+use Rattle.rl_order.proofs.Ordering.{or_left, or_right, same_self}
+use Rattle.rl_order.specs.Walk.{IsWhole, has_block, leads_to}
+use Rattle.rl_lower.proofs.BlockNames.{leads_named}
+use Rattle.rl_lower.proofs.Graphs.{Apart, FoundAt, found_at, found_by, item_met}
+use Rattle.rl_lower.specs.Simulation.{AreEnded, CoversNames, Fact, HasItem, InCompleted, InCompletedPoint, InWip, IsCompleted, IsContainedIn, IsNamed, is_plain}
 
--- Every block is complete, ids are distinct, and the entry is one of them.
+-- Every block is complete: ids are distinct, the entry and all blocks that are named are among them, each ends plainly, and their program
+-- points settle.
 pub record IsFinished (s : State) : Type 0 where
   pub apart : Apart s.completed
   pub ended : AreEnded s.completed
   pub empty : s.current.instructions ≡ []
   pub entry : IsCompleted s.completed s.entry.0
+  pub named : (id : ℕ) → IsNamed s.completed id → IsCompleted s.completed id
+  pub settle : (c : Code) → IsContainedIn s c → (id place : ℕ) → InCompletedPoint s.completed id place → Settles c id place
 
 -- A block that is found is one of all.
-pub found_holds : (P : BlockPair → Type 0) (pairs : List BlockPair) (id : BlockId) (block : BasicBlock) → All P pairs → block_at pairs id ≡ Some block
+pub found_holds : (P : BlockPair → Type 0) (pairs : List BlockPair) (id : BlockId) (block : BasicBlock) → All P pairs
+    → block_at pairs id ≡ Some block
     → (other : BlockId) × P (other, block)
 found_holds P [] id block all found = absurd (cc)
 found_holds P (p ∷ pairs) id block all found = by_test (same_id id p.0) refl found (found_holds P pairs id block (All-tail P p pairs all))
   where
-    by_test : (b : Bool) → same_id id p.0 ≡ b → block_at (p ∷ pairs) id ≡ Some block → (block_at pairs id ≡ Some block → (other : BlockId) × P (other, block))
+    by_test : (b : Bool) → same_id id p.0 ≡ b → block_at (p ∷ pairs) id ≡ Some block
+        → (block_at pairs id ≡ Some block → (other : BlockId) × P (other, block))
         → (other : BlockId) × P (other, block)
     by_test true is found1 rest =
         let at : Some p.1 ≡ Some block = rw is at found1 in
@@ -46,71 +52,75 @@ found_holds P (p ∷ pairs) id block all found = by_test (same_id id p.0) refl f
         (p.0, subst (λ (b : BasicBlock). P (p.0, b)) same (All-head P p pairs all))
     by_test false is found1 rest = let later : block_at pairs id ≡ Some block = rw is at found1 in rest later
 
--- A block that is found leaves the function.
-pub found_leaves : (s : State) → IsFinished s → (id : BlockId) (block : BasicBlock) → block_at s.completed id ≡ Some block → LeavesFunction block.terminal
-found_leaves s fin id block found = (found_holds (λ (b : BlockPair). LeavesFunction b.1.terminal) s.completed id block fin.ended found).1
+-- An item stands at an instruction or at the terminal.
+item_place : (table : List Instruction) (block : BasicBlock) (place : ℕ) (item : Item) → item_in table block place ≡ Some item
+    → place ≤ length block.instructions
+item_place table block place item is = by_listed (slice_get block.instructions place) refl is
+  where
+    by_listed : (o : Option InstructionId) → slice_get block.instructions place ≡ o
+        → item_by table o (nat_eq place (length block.instructions)) block.terminal ≡ Some item
+        → place ≤ length block.instructions
+    by_listed (Some number) found e = (let below : place < length block.instructions = slice_get_within block.instructions place number found in omega (arith, below))
+    by_listed None found e = elim (eqb_tells place (length block.instructions)) [
+      | inl t ↦ (let same : place ≡ length block.instructions = t.1 in omega (arith, same))
+      | inr t ↦ (let never : None ≡ Some item = ap (λ (b : Bool). item_by table None b block.terminal) (sym t.0) ∙ e in absurd (cc))
+    ]
 
--- A terminal that names no block names no handler, and no block of a loop.
+-- A block that is found ends plainly.
+pub found_plain : (s : State) → IsFinished s → (id : BlockId) (block : BasicBlock) → block_at s.completed id ≡ Some block
+    → is_plain block.terminal.kind ≡ true
+found_plain s fin id block found = (found_holds (λ (b : BlockPair). is_plain b.1.terminal.kind ≡ true) s.completed id block fin.ended found).1
 
-none_caught : (kind : TerminalKind) → names (fields_of kind) ≡ [] → catcher_of kind ≡ None
-none_caught (kinds.Goto b v) none = refl
-none_caught (kinds.If t c a f) none = refl
-none_caught (kinds.Branch t c a f) none = refl
-none_caught (kinds.Switch t cs f) none = refl
-none_caught (kinds.Logical o t f) none = refl
-none_caught (kinds.Ternary t f) none = refl
-none_caught (kinds.Optional o t f) none = refl
-none_caught (kinds.Sequence b f) none = refl
-none_caught (kinds.Label b f) none = refl
-none_caught (kinds.Try b p h f) none = refl
-none_caught (kinds.While t b f) none = refl
-none_caught (kinds.DoWhile b t f) none = refl
-none_caught (kinds.For i t u b f) none = refl
-none_caught (kinds.ForIn i b f) none = refl
-none_caught (kinds.ForOf i t b f) none = refl
-none_caught (kinds.MaybeThrow b h) none = absurd (cc)
-none_caught (kinds.Return v p) none = refl
-none_caught (kinds.Throw p) none = refl
-none_caught kinds.Unreachable none = refl
+-- The blocks of a finished builder lead to its blocks alone.
+pub finished_whole : (s : State) → IsFinished s → IsWhole s.completed s.entry
+finished_whole s fin = record {
+  entry_there = there s.entry fin.entry;
+  leads = λ id block found. all_there (leads_to block) (λ other leads.
+      let at : FoundAt s.completed id.0 block = found_at s.completed id.0 block found in
+      there other (fin.named other.0 (record { index = at.index; block = (at.own, block); found = at.found; names = leads_named (same_id other) block leads })));
+}
+  where
+    there : (id : BlockId) → IsCompleted s.completed id.0 → has_block s.completed id ≡ true
+    there id k = ap (λ (o : Option BasicBlock). is_some o) (subst (λ (n : ℕ). block_of s.completed n ≡ Some k.block.1) k.named (found_by s.completed k.place k.block fin.apart k.found))
 
-none_looped : (is_so : ℕ → Type 0) (kind : TerminalKind) → names (fields_of kind) ≡ [] → Each is_so (loop_blocks kind)
-none_looped is_so (kinds.Goto b v) none = tt
-none_looped is_so (kinds.If t c a f) none = tt
-none_looped is_so (kinds.Branch t c a f) none = tt
-none_looped is_so (kinds.Switch t cs f) none = tt
-none_looped is_so (kinds.Logical o t f) none = tt
-none_looped is_so (kinds.Ternary t f) none = tt
-none_looped is_so (kinds.Optional o t f) none = tt
-none_looped is_so (kinds.Sequence b f) none = tt
-none_looped is_so (kinds.Label b f) none = tt
-none_looped is_so (kinds.Try b p h f) none = tt
-none_looped is_so (kinds.While t b f) none = absurd (cc)
-none_looped is_so (kinds.DoWhile b t f) none = tt
-none_looped is_so (kinds.For i t u b f) none = absurd (cc)
-none_looped is_so (kinds.ForIn i b f) none = absurd (cc)
-none_looped is_so (kinds.ForOf i t b f) none = absurd (cc)
-none_looped is_so (kinds.MaybeThrow b h) none = tt
-none_looped is_so (kinds.Return v p) none = tt
-none_looped is_so (kinds.Throw p) none = tt
-none_looped is_so kinds.Unreachable none = tt
+    all_there : (ids : List BlockId)
+        → ((other : BlockId) → list_any (same_id other) ids ≡ true → has_block s.completed other ≡ true)
+        → list_all (has_block s.completed) ids ≡ true
+    all_there [] each = refl
+    all_there (id ∷ ids) each =
+        ap (λ (b : Bool). b && list_all (has_block s.completed) ids) (each id (or_left (same_id id id) (list_any (same_id id) ids) (same_self id)))
+        ∙ all_there ids (λ other h. each other (or_right (same_id other id) (list_any (same_id other) ids) h))
+
+-- A plain terminal has no handler, and opens no loop.
+
+none_caught : (kind : TerminalKind) → is_plain kind ≡ true → catcher_of kind ≡ None
+none_caught (kinds.MaybeThrow b h) plain = absurd (cc)
+none_caught _ plain = refl
+
+none_looped : (is_so : ℕ → Type 0) (kind : TerminalKind) → is_plain kind ≡ true → Each is_so (loop_blocks kind)
+none_looped is_so (kinds.While t b f) plain = absurd (cc)
+none_looped is_so (kinds.For i t u b f) plain = absurd (cc)
+none_looped is_so (kinds.ForIn i b f) plain = absurd (cc)
+none_looped is_so (kinds.ForOf i t b f) plain = absurd (cc)
+none_looped is_so _ plain = tt
 
 -- The completed blocks as a graph.
 abbrev pub completed_graph : State → Graph
 completed_graph s = record { blocks = s.completed; table = s.table; entry = s.entry }
 
--- It may be ordered: no block leads to another.
+-- It may be ordered.
 pub finished_may_order : (s : State) → IsFinished s → All (λ b. b.1.preds ≡ []) s.completed → MayOrder (completed_graph s)
 finished_may_order s fin unlinked = record {
   fresh = λ id block found. (found_holds (λ (b : BlockPair). b.1.preds ≡ []) s.completed id block unlinked found).1;
-  ended = λ id e. (found_leaves s fin id e.block e.there).1 e.ends;
-  loops = λ id kind e. none_looped (Reached (completed_graph s)) kind (nameless id kind e);
-  steps = λ id body test behind e. (let none : names (fields_of (kinds.DoWhile body test behind)) ≡ [] = nameless id _ e in absurd (cc));
-  dead_loops = λ id body test behind e gone. (let none : names (fields_of (kinds.DoWhile body test behind)) ≡ [] = nameless id _ e in absurd (cc));
-  dead_tries = λ id block binding handler behind e gone. (let none : names (fields_of (kinds.Try block binding handler behind)) ≡ [] = nameless id _ e in absurd (cc));
+  ended = λ id e. true≢false (sym (plain id kinds.Unreachable e));
+  loops = λ id kind e. none_looped (Reached (completed_graph s)) kind (plain id kind e);
+  steps = λ id body test behind e. absurd (true≢false (sym (plain id (kinds.DoWhile body test behind) e)));
+  dead_loops = λ id body test behind e gone. absurd (true≢false (sym (plain id (kinds.DoWhile body test behind) e)));
+  dead_tries = λ id block binding handler behind e gone. absurd (true≢false (sym (plain id (kinds.Try block binding handler behind) e)));
 }
   where
-    nameless : (id : BlockId) (kind : TerminalKind) → EndsAs (completed_graph s) id kind → names (fields_of kind) ≡ []
-    nameless id kind e = ap (λ (k : TerminalKind). names (fields_of k)) (sym e.ends) ∙ (found_leaves s fin id e.block e.there).0
+    plain : (id : BlockId) (kind : TerminalKind) → EndsAs (completed_graph s) id kind → is_plain kind ≡ true
+    plain id kind e = ap is_plain (sym e.ends) ∙ found_plain s fin id e.block e.there
 
 module _ (s : State) (fin : IsFinished s) (ident : ℕ → Option ℕ) where
   abbrev pub finished_code : Code
@@ -121,7 +131,7 @@ module _ (s : State) (fin : IsFinished s) (ident : ℕ → Option ℕ) where
     where
       by_block : (o : Option BasicBlock) → block_of s.completed block ≡ o → catcher_at o ≡ None
       by_block None is = refl
-      by_block (Some b) is = none_caught b.terminal.kind (found_leaves s fin (record { 0 = block }) b is).0
+      by_block (Some b) is = none_caught b.terminal.kind (found_plain s fin (record { 0 = block }) b is)
 
   -- The graph has all items of the builder, and its names if they are final.
   pub finished_contained : CoversNames s.env.pairs (length s.env.identifiers) ident → IsContainedIn s finished_code
@@ -139,71 +149,19 @@ module _ (s : State) (fin : IsFinished s) (ident : ℕ → Option ℕ) where
       has : (f : Fact) → HasItem s f → finished_code.item f.block f.place ≡ Some f.item
       has f h = elim h [ inl d ↦ of_block f d | inr w ↦ absurd (nothing_open f.place f.item w.holds) ]
 
-  pub entry_block : block_of s.completed s.entry.0 ≡ Some fin.entry.block.1
-  entry_block =
-      subst (λ (id : ℕ). block_of s.completed id ≡ Some fin.entry.block.1) fin.entry.named (found_by s.completed fin.entry.place fin.entry.block fin.apart fin.entry.found)
-
-  abbrev bound : ℕ
-  bound = length fin.entry.block.1.instructions
-
-  at_entry : (place : ℕ) → finished_code.item s.entry.0 place ≡ item_in s.table fin.entry.block.1 place
-  at_entry place = ap (λ (o : Option BasicBlock). item_at s.table o place) entry_block
-
-  -- The entry block leads nowhere.
-  entry_leads : LeadsNowhere finished_code s.entry.0 bound
-  entry_leads = record {
-    uncaught = uncaught s.entry.0;
-    past = λ place far. at_entry place ∙ none_past place far;
-    instructions = λ place i is. runs_before place i (slice_get fin.entry.block.1.instructions place) refl (nat_eq place bound) (sym (at_entry place) ∙ is);
-    terminal = λ place t is. ends_so t (slice_get fin.entry.block.1.instructions place) (nat_eq place bound) (sym (at_entry place) ∙ is);
-  }
+  -- All its program points settle.
+  pub finished_settles : CoversNames s.env.pairs (length s.env.identifiers) ident → AlwaysSettles finished_code
+  finished_settles covers id place = by_block (block_of s.completed id) refl
     where
-      none_past : (place : ℕ) → bound < place → item_in s.table fin.entry.block.1 place ≡ None
-      none_past place far =
-          let ne : place ≡ bound → ⊥ = (λ e. omega (arith, far, e)) in
-          ap (λ o. item_by s.table o (nat_eq place bound) fin.entry.block.1.terminal) (slice_get_past fin.entry.block.1.instructions place (omega (arith, far)))
-          ∙ ap (λ e. item_by s.table None e fin.entry.block.1.terminal) (ne_eqb place bound ne)
+      by_item : (block : BasicBlock) → block_of s.completed id ≡ Some block → (o : Option Item)
+          → item_in s.table block place ≡ o → Settles finished_code id place
+      by_item block is None nothing =
+          settles_nothing finished_code id place (ap (λ (o : Option BasicBlock). item_at s.table o place) is ∙ nothing)
+      by_item block is (Some item) there =
+          (let at : FoundAt s.completed id block = found_at s.completed id block is in
+          fin.settle finished_code (finished_contained covers) id place
+          (record { index = at.index; block = (at.own, block); found = at.found; named = at.named; within = item_place s.table block place item there }))
 
-      runs_before : (place : ℕ) (i : Instruction) (o : Option InstructionId) → slice_get fin.entry.block.1.instructions place ≡ o → (end : Bool)
-          → item_by s.table o end fin.entry.block.1.terminal ≡ Some (Runs i) → place < bound
-      runs_before place i (Some number) found end is = slice_get_within fin.entry.block.1.instructions place number found
-      runs_before place i None found true is = absurd (cc)
-      runs_before place i None found false is = absurd (cc)
-
-      ends_so : (t : Terminal) (o : Option InstructionId) (end : Bool) → item_by s.table o end fin.entry.block.1.terminal ≡ Some (Ends t) → names (fields_of t.kind) ≡ []
-      ends_so t (Some number) end is = by_entry (slice_get s.table number.0) is
-        where
-          by_entry : (o : Option Instruction) → Rattle.std.specs.Option.option_map (λ i. Runs i) o ≡ Some (Ends t) → names (fields_of t.kind) ≡ []
-          by_entry None e = absurd (cc)
-          by_entry (Some i) e = absurd (cc)
-      ends_so t None true is =
-          (let same : fin.entry.block.1.terminal ≡ t = cc in
-          subst (λ (u : Terminal). names (fields_of u.kind) ≡ []) same (found_leaves s fin s.entry fin.entry.block.1 entry_block).0)
-      ends_so t None false is = absurd (cc)
-
-  has_room : (blocks : List BlockPair) (id : BlockId) (block : BasicBlock) → block_at blocks id ≡ Some block → length block.instructions < positions blocks
-  has_room [] id block is = absurd (cc)
-  has_room (b ∷ blocks) id block is = by_test (λ there. has_room blocks id block there) (same_id id b.0) is
-    where
-      by_test : (block_at blocks id ≡ Some block → length block.instructions < positions blocks) → (t : Bool) → cond t (Some b.1) (block_at blocks id) ≡ Some block → length block.instructions < positions (b ∷ blocks)
-      by_test rest true e = (let same : b.1 ≡ block = cc in let long : length b.1.instructions ≡ length block.instructions = ap (λ (x : BasicBlock). length x.instructions) same in omega (arith, long))
-      by_test rest false e = (let later : length block.instructions < positions blocks = rest e in omega (arith, later))
-
-  -- A trace that the unbounded run reaches, the run within the bounds reaches too, whatever trace a stuck run has.
-  pub finished_runs : (stuck : Trace) (store : Store) (answers : List Answer) (t : Trace) → TracesAt finished_code s.entry.0 0 store no_notes answers t
-      → exec stuck finished_code (positions s.completed) (steps_for answers (positions s.completed)) (positions s.completed) s.entry.0 0 store no_notes answers ≡ t
-  finished_runs stuck store answers t goes =
-      let most : ℕ = positions s.completed in
-      let few : bound < positions s.completed = has_room s.completed s.entry fin.entry.block.1 entry_block in
-      let enough : most < steps_for answers most = more_steps answers most in
-      exec_walks stuck finished_code s.entry.0 bound entry_leads most (omega (arith, few)) (steps_for answers most) most (goes.by.0 + bound + 1) 0 store answers (omega (arith, few)) (omega (arith, few, enough)) (omega arith)
-      ∙ goes.by.1 stuck (goes.by.0 + bound + 1) (omega arith)
-    where
-      more_steps : (list : List Answer) (most : ℕ) → most < steps_for list most
-      more_steps [] most = omega arith
-      more_steps (a ∷ rest) most = omega arith
-
-  -- No silent steps in a row pass a program point twice.
-  pub finished_passes_once : (params : List ℕ) → PassesOnce finished_code s.entry params
-  finished_passes_once params stuck again steps start arguments answers =
-      passes_once stuck finished_code s.entry.0 bound entry_leads again (λ rest passed. no_way stuck) steps [] 0 (start_store finished_code params start arguments) answers tt
+      by_block : (o : Option BasicBlock) → block_of s.completed id ≡ o → Settles finished_code id place
+      by_block None is = settles_nothing finished_code id place (ap (λ (o : Option BasicBlock). item_at s.table o place) is)
+      by_block (Some block) is = by_item block is (item_in s.table block place) refl

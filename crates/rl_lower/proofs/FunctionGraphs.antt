@@ -1,5 +1,5 @@
--- The graph of a function (`IsGraphOf`): its traces, size, calls, identifiers and fields, from the lowering of its body.
-use Rattle.std.proofs.Common.{◌≡◌, ℕ, ◌+◌, ◌*◌, ◌<◌, ◌≤◌, ◌^◌, ◌++◌, Bool, true, false, cond, List, [], ◌∷◌, All, map, filter, length, length-append, slice_get, Option, Some, refl, sym, ap, ◌∙◌, subst, arith, append-nil, append_assoc, eq-eqb}
+-- The graph of a function (`IsGraphOf`): its traces, size, identifiers and fields, from the lowering of its body.
+use Rattle.std.proofs.Common.{◌≡◌, ℕ, ◌+◌, ◌*◌, ◌<◌, ◌≤◌, ◌^◌, ◌++◌, List, [], ◌∷◌, All, length, length-append, slice_get, Option, Some, refl, sym, ap, ◌∙◌, subst, arith, append_assoc}
 use Rattle.rl_base.specs.declared.diagnostic.Diagnostic.{Diagnostic}
 use Rattle.rl_base.specs.declared.span.Span.{Span}
 use Rattle.rl_syntax.specs.declared.word.Word.TheVariants as word
@@ -13,8 +13,7 @@ use Rattle.rl_hir.specs.declared.function.Param.{Param}
 use Rattle.rl_hir.specs.declared.terminal.ReturnVariant.TheVariants as returns
 use Rattle.rl_hir.specs.declared.instruction.Instruction.{Instruction}
 use Rattle.rl_builder.specs.Builder.{State, one_identifier_more, with_temporary}
-use Rattle.rl_order.specs.Numbering.{ordered_blocks, ordered_table, order_after}
-use Rattle.rl_lower.specs.Reachable.{entry_blocks}
+use Rattle.rl_order.proofs.Pruning.{pruned_size}
 use Rattle.rl_machine.specs.Machine.{Graph}
 use Rattle.rl_names.specs.Names.{Names}
 use Rattle.rl_names.specs.declared.parameters.Parameter.{Parameter}
@@ -27,37 +26,31 @@ use Rattle.rl_machine.specs.declared.trace.Value.{Value}
 use Rattle.rl_machine.specs.declared.trace.Value.TheVariants as value
 use Rattle.rl_machine.specs.Closed.{IsClosed}
 use Rattle.rl_model.specs.Headline.{NeverStuck, SameRuns}
-use Rattle.rl_model.specs.Held.{call_at, calls_in, calls_of, graph_calls, live_in_body, HoldsCalls}
 use Rattle.rl_model.specs.Runs.{take_arguments, trace_by, start_values}
 use Rattle.rl_model.specs.Rows.{refusals, refusals_of}
 use Rattle.rl_model.specs.Size.{function_size}
 use Rattle.rl_model.specs.Source.{source_trace, exec_body, take}
 use Rattle.rl_machine.specs.Traces.{Store, ValueCont, returned, threw, unset, waiting}
 use Rattle.rl_model.specs.Meanings.{set_all}
-use Rattle.rl_base.specs.declared.ids.BlockId.{BlockId}
 use Rattle.rl_hir.specs.declared.function.Hir.{Hir}
 use Rattle.rl_lower.specs.Begun.{FunctionTables, begun_by}
-use Rattle.rl_lower.specs.Endings.{closed_off, with_undefined, IsGraphOf, hir_of}
-use Rattle.rl_lower.specs.Listed.{IsListed}
+use Rattle.rl_lower.specs.Endings.{closed_off, IsGraphOf, hir_of}
 use Rattle.rl_lower.specs.Named.{AreDeclaredAt}
-use Rattle.rl_lower.specs.Reachable.{entry_calls, is_reachable, where_reachable}
-use Rattle.rl_lower.proofs.Reachable.{completed_calls, graph_plain, adds_value, none_where}
 use Rattle.rl_lower.specs.Lowering.{HasRoom, Preserves, LowersBody, exec_before_end}
 use Rattle.rl_model.specs.Fields.{AreGiven, ArePairs}
 use Rattle.rl_lower.specs.Simulation.{Agrees, CoversNames, Extends, HasSoundNames}
 use Rattle.rl_lower.specs.Parameters.{said_of_parameters, with_parameters}
-use Rattle.rl_lower.proofs.Building.{IsFresh, keeps_closed, listed_fresh}
-use Rattle.rl_lower.proofs.FunctionTrees.{IsFunction, function_calls, function_nodes, function_refusals}
+use Rattle.rl_lower.proofs.Building.{IsFresh, keeps_closed}
+use Rattle.rl_lower.proofs.FunctionTrees.{IsFunction, function_nodes, function_refusals}
 use Rattle.rl_lower.proofs.FinalNames.{sound_covers}
 use Rattle.rl_lower.proofs.Functions.{extends_closed, function_finished, function_runs_by}
 use Rattle.rl_lower.proofs.GivenNames.{pairs_told, parameters_kept, parameters_pairs, parameters_sound}
-use Rattle.rl_lower.proofs.Graphs.{without_order, ordered_table_plain}
+use Rattle.rl_lower.proofs.Linked.{built_length}
 use Rattle.rl_lower.proofs.Keeping.{keeps_named, keeps_then, named_pairs, room_less}
 use Rattle.rl_lower.proofs.Moves.{extends_temporary, extends_then}
 use Rattle.rl_lower.proofs.Parameters.{known_from, known_length, pair_found, parameters_given, said_from, said_told, state_with}
 use Rattle.rl_lower.proofs.StartStores.{agrees_start, agrees_taken}
-use Rattle.rl_lower.proofs.Alone.{built_of}
-use Rattle.rl_lower.proofs.Builds.{closed_built, closed_table}
+use Rattle.rl_lower.proofs.Builds.{closed_table}
 use Rattle.rl_lower.proofs.Building.{closed_listed}
 use Rattle.rl_builder.specs.Build.{graph_of}
 use Rattle.rl_machine.specs.Conditions.{MayOrder}
@@ -95,13 +88,6 @@ pub lowered_from : (names : Names) (tables : FunctionTables) (parameters : List 
     → LowersBody names body (state_with (begun_by env tables) parameters) g.state
 lowered_from names tables parameters body env new params built g distinct =
     subst (λ (o : State). LowersBody names body o g.state) (begun_is env tables parameters distinct) g.lowers
-
--- The graph is the entry block alone.
-pub graph_is : (names : Names) (tables : FunctionTables) (parameters : List Parameter) (body : Syntax) (env new : Environment) (params : List Param) (built : Graph)
-    (g : IsGraphOf names tables parameters body env new params built) → AreApart parameters → built ≡ built_of (closed_off g.state)
-graph_is names tables parameters body env new params built g distinct =
-    closed_built names (state_with (begun_by env tables) parameters) body g.state (begun_fresh env tables parameters)
-    (lowered_from names tables parameters body env new params built g distinct) built new g.graph
 
 -- The state behind the graph.
 graph_keeps : (names : Names) (tables : FunctionTables) (parameters : List Parameter) (body : Syntax) (env new : Environment) (params : List Param) (built : Graph)
@@ -151,12 +137,12 @@ graph_refused names tables parameters body env new params built g distinct =
     ∙ ap (λ (l : List Diagnostic). env.diagnostics ++ (l ++ refusals names body)) (said_told names (begun_by env tables) parameters g.declared)
 
 -- No completed block has a predecessor.
-graph_unlinked : (names : Names) (tables : FunctionTables) (parameters : List Parameter) (body : Syntax) (env new : Environment) (params : List Param) (built : Graph)
+pub graph_unlinked : (names : Names) (tables : FunctionTables) (parameters : List Parameter) (body : Syntax) (env new : Environment) (params : List Param) (built : Graph)
     (g : IsGraphOf names tables parameters body env new params built) → AreApart parameters → All (λ p. p.1.preds ≡ []) (closed_off g.state).completed
 graph_unlinked names tables parameters body env new params built g distinct =
     (closed_listed names (state_with (begun_by env tables) parameters) body g.state (begun_fresh env tables parameters) (lowered_from names tables parameters body env new params built g distinct)).predecessors
 
-graph_table : (names : Names) (tables : FunctionTables) (parameters : List Parameter) (body : Syntax) (env new : Environment) (params : List Param) (built : Graph)
+pub graph_table : (names : Names) (tables : FunctionTables) (parameters : List Parameter) (body : Syntax) (env new : Environment) (params : List Param) (built : Graph)
     (g : IsGraphOf names tables parameters body env new params built) → AreApart parameters → graph_of (closed_off g.state) ≡ (closed_off g.state).completed
 graph_table names tables parameters body env new params built g distinct =
     closed_table names (state_with (begun_by env tables) parameters) body g.state (begun_fresh env tables parameters) (lowered_from names tables parameters body env new params built g distinct)
@@ -187,27 +173,6 @@ function_runs names f body w start arguments answers =
 
 -- Its size.
 
-length_same : (xs : List Instruction) → length (map without_order xs) ≡ length xs
-length_same [] = refl
-length_same (x ∷ xs) = let rest : length (map without_order xs) ≡ length xs = length_same xs in omega (arith, rest)
-
-pub table_length : (blocks : List BlockPair) (table : List Instruction) → length (ordered_table 1 blocks table) ≡ length table
-table_length blocks table =
-    sym (length_same (ordered_table 1 blocks table)) ∙ ap (λ (l : List Instruction). length l) (ordered_table_plain 1 blocks table) ∙ length_same table
-
-blocks_length : (order : ℕ) (blocks : List BlockPair) → length (ordered_blocks order blocks) ≡ length blocks
-blocks_length order [] = refl
-blocks_length order (b ∷ blocks) =
-    let rest : length (ordered_blocks (order_after order b) blocks) ≡ length blocks = blocks_length (order_after order b) blocks in omega (arith, rest)
-
-fewer : (p : BlockPair → Bool) (xs : List BlockPair) → length (filter p xs) ≤ length xs
-fewer p [] = omega arith
-fewer p (x ∷ xs) = by_test (fewer p xs) (p x)
-  where
-    by_test : length (filter p xs) ≤ length xs → (b : Bool) → length (cond b (x ∷ filter p xs) (filter p xs)) ≤ length (x ∷ xs)
-    by_test rest true = omega (arith, rest)
-    by_test rest false = omega (arith, rest)
-
 pub graph_bounded : (names : Names) (tables : FunctionTables) (parameters : List Parameter) (body : Syntax) (env new : Environment) (params : List Param) (built : Graph)
     → IsGraphOf names tables parameters body env new params built → AreApart parameters → (f : HirFunction (List BlockPair)) (count : ℕ)
     → f.body ≡ hir_of built → f.instructions ≡ built.table → nodes body + 2 ≤ count → function_size f ≤ 64 * count
@@ -216,46 +181,11 @@ graph_bounded names tables parameters body env new params built g distinct f cou
     let s : State = closed_off g.state in
     let table : length s.table ≤ 0 + (4 * (nodes body + 1) + 2) = keeps.uses.instructions in
     let blocks : length s.completed ≤ 0 + (4 * (nodes body + 1) + 2) = keeps.uses.completed in
-    let instructions : length f.instructions ≡ length s.table = ap (λ (l : List Instruction). length l) (instructions_is ∙ ap (λ (b : Graph). b.table) (graph_is names tables parameters body env new params built g distinct)) ∙ table_length (entry_blocks s.entry s.completed) s.table in
-    let listed : length f.body.blocks ≡ length (entry_blocks s.entry s.completed) = ap (λ (h : Hir (List BlockPair)). length h.blocks) (body_is ∙ ap hir_of (graph_is names tables parameters body env new params built g distinct)) ∙ blocks_length 1 (entry_blocks s.entry s.completed) in
-    let kept : length (entry_blocks s.entry s.completed) ≤ length s.completed = fewer _ s.completed in
-    omega (arith, table, instructions, blocks, listed, kept, counted)
-
--- Its calls.
-
-calls_plain : (xs : List Instruction) → calls_of (map without_order xs) ≡ calls_of xs
-calls_plain [] = refl
-calls_plain (x ∷ xs) = ap (λ (l : List (Option Span)). call_at x ++ l) (calls_plain xs)
-
-pub graph_calls_held : (names : Names) (tables : FunctionTables) (parameters : List Parameter) (body : Syntax) (env new : Environment) (params : List Param) (built : Graph)
-    → IsGraphOf names tables parameters body env new params built → AreApart parameters → (f : HirFunction (List BlockPair))
-    → f.instructions ≡ built.table → calls_of f.instructions ≡ calls_in body
-graph_calls_held names tables parameters body env new params built g distinct f instructions_is =
-    let s : State = closed_off g.state in
-    ap calls_of (instructions_is ∙ ap (λ (b : Graph). b.table) (graph_is names tables parameters body env new params built g distinct))
-    ∙ sym (calls_plain (ordered_table 1 (entry_blocks s.entry s.completed) s.table)) ∙ ap calls_of (ordered_table_plain 1 (entry_blocks s.entry s.completed) s.table) ∙ calls_plain s.table
-    ∙ Rattle.rl_lower.proofs.Calls.calls_same g.state.table _ refl ∙ (lowered_from names tables parameters body env new params built g distinct).calls
-
--- The calls that its blocks list.
-pub graph_blocks_held : (names : Names) (tables : FunctionTables) (parameters : List Parameter) (body : Syntax) (env new : Environment) (params : List Param) (built : Graph)
-    → IsGraphOf names tables parameters body env new params built → AreApart parameters → (f : HirFunction (List BlockPair)) → f.body ≡ hir_of built
-    → f.instructions ≡ built.table → graph_calls f.instructions f.body.blocks ≡ live_in_body body
-graph_blocks_held names tables parameters body env new params built g distinct f body_is instructions_is =
-    let s : State = closed_off g.state in
-    let begun : State = state_with (begun_by env tables) parameters in
-    let lowered = lowered_from names tables parameters body env new params built g distinct in
-    let below : begun.entry.0 < begun.env.next_block = omega arith in
-    let listed : IsListed begun = listed_fresh begun (begun_fresh env tables parameters) in
-    let later : g.state.entry.0 < g.state.env.next_block = (let same : g.state.entry.0 ≡ begun.entry.0 = ap (λ (b : BlockId). b.0) lowered.reachable.entry in omega (arith, same, lowered.reachable.counted)) in
-    let stands : is_reachable begun ≡ true = eq-eqb env.next_block env.next_block refl in
-    ap (λ (t : List Instruction). graph_calls t f.body.blocks) (instructions_is ∙ ap (λ (b : Graph). b.table) (graph_is names tables parameters body env new params built g distinct))
-    ∙ ap (λ (h : Hir (List BlockPair)). graph_calls (ordered_table 1 (entry_blocks s.entry s.completed) s.table) h.blocks) (body_is ∙ ap hir_of (graph_is names tables parameters body env new params built g distinct))
-    ∙ graph_plain s.table (ordered_table 1 (entry_blocks s.entry s.completed) s.table) (entry_blocks s.entry s.completed) (ordered_table_plain 1 (entry_blocks s.entry s.completed) s.table) 1
-    ∙ completed_calls (with_undefined g.state) _
-    ∙ (adds_value g.state _ _).held (lowered.keeps.listed listed) later ∙ ap (λ (l : List (Option Span)). entry_calls g.state ++ l) (none_where (is_reachable g.state)) ∙ append-nil (entry_calls g.state)
-    ∙ lowered.reachable.held listed below
-    ∙ ap (λ (l : List (Option Span)). l ++ where_reachable (is_reachable begun) (live_in_body body)) (none_where (is_reachable begun))
-    ∙ ap (λ (b : Bool). where_reachable b (live_in_body body)) stands
+    let instructions : length f.instructions ≡ length s.table = ap (λ (l : List Instruction). length l) instructions_is ∙ built_length s built new g.graph in
+    let listed : length f.body.blocks ≡ length built.blocks = ap (λ (h : Hir (List BlockPair)). length h.blocks) body_is in
+    let kept : length built.blocks ≤ length (graph_of s) = pruned_size (graph_of s) s.entry s.table built.blocks built.table g.graph.pruned in
+    let same : length (graph_of s) ≡ length s.completed = ap (λ (pairs : List BlockPair). length pairs) (graph_table names tables parameters body env new params built g distinct) in
+    omega (arith, table, instructions, blocks, listed, kept, same, counted)
 
 -- The clauses of `lower`, whose caller hands it the function's parameters.
 
@@ -388,11 +318,3 @@ pub lower_fn_type : (names : Names) (tables : FunctionTables) (parameters : List
     → AreApart parameters → IsGraphOf names tables parameters body env new params built → new.fn_type ≡ env.fn_type
 lower_fn_type names tables parameters body env new params built distinct g =
     ap (λ (e : Environment). e.fn_type) g.after ∙ (graph_keeps names tables parameters body env new params built g distinct).fn_type
-
-pub lower_held : (f body : Syntax) (names : Names) (tables : FunctionTables) (parameters : List Parameter) (env new : Environment) (params : List Param) (built : Graph)
-    → IsFunction f body → AreApart parameters → IsGraphOf names tables parameters body env new params built
-    → (h : HirFunction (List BlockPair)) → h.body ≡ hir_of built → h.instructions ≡ built.table → HoldsCalls f h
-lower_held f body names tables parameters env new params built w distinct g h body_is instructions_is = record {
-  table = graph_calls_held names tables parameters body env new params built g distinct h instructions_is ∙ sym (function_calls f body w);
-  blocks = graph_blocks_held names tables parameters body env new params built g distinct h body_is instructions_is ∙ sym (ap live_in_body w.is_body);
-}

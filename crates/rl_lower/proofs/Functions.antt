@@ -1,5 +1,5 @@
 -- The traces of a function's graph, from those of its body's.
-use Rattle.std.proofs.Common.{◌≡◌, ℕ, inl, inr, List, [], All, length, map, slice_get, Option, Some, None, refl, sym, ap, ◌∙◌, subst, arith}
+use Rattle.std.proofs.Common.{◌≡◌, ℕ, ◌+◌, ◌<◌, inl, inr, List, [], All, length, map, slice_get, Option, Some, None, refl, sym, ap, ◌∙◌, subst, arith}
 use Rattle.rl_base.specs.declared.span.Span.{Span}
 use Rattle.rl_hir.specs.declared.instruction.Place.{Place}
 use Rattle.rl_hir.specs.declared.instruction.InstructionValue.TheVariants as values
@@ -20,7 +20,7 @@ use Rattle.rl_builder.specs.Build.{IsBuilt, graph_of, unordered_graph}
 use Rattle.rl_machine.specs.Machine.{Graph}
 use Rattle.rl_hir.specs.Pairs.{identifier_of}
 use Rattle.rl_machine.specs.Conditions.{MayOrder}
-use Rattle.rl_machine.specs.Machine.{code_of, graph_trace}
+use Rattle.rl_machine.specs.Machine.{code_of, graph_trace, positions, steps_for}
 use Rattle.rl_machine.specs.Prunes.{PassesOnce}
 use Rattle.rl_builder.specs.declared.blocks.WipBlock.{WipBlock}
 use Rattle.rl_machine.specs.declared.trace.Value.{Value}
@@ -38,7 +38,8 @@ use Rattle.rl_syntax.specs.Syntax.{Syntax}
 use Rattle.rl_names.specs.Names.{Names}
 use Rattle.rl_hir.specs.declared.function.Hir.{Hir}
 use Rattle.rl_hir.specs.declared.instruction.Instruction.{Instruction}
-use Rattle.rl_lower.specs.Simulation.{Agrees, CoversNames, IsCompleted, IsCurrentOrCompleted, Extends, HasSoundNames, IsContainedIn, UniqueIds, AreEnded, PreservesBlocks, TracesAt, TracesFrom, Throws, RunsExpression, RunsStatement}
+use Rattle.rl_lower.specs.Simulation.{Agrees, CoversNames, IsCompleted, IsCurrentOrCompleted, Extends, HasSoundNames, IsContainedIn, IsNamed, PointsSettle, UniqueIds, AreEnded, PreservesBlocks, TracesAt, TracesFrom, Throws, RunsExpression, RunsStatement}
+use Rattle.rl_lower.specs.Reachable.{KnowsBlocks}
 use Rattle.rl_lower.specs.Endings.{return_of, with_undefined, closed_off, hir_of}
 use Rattle.rl_lower.proofs.Building.{IsFresh}
 use Rattle.rl_lower.proofs.Steps.{get_seam, comes_at_once, steps_on}
@@ -48,7 +49,11 @@ use Rattle.rl_base.proofs.DistinctLists.{distinct_none}
 use Rattle.rl_lower.proofs.BlockIds.{apart_ended, ids_of, ended_more}
 use Rattle.rl_lower.proofs.Parts.{value_runs}
 use Rattle.rl_lower.proofs.Asking.{none_kept}
-use Rattle.rl_lower.proofs.Finished.{IsFinished, finished_code, finished_contained, finished_may_order, finished_passes_once, finished_runs}
+use Rattle.rl_lower.proofs.BlockNames.{named_before}
+use Rattle.rl_lower.proofs.Finished.{IsFinished, completed_graph, finished_code, finished_contained, finished_may_order, finished_settles}
+use Rattle.rl_lower.proofs.Points.{settle_returned, settle_value}
+use Rattle.rl_machine.proofs.Silence.{settled_walks, settles_passes_once}
+use Rattle.rl_machine.specs.Silence.{AlwaysSettles}
 
 -- A block that ends by a return ends the run with the value.
 pub block_returns : (s : State) (span : Option Span) (variant : ReturnVariant) (place : Place) (next : WipBlock) (c : Code)
@@ -99,12 +104,29 @@ nothing_completed : (completed : List BlockPair) → completed ≡ [] → (id : 
 nothing_completed completed none id k =
     (let never : slice_get {X = BlockPair} [] k.place ≡ Some k.block = ap (λ (l : List BlockPair). slice_get l k.place) (sym none) ∙ k.found in cc)
 
+nothing_named : (completed : List BlockPair) → completed ≡ [] → (id : ℕ) → IsNamed completed id → ⊥
+nothing_named completed none id n =
+    (let never : slice_get {X = BlockPair} [] n.index ≡ Some n.block = ap (λ (l : List BlockPair). slice_get l n.index) (sym none) ∙ n.found in cc)
+
+nothing_settles : (s : State) → IsFresh s → (c : Code) → PointsSettle c s
+nothing_settles s fresh c behind id place h = elim h [
+  | inl d ↦ absurd (let never : slice_get {X = BlockPair} [] d.index ≡ Some d.block = ap (λ (l : List BlockPair). slice_get l d.index) (sym fresh.completed) ∙ d.found in cc)
+  | inr w ↦ absurd (let below : place < 0 = subst (λ (l : List InstructionId). place < length l) fresh.instructions w.within in omega (arith, below))
+]
+
 distinct_fresh : (s : State) → IsFresh s → UniqueIds s.completed s.current.id.0 s.env.next_block
 distinct_fresh s fresh = record {
   apart = subst (λ (blocks : List BlockPair). AreDistinct (ids_of blocks)) (sym fresh.completed) distinct_none;
   open_block = λ k. nothing_completed s.completed fresh.completed s.current.id.0 k;
   below = λ id k. absurd (nothing_completed s.completed fresh.completed id k);
   current_below = fresh.below;
+}
+
+pub knows_fresh : (s : State) → IsFresh s → KnowsBlocks s
+knows_fresh s fresh = record {
+  unique = distinct_fresh s fresh;
+  entry = (let same : s.entry.0 ≡ s.current.id.0 = fresh.entry in omega (arith, same, fresh.below));
+  named = λ id n. absurd (nothing_named s.completed fresh.completed id n);
 }
 
 entry_completed : (s : State) (t : Terminal) (next : WipBlock) (id : ℕ) → IsCurrentOrCompleted s id
@@ -121,11 +143,20 @@ none_ended k d below = absurd (omega arith)
 pub function_finished : (begun s : State) → IsFresh begun → PreservesBlocks begun s → IsFinished (closed_off s)
 function_finished begun s fresh b = record {
   apart = apart_ended s.completed s.current.id.0 s.env.next_block (ended_by (with_undefined s).current (return_of None returns.Void (temporary s None))) refl (b.ids.distinct (distinct_fresh begun fresh));
-  ended = ended_more s.completed (ended_by (with_undefined s).current (return_of None returns.Void (temporary s None))) (refl, λ h. absurd (cc)) (b.ended (subst AreEnded (sym fresh.completed) none_ended));
+  ended = ended_more s.completed (ended_by (with_undefined s).current (return_of None returns.Void (temporary s None))) refl (b.ended (subst AreEnded (sym fresh.completed) none_ended));
   empty = refl;
   entry = subst (λ (id : ℕ). IsCompleted (closed_off s).completed id) (sym (ap (λ (id : BlockId). id.0) b.extends.entry ∙ fresh.entry))
       (entry_completed (with_undefined s) (return_of None returns.Void (temporary s None)) placeholder begun.current.id.0
       (extends_then begun s (with_undefined s) b.extends (extends_undefined s)).current);
+  named = λ id n. elim (b.named id (named_before (with_undefined s) (return_of None returns.Void (temporary s None)) placeholder refl id n)) [
+    | inl before ↦ absurd (nothing_named begun.completed fresh.completed id before)
+    | inr own ↦ entry_completed (with_undefined s) (return_of None returns.Void (temporary s None)) placeholder id own.0
+  ];
+  settle = λ c cover id place d.
+      let ended : Extends (with_undefined s) (closed_off s) = extends_completed (with_undefined s) (return_of None returns.Void (temporary s None)) placeholder in
+      settle_returned (with_undefined s) None returns.Void (temporary s None) placeholder c refl cover
+      (settle_value s (values.Primitive primitives.Undefined) None c (contained_before (with_undefined s) (closed_off s) c ended cover)
+      (b.settle c (contained_before s (closed_off s) c (extends_closed s) cover) (nothing_settles begun fresh c))) id place (inl d);
 }
 
 -- The finished blocks have the traces of the body.
@@ -162,8 +193,8 @@ function_runs_by begun s m fresh sound b r f pairs covers names function built e
     ∙ ap (λ (l : List Instruction). graph_trace stuck (record { blocks = built.blocks; table = l; entry = built.entry }) ident alone params start arguments answers) instructions_is
     ∙ is_built.runs may stuck ident alone params once start arguments answers
     ∙ ap (λ (blocks : List BlockPair). graph_trace stuck (record { blocks = blocks; table = last.table; entry = last.entry }) ident alone params start arguments answers) table_is
-    ∙ finished_runs last finished ident stuck store answers trace
-    (function_runs begun s m ident fresh sound b covers r (λ v after rest. threw v) (source start arguments) store no_notes answers (agrees start arguments) (record { ends = λ v after rest. refl }))
+    ∙ settled_walks (completed_graph last) ordered ident alone params settles stuck start arguments answers enough (omega arith)
+    ∙ goes.by.1 stuck enough (omega arith)
     ∙ sym (means start arguments answers)
   where
     last : State
@@ -184,8 +215,21 @@ function_runs_by begun s m fresh sound b r f pairs covers names function built e
     finished : IsFinished last
     finished = function_finished begun s fresh b
 
+    ordered : MayOrder (completed_graph last)
+    ordered = finished_may_order last finished unlinked
+
     may : MayOrder (unordered_graph last)
-    may = subst (λ (blocks : List BlockPair). MayOrder (record { blocks = blocks; table = last.table; entry = last.entry })) (sym table_is) (finished_may_order last finished unlinked)
+    may = subst (λ (blocks : List BlockPair). MayOrder (record { blocks = blocks; table = last.table; entry = last.entry })) (sym table_is) ordered
+
+    settles : AlwaysSettles (finished_code last finished ident)
+    settles = finished_settles last finished ident covers
 
     once : PassesOnce (code_of (unordered_graph last) ident alone) last.entry params
-    once = subst (λ (blocks : List BlockPair). PassesOnce (code_of (record { blocks = blocks; table = last.table; entry = last.entry }) ident alone) last.entry params) (sym table_is) (finished_passes_once last finished ident params)
+    once = subst (λ (blocks : List BlockPair). PassesOnce (code_of (record { blocks = blocks; table = last.table; entry = last.entry }) ident alone) last.entry params) (sym table_is)
+        (settles_passes_once (finished_code last finished ident) settles last.entry params)
+
+    goes : TracesAt (finished_code last finished ident) last.entry.0 0 store no_notes answers trace
+    goes = function_runs begun s m ident fresh sound b covers r (λ v after rest. threw v) (source start arguments) store no_notes answers (agrees start arguments) (record { ends = λ v after rest. refl })
+
+    enough : ℕ
+    enough = goes.by.0 + steps_for answers (positions last.completed)

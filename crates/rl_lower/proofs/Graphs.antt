@@ -7,6 +7,8 @@ use Rattle.rl_base.proofs.DistinctLists.{distinct_head, distinct_tail}
 use Rattle.rl_base.specs.Distinct.{AreDistinct}
 use Rattle.rl_base.specs.declared.ids.InstructionId.{InstructionId}
 use Rattle.rl_hir.specs.Blocks.{Pair as BlockPair, block_at}
+use Rattle.rl_base.specs.declared.ids.BlockId.{BlockId}
+use Rattle.rl_hir.specs.declared.function.BasicBlock.{BasicBlock}
 use Rattle.rl_hir.specs.declared.instruction.Instruction.{Instruction}
 use Rattle.rl_machine.specs.Machine.{Item, Runs, Ends, item_by, item_in}
 use Rattle.rl_order.specs.Numbering.{ordered_at, ordered_list, order_after, ordered_table}
@@ -36,6 +38,23 @@ found_by (x ∷ blocks) (suc place) b apart e = elim (eqb_tells b.0.0 x.0.0) [
         slice_get-map (λ (z : BlockPair). z.0.0) blocks place
         ∙ ap (λ (o : Option BlockPair). option_map (λ z. z.0.0) o) e
         ∙ ap (λ (n : ℕ). Some n) same
+
+-- A block that is found stands at an index.
+pub record FoundAt (pairs : List BlockPair) (id : ℕ) (block : BasicBlock) : Type 0 where
+  pub index : ℕ
+  pub own : BlockId
+  pub found : slice_get pairs index ≡ Some (own, block)
+  pub named : own.0 ≡ id
+
+pub found_at : (pairs : List BlockPair) (id : ℕ) (block : BasicBlock) → block_at pairs (record { 0 = id }) ≡ Some block → FoundAt pairs id block
+found_at [] id block found = absurd (cc)
+found_at (p ∷ pairs) id block found = elim (eqb_tells id p.0.0) [
+  | inl t ↦ (let at : Some p.1 ≡ Some block = ap (λ (t : Bool). cond t (Some p.1) (block_at pairs (record { 0 = id }))) (sym t.0) ∙ found in
+      let same : p.1 ≡ block = cc in
+      record { index = 0; own = p.0; found = ap (λ (b : BasicBlock). Some (p.0, b)) same; named = sym t.1 })
+  | inr t ↦ (let later : FoundAt pairs id block = found_at pairs id block (ap (λ (t : Bool). cond t (Some p.1) (block_at pairs (record { 0 = id }))) (sym t.0) ∙ found) in
+      record { index = suc later.index; own = later.own; found = later.found; named = later.named })
+]
 
 -- The item at an index of a block.
 pub item_met : (table : List Instruction) (b : BlockPair) (place : ℕ) (item : Item) → InBlock table b place item → item_in table b.1 place ≡ Some item

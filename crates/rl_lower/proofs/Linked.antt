@@ -1,5 +1,5 @@
 -- A graph that is built is numbered and linked.
-use Rattle.std.proofs.Common.{◌≡◌, ◌<◌, List, All, length, sym, ap, ◌∙◌, subst}
+use Rattle.std.proofs.Common.{◌≡◌, ◌<◌, List, All, length, map, sym, ap, ◌∙◌, subst}
 use Rattle.rl_base.specs.Distinct.{AreDistinct}
 use Rattle.rl_base.proofs.DistinctLists.{distinct_left}
 use Rattle.rl_hir.specs.Blocks.{Pair as BlockPair, HaveOwnIds}
@@ -18,16 +18,20 @@ use Rattle.rl_machine.specs.Machine.{Graph}
 use Rattle.rl_model.specs.WellFormed.{IsLinked}
 use Rattle.rl_lower.specs.Endings.{hir_of}
 use Rattle.rl_lower.specs.Listed.{IsListed}
-use Rattle.rl_lower.proofs.Alone.{table_same}
+use Rattle.rl_lower.proofs.Tables.{table_same}
+use Rattle.rl_lower.proofs.Graphs.{ordered_table_plain, without_order}
 use Rattle.rl_lower.proofs.Listed.{numbers}
 
 pub built_numbered : (s : State) (built : Graph) (env : Environment) → HaveOwnIds s.completed → IsListed s → IsBuilt s built env → IsNumbered built.table built.blocks
 built_numbered s built env own l b =
     b.numbered (subst (λ (pairs : List BlockPair). AreDistinct (listed_in pairs)) (sym (table_same s.completed own)) (distinct_left (listed_in s.completed) (numbers s.current.instructions) l.once)) l.unordered
 
--- The table of a graph that is built has the builder's instructions.
+-- The table of a graph that is built has the builder's instructions, with other orders.
 pub built_length : (s : State) (built : Graph) (env : Environment) → IsBuilt s built env → length built.table ≡ length s.table
 built_length s built env b = ap (λ (t : List Instruction). length t) b.pruned.orders ∙ table_length 1 (cleaned b.pruned.ordered) s.table
+
+pub built_plain : (s : State) (built : Graph) (env : Environment) → IsBuilt s built env → map without_order built.table ≡ map without_order s.table
+built_plain s built env b = ap (λ (t : List Instruction). map without_order t) b.pruned.orders ∙ ordered_table_plain 1 (cleaned b.pruned.ordered) s.table
 
 pub built_linked : (s : State) (built : Graph) (env : Environment) → HaveOwnIds s.completed → IsListed s → IsBuilt s built env
     → (f : HirFunction (List BlockPair)) → f.body ≡ hir_of built → f.instructions ≡ built.table → IsLinked f

@@ -76,7 +76,7 @@ refused_lowered names e d s v span one plain silent no_call says = record {
   blocks = blocks_then s (recorded s d) _ (blocks_recorded s d) (blocks_value (recorded s d) v span);
   refused = ap (λ (l : List Diagnostic). s.env.diagnostics ++ l) (sym says);
   calls = calls_same s.table (unordered (temporary s span) v span) no_call ∙ nothing_added (calls_of s.table) (calls_in e) silent;
-  reachable = adds_same _ _ true true s _ (no_call ∙ sym silent) refl (adds_then [] _ true true s (recorded s d) _ (adds_recorded s d) (adds_value (recorded s d) v span) (listed_recorded s d));
+  reachable = adds_same _ _ true true s _ (no_call ∙ sym silent) refl (adds_then [] _ true true s (recorded s d) _ (blocks_recorded s d) (blocks_value (recorded s d) v span) (adds_recorded s d) (adds_value (recorded s d) v span) (listed_recorded s d));
   runs = λ supported. absurd (never (sym says ∙ supported));
 }
   where
@@ -215,7 +215,7 @@ binary_call names tree left right at operator l r s mid last new span place is l
       calls = calls_same last.table (unordered (temporary last span) (values.BinaryExpression operator l r) span) refl
           ∙ added_then (calls_in left) (calls_in right ++ []) _ _ _ ll.calls (lr.calls ∙ ap (λ (cs : List (Option Span)). calls_of mid.table ++ cs) (sym (append-nil (calls_in right))));
       reachable = adds_same _ _ true true s _ (append_assoc (calls_in left) (calls_in right) []) refl
-          (adds_then (calls_in left ++ calls_in right) _ true true s last _ (adds_then (calls_in left) (calls_in right) true true s mid last ll.reachable lr.reachable ll.keeps.listed) (adds_value last (values.BinaryExpression operator l r) span) (λ listed. lr.keeps.listed (ll.keeps.listed listed)));
+          (adds_then (calls_in left ++ calls_in right) _ true true s last _ (blocks_then s mid last ll.blocks lr.blocks) (blocks_value last (values.BinaryExpression operator l r) span) (adds_then (calls_in left) (calls_in right) true true s mid last ll.blocks lr.blocks ll.reachable lr.reachable ll.keeps.listed) (adds_value last (values.BinaryExpression operator l r) span) (λ listed. lr.keeps.listed (ll.keeps.listed listed)));
       runs = λ supported. (let none = append_none (refusals names left) (refusals names right ++ []) supported in
           same_runs s _ (eval_expr names whole) _ (length last.env.identifiers) (λ source answers onward throws. refl)
           (binary_runs s mid last (eval_expr names left) (eval_expr names right) operator l r span ll.blocks.extends lr.blocks.extends (ll.runs none.0) (lr.runs (sym (append-nil (refusals names right)) ∙ none.1))));
@@ -243,7 +243,7 @@ next_given names e es s mid last identifier identifiers l m = record {
   blocks = blocks_then s mid last l.blocks m.blocks;
   refused = added_then (refusals names e) (refusals_in names es) _ _ _ l.refused m.refused;
   calls = added_then (calls_in e) (calls_among es) _ _ _ l.calls m.calls;
-  reachable = adds_then (calls_in e) (calls_among es) true true s mid last l.reachable m.reachable l.keeps.listed;
+  reachable = adds_then (calls_in e) (calls_among es) true true s mid last l.blocks m.blocks l.reachable m.reachable l.keeps.listed;
   runs = λ supported. (let none = append_none (refusals names e) (refusals_in names es) supported in
       next_runs s mid last (eval_expr names e) (eval_exprs names es) identifier identifiers l.blocks.extends m.blocks.extends (l.runs none.0) (m.runs none.1));
 }
@@ -266,7 +266,7 @@ call_call names tree callee arguments at f given identifiers s mid last new plac
           ∙ ap (λ (cs : List (Option Span)). cs ++ Some at.span ∷ []) (added_then (calls_in callee) (calls_among arguments ++ []) _ _ _ lf.calls (la.calls ∙ ap (λ (cs : List (Option Span)). calls_of mid.table ++ cs) (sym (append-nil (calls_among arguments)))))
           ∙ append_assoc (calls_of s.table) (calls_in callee ++ (calls_among arguments ++ [])) (Some at.span ∷ []);
       reachable = adds_same _ _ true true s _ (ap (λ (cs : List (Option Span)). (calls_in callee ++ cs) ++ Some at.span ∷ []) (sym (append-nil (calls_among arguments)))) refl
-          (adds_then (calls_in callee ++ calls_among arguments) _ true true s last _ (adds_then (calls_in callee) (calls_among arguments) true true s mid last lf.reachable la.reachable lf.keeps.listed) (adds_value last (values.CallExpression f given) (Some at.span)) (λ listed. la.keeps.listed (lf.keeps.listed listed)));
+          (adds_then (calls_in callee ++ calls_among arguments) _ true true s last _ (blocks_then s mid last lf.blocks la.blocks) (blocks_value last (values.CallExpression f given) (Some at.span)) (adds_then (calls_in callee) (calls_among arguments) true true s mid last lf.blocks la.blocks lf.reachable la.reachable lf.keeps.listed) (adds_value last (values.CallExpression f given) (Some at.span)) (λ listed. la.keeps.listed (lf.keeps.listed listed)));
       runs = λ supported. (let none = append_none (refusals names callee) (refusals_in names arguments ++ []) supported in
           same_runs s _ (eval_expr names whole) _ (length last.env.identifiers) (λ source answers onward throws. refl)
           (call_runs s mid last (eval_expr names callee) (eval_exprs names arguments) f given identifiers (shape_of arguments) (Some at.span) lf.blocks.extends la.blocks.extends (lf.runs none.0) (la.runs (sym (append-nil (refusals_in names arguments)) ∙ none.1)) shaped values_given));
@@ -316,7 +316,7 @@ return_call names tree e at s mid new place kind span is some l moved =
       blocks = blocks_then s mid _ l.blocks (blocks_returned mid span returns.Explicit place kind);
       refused = l.refused ∙ ap (λ (ds : List Diagnostic). s.env.diagnostics ++ ds) (sym (append-nil (refusals names e)));
       calls = l.calls ∙ ap (λ (cs : List (Option Span)). calls_of s.table ++ cs) (sym (append-nil (calls_in e)));
-      reachable = adds_then (calls_in e) [] true false s mid _ l.reachable (adds_returned mid span returns.Explicit place kind) l.keeps.listed;
+      reachable = adds_then (calls_in e) [] true false s mid _ l.blocks (blocks_returned mid span returns.Explicit place kind) l.reachable (adds_returned mid span returns.Explicit place kind) l.keeps.listed;
       runs = λ supported. means_same s _ (returns_argument names e at some) (return_runs s mid (eval_expr names e) place.identifier.0 span returns.Explicit place kind refl (l.runs (sym (append-nil (refusals names e)) ∙ supported)));
     }))
 
@@ -334,7 +334,7 @@ return_nothing_call names tree at s mid new place kind span is given placed move
       blocks = blocks_then s mid2 end (blocks_value s (values.Primitive primitives.Undefined) None) (blocks_returned mid2 span returns.Explicit (temporary s None) kind);
       refused = sym (append-nil s.env.diagnostics);
       calls = calls_same s.table (unordered (temporary s None) (values.Primitive primitives.Undefined) None) refl ∙ sym (append-nil (calls_of s.table));
-      reachable = adds_then [] [] true false s mid2 end (adds_value s (values.Primitive primitives.Undefined) None) (adds_returned mid2 span returns.Explicit (temporary s None) kind) (listed_value s (values.Primitive primitives.Undefined) None refl);
+      reachable = adds_then [] [] true false s mid2 end (blocks_value s (values.Primitive primitives.Undefined) None) (blocks_returned mid2 span returns.Explicit (temporary s None) kind) (adds_value s (values.Primitive primitives.Undefined) None) (adds_returned mid2 span returns.Explicit (temporary s None) kind) (listed_value s (values.Primitive primitives.Undefined) None refl);
       runs = λ supported. return_runs s mid2 (λ source answers onward throws. onward value.Undefined source answers) (length s.env.identifiers) span returns.Explicit (temporary s None) kind refl (value_runs s (λ source answers onward throws. onward value.Undefined source answers) primitives.Undefined None (λ source answers onward throws. refl));
     }))
 
@@ -358,7 +358,7 @@ next_lowered names statement statements s mid new l m = record {
   blocks = blocks_then s mid new l.blocks m.blocks;
   refused = added_then (refusals names statement) (refusals_in names statements) _ _ _ l.refused m.refused;
   calls = added_then (calls_in statement) (calls_among statements) _ _ _ l.calls m.calls;
-  reachable = adds_then (calls_in statement) (live_calls statements) (can_complete statement) (can_all_complete statements) s mid new l.reachable m.reachable l.keeps.listed;
+  reachable = adds_then (calls_in statement) (live_calls statements) (can_complete statement) (can_all_complete statements) s mid new l.blocks m.blocks l.reachable m.reachable l.keeps.listed;
   runs = λ supported. (let none = append_none (refusals names statement) (refusals_in names statements) supported in
       sequence_runs s mid new (exec_stmt names statement) (exec_stmts names statements) (exec_stmts names (Then statement statements)) (λ source answers exits. refl) l.blocks.extends m.blocks.extends (l.runs none.0) (m.runs none.1));
 }

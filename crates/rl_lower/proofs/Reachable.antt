@@ -1,6 +1,5 @@
--- The calls that the entry block lists, move by move.
-use Rattle.std.proofs.Common.{◌≡◌, ℕ, zero, suc, ◌<◌, ◌++◌, ◌&&◌, Bool, true, false, if◌then◌else◌, filter, map, List, [], ◌∷◌, length, All, Option, Some, None, slice_get, refl, sym, ap, ◌∙◌, subst, arith, append-nil, append_assoc}
-use Rattle.std.proofs.lemmas.Bool.{ne_eqb}
+-- The calls that reached blocks list, move by move.
+use Rattle.std.proofs.Common.{◌≡◌, ℕ, zero, suc, ◌+◌, ◌<◌, ◌≤◌, ◌⊎◌, inl, inr, ◌++◌, ◌&&◌, Bool, true, false, if◌then◌else◌, filter, map, List, [], ◌∷◌, length, All, Option, Some, None, slice_get, refl, sym, ap, ◌∙◌, subst, arith, append-nil, append_assoc}
 use Rattle.std.proofs.lemmas.List.Elements.{All-head, All-tail}
 use Rattle.rl_base.specs.declared.diagnostic.Diagnostic.{Diagnostic}
 use Rattle.rl_base.specs.declared.ids.BlockId.{BlockId}
@@ -8,6 +7,8 @@ use Rattle.rl_base.specs.declared.ids.InstructionId.{InstructionId}
 use Rattle.rl_base.specs.declared.span.Span.{Span}
 use Rattle.rl_hir.specs.declared.function.BlockKind.{BlockKind}
 use Rattle.rl_hir.specs.Blocks.{Pair as BlockPair, same_id}
+use Rattle.rl_hir.specs.Terminals.{named_ids}
+use Rattle.rl_order.specs.Reached.{Begins, Goes, IsReached}
 use Rattle.rl_hir.specs.declared.instruction.Instruction.{Instruction}
 use Rattle.rl_hir.specs.declared.instruction.InstructionValue.{InstructionValue}
 use Rattle.rl_hir.specs.declared.terminal.Terminal.{Terminal}
@@ -17,12 +18,15 @@ use Rattle.rl_lower.specs.Values.{temporary, unordered, with_value}
 use Rattle.rl_builder.specs.declared.blocks.WipBlock.{WipBlock}
 use Rattle.rl_model.specs.Held.{call_at, graph_calls, listed_calls}
 use Rattle.rl_lower.specs.Listed.{AreBelow, IsListed}
-use Rattle.rl_lower.specs.Reachable.{AddsCalls, entry_blocks, entry_calls, is_reachable, where_reachable}
+use Rattle.rl_lower.specs.Reachable.{AddsCalls, GoesOn, KnowsBlocks, TellsReached, is_reachable, reached_among, reached_calls, where_reachable}
+use Rattle.rl_lower.specs.Simulation.{IsCurrentOrCompleted, IsNamed, NamesOwn, PreservesBlocks, UniqueIds}
+use Rattle.rl_lower.proofs.BlockIds.{ids_counted}
+use Rattle.rl_lower.proofs.BlockNames.{named_before, own_completed, successor_named}
 use Rattle.rl_hir.specs.declared.instruction.Place.{Place}
 use Rattle.rl_hir.specs.declared.terminal.ReturnVariant.{ReturnVariant}
 use Rattle.rl_lower.specs.Endings.{return_of, returned_from}
 use Rattle.rl_lower.proofs.Building.{filtered}
-use Rattle.rl_lower.proofs.Graphs.{get_map, without_order}
+use Rattle.rl_lower.proofs.Graphs.{FoundAt, found_at, get_map, without_order}
 use Rattle.rl_lower.proofs.Keeping.{listed_reserved}
 use Rattle.rl_lower.proofs.Steps.{get_seam}
 
@@ -86,14 +90,12 @@ and_true false = refl
 pub adds_value : (s : State) (v : InstructionValue) (span : Option Span)
     → AddsCalls (call_at (unordered (temporary s span) v span)) true s (with_value s v span)
 adds_value s v span = record {
-  entry = refl;
-  counted = omega arith;
-  reachable = λ below. and_true (is_reachable s);
-  held = λ listed below.
+  reachable = λ finished goes reached tells knows. and_true (is_reachable reached s);
+  held = λ finished goes reached tells knows listed.
       let i : Instruction = unordered (temporary s span) v span in
-      ap (λ (l : Calls). l ++ where_reachable (is_reachable s) (listed_calls (s.table ++ i ∷ []) (s.current.instructions ++ record { 0 = length s.table } ∷ [])))
-      (graph_more s.table (i ∷ []) (entry_blocks s.entry s.completed) (filtered (λ b. AreBelow (length s.table) b.1.instructions) _ s.completed listed.completed))
-      ∙ both_ways (is_reachable s) (graph_calls s.table (entry_blocks s.entry s.completed)) _ (listed_calls s.table s.current.instructions) (call_at i) (listed_last s.table i s.current.instructions listed.current);
+      ap (λ (l : Calls). l ++ where_reachable (is_reachable reached s) (listed_calls (s.table ++ i ∷ []) (s.current.instructions ++ record { 0 = length s.table } ∷ [])))
+      (graph_more s.table (i ∷ []) (reached_among reached s.completed) (filtered (λ b. AreBelow (length s.table) b.1.instructions) _ s.completed listed.completed))
+      ∙ both_ways (is_reachable reached s) (graph_calls s.table (reached_among reached s.completed)) _ (listed_calls s.table s.current.instructions) (call_at i) (listed_last s.table i s.current.instructions listed.current);
 }
 
 pub none_where : (b : Bool) → where_reachable b [] ≡ []
@@ -103,18 +105,17 @@ none_where false = refl
 -- No move.
 pub adds_refl : (s : State) → AddsCalls [] true s s
 adds_refl s = record {
-  entry = refl;
-  counted = omega arith;
-  reachable = λ below. and_true (is_reachable s);
-  held = λ listed below. sym (ap (λ (l : Calls). entry_calls s ++ l) (none_where (is_reachable s)) ∙ append-nil (entry_calls s));
+  reachable = λ finished goes reached tells knows. and_true (is_reachable reached s);
+  held = λ finished goes reached tells knows listed.
+      sym (ap (λ (l : Calls). reached_calls reached s ++ l) (none_where (is_reachable reached s)) ∙ append-nil (reached_calls reached s));
 }
 
-pub adds_reserved : (s : State) → AddsCalls [] true s (reserved s)
-adds_reserved s = record { entry = refl; counted = omega arith; reachable = (adds_refl s).reachable; held = (adds_refl s).held }
-
 pub adds_recorded : (s : State) (d : Diagnostic) → AddsCalls [] true s (recorded s d)
-adds_recorded s d =
-    record { entry = refl; counted = omega arith; reachable = (adds_refl s).reachable; held = (adds_refl s).held }
+adds_recorded s d = record {
+  reachable = λ finished goes reached tells knows. and_true (is_reachable reached s);
+  held = λ finished goes reached tells knows listed.
+      sym (ap (λ (l : Calls). reached_calls reached s ++ l) (none_where (is_reachable reached s)) ∙ append-nil (reached_calls reached s));
+}
 
 then_where : (b f : Bool) (first second : Calls)
     → where_reachable b first ++ where_reachable (b && f) second ≡ where_reachable b (first ++ where_reachable f second)
@@ -127,24 +128,58 @@ and_assoc : (a b c : Bool) → (a && b) && c ≡ a && (b && c)
 and_assoc true b c = refl
 and_assoc false b c = refl
 
--- Two parts, one after the other.
-pub adds_then : (first second : Calls) (f g : Bool) (old mid new : State) → AddsCalls first f old mid
-    → AddsCalls second g mid new → (IsListed old → IsListed mid)
-    → AddsCalls (first ++ where_reachable f second) (f && g) old new
-adds_then first second f g old mid new a b listed = record {
-  entry = b.entry ∙ a.entry;
-  counted = omega (arith, a.counted, b.counted);
-  reachable = λ below. b.reachable (later below) ∙ ap (λ (c : Bool). c && g) (a.reachable below) ∙ and_assoc (is_reachable old) f g;
-  held = λ l below.
-      b.held (listed l) (later below)
-      ∙ ap (λ (c : Bool). entry_calls mid ++ where_reachable c second) (a.reachable below)
-      ∙ ap (λ (cs : Calls). cs ++ where_reachable (is_reachable old && f) second) (a.held l below)
-      ∙ append_assoc (entry_calls old) (where_reachable (is_reachable old) first) (where_reachable (is_reachable old && f) second)
-      ∙ ap (λ (cs : Calls). entry_calls old ++ cs) (then_where (is_reachable old) f first second);
+-- What the builder comes to from a later state it comes to from an earlier one.
+pub goes_before : (old mid finished : State) → mid.entry ≡ old.entry → old.env.next_block ≤ mid.env.next_block
+    → NamesOwn old mid → GoesOn mid finished → GoesOn old finished
+goes_before old mid finished same counted own goes = record {
+  entry = goes.entry ∙ same;
+  named = λ id n. elim (goes.named id n) [
+    | inl before ↦ elim (own id before) [ inl first ↦ inl first | inr later ↦ inr later.1 ]
+    | inr after ↦ inr (omega (arith, counted, after))
+  ];
+}
+
+pub goes_finished : (s : State) → GoesOn s s
+goes_finished s = record { entry = refl; named = λ id n. inl n }
+
+pub knows_after : (old mid : State) → PreservesBlocks old mid → KnowsBlocks old → KnowsBlocks mid
+knows_after old mid p k = record {
+  unique = unique;
+  entry = (let same : mid.entry.0 ≡ old.entry.0 = ap (λ (b : BlockId). b.0) p.extends.entry in let below : old.entry.0 < old.env.next_block = k.entry in omega (arith, same, below, p.ids.counted));
+  named = λ id n. elim (p.named id n) [
+    | inl before ↦ (let below : id < old.env.next_block = k.named id before in omega (arith, below, p.ids.counted))
+    | inr own ↦ there id own.0
+  ];
 }
   where
-    later : old.entry.0 < old.env.next_block → mid.entry.0 < mid.env.next_block
-    later below = (let same : mid.entry.0 ≡ old.entry.0 = ap (λ (e : BlockId). e.0) a.entry in omega (arith, same, below, a.counted))
+    unique : UniqueIds mid.completed mid.current.id.0 mid.env.next_block
+    unique = p.ids.distinct k.unique
+
+    there : (id : ℕ) → IsCurrentOrCompleted mid id → id < mid.env.next_block
+    there id h = elim h [
+      | inl same ↦ subst (λ (n : ℕ). n < mid.env.next_block) same unique.current_below
+      | inr done ↦ unique.below id done
+    ]
+
+-- Two parts, one after the other.
+pub adds_then : (first second : Calls) (f g : Bool) (old mid new : State) → PreservesBlocks old mid → PreservesBlocks mid new
+    → AddsCalls first f old mid
+    → AddsCalls second g mid new → (IsListed old → IsListed mid)
+    → AddsCalls (first ++ where_reachable f second) (f && g) old new
+adds_then first second f g old mid new p q a b listed = record {
+  reachable = λ finished goes reached tells knows.
+      b.reachable finished goes reached tells (knows_after old mid p knows)
+      ∙ ap (λ (c : Bool). c && g) (a.reachable finished (before finished goes) reached tells knows) ∙ and_assoc (is_reachable reached old) f g;
+  held = λ finished goes reached tells knows l.
+      b.held finished goes reached tells (knows_after old mid p knows) (listed l)
+      ∙ ap (λ (c : Bool). reached_calls reached mid ++ where_reachable c second) (a.reachable finished (before finished goes) reached tells knows)
+      ∙ ap (λ (cs : Calls). cs ++ where_reachable (is_reachable reached old && f) second) (a.held finished (before finished goes) reached tells knows l)
+      ∙ append_assoc (reached_calls reached old) (where_reachable (is_reachable reached old) first) (where_reachable (is_reachable reached old && f) second)
+      ∙ ap (λ (cs : Calls). reached_calls reached old ++ cs) (then_where (is_reachable reached old) f first second);
+}
+  where
+    before : (finished : State) → GoesOn new finished → GoesOn mid finished
+    before finished goes = goes_before mid new finished q.extends.entry q.ids.counted q.named goes
 
 -- Rewrites calls and completion by equations.
 pub adds_same : (calls others : Calls) (f g : Bool) (old new : State) → calls ≡ others → f ≡ g → AddsCalls calls f old new
@@ -158,7 +193,8 @@ filter_end : (p : BlockPair → Bool) (xs : List BlockPair) (x : BlockPair)
 filter_end p [] x = refl
 filter_end p (y ∷ xs) x = by_test (filter_end p xs x) (p y)
   where
-    by_test : filter p (xs ++ x ∷ []) ≡ filter p xs ++ (if p x then x ∷ [] else []) → (b : Bool) → (if b then y ∷ filter p (xs ++ x ∷ []) else filter p (xs ++ x ∷ [])) ≡ (if b then y ∷ filter p xs else filter p xs) ++ (if p x then x ∷ [] else [])
+    by_test : filter p (xs ++ x ∷ []) ≡ filter p xs ++ (if p x then x ∷ [] else []) → (b : Bool)
+        → (if b then y ∷ filter p (xs ++ x ∷ []) else filter p (xs ++ x ∷ [])) ≡ (if b then y ∷ filter p xs else filter p xs) ++ (if p x then x ∷ [] else [])
     by_test rest true = ap (λ (l : List BlockPair). y ∷ l) rest
     by_test rest false = rest
 
@@ -167,61 +203,100 @@ one_graph : (table : List Instruction) (b : Bool) (x : BlockPair)
 one_graph table true x = append-nil (listed_calls table x.1.instructions)
 one_graph table false x = refl
 
-pub completed_calls : (s : State) (t : Terminal)
-    → graph_calls s.table (entry_blocks s.entry (s.completed ++ ended_by s.current t ∷ [])) ≡ entry_calls s
-completed_calls s t =
-    ap (λ (l : List BlockPair). graph_calls s.table l) (filter_end (λ b. same_id s.entry b.0) s.completed (ended_by s.current t))
-    ∙ graph_append s.table (entry_blocks s.entry s.completed) (if is_reachable s then ended_by s.current t ∷ [] else [])
-    ∙ ap (λ (l : Calls). graph_calls s.table (entry_blocks s.entry s.completed) ++ l) (one_graph s.table (is_reachable s) (ended_by s.current t))
+pub completed_calls : (reached : ℕ → Bool) (s : State) (t : Terminal)
+    → graph_calls s.table (reached_among reached (s.completed ++ ended_by s.current t ∷ [])) ≡ reached_calls reached s
+completed_calls reached s t =
+    ap (λ (l : List BlockPair). graph_calls s.table l) (filter_end (λ b. reached b.0.0) s.completed (ended_by s.current t))
+    ∙ graph_append s.table (reached_among reached s.completed) (if is_reachable reached s then ended_by s.current t ∷ [] else [])
+    ∙ ap (λ (l : Calls). graph_calls s.table (reached_among reached s.completed) ++ l) (one_graph s.table (is_reachable reached s) (ended_by s.current t))
 
 and_false : (b : Bool) → false ≡ b && false
 and_false true = refl
 and_false false = refl
 
--- The block ends, and one that is not the entry goes on.
-pub adds_completed : (s : State) (t : Terminal) (next : WipBlock) → (next.id.0 ≡ s.entry.0 → ⊥)
-    → AddsCalls [] false s (completed_by s t next)
-adds_completed s t next apart = record {
-  entry = refl;
-  counted = omega arith;
-  reachable = λ below. left ∙ and_false (is_reachable s);
-  held = λ listed below.
-      ap (λ (b : Bool). graph_calls s.table (entry_blocks s.entry (s.completed ++ ended_by s.current t ∷ [])) ++ where_reachable b (listed_calls s.table next.instructions)) left
-      ∙ append-nil _ ∙ completed_calls s t ∙ sym (ap (λ (l : Calls). entry_calls s ++ l) (none_where (is_reachable s)) ∙ append-nil (entry_calls s));
-}
+-- A block that is reached is the entry, or is named.
+reached_named : (graph : List BlockPair) (entry id : BlockId) → IsReached graph entry id → (id ≡ entry) ⊎ IsNamed graph id.0
+reached_named graph entry _ Begins = inl refl
+reached_named graph entry _ (Goes a b block r there leads) =
+    let at : FoundAt graph a.0 block = found_at graph a.0 block there in
+    inr (record { index = at.index; block = (at.own, block); found = at.found; names = successor_named (same_id b) block.terminal leads })
+
+-- A block that was numbered, is not the entry, and is not named yet is never reached.
+unreached : (s finished : State) (reached : ℕ → Bool) (id : ℕ) → GoesOn s finished → TellsReached reached finished
+    → id < s.env.next_block
+    → (id ≡ s.entry.0 → ⊥) → (IsNamed s.completed id → ⊥) → reached id ≡ false
+unreached s finished reached id goes tells below other unnamed = by_test (reached id) refl
   where
-    left : same_id s.entry next.id ≡ false
-    left = ne_eqb s.entry.0 next.id.0 (λ e. apart (sym e))
+    by_case : (record { 0 = id } ≡ finished.entry) ⊎ IsNamed finished.completed id → ⊥
+    by_case (inl is) = other (ap (λ (b : BlockId). b.0) is ∙ ap (λ (b : BlockId). b.0) goes.entry)
+    by_case (inr n) = elim (goes.named id n) [ inl before ↦ unnamed before | inr later ↦ omega (arith, below, later) ]
+
+    by_test : (b : Bool) → reached id ≡ b → b ≡ false
+    by_test true is = absurd (by_case (reached_named finished.completed finished.entry (record { 0 = id }) (tells id is)))
+    by_test false is = refl
+
+-- The block ends, and one that is not reached goes on.
+ended_calls : (reached : ℕ → Bool) (s : State) (t : Terminal) (next : WipBlock) → reached next.id.0 ≡ false
+    → reached_calls reached (completed_by s t next) ≡ reached_calls reached s
+ended_calls reached s t next dead =
+    ap (λ (b : Bool). graph_calls s.table (reached_among reached (s.completed ++ ended_by s.current t ∷ [])) ++ where_reachable b (listed_calls s.table next.instructions)) dead
+    ∙ append-nil _ ∙ completed_calls reached s t
 
 -- A return, behind which a fresh block goes on.
 pub adds_returned : (s : State) (span : Option Span) (variant : ReturnVariant) (place : Place) (kind : BlockKind)
     → AddsCalls [] false s (returned_from s span variant place kind)
 adds_returned s span variant place kind = record {
-  entry = refl;
-  counted = omega arith;
-  reachable = λ below. (adds_completed (reserved s) (return_of span variant place) (new_block s.env.next_block kind) (λ e. absurd (omega (arith, below, e)))).reachable (omega (arith, below));
-  held = λ listed below. (adds_completed (reserved s) (return_of span variant place) (new_block s.env.next_block kind) (λ e. absurd (omega (arith, below, e)))).held (listed_reserved s listed) (omega (arith, below));
-}
-
--- A value that is returned, behind which a block goes on that was reserved before.
-pub adds_value_returned : (s mid : State) (calls : List (Option Span)) (t : Terminal) (kind : BlockKind)
-    → AddsCalls calls true (reserved s) mid → (IsListed s → IsListed mid)
-    → AddsCalls calls false s (completed_by mid t (new_block s.env.next_block kind))
-adds_value_returned s mid calls t kind l listed = record {
-  entry = l.entry;
-  counted = omega (arith, l.counted);
-  reachable = λ below. (both below).reachable below;
-  held = λ ls below. (both below).held ls below;
+  reachable = λ finished goes reached tells knows. dead finished goes reached tells knows ∙ and_false (is_reachable reached s);
+  held = λ finished goes reached tells knows listed.
+      ended_calls reached (reserved s) end (new_block s.env.next_block kind) (dead finished goes reached tells knows)
+      ∙ sym (ap (λ (l : Calls). reached_calls reached s ++ l) (none_where (is_reachable reached s)) ∙ append-nil (reached_calls reached s));
 }
   where
-    apart : s.entry.0 < s.env.next_block → s.env.next_block ≡ mid.entry.0 → ⊥
-    apart below e = let same : mid.entry.0 ≡ s.entry.0 = ap (λ (b : BlockId). b.0) l.entry in absurd (omega (arith, same, below, e))
+    end : Terminal
+    end = return_of span variant place
 
-    first : AddsCalls calls true s mid
-    first = adds_then [] calls true true s (reserved s) mid (adds_reserved s) l (listed_reserved s)
+    dead : (finished : State) → GoesOn (returned_from s span variant place kind) finished → (reached : ℕ → Bool)
+        → TellsReached reached finished → KnowsBlocks s
+        → reached s.env.next_block ≡ false
+    dead finished goes reached tells knows =
+        unreached (returned_from s span variant place kind) finished reached s.env.next_block goes tells (omega arith)
+        (λ same. (let below : s.entry.0 < s.env.next_block = knows.entry in omega (arith, same, below)))
+        (λ n. (let below : s.env.next_block < s.env.next_block = knows.named s.env.next_block (named_before (reserved s) end (new_block s.env.next_block kind) refl s.env.next_block n) in omega (arith, below)))
 
-    both : s.entry.0 < s.env.next_block → AddsCalls calls false s (completed_by mid t (new_block s.env.next_block kind))
-    both below = adds_same _ calls false false s _ (append-nil calls) refl (adds_then calls [] true false s mid _ first (adds_completed mid t (new_block s.env.next_block kind) (apart below)) listed)
+-- A value that is returned, behind which a block goes on that was reserved before.
+pub adds_value_returned : (s mid : State) (calls : List (Option Span)) (t : Terminal) (kind : BlockKind) → named_ids t ≡ []
+    → PreservesBlocks (reserved s) mid → AddsCalls calls true (reserved s) mid
+    → AddsCalls calls false s (completed_by mid t (new_block s.env.next_block kind))
+adds_value_returned s mid calls t kind none p l = record {
+  reachable = λ finished goes reached tells knows. dead finished goes reached tells knows ∙ and_false (is_reachable reached s);
+  held = λ finished goes reached tells knows listed.
+      ended_calls reached mid t next (dead finished goes reached tells knows)
+      ∙ l.held finished (goes_before mid (completed_by mid t next) finished refl (omega arith) (own_completed mid t next none) goes) reached tells (more knows) (listed_reserved s listed);
+}
+  where
+    next : WipBlock
+    next = new_block s.env.next_block kind
+
+    more : KnowsBlocks s → KnowsBlocks (reserved s)
+    more knows = record {
+      unique = (ids_counted s.completed s.current.id.0 s.env.next_block (s.env.next_block + 1) (omega arith)).distinct knows.unique;
+      entry = (let below : s.entry.0 < s.env.next_block = knows.entry in omega (arith, below));
+      named = λ id n. (let below : id < s.env.next_block = knows.named id n in omega (arith, below));
+    }
+
+    unnamed : KnowsBlocks s → IsNamed (completed_by mid t next).completed s.env.next_block → ⊥
+    unnamed knows n = elim (p.named s.env.next_block (named_before mid t next none s.env.next_block n)) [
+      | inl before ↦ (let below : s.env.next_block < s.env.next_block = knows.named s.env.next_block before in omega (arith, below))
+      | inr own ↦ (let below : s.env.next_block + 1 ≤ s.env.next_block = own.1 in omega (arith, below))
+    ]
+
+    dead : (finished : State) → GoesOn (completed_by mid t next) finished → (reached : ℕ → Bool) → TellsReached reached finished
+        → KnowsBlocks s
+        → reached s.env.next_block ≡ false
+    dead finished goes reached tells knows =
+        unreached (completed_by mid t next) finished reached s.env.next_block goes tells (omega (arith, p.ids.counted))
+        (λ same. (let at : mid.entry.0 ≡ s.entry.0 = ap (λ (b : BlockId). b.0) p.extends.entry in let below : s.entry.0 < s.env.next_block = knows.entry in omega (arith, same, at, below)))
+        (unnamed knows)
 
 -- Numbering changes no listed call.
 listed_plain_calls : (table : List Instruction) (ids : List InstructionId)

@@ -23,10 +23,9 @@ use Rattle.rl_hir.specs.declared.instruction.InstructionValue.TheVariants as val
 use Rattle.rl_hir.specs.declared.instruction.Place.{Place}
 use Rattle.rl_hir.specs.declared.instruction.PrimitiveValue.TheVariants as primitives
 use Rattle.rl_hir.specs.declared.terminal.ReturnVariant.TheVariants as returns
-use Rattle.rl_builder.specs.Build.{IsBuilt}
+use Rattle.rl_builder.specs.Build.{IsBuilt, graph_of}
 use Rattle.rl_builder.specs.Names.{new_span}
-use Rattle.rl_lower.proofs.Alone.{built_of}
-use Rattle.rl_lower.proofs.Builds.{closed_built, closed_env}
+use Rattle.rl_lower.proofs.Builds.{closed_env, closed_table}
 use Rattle.rl_builder.specs.Builder.{State, completed_by, placeholder}
 use Rattle.rl_order.specs.Numbering.{orders_of}
 use Rattle.rl_lower.specs.Values.{temporary}
@@ -154,21 +153,20 @@ small_behind old new more uses room = record {
 pub graph_sound : (tables : FunctionTables) (parameters : List Parameter) (body : Syntax) (env new : Environment) (s : State) (more : ℕ) (built : Graph)
     → StaysSound (IsSmallTree body) (begun env tables parameters) s → CountersGrowBy (begun env tables parameters) (closed_off s) more
     → HasRoom (begun env tables parameters) more → s.entry ≡ (begun env tables parameters).entry
-    → 1 + orders_of (closed_off s).completed < 2 ^ 32 → AreDeclaredAt tables.semantic parameters → built ≡ built_of (closed_off s)
-    → new ≡ (closed_off s).env → IsSoundGraph parameters body env new built
-graph_sound tables parameters body env new s more built sound uses room entry orders spanned graph after =
-    subst (λ (b : Graph). IsSoundGraph parameters body env new b) (sym graph)
-    (subst (λ (e : Environment). IsSoundGraph parameters body env e (built_of (closed_off s))) (sym after) (record {
+    → 1 + orders_of (closed_off s).completed < 2 ^ 32 → AreDeclaredAt tables.semantic parameters → graph_of (closed_off s) ≡ (closed_off s).completed
+    → IsBuilt (closed_off s) built new → new ≡ (closed_off s).env → IsSoundGraph parameters body env new built
+graph_sound tables parameters body env new s more built sound uses room entry orders spanned same graph after =
+    subst (λ (e : Environment). IsSoundGraph parameters body env e built) (sym after) (record {
       given = omega (arith, begun_longer env tables parameters, whole.counters.identifiers);
       count = fits.identifiers;
       types = fits.types;
-      table = built_table_known (length (closed_off s).env.identifiers) (closed_off s) known.table;
-      terminals = built_terminals_known (length (closed_off s).env.identifiers) (closed_off s) known.terminals;
-      graph = λ small. built_writable (closed_off s) (omega (arith, at_entry, fits0.blocks)) (omega (arith, orders))
+      table = built_table_known (closed_off s) built new graph (length (closed_off s).env.identifiers) known.table;
+      terminals = built_terminals_known (closed_off s) built new graph (length (closed_off s).env.identifiers) same known.terminals;
+      graph = λ small. built_writable (closed_off s) built new graph same (omega (arith, at_entry, fits0.blocks)) (omega (arith, orders))
           (whole.parts small fits (begun_writable env tables parameters fits0));
       identifiers = λ named small w. whole.identifiers small fits (begun_identifiers env tables parameters spanned named fits0 w);
       pairs = λ small w. whole.pairs fits (begun_pairs env tables parameters small fits0 w);
-    }))
+    })
   where
     whole : StaysSound (IsSmallTree body) (begun env tables parameters) (closed_off s)
     whole = sound_next (IsSmallTree body) (begun env tables parameters) s (closed_off s) sound (sound_closed (IsSmallTree body) s)
@@ -196,10 +194,11 @@ graph_sound_call names tables parameters body env new before s s1 s2 p built is 
     (subst (λ (o : State). StaysSound (IsSmallTree body) o s) is sound)
     (keeps_then (begun env tables parameters) s (closed_off s) (4 * (nodes body + 1)) 2 lowered.keeps (keeps_closed {names = names} s)).uses
     (room_less (begun env tables parameters) (4 * (nodes body + 2)) (4 * (nodes body + 1) + 2) (omega arith) room)
-    lowered.reachable.entry
+    lowered.blocks.extends.entry
     (orders_fit names (begun env tables parameters) body s fresh lowered room)
     spanned
-    (closed_built names (begun env tables parameters) body s fresh lowered built new is_built)
+    (closed_table names (begun env tables parameters) body s fresh lowered)
+    is_built
     (closed_env names (begun env tables parameters) body s fresh lowered built new is_built)
   where
     fresh : IsFresh (begun env tables parameters)

@@ -1,9 +1,10 @@
 -- Listings that the notation has, from those of their parts.
-use Rattle.std.proofs.Common.{Some, ℕ, ◌<◌, ◌≤◌, ◌^◌, Bool, List, [], ◌∷◌, map, All, Option, None, codes, lit<, refl, arith}
+use Rattle.std.proofs.Common.{◌≡◌, Some, ℕ, ◌<◌, ◌≤◌, ◌^◌, Bool, List, [], ◌∷◌, map, All, Option, None, codes, lit<, refl, subst, arith}
 use Rattle.std.specs.Str.{IsUtf8}
-use Rattle.std.proofs.lemmas.List.Elements.{All-head, All-tail}
+use Rattle.std.proofs.lemmas.List.Elements.{All-append, All-cons, All-head, All-nil, All-tail}
 use Rattle.rl_base.specs.declared.span.Span.{Span}
 use Rattle.rl_base.specs.declared.operator.BinaryOperator.{BinaryOperator}
+use Rattle.rl_base.specs.declared.ids.BlockId.{BlockId}
 use Rattle.rl_base.specs.declared.ids.InstructionId.{InstructionId}
 use Rattle.rl_base.specs.Operators.{operator_text}
 use Rattle.rl_text.specs.Notation.{Tree, IsWritable, AreWritable}
@@ -13,7 +14,7 @@ use Rattle.rl_hir.specs.Instructions.{argument_place, argument_shape, binding_te
 use Rattle.rl_hir.specs.Listing as listing
 use Rattle.rl_hir.specs.declared.function.IdentifierName.TheVariants.{Named}
 use Rattle.rl_hir.specs.Pieces.{Says, argument_pieces, gathered, row_parts}
-use Rattle.rl_hir.specs.Terminals.{return_variant, with_order}
+use Rattle.rl_hir.specs.Terminals.{Chooses, Field, Follows, Leads, MayLead, MayName, Names, fields_of, listed_id, names, return_variant, unreachable, with_order}
 use Rattle.rl_builder.specs.Builder.{ended_by}
 use Rattle.rl_builder.specs.declared.blocks.WipBlock.{WipBlock}
 use Rattle.rl_hir.specs.declared.function.BlockKind.{BlockKind}
@@ -30,10 +31,16 @@ use Rattle.rl_hir.specs.declared.instruction.Place.{Place}
 use Rattle.rl_hir.specs.declared.instruction.PlaceOrSpread.{PlaceOrSpread}
 use Rattle.rl_hir.specs.declared.instruction.PlaceOrSpread.TheVariants as arguments
 use Rattle.rl_hir.specs.declared.pieces.Row.TheVariants as rows
+use Rattle.rl_hir.specs.declared.terminal.Case.{Case}
+use Rattle.rl_hir.specs.declared.terminal.GotoVariant.TheVariants as gotos
 use Rattle.rl_hir.specs.declared.terminal.Terminal.{Terminal}
+use Rattle.rl_hir.specs.declared.terminal.TerminalKind.{TerminalKind}
 use Rattle.rl_hir.specs.declared.terminal.TerminalKind.TheVariants as ends
 use Rattle.rl_hir.specs.declared.terminal.ReturnVariant.{ReturnVariant}
 use Rattle.rl_hir.specs.declared.terminal.ReturnVariant.TheVariants as returns
+use Rattle.rl_order.proofs.PrunedBlocks.{StaysPruned}
+use Rattle.rl_order.specs.Removals.{with_kind}
+use Rattle.rl_order.specs.Walk.{emptied}
 use Rattle.rl_lower.specs.Sound.{IsSmallSpan}
 
 pub all_writable : {X : Type 0} (tree : X → Tree) (items : List X) → All (λ x. IsWritable (tree x)) items
@@ -160,10 +167,11 @@ terminal_ordered : (order : ℕ) (t : Terminal) → order ≤ largest → IsWrit
     → IsWritable (listing.terminal (with_order order t))
 terminal_ordered order t fits w = (w.0, (fits, w.1.1))
 
-pub block_ordered : (order : ℕ) (b : BlockPair) → order ≤ largest → IsWritable (listing.block b)
-    → IsWritable (listing.block (b.0, record b.1 { terminal = with_order order b.1.terminal }))
-block_ordered order b fits w =
-    ((lit< tt, refl), (w.1.0, (w.1.1.0, (w.1.1.1.0, (terminal_ordered order b.1.terminal fits w.1.1.1.1.0, w.1.1.1.1.1)))))
+-- a block with other instructions and another terminal
+block_with : (b : BlockPair) (listed : List InstructionId) (t : Terminal) → AreWritable (parts_of (map listing.listed_instruction listed))
+    → IsWritable (listing.terminal t) → IsWritable (listing.block b)
+    → IsWritable (listing.block (b.0, record b.1 { instructions = listed; terminal = t }))
+block_with b listed t instructions terminal w = ((lit< tt, refl), (w.1.0, (w.1.1.0, (instructions, (terminal, w.1.1.1.1.1)))))
 
 pub ended_writable : (wip : WipBlock) (t : Terminal) → wip.id.0 ≤ largest
     → All (λ (id : InstructionId). id.0 ≤ largest) wip.instructions → IsWritable (listing.terminal t)
@@ -178,6 +186,72 @@ ended_writable wip t id listed terminal = (
     ),
   ),
 )
+
+-- blocks through the passes
+
+-- The id is a number of the notation.
+abbrev pub IsSmallId : BlockId → Type 0
+IsSmallId id = id.0 ≤ largest
+
+ids_small : (ids : List BlockId) → AreWritable (parts_of (map listing.block_id ids)) → All IsSmallId ids
+ids_small [] w = All-nil IsSmallId
+ids_small (id ∷ ids) w = All-cons IsSmallId id ids w.0 (ids_small ids w.1)
+
+optional_small : (id : Option BlockId) → IsWritable (listing.optional listing.block_id id) → All IsSmallId (listed_id id)
+optional_small None w = All-nil IsSmallId
+optional_small (Some id) w = All-cons IsSmallId id [] w (All-nil IsSmallId)
+
+cases_small : (cases : List Case) → AreWritable (parts_of (map listing.case cases)) → All IsSmallId (map (λ c. c.block) cases)
+cases_small [] w = All-nil IsSmallId
+cases_small (c ∷ cases) w = All-cons IsSmallId c.block (map (λ x. x.block) cases) w.0.1.1.0 (cases_small cases w.1)
+
+names_small : (fields : List Field) → AreWritable (parts_of (map listing.field fields)) → All IsSmallId (names fields)
+names_small [] w = All-nil IsSmallId
+names_small (Leads block ∷ fields) w = All-cons IsSmallId block (names fields) w.0 (names_small fields w.1)
+names_small (MayLead block ∷ fields) w = All-append IsSmallId (listed_id block) (names fields) (optional_small block w.0) (names_small fields w.1)
+names_small (Chooses cases ∷ fields) w = All-append IsSmallId (map (λ c. c.block) cases) (names fields) (cases_small cases w.0) (names_small fields w.1)
+names_small (Follows block ∷ fields) w = All-cons IsSmallId block (names fields) w.0 (names_small fields w.1)
+names_small (Names block ∷ fields) w = All-cons IsSmallId block (names fields) w.0 (names_small fields w.1)
+names_small (MayName block ∷ fields) w = All-append IsSmallId (listed_id block) (names fields) (optional_small block w.0) (names_small fields w.1)
+names_small (_ ∷ fields) w = names_small fields w.1
+
+emptied_writable : (b : BlockPair) → IsWritable (listing.block b) → IsWritable (listing.block (b.0, emptied b.1))
+emptied_writable b w =
+    let end = w.1.1.1.1.0 in block_with b [] (unreachable b.1.terminal) tt ((lit< tt, refl), (end.1.0, (end.1.1.0, tt))) w
+
+without_update_writable : (b : BlockPair) (init test : BlockId) (update : Option BlockId) (body fallthrough : BlockId)
+    → b.1.terminal.kind ≡ ends.For init test update body fallthrough → IsWritable (listing.block b)
+    → IsWritable (listing.block (b.0, with_kind b.1 (ends.For init test None body fallthrough)))
+without_update_writable b init test update body fallthrough is w =
+    let end = w.1.1.1.1.0 in
+    let fields = subst (λ (k : TerminalKind). AreWritable (parts_of (map listing.field (fields_of k)))) is end.1.1.1 in
+    block_with b b.1.instructions (record b.1.terminal { kind = ends.For init test None body fallthrough }) w.1.1.1.0
+    ((lit< tt, refl), (end.1.0, (end.1.1.0, (fields.0, (fields.1.0, (tt, fields.1.1.1)))))) w
+
+goto_writable : (b : BlockPair) (target : BlockId) → IsSmallId target → IsWritable (listing.block b)
+    → IsWritable (listing.block (b.0, with_kind b.1 (ends.Goto target gotos.Break)))
+unfolding lib.Utf8.encode
+goto_writable b target small w =
+    let end = w.1.1.1.1.0 in
+    block_with b b.1.instructions (record b.1.terminal { kind = ends.Goto target gotos.Break }) w.1.1.1.0
+    ((lit< tt, refl), (end.1.0, (end.1.1.0, (small, ((codes "break", (refl, refl)), tt))))) w
+
+linked_writable : (b : BlockPair) (preds : List BlockId) → All IsSmallId preds → IsWritable (listing.block b)
+    → IsWritable (listing.block (b.0, record b.1 { preds = preds }))
+linked_writable b preds small w =
+    ((lit< tt, refl), (w.1.0, (w.1.1.0, (w.1.1.1.0, (w.1.1.1.1.0, (all_writable listing.block_id preds small, tt))))))
+
+pub blocks_stay : StaysPruned (λ (b : BlockPair). IsWritable (listing.block b)) IsSmallId largest
+blocks_stay = record {
+  own = λ b w. w.1.0;
+  named = λ b w. names_small (fields_of b.1.terminal.kind) w.1.1.1.1.0.1.1.1;
+  linked = λ b w. ids_small b.1.preds w.1.1.1.1.1.0;
+  empties = emptied_writable;
+  loses_update = without_update_writable;
+  goes = goto_writable;
+  orders = λ b order within w. block_with b b.1.instructions (with_order order b.1.terminal) w.1.1.1.0 (terminal_ordered order b.1.terminal within w.1.1.1.1.0) w;
+  links = linked_writable;
+}
 
 -- identifiers and functions
 

@@ -1,40 +1,55 @@
--- The calls that the entry block lists, and whether the builder still stands in it: no other block is reachable.
-use Rattle.std.specs.Prelude.{◌≡◌, ◌<◌, ◌≤◌, ◌&&◌, Bool, true, false, if◌then◌else◌, Option, List, [], ◌++◌, filter}
+-- The calls that reached blocks list, and whether the builder stands in one.
+use Rattle.std.specs.Prelude.{◌≡◌, ℕ, ◌<◌, ◌≤◌, ◌⊎◌, ◌&&◌, Bool, true, false, if◌then◌else◌, Option, List, [], ◌++◌, filter}
 use Rattle.rl_base.specs.declared.span.Span.{Span}
 use Rattle.rl_syntax.specs.declared.word.Word.TheVariants as word
 use Rattle.rl_syntax.specs.Syntax.{Syntax, Node, Listed, Pieces, End, Then}
-use Rattle.rl_base.specs.declared.ids.BlockId.{BlockId}
-use Rattle.rl_hir.specs.Blocks.{Pair as BlockPair, same_id}
+use Rattle.rl_hir.specs.Blocks.{Pair as BlockPair}
 use Rattle.rl_builder.specs.Builder.{State}
 use Rattle.rl_model.specs.Held.{can_complete, graph_calls, listed_calls}
+use Rattle.rl_order.specs.Reached.{IsReached}
 use Rattle.rl_lower.specs.Listed.{IsListed}
+use Rattle.rl_lower.specs.Simulation.{IsNamed, UniqueIds}
 
--- True if the builder stands in the entry block, so that code that it appends is reachable.
-abbrev pub is_reachable : State → Bool
-is_reachable s = same_id s.entry s.current.id
+-- `reached` is true of the ids of blocks alone to which successors lead from the entry of the finished graph.
+abbrev pub TellsReached : (reached : ℕ → Bool) → (finished : State) → Type 0
+TellsReached reached finished = (id : ℕ) → reached id ≡ true → IsReached finished.completed finished.entry (record { 0 = id })
 
--- The entry block, if it is complete.
-abbrev pub entry_blocks : (entry : BlockId) → List BlockPair → List BlockPair
-entry_blocks entry completed = filter (λ p. same_id entry p.0) completed
+-- The builder comes from `s` to `finished`: the entry stays, and the blocks that it completes name blocks that are numbered later.
+pub record GoesOn (s finished : State) : Type 0 where
+  pub entry : finished.entry ≡ s.entry
+  pub named : (id : ℕ) → IsNamed finished.completed id → IsNamed s.completed id ⊎ (s.env.next_block ≤ id)
+
+-- Ids are distinct, and those of the entry and of named blocks are below the counter.
+pub record KnowsBlocks (s : State) : Type 0 where
+  pub unique : UniqueIds s.completed s.current.id.0 s.env.next_block
+  pub entry : s.entry.0 < s.env.next_block
+  pub named : (id : ℕ) → IsNamed s.completed id → id < s.env.next_block
+
+-- The blocks that are reached.
+abbrev pub reached_among : (reached : ℕ → Bool) → List BlockPair → List BlockPair
+reached_among reached blocks = filter (λ p. reached p.0.0) blocks
 
 -- The calls of code that is appended, if it is reachable.
 abbrev pub where_reachable : Bool → List (Option Span) → List (Option Span)
 where_reachable reachable calls = if reachable then calls else []
 
--- The calls that the entry block lists, complete or under construction.
-abbrev pub entry_calls : State → List (Option Span)
-entry_calls s =
-    graph_calls s.table (entry_blocks s.entry s.completed)
-    ++ where_reachable (is_reachable s) (listed_calls s.table s.current.instructions)
+-- True if the builder stands in a reached block.
+abbrev pub is_reachable : (reached : ℕ → Bool) → State → Bool
+is_reachable reached s = reached s.current.id.0
 
--- A part with the reachable calls `calls` was lowered: the entry block lists them if the part is reachable, and the builder
--- stands in the entry block behind it if it did before and the part completes normally.
+-- The calls that reached blocks list, complete or under construction.
+abbrev pub reached_calls : (reached : ℕ → Bool) → State → List (Option Span)
+reached_calls reached s =
+    graph_calls s.table (reached_among reached s.completed)
+    ++ where_reachable (is_reachable reached s) (listed_calls s.table s.current.instructions)
+
+-- A part with the reachable calls `calls` was lowered. In each graph that the builder comes to, reached blocks list these calls if the
+-- part is reachable, and the builder stands in a reached block behind it if it did before and the part completes normally.
 pub record AddsCalls (calls : List (Option Span)) (completes : Bool) (old new : State) : Type 0 where
-  pub entry : new.entry ≡ old.entry
-  pub counted : old.env.next_block ≤ new.env.next_block
-  pub reachable : old.entry.0 < old.env.next_block → is_reachable new ≡ is_reachable old && completes
-  pub held : IsListed old → old.entry.0 < old.env.next_block
-      → entry_calls new ≡ entry_calls old ++ where_reachable (is_reachable old) calls
+  pub reachable : (finished : State) → GoesOn new finished → (reached : ℕ → Bool) → TellsReached reached finished → KnowsBlocks old
+      → is_reachable reached new ≡ is_reachable reached old && completes
+  pub held : (finished : State) → GoesOn new finished → (reached : ℕ → Bool) → TellsReached reached finished → KnowsBlocks old → IsListed old
+      → reached_calls reached new ≡ reached_calls reached old ++ where_reachable (is_reachable reached old) calls
 
 -- True if the statements complete normally, so that code behind them is reachable.
 abbrev pub can_all_complete : Pieces → Bool

@@ -1,13 +1,15 @@
 -- The simulation: the graph that is built between two states of the builder has the traces of a part of the source.
-use Rattle.std.specs.Prelude.{◌≡◌, ℕ, ◌<◌, ◌≤◌, ◌⊎◌, Option, None, Some, List, [], All, length, map, slice_get}
+use Rattle.std.specs.Prelude.{◌≡◌, ℕ, ◌<◌, ◌≤◌, ◌⊎◌, Bool, true, false, Option, None, Some, List, All, length, map, slice_get}
+use Rattle.std.specs.List.{list_any}
 use Rattle.rl_base.specs.Distinct.{AreDistinct}
 use Rattle.rl_base.specs.declared.ids.InstructionId.{InstructionId}
 use Rattle.rl_hir.specs.declared.instruction.Instruction.{Instruction}
-use Rattle.rl_hir.specs.Blocks.{Pair as BlockPair}
+use Rattle.rl_hir.specs.Blocks.{Pair as BlockPair, same_id}
 use Rattle.rl_hir.specs.declared.function.Pair.{Pair}
 use Rattle.rl_hir.specs.Pairs.{identifier_of}
 use Rattle.rl_hir.specs.declared.function.Identifier.{Identifier}
 use Rattle.rl_builder.specs.Builder.{State}
+use Rattle.rl_builder.specs.declared.blocks.WipBlock.{WipBlock}
 use Rattle.rl_used_names.specs.IdentifierNames.{AreNamed}
 use Rattle.rl_used_names.specs.UsedName.{UsedName}
 use Rattle.rl_machine.specs.declared.trace.Value.{Value}
@@ -16,10 +18,10 @@ use Rattle.rl_machine.specs.declared.trace.Trace.{Trace}
 use Rattle.rl_machine.specs.Traces.{Store, ValueCont, ValuesCont, Cont, threw, alone}
 use Rattle.rl_model.specs.Meanings.{ExprMeaning, ExprsMeaning, StmtMeaning, Exits}
 use Rattle.rl_hir.specs.Terminals.{named_ids}
-use Rattle.rl_hir.specs.declared.terminal.Terminal.{Terminal}
+use Rattle.rl_hir.specs.declared.terminal.TerminalKind.{TerminalKind}
 use Rattle.rl_hir.specs.declared.terminal.TerminalKind.TheVariants as kinds
 use Rattle.rl_machine.specs.Machine.{Item, Runs, Ends, Code, Next}
-use Rattle.rl_machine.specs.Silence.{walk}
+use Rattle.rl_machine.specs.Silence.{Settles, walk}
 use Rattle.rl_machine.specs.Ends.{Notes}
 
 -- An item at an index of a block. The terminal's index is the number of instructions.
@@ -141,19 +143,62 @@ abbrev pub PreservesIds : State → State → Type 0
 PreservesIds old new =
     PreservesUniqueIds old.completed old.current.id.0 old.env.next_block new.completed new.current.id.0 new.env.next_block
 
--- A terminal that names no block, and is not the sign of a block that is never run to its end.
-abbrev pub LeavesFunction : Terminal → Type 0
-LeavesFunction t = (named_ids t ≡ []) × (t.kind ≡ kinds.Unreachable → ⊥)
+-- True of a terminal that is run to its end and opens no loop and no `try`. No handler takes what its block throws.
+abbrev pub is_plain : TerminalKind → Bool
+is_plain (kinds.While test body fallthrough) = false
+is_plain (kinds.DoWhile body test fallthrough) = false
+is_plain (kinds.For init test update body fallthrough) = false
+is_plain (kinds.ForIn init body fallthrough) = false
+is_plain (kinds.ForOf init test body fallthrough) = false
+is_plain (kinds.Try block binding handler fallthrough) = false
+is_plain (kinds.MaybeThrow continuation handler) = false
+is_plain kinds.Unreachable = false
+is_plain _ = true
 
--- Every complete block leaves the function.
+-- The terminals of complete blocks are plain.
 abbrev pub AreEnded : List BlockPair → Type 0
-AreEnded completed = All (λ b. LeavesFunction b.1.terminal) completed
+AreEnded completed = All (λ b. is_plain b.1.terminal.kind ≡ true) completed
 
--- The new state extends the old one, ids stay distinct, and every block that was completed leaves the function.
+-- The terminal of a complete block names the block `id`.
+pub record IsNamed (completed : List BlockPair) (id : ℕ) : Type 0 where
+  pub index : ℕ
+  pub block : BlockPair
+  pub found : slice_get completed index ≡ Some block
+  pub names : list_any (same_id (record { 0 = id })) (named_ids block.1.terminal) ≡ true
+
+-- From the old to the new state only blocks that were numbered since are named, and each is complete or under construction.
+abbrev pub NamesOwn : State → State → Type 0
+NamesOwn old new =
+    (id : ℕ) → IsNamed new.completed id → IsNamed old.completed id ⊎ (IsCurrentOrCompleted new id × (old.env.next_block ≤ id))
+
+-- A program point of a complete block: at one of its instructions, or at its terminal.
+pub record InCompletedPoint (completed : List BlockPair) (id place : ℕ) : Type 0 where
+  pub index : ℕ
+  pub block : BlockPair
+  pub found : slice_get completed index ≡ Some block
+  pub named : block.0.0 ≡ id
+  pub within : place ≤ length block.1.instructions
+
+-- A program point at an instruction of the block under construction.
+pub record InCurrentPoint (current : WipBlock) (id place : ℕ) : Type 0 where
+  pub named : current.id.0 ≡ id
+  pub within : place < length current.instructions
+
+abbrev pub HasPoint : State → (id place : ℕ) → Type 0
+HasPoint s id place = InCompletedPoint s.completed id place ⊎ InCurrentPoint s.current id place
+
+-- In the graph `c` the state's program points settle if the one does where the builder stands.
+abbrev pub PointsSettle : Code → State → Type 0
+PointsSettle c s = Settles c s.current.id.0 (length s.current.instructions) → (id place : ℕ) → HasPoint s id place → Settles c id place
+
+-- The new state extends the old one, ids stay distinct, complete blocks end plainly and name blocks of the state, and program points
+-- settle.
 pub record PreservesBlocks (old new : State) : Type 0 where
   pub extends : Extends old new
   pub ids : PreservesIds old new
   pub ended : AreEnded old.completed → AreEnded new.completed
+  pub named : NamesOwn old new
+  pub settle : (c : Code) → IsContainedIn new c → PointsSettle c old → PointsSettle c new
 
 -- From some number of steps on, `f` of the run has the trace `t`, whatever trace a stuck run has: so the run is not stuck.
 pub record Eventually (c : Code) (f : (stuck : Trace) → Next → Trace) (t : Trace) : Type 0 where

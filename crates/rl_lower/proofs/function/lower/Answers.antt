@@ -8,7 +8,8 @@ use Rattle.rl_hir.specs.declared.environment.Environment.{Environment}
 use Rattle.rl_hir.specs.Blocks.{Pair as BlockPair}
 use Rattle.rl_hir.specs.declared.function.HirFunction.{HirFunction}
 use Rattle.rl_lower.proofs.Answering.{says_nothing}
-use Rattle.rl_lower.proofs.FunctionGraphs.{graph_closed, identifiers_fit, types_fit, lower_bounded, lower_never_stuck, lower_fn_type, lower_functions, lower_given, lower_held, lower_pairs, lower_refused, lower_room, lower_same_runs}
+use Rattle.rl_lower.proofs.FunctionCalls.{lower_held}
+use Rattle.rl_lower.proofs.FunctionGraphs.{graph_closed, identifiers_fit, types_fit, lower_bounded, lower_never_stuck, lower_fn_type, lower_functions, lower_given, lower_pairs, lower_refused, lower_room, lower_same_runs}
 use Rattle.rl_lower.proofs.FunctionTrees.{IsFunction, function_form}
 use Rattle.rl_lower.specs.Named.{AreDeclaredAt}
 use Rattle.rl_lower.proofs.WellFormed.{graph_linked, graph_numbered}
