@@ -190,6 +190,16 @@ fn drop_try<B: Blocks>(
     Ok(())
 }
 
+/// Takes out the blocks that are listed as lost, if there are any.
+fn remove_lost<B: Blocks>(blocks: &mut B, lost: &BlockSet)
+    ensures { B.pairs blocks.new ≡ kept lost.now.keys (B.pairs blocks.old) }
+{
+    if lost.is_empty() {
+        return;
+    }
+    blocks.remove_all(lost);
+}
+
 /// Drops `try`s from the blocks, one after the other. On `OutOfMemory`, an allocation failed, and some of them may be gotos
 /// already.
 pub(crate) fn drop_tries<B: Blocks>(
@@ -207,7 +217,7 @@ pub(crate) fn drop_tries<B: Blocks>(
     for dead in tries {
         drop_try(alloc, blocks, &places, &mut lost, *dead)?;
     }
-    blocks.remove_all(&lost);
+    remove_lost(blocks, &lost);
     Ok(())
 }
 
