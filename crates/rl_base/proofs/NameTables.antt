@@ -1,10 +1,13 @@
 -- The index of a table of names, as items are appended.
-use Rattle.std.proofs.Common.{◌≡◌, ◌<◌, ◌≤◌, ℕ, zero, suc, ◌+◌, Bool, true, false, not, if◌then◌else◌, Option, Some, None, is_some, IfSome, true≢false, List, [], ◌∷◌, ◌++◌, length, map, replicate, slice_get, slice_set, option_map, length-set, get_or, Result, Ok, Err, IfOk, OnErr, string_bytes, refl, sym, ap, subst, ◌∙◌, arith}
+use Rattle.std.proofs.Common.{◌≡◌, ◌<◌, ◌≤◌, ℕ, zero, suc, ◌+◌, Bool, true, false, not, if◌then◌else◌, Option, Some, None, is_some, IfSome, true≢false, List, [], ◌∷◌, ◌++◌, length, map, replicate, slice_get, slice_set, option_map, length-set, get_or, cond, Result, Ok, Err, IfOk, OnErr, string_bytes, refl, sym, ap, subst, ◌∙◌, arith}
 use Rattle.std.proofs.lemmas.Map.Text.{btree_map_updates_text}
 use Rattle.std.proofs.lemmas.Slice.Eq.{bytes_eq-Decides}
-use Rattle.std.specs.BTreeMap.{BTreeMap, IsEmpty, IsUnchanged, Updates, get_by_text}
+use Rattle.std.specs.BTreeMap.{BTreeMap, IsEmpty, IsUnchanged, Updates, get_by_text, is_at}
+use Rattle.std.specs.List.{AllZip}
 use Rattle.std.specs.Map.{update, lookup}
 use Rattle.std.specs.Str.{bytes_eq}
+use Rattle.std.specs.Cmp.Lexicographic.{slice_cmp}
+use Rattle.std.specs.Ordering.{nat_cmp}
 use Rattle.std.specs.String.{string_cmp}
 use Rattle.std.specs.declared.alloc.Global.{Global}
 use Rattle.std.specs.declared.string.String.{String}
@@ -224,3 +227,47 @@ module _ {X : Type 0} (name_of : X → List ℕ) where
 
   pub empty_slotted : (count : ℕ) (slots : List Slot) (indices : BTreeMap (String Global) ℕ) (items : List X) → slots ≡ replicate count slot.Empty → IsEmpty indices → items ≡ [] → IsIndex name_of slots indices items
   empty_slotted count slots indices items is = empty_by slots indices items (subst (λ ss. (p k : ℕ) → slot_at ss p ≡ slot.One k → false ≡ true) (sym is) (empty_slots count))
+
+-- A look-up in a clone of a map, by a test that tells no key from its clone.
+lookup-cloned : {K X : Type 0} (C : K → K → Type 0) (test : K → Bool) → ((x y : K) → C x y → test y ≡ test x) → (es fs : List (K × X)) → AllZip (λ p q. C p.0 q.0 × (q.1 ≡ p.1)) es fs → lookup test fs ≡ lookup test es
+lookup-cloned C test same [] [] zip = refl
+lookup-cloned C test same [] (f ∷ fs) zip = absurd zip
+lookup-cloned C test same (e ∷ es) [] zip = absurd zip
+lookup-cloned C test same (e ∷ es) (f ∷ fs) zip =
+    ap (λ b. cond b (Some f.1) (lookup test fs)) (same e.0 f.0 zip.0.0)
+    ∙ ap (λ v. cond (test e.0) (Some v) (lookup test fs)) zip.0.1
+    ∙ ap (λ o. cond (test e.0) (Some e.1) o) (lookup-cloned C test same es fs zip.1)
+
+-- The index of a name among names.
+abbrev index_in : ℕ → List (List ℕ) → List ℕ → Option ℕ
+index_in first [] name = None
+index_in first (n ∷ names) name = if bytes_eq n name then Some first else index_in (first + 1) names name
+
+index_in-names : {X : Type 0} (name_of : X → List ℕ) (first : ℕ) (items : List X) (name : List ℕ) → index_from name_of first items name ≡ index_in first (map name_of items) name
+index_in-names name_of first [] name = refl
+index_in-names name_of first (x ∷ items) name = ap (λ (o : Option ℕ). if bytes_eq (name_of x) name then Some first else o) (index_in-names name_of (first + 1) items name)
+
+abbrev IsCopied : BTreeMap (String Global) ℕ → BTreeMap (String Global) ℕ → Type 0
+IsCopied indices copies = AllZip (λ p q. (string_bytes q.0 ≡ string_bytes p.0) × (q.1 ≡ p.1)) indices.entries copies.entries
+
+text-cloned : (indices copies : BTreeMap (String Global) ℕ) → IsCopied indices copies → (name : List ℕ) → get_by_text copies name ≡ get_by_text indices name
+text-cloned indices copies zip name =
+    lookup-cloned (λ (x y : String Global). string_bytes y ≡ string_bytes x) (is_at (λ (k : String Global). slice_cmp nat_cmp name (string_bytes k)))
+    (λ x y e. ap (λ (bytes : List ℕ). is_at (λ (b : List ℕ). slice_cmp nat_cmp name b) bytes) e)
+    indices.entries copies.entries zip
+
+-- Copies of the slots and of the map are the index of items of the same names.
+pub copied_index : {X : Type 0} (name_of : X → List ℕ) (slots copied : List Slot) (indices copies : BTreeMap (String Global) ℕ) (items others : List X) → copied ≡ slots → IsCopied indices copies → map name_of others ≡ map name_of items
+    → IsIndex name_of slots indices items → IsIndex name_of copied copies others
+copied_index name_of slots copied indices copies items others same zip names is =
+    subst (λ (ss : List Slot). IsSlotted bytes_eq (place_of (length ss)) ss (map name_of others) (get_by_text copies) (index_named name_of others)) (sym same)
+    (subst (λ (ns : List (List ℕ)). IsSlotted bytes_eq (place_of (length slots)) slots ns (get_by_text copies) (index_named name_of others)) (sym names) (
+    record {
+      found = λ name.
+          index_in-names name_of 0 others name ∙ ap (λ ns. index_in 0 ns name) names ∙ sym (index_in-names name_of 0 items name)
+          ∙ is.found name
+          ∙ ap (λ m. numbered bytes_eq (map name_of items) m (slot_at slots (place_of (length slots) name)) name) (sym (text-cloned indices copies zip name));
+      alone = λ name none. text-cloned indices copies zip name ∙ is.alone name none;
+      within = is.within;
+      placed = is.placed;
+    }))

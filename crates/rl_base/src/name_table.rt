@@ -77,6 +77,20 @@ impl<T: Named> NameTable<T> {
         })
     }
 
+    /// A table of `items`, which have the names of the items here, in order. On `OutOfMemory`, an allocation failed.
+    pub fn with_items(&self, alloc: Global, items: Vec<T>) -> Result<NameTable<T>, OutOfMemory>
+        requires { map T.name items.items ≡ map T.name self.now }
+        ensures { IfOk result (λ table. table ≡ items.items) }
+    {
+        let slots = Vec::from_slice(alloc, self.slots.as_slice())?;
+        let indices = self.indices.clone()?;
+        Ok(NameTable {
+            items,
+            slots,
+            indices,
+        })
+    }
+
     /// The items, in the order in which their names came.
     pub fn as_slice(&self) -> &[T]
         ensures { result.now ≡ self.now }
