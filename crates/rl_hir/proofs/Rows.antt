@@ -6,7 +6,8 @@ use Rattle.rl_text.specs.Notation.{Tree, Then, AreWritable}
 use Rattle.rl_text.specs.Raw.{parts_of}
 use Rattle.rl_text.specs.Spaced.{spaced, join}
 use Rattle.rl_hir.specs.Pieces.{Use, Piece, Says, Names, Gives, Spreads, Takes, texts, operands, operand_tree, row_parts, gathered}
-use Rattle.rl_hir.specs.Trees.{said, AreListed}
+use Rattle.rl_hir.specs.Trees.{said}
+use Rattle.rl_hir.specs.Written.{AreListed}
 use Rattle.rl_hir.specs.declared.pieces.Row.{Row}
 use Rattle.rl_hir.specs.declared.pieces.Row.TheVariants as rows
 

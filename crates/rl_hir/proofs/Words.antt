@@ -9,7 +9,8 @@ use Rattle.rl_hir.specs.Listing as spec
 use Rattle.rl_hir.specs.Pieces.{Operand, Use, Key, Piece, used, texts, operands, operand_tree, row_parts}
 use Rattle.rl_hir.specs.Terminals.{Field, Leads, MayLead, Chooses, Follows, Names, MayName, Reads, MayBind, Says, Holds, fields_of, terminal_word}
 use Rattle.rl_hir.specs.Trees as trees
-use Rattle.rl_hir.specs.Values.{Form, Silent, Asks, Assigns, form_of, form_tree, form_word, value, value_word}
+use Rattle.rl_hir.specs.Values.{Form, Silent, Asks, Assigns, form_of, form_tree, value}
+use Rattle.rl_hir.specs.Written.{form_word, value_word}
 use Rattle.rl_hir.specs.declared.pieces.Row.{Row}
 use Rattle.rl_hir.specs.declared.pieces.Row.TheVariants as rows
 use Rattle.rl_hir.specs.declared.instruction.HirType.{HirType}

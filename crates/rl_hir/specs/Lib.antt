@@ -10,3 +10,4 @@ pub mod Symbols
 pub mod Terminals
 pub mod Trees
 pub mod Values
+pub mod Written

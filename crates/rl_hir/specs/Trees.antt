@@ -1,8 +1,7 @@
 -- Trees of the notation, and those of the small parts of a listing.
-use Rattle.std.specs.Prelude.{◌≡◌, ℕ, Option, Some, None, List, [], ◌∷◌, ◌++◌, map, codes}
-use Rattle.rl_text.specs.Notation.{Tree, Node, Listed, Said, Count, Flag, Absent, Parts, IsWord, IsWritable, AreWritable, spelling}
+use Rattle.std.specs.Prelude.{ℕ, Option, Some, None, List, [], ◌∷◌, map, codes}
+use Rattle.rl_text.specs.Notation.{Tree, Node, Listed, Said, Count, Flag, Absent}
 use Rattle.rl_text.specs.Raw.{parts_of}
-use Rattle.rl_text.specs.Spaced.{spaced}
 use Rattle.rl_base.specs.declared.span.Span.{Span}
 use Rattle.rl_hir.specs.declared.instruction.Place.{Place}
 use Rattle.rl_hir.specs.declared.instruction.HirType.{HirType}
@@ -20,21 +19,6 @@ node word parts = Node word (parts_of parts)
 
 abbrev pub listed : List Tree → Tree
 listed parts = Listed (parts_of parts)
-
--- `word` is `wanted`, and the notation can write it as the word of a node.
-pub record IsWordOf (wanted word : List ℕ) : Type 0 where
-  pub same : word ≡ wanted
-  pub writable : IsWord word
-
--- `new` is `old` followed by the spelling of `tree`, which the notation can write.
-pub record IsListed (old new : List ℕ) (tree : Tree) : Type 0 where
-  pub written : new ≡ old ++ spelling tree
-  pub writable : IsWritable tree
-
--- `new` is `old` followed by `parts`, each behind a space, and the notation can write them.
-pub record AreListed (old new : List ℕ) (parts : Parts) : Type 0 where
-  pub written : new ≡ old ++ spaced parts
-  pub writable : AreWritable parts
 
 -- A list with a tree for each item.
 abbrev pub list : {X : Type 0} → (X → Tree) → List X → Tree

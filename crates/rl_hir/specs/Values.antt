@@ -82,12 +82,3 @@ form_tree (Assigns word head pieces value targets) = node word (head ++ row rows
 
 abbrev pub value : InstructionValue → Tree
 value v = form_tree (form_of v)
-
-abbrev pub form_word : Form → List ℕ
-form_word (Silent word fields) = word
-form_word (Asks word pieces) = word
-form_word (Assigns word head texts value targets) = word
-
--- The word of a value's listing.
-abbrev pub value_word : InstructionValue → List ℕ
-value_word v = form_word (form_of v)

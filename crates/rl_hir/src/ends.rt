@@ -2,8 +2,8 @@
 
 ghost use Rattle.std.specs.Prelude.{◌≡◌, OnOk};
 ghost use Rattle.rl_hir.specs.Listing as spec;
-ghost use Rattle.rl_hir.specs.Trees.{IsListed, IsWordOf};
 ghost use Rattle.rl_hir.specs.Terminals.{goto_variant, return_variant, terminal_word};
+ghost use Rattle.rl_hir.specs.Written.{IsListed, IsWordOf};
 
 use crate::terminal::{Case, GotoVariant, ReturnVariant, Terminal, TerminalKind};
 use crate::terminal_table::with_terminals;

@@ -3,7 +3,7 @@
 ghost use Rattle.std.specs.Prelude.{List, [], ◌∷◌, ◌++◌, OnOk};
 ghost use Rattle.rl_text.specs.Number.{numeral};
 ghost use Rattle.rl_hir.specs.Pieces as spec;
-ghost use Rattle.rl_hir.specs.Trees.{AreListed};
+ghost use Rattle.rl_hir.specs.Written.{AreListed};
 
 use crate::instruction::{
     ArrayElement, JsxAttribute, JsxTag, NonLocalBinding, ObjectPatternProperty, ObjectProperty,

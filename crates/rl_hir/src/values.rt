@@ -3,8 +3,8 @@
 ghost use Rattle.std.specs.Prelude.{◌≡◌, OnOk};
 ghost use Rattle.rl_text.specs.Notation.{Node};
 ghost use Rattle.rl_hir.specs.Trees as trees;
-ghost use Rattle.rl_hir.specs.Trees.{IsListed, IsWordOf};
 ghost use Rattle.rl_hir.specs.Values as spec;
+ghost use Rattle.rl_hir.specs.Written.{IsListed, IsWordOf, value_word};
 
 use crate::instruction::{
     Destructure, HirType, InstructionKind, InstructionValue as Value, Place, PrimitiveValue,
@@ -152,7 +152,7 @@ macro_rules! word_of {
 impl Value {
     /// The word of the value in a listing.
     fn word(&self) -> &'static str
-        ensures { IsWordOf (spec.value_word self.now) result.now }
+        ensures { IsWordOf (value_word self.now) result.now }
     {
         with_values!(word_of(self))
     }
@@ -164,7 +164,7 @@ fn write_silent<P: WrittenParts + Drop>(
     fields: P,
     out: &mut Vec<u8>,
 ) -> Result<(), OutOfMemory>
-    ensures { OnOk result (IsListed out.old.items out.new.items (Node (spec.value_word operation.now) (P.parts fields))) }
+    ensures { OnOk result (IsListed out.old.items out.new.items (Node (value_word operation.now) (P.parts fields))) }
 {
     write_node(operation.word(), &fields, out)?;
     Ok(())
@@ -176,7 +176,7 @@ fn write_event<P: Pieces + Drop>(
     pieces: P,
     out: &mut Vec<u8>,
 ) -> Result<(), OutOfMemory>
-    ensures { OnOk result (IsListed out.old.items out.new.items (spec.form_tree (spec.Asks (spec.value_word operation.now) (P.pieces pieces)))) }
+    ensures { OnOk result (IsListed out.old.items out.new.items (spec.form_tree (spec.Asks (value_word operation.now) (P.pieces pieces)))) }
 {
     let texts = Bracketed(InRow(&pieces, Row::Texts));
     let operands = Bracketed(InRow(&pieces, Row::Operands));
@@ -190,7 +190,7 @@ fn write_destructure(
     destructure: &Destructure,
     out: &mut Vec<u8>,
 ) -> Result<(), OutOfMemory>
-    ensures { OnOk result (IsListed out.old.items out.new.items (spec.form_tree (spec.destructure_form (spec.value_word operation.now) destructure.now))) }
+    ensures { OnOk result (IsListed out.old.items out.new.items (spec.form_tree (spec.destructure_form (value_word operation.now) destructure.now))) }
 {
     let texts = Bracketed(InRow(&destructure.pattern, Row::Texts));
     let value = Bracketed(InRow(Used(destructure.value), Row::Operands));
@@ -208,7 +208,7 @@ fn write_update(
     value: Place,
     out: &mut Vec<u8>,
 ) -> Result<(), OutOfMemory>
-    ensures { OnOk result (IsListed out.old.items out.new.items (spec.form_tree (spec.update_form (spec.value_word operation.now) operator place value))) }
+    ensures { OnOk result (IsListed out.old.items out.new.items (spec.form_tree (spec.update_form (value_word operation.now) operator place value))) }
 {
     let texts = Bracketed(InRow(Literal(operator.as_str()), Row::Texts));
     let value = Bracketed(InRow(Used(value), Row::Operands));
