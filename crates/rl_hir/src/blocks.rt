@@ -68,6 +68,9 @@ pub trait Blocks: Drop {
         ensures new { pairs self.new ≡ with_block_at (pairs self.old) place block };
 }
 
+/// The table that the functions of a result hold their blocks in.
+pub type GraphBlocks = MapBlocks;
+
 /// Blocks in a hash map that keeps their order. A look-up by id takes a constant number of steps on average; `remove` moves the pairs
 /// behind it.
 #[derive(Drop)]

@@ -4,7 +4,7 @@ ghost use Rattle.rl_base.specs.declared.ids.SymbolId.{SymbolId as Symbol};
 ghost use Rattle.rl_hir.specs.Identifiers.{with_name, with_span, changed_at};
 ghost use Rattle.rl_hir.specs.Symbols.{added, has};
 
-use crate::blocks::MapBlocks;
+use crate::blocks::GraphBlocks;
 use crate::function::{
     HirFunction, Identifier, IdentifierName, InnerFunction, Lowered, Pair, ReactFunctionType,
 };
@@ -35,27 +35,27 @@ pub struct Rename {
 #[derive(Drop)]
 pub struct Environment {
     /// The type of the marked function.
-    pub fn_type: ReactFunctionType,
-    /// The id of the next block; ids count from 0 over all functions of the unit.
-    pub next_block: u32,
-    /// The id of the next type variable; ids count from 0 over all functions of the unit.
-    pub next_type: u32,
+    fn_type: ReactFunctionType,
+    /// The id of the next block.
+    next_block: u32,
+    /// The id of the next type variable.
+    next_type: u32,
     /// The identifiers of all functions, indexed by identifier id.
-    pub identifiers: List<Identifier>,
+    identifiers: List<Identifier>,
     /// The inner functions that were lowered, indexed by function id.
-    pub functions: List<InnerFunction>,
+    functions: List<InnerFunction>,
     /// Symbols and their identifiers, in the order in which the symbols got them.
-    pub pairs: List<Pair>,
+    pairs: List<Pair>,
     /// The diagnostics that were recorded, in the order of the walk.
-    pub diagnostics: List<Diagnostic>,
+    diagnostics: List<Diagnostic>,
     /// The entities of JSX texts, by their names.
-    pub entities: EntityTable,
+    entities: EntityTable,
     /// The symbols that were marked as hoisted.
-    pub hoisted: SymbolSet,
+    hoisted: SymbolSet,
     /// The references that were renamed, in the order in which they were.
-    pub renames: List<Rename>,
+    renames: List<Rename>,
     /// True if the unit is to be left as it is.
-    pub skip: bool,
+    skip: bool,
 }
 
 impl Environment {
@@ -92,6 +92,27 @@ impl Environment {
             renames: List::new(alloc),
             skip: false,
         })
+    }
+
+    /// The type of the marked function.
+    pub fn fn_type(&self) -> ReactFunctionType
+        ensures { result ≡ self.now.fn_type }
+    {
+        self.fn_type
+    }
+
+    /// The block id that comes next. Ids count from 0 over all functions of the unit.
+    pub fn next_block(&self) -> u32
+        ensures { result ≡ self.now.next_block }
+    {
+        self.next_block
+    }
+
+    /// The id of the type variable that comes next. Ids count from 0 over all functions of the unit.
+    pub fn next_type(&self) -> u32
+        ensures { result ≡ self.now.next_type }
+    {
+        self.next_type
     }
 
     /// Hands out the next block id (`nextBlockId`).
@@ -138,6 +159,13 @@ impl Environment {
         Ok(id)
     }
 
+    /// The identifiers of all functions, indexed by identifier id.
+    pub fn identifiers(&self) -> &[Identifier]
+        ensures { result.now ≡ self.now.identifiers }
+    {
+        self.identifiers.as_slice()
+    }
+
     /// An identifier by its id.
     pub fn identifier(&self, id: IdentifierId) -> &Identifier
         requires { id.0 < length self.now.identifiers }
@@ -166,7 +194,7 @@ impl Environment {
     /// dropped, and nothing changed.
     pub fn add_function(
         &mut self,
-        function: HirFunction<MapBlocks>,
+        function: HirFunction<GraphBlocks>,
         node: NodeId,
     ) -> Result<FunctionId, OutOfMemory>
         requires { length self.old.functions < 2 ^ 32 }
@@ -303,7 +331,7 @@ impl Environment {
 
     /// The marked function with the inner functions, identifiers and pairs that were kept beside it. All else is
     /// dropped.
-    pub fn into_lowered(self, function: HirFunction<MapBlocks>) -> Lowered
+    pub fn into_lowered(self, function: HirFunction<GraphBlocks>) -> Lowered
         ensures { result ≡ record { function = function; inner = self.functions; identifiers = self.identifiers; pairs = self.pairs } }
     {
         Lowered {

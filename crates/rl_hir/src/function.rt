@@ -1,7 +1,7 @@
 ghost use Rattle.std.specs.Prelude.{◌≡◌, None, [], IfOk};
 ghost use Rattle.rl_hir.specs.declared.terminal.TerminalKind.TheVariants as ends;
 
-use crate::blocks::MapBlocks;
+use crate::blocks::GraphBlocks;
 use crate::instruction::{Instruction, Place};
 use crate::terminal::{Terminal, TerminalKind};
 use rl_base::error::OutOfMemory;
@@ -160,7 +160,7 @@ pub struct InnerFunction {
     /// The node of the unit that was lowered.
     pub node: NodeId,
     /// The graph of the node.
-    pub function: HirFunction<MapBlocks>,
+    pub function: HirFunction<GraphBlocks>,
 }
 
 /// A symbol of the source, and the identifier that stands for it in every graph of the unit.
@@ -176,7 +176,7 @@ pub struct Pair {
 #[derive(Drop)]
 pub struct Lowered {
     /// The marked function.
-    pub function: HirFunction<MapBlocks>,
+    pub function: HirFunction<GraphBlocks>,
     /// The inner functions of the marked one, indexed by function id.
     pub inner: List<InnerFunction>,
     /// The identifiers of all functions, indexed by identifier id.

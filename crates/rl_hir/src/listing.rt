@@ -6,7 +6,7 @@ ghost use Rattle.rl_text.specs.Raw.{parts_of, tree};
 ghost use Rattle.rl_text.specs.Spaced.{separated};
 ghost use Rattle.rl_hir.specs.Listing as spec;
 
-use crate::blocks::{Blocks, MapBlocks};
+use crate::blocks::{Blocks, GraphBlocks, MapBlocks};
 use crate::function::{
     BasicBlock, BlockKind, HirFunction, Identifier, IdentifierName, InnerFunction, Lowered, Pair,
     Param, ReactFunctionType,
@@ -110,7 +110,7 @@ impl Written for Param {
     }
 }
 
-impl Written for HirFunction<MapBlocks> {
+impl Written for HirFunction<GraphBlocks> {
     ghost shown = { spec.function };
 
     fn write(&self, out: &mut Vec<u8>) -> Result<(), OutOfMemory> {
