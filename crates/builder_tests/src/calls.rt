@@ -15,7 +15,7 @@ use rl_builder::builder::{Bindings, HirBuilder, UsedNames};
 use rl_builder::jumps::{JumpError, JumpScope};
 use rl_builder::unit_tables::{ReadsUnit, UnitTables};
 use rl_context::index::IdentifierLocIndex;
-use rl_hir::blocks::MapBlocks;
+use rl_hir::blocks::GraphBlocks;
 use rl_hir::environment::Environment;
 use rl_hir::function::{IdentifierName, ReactFunctionType};
 use rl_hir::instruction::{Instruction, InstructionValue, Place, PrimitiveValue};
@@ -27,7 +27,7 @@ use std::process::Abort;
 use std::test::Fail;
 
 /// A builder of tests.
-type Builder<'e, U> = HirBuilder<'e, U, MapBlocks>;
+type Builder<'e, U> = HirBuilder<'e, U, GraphBlocks>;
 
 /// Calls of a builder.
 #[derive(Clone, Copy)]
@@ -143,7 +143,7 @@ fn has_room<U: ReadsUnit>(builder: &Builder<'_, U>) -> bool
     ensures blocks { IsTrue result → (state_of U.tables builder.now).env.next_block + 1 < 2 ^ 32 }
 {
     let env = builder.environment();
-    env.identifiers.len() < 1000 && env.next_type < 1000 && env.next_block < 1000
+    env.identifiers().len() < 1000 && env.next_type() < 1000 && env.next_block() < 1000
 }
 
 /// Gives a symbol its identifier, and appends its name, or the row that refuses it.
@@ -175,7 +175,11 @@ fn push_identifier<U: ReadsUnit>(
     builder: &Builder<'_, U>,
     identifier: IdentifierId,
 ) -> Result<(), OutOfMemory> {
-    let Some(entry) = builder.environment().identifiers.get(identifier.0 as usize) else {
+    let Some(entry) = builder
+        .environment()
+        .identifiers()
+        .get(identifier.0 as usize)
+    else {
         return Ok(());
     };
     if let Some(IdentifierName::Named(name)) = &entry.name {
@@ -209,11 +213,11 @@ fn push_number(alloc: Global, text: &mut String, number: Option<u32>) -> Result<
 
 /// Appends the diagnostics and the renames.
 fn push_records(alloc: Global, text: &mut String, env: &Environment) -> Result<(), OutOfMemory> {
-    for diagnostic in env.diagnostics.as_slice() {
+    for diagnostic in env.diagnostics() {
         let row = diagnostic.row.name();
         text.push_str(format!(in alloc; "{row}! ")?.as_str())?;
     }
-    for rename in env.renames.as_slice() {
+    for rename in env.renames() {
         let reference = rename.reference.0;
         let name = rename.name.as_str();
         text.push_str(format!(in alloc; "{reference}:{name} ")?.as_str())?;
@@ -323,10 +327,10 @@ fn handler<U: ReadsUnit>(alloc: Global, builder: &mut Builder<'_, U>) -> Result<
     if !has_room(builder) {
         return Err(Stop::OutOfMemory);
     }
-    let before = builder.environment().next_block;
+    let before = builder.environment().next_block();
     builder.open_handler(BlockId(7))?;
     builder.push(undefined())?;
-    let after = builder.environment().next_block;
+    let after = builder.environment().next_block();
     Ok(blocks(alloc, before, after, builder.resolve_throw_handler())?)
 }
 

@@ -6,7 +6,7 @@ ghost use Rattle.graph_dot.specs.Answers.{IsWhole};
 use crate::label::{push_instruction, push_line, push_terminal};
 use rl_base::error::OutOfMemory;
 use rl_base::ids::BlockId;
-use rl_hir::blocks::{Blocks, MapBlocks};
+use rl_hir::blocks::{Blocks, GraphBlocks};
 use rl_hir::function::{BasicBlock, BlockKind, Hir, Lowered};
 use rl_hir::instruction::Instruction;
 use rl_hir::terminal::{each_terminal_successor, terminal_fallthrough};
@@ -34,7 +34,7 @@ pub fn draw(alloc: Global, lowered: &Lowered) -> Result<String, OutOfMemory>
 }
 
 /// The ids of the blocks that the entry reaches: its own, and those of the blocks with a predecessor (`IsLinked`).
-fn reached_blocks(alloc: Global, body: &Hir<MapBlocks>) -> Result<HashSet<BlockId>, OutOfMemory> {
+fn reached_blocks(alloc: Global, body: &Hir<GraphBlocks>) -> Result<HashSet<BlockId>, OutOfMemory> {
     let mut reached = HashSet::new(alloc);
     for place in 0..body.blocks.len() {
         let (id, block) = body.blocks.at(place);

@@ -5,7 +5,7 @@ use rl_base::error::OutOfMemory;
 use rl_base::ids::{BlockId, EvaluationOrder, IdentifierId};
 use rl_base::list::List;
 use rl_base::operator::LogicalOperator;
-use rl_hir::blocks::{Blocks, MapBlocks};
+use rl_hir::blocks::{Blocks, GraphBlocks};
 use rl_hir::function::{BasicBlock, BlockKind, Hir, HirFunction, Lowered, ReactFunctionType};
 use rl_hir::instruction::Place;
 use rl_hir::terminal::{Case, GotoVariant, ReturnVariant, Terminal, TerminalKind};
@@ -23,7 +23,7 @@ fn place(identifier: u32) -> Place {
 /// Puts a block without instructions that the entry reaches. Its order is its id. On `OutOfMemory` an allocation failed.
 fn put(
     alloc: Global,
-    blocks: &mut MapBlocks,
+    blocks: &mut GraphBlocks,
     id: u32,
     kind: TerminalKind,
 ) -> Result<(), OutOfMemory> {
@@ -67,7 +67,7 @@ fn switch(alloc: Global, blocks: &[u32]) -> Result<TerminalKind, OutOfMemory> {
 }
 
 /// Puts the blocks that end as statements and expressions do, but for loops. On `OutOfMemory` an allocation failed.
-fn put_branches(alloc: Global, blocks: &mut MapBlocks) -> Result<(), OutOfMemory> {
+fn put_branches(alloc: Global, blocks: &mut GraphBlocks) -> Result<(), OutOfMemory> {
     let test = BlockId(5);
     let fallthrough = BlockId(7);
     let conditional = TerminalKind::If {
@@ -108,7 +108,7 @@ fn put_branches(alloc: Global, blocks: &mut MapBlocks) -> Result<(), OutOfMemory
 
 /// Puts the blocks that end as other constructs do, but for loops, and those that lead on to no block. On `OutOfMemory` an
 /// allocation failed.
-fn put_ends(alloc: Global, blocks: &mut MapBlocks) -> Result<(), OutOfMemory> {
+fn put_ends(alloc: Global, blocks: &mut GraphBlocks) -> Result<(), OutOfMemory> {
     let block = BlockId(5);
     let fallthrough = BlockId(7);
     let attempt = TerminalKind::Try {
@@ -140,7 +140,7 @@ fn put_ends(alloc: Global, blocks: &mut MapBlocks) -> Result<(), OutOfMemory> {
 }
 
 /// Puts the blocks that open loops. On `OutOfMemory` an allocation failed.
-fn put_loops(alloc: Global, blocks: &mut MapBlocks) -> Result<(), OutOfMemory> {
+fn put_loops(alloc: Global, blocks: &mut GraphBlocks) -> Result<(), OutOfMemory> {
     let init = BlockId(4);
     let test = BlockId(5);
     let loop_block = BlockId(6);
@@ -182,7 +182,7 @@ fn put_loops(alloc: Global, blocks: &mut MapBlocks) -> Result<(), OutOfMemory> {
 }
 
 /// A result with these blocks in its graph, and with nothing else.
-fn lowered(alloc: Global, blocks: MapBlocks) -> Lowered {
+fn lowered(alloc: Global, blocks: GraphBlocks) -> Lowered {
     let function = HirFunction {
         span: None,
         name: None,
@@ -209,7 +209,7 @@ fn lowered(alloc: Global, blocks: MapBlocks) -> Lowered {
 
 /// A graph with each terminal once. On `OutOfMemory` an allocation failed.
 fn each_terminal(alloc: Global) -> Result<Lowered, OutOfMemory> {
-    let mut blocks = MapBlocks::empty(alloc);
+    let mut blocks = GraphBlocks::empty(alloc);
     put_branches(alloc, &mut blocks)?;
     put_ends(alloc, &mut blocks)?;
     put_loops(alloc, &mut blocks)?;

@@ -5,7 +5,7 @@ use rl_base::error::OutOfMemory;
 use rl_base::ids::{BlockId, EvaluationOrder, InstructionId};
 use rl_base::list::List;
 use rl_base::operator::LogicalOperator;
-use rl_hir::blocks::{Blocks, MapBlocks};
+use rl_hir::blocks::{Blocks, GraphBlocks};
 use rl_hir::function::{BasicBlock, BlockKind};
 use rl_hir::terminal::{Case, GotoVariant, ReturnVariant, Terminal, TerminalKind};
 use std::alloc::Global;
@@ -36,7 +36,7 @@ pub(crate) const BLOCKS: [&str; 19] = [
 /// Puts a block without instructions and predecessors, whose terminal has order 9, as the last one.
 fn add(
     alloc: Global,
-    blocks: &mut MapBlocks,
+    blocks: &mut GraphBlocks,
     kind: BlockKind,
     end: TerminalKind,
 ) -> Result<(), OutOfMemory> {
@@ -56,7 +56,7 @@ fn add(
 }
 
 /// Puts a block with instructions and predecessors.
-fn add_first(alloc: Global, blocks: &mut MapBlocks) -> Result<(), OutOfMemory> {
+fn add_first(alloc: Global, blocks: &mut GraphBlocks) -> Result<(), OutOfMemory> {
     let mut instructions = List::new(alloc);
     instructions.push(InstructionId(0))?;
     instructions.push(InstructionId(1))?;
@@ -80,7 +80,7 @@ fn add_first(alloc: Global, blocks: &mut MapBlocks) -> Result<(), OutOfMemory> {
     blocks.put(BlockId(0), block)
 }
 
-fn add_branches(alloc: Global, blocks: &mut MapBlocks) -> Result<(), OutOfMemory> {
+fn add_branches(alloc: Global, blocks: &mut GraphBlocks) -> Result<(), OutOfMemory> {
     let test = place(1);
     let (consequent, alternate, fallthrough) = (BlockId(1), BlockId(2), BlockId(3));
     let end = TerminalKind::If {
@@ -114,7 +114,7 @@ fn add_branches(alloc: Global, blocks: &mut MapBlocks) -> Result<(), OutOfMemory
     add(alloc, blocks, BlockKind::Sequence, end)
 }
 
-fn add_expressions(alloc: Global, blocks: &mut MapBlocks) -> Result<(), OutOfMemory> {
+fn add_expressions(alloc: Global, blocks: &mut GraphBlocks) -> Result<(), OutOfMemory> {
     let (test, fallthrough) = (BlockId(1), BlockId(2));
     let end = TerminalKind::Logical {
         operator: LogicalOperator::And,
@@ -132,7 +132,7 @@ fn add_expressions(alloc: Global, blocks: &mut MapBlocks) -> Result<(), OutOfMem
     add(alloc, blocks, BlockKind::Block, end)
 }
 
-fn add_constructs(alloc: Global, blocks: &mut MapBlocks) -> Result<(), OutOfMemory> {
+fn add_constructs(alloc: Global, blocks: &mut GraphBlocks) -> Result<(), OutOfMemory> {
     let (block, fallthrough) = (BlockId(1), BlockId(2));
     let end = TerminalKind::Sequence { block, fallthrough };
     add(alloc, blocks, BlockKind::Block, end)?;
@@ -147,7 +147,7 @@ fn add_constructs(alloc: Global, blocks: &mut MapBlocks) -> Result<(), OutOfMemo
     add(alloc, blocks, BlockKind::Block, end)
 }
 
-fn add_while_loops(alloc: Global, blocks: &mut MapBlocks) -> Result<(), OutOfMemory> {
+fn add_while_loops(alloc: Global, blocks: &mut GraphBlocks) -> Result<(), OutOfMemory> {
     let fallthrough = BlockId(3);
     let end = TerminalKind::While {
         test: BlockId(1),
@@ -163,7 +163,7 @@ fn add_while_loops(alloc: Global, blocks: &mut MapBlocks) -> Result<(), OutOfMem
     add(alloc, blocks, BlockKind::Block, end)
 }
 
-fn add_for_loops(alloc: Global, blocks: &mut MapBlocks) -> Result<(), OutOfMemory> {
+fn add_for_loops(alloc: Global, blocks: &mut GraphBlocks) -> Result<(), OutOfMemory> {
     let init = BlockId(1);
     let end = TerminalKind::For {
         init,
@@ -188,7 +188,7 @@ fn add_for_loops(alloc: Global, blocks: &mut MapBlocks) -> Result<(), OutOfMemor
     add(alloc, blocks, BlockKind::Block, end)
 }
 
-fn add_exits(alloc: Global, blocks: &mut MapBlocks) -> Result<(), OutOfMemory> {
+fn add_exits(alloc: Global, blocks: &mut GraphBlocks) -> Result<(), OutOfMemory> {
     let value = place(1);
     let end = TerminalKind::MaybeThrow {
         continuation: BlockId(1),
@@ -210,8 +210,8 @@ fn add_exits(alloc: Global, blocks: &mut MapBlocks) -> Result<(), OutOfMemory> {
 }
 
 /// The blocks.
-pub(crate) fn blocks(alloc: Global) -> Result<MapBlocks, OutOfMemory> {
-    let mut blocks = MapBlocks::empty(alloc);
+pub(crate) fn blocks(alloc: Global) -> Result<GraphBlocks, OutOfMemory> {
+    let mut blocks = GraphBlocks::empty(alloc);
     add_first(alloc, &mut blocks)?;
     add_branches(alloc, &mut blocks)?;
     add_expressions(alloc, &mut blocks)?;

@@ -7,7 +7,7 @@ use rl_base::error::OutOfMemory;
 use rl_base::ids::{BlockId, IdentifierId, SymbolId, TypeId};
 use rl_base::list::List;
 use rl_base::text::Text;
-use rl_hir::blocks::MapBlocks;
+use rl_hir::blocks::GraphBlocks;
 use rl_hir::function::{
     Hir, HirFunction, Identifier, IdentifierName, Lowered, Pair, Param, ReactFunctionType,
 };
@@ -36,7 +36,7 @@ fn params(alloc: Global) -> Result<List<Param>, OutOfMemory> {
     Ok(params)
 }
 
-fn function(alloc: Global) -> Result<HirFunction<MapBlocks>, OutOfMemory> {
+fn function(alloc: Global) -> Result<HirFunction<GraphBlocks>, OutOfMemory> {
     let name = Some(text(alloc, "f")?);
     let directives = directives(alloc)?;
     let params = params(alloc)?;

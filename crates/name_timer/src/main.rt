@@ -19,7 +19,7 @@ use rl_base::streams::StdIn;
 use rl_builder::builder::HirBuilder;
 use rl_builder::unit_tables::{ReadsUnit, UnitTables};
 use rl_context::index::IdentifierLocIndex;
-use rl_hir::blocks::MapBlocks;
+use rl_hir::blocks::GraphBlocks;
 use rl_hir::environment::Environment;
 use rl_hir::function::ReactFunctionType;
 use rl_resolver::resolver::ScopeResolver;
@@ -58,17 +58,17 @@ fn read_input(rt: &HostRuntime) -> Result<Vec<u8>> {
 }
 
 /// True while the builder may hand out another identifier.
-fn has_room<U: ReadsUnit>(builder: &HirBuilder<'_, U, MapBlocks>) -> bool
+fn has_room<U: ReadsUnit>(builder: &HirBuilder<'_, U, GraphBlocks>) -> bool
     ensures identifiers { IsTrue result → length (state_of U.tables builder.now).env.identifiers < 2 ^ 32 }
     ensures types { IsTrue result → (state_of U.tables builder.now).env.next_type + 1 < 2 ^ 32 }
 {
     let env = builder.environment();
-    env.identifiers.len() < MOST as usize && env.next_type < MOST
+    env.identifiers().len() < MOST as usize && env.next_type() < MOST
 }
 
 /// Gives all symbols their identifiers, in order. A symbol with a reserved name gets none.
 fn name_all<U: ReadsUnit>(
-    builder: &mut HirBuilder<'_, U, MapBlocks>,
+    builder: &mut HirBuilder<'_, U, GraphBlocks>,
     resolver: &ScopeResolver<'_>,
 ) -> Result<(), OutOfMemory> {
     for symbol in resolver.symbols() {
@@ -92,10 +92,10 @@ fn name_in<U: ReadsUnit>(
     resolver: &ScopeResolver<'_>,
     scope: ScopeId,
 ) -> Result<(), OutOfMemory> {
-    if env.next_block >= MOST {
+    if env.next_block() >= MOST {
         return Ok(());
     }
-    let mut builder = HirBuilder::<U, MapBlocks>::over(
+    let mut builder = HirBuilder::<U, GraphBlocks>::over(
         alloc,
         env,
         unit,
@@ -164,7 +164,7 @@ fn report(
     }
     let mut env = enough(fresh_environment(rt.alloc()))?;
     enough(name_function(rt.alloc(), &mut env, resolver, index, scope))?;
-    let renames = env.renames.len();
+    let renames = env.renames().len();
     println!(rt; "{symbols} {renames}")?;
     Ok(())
 }

@@ -227,7 +227,7 @@ impl<'e, U: ReadsUnit, B> Over<'e, Work<U, B>> {
         ensures kept { KeepsStacks self.old result self.new }
         ensures state { OnOk result (state_of U.tables self.new ≡ with_refused (option_map (λ i. i.0) known) (state_of U.tables self.old) name.now (fbt_label (state_of U.tables self.old) symbol.0 given)) }
     {
-        if name == "fbt" && is_fbt(&self.env.identifiers, known) {
+        if name == "fbt" && is_fbt(self.env.identifiers(), known) {
             let label = self.fbt_label(symbol, given);
             let diagnostic = fbt_diagnostic(self.work.alloc, label)?;
             return self.record_diagnostic(diagnostic);
@@ -408,7 +408,7 @@ impl<'e, U: ReadsUnit, B> Over<'e, Work<U, B>> {
         ensures { result ≡ spec.has_name (state_of U.tables self.now) name.now symbol }
     {
         match self.work.bindings.get(symbol) {
-            Some(identifier) => is_named(&self.env.identifiers, identifier, name),
+            Some(identifier) => is_named(self.env.identifiers(), identifier, name),
             None => false,
         }
     }

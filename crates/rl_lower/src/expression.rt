@@ -16,6 +16,7 @@ ghost use Rattle.rl_hir.specs.Instructions.{binding_texts};
 ghost use Rattle.rl_ast.specs.BindingViews.{seen_identifier_reference};
 ghost use Rattle.std.specs.Str.{IsUtf8};
 
+use crate::graph_builder::GraphBuilder;
 use rl_ast::binding::{IdentifierReference, identifier_reference_view};
 use rl_ast::expression::{Expression, expression_view};
 use rl_ast::expression_part::{Argument, argument_view};
@@ -27,10 +28,8 @@ use rl_base::number::WholeNumber;
 use rl_base::row::Row;
 use rl_base::span::Span;
 use rl_base::stop::Stop;
-use rl_builder::builder::HirBuilder;
 use rl_builder::unit_tables::ReadsUnit;
 use rl_grammar::sort::{ArgumentTree, ArgumentTrees, ExpressionTree};
-use rl_hir::blocks::MapBlocks;
 use rl_hir::instruction::{
     Instruction, InstructionValue, NonLocalBinding, Place, PlaceOrSpread, PrimitiveValue,
 };
@@ -43,7 +42,7 @@ use std::alloc::Global;
 /// Appends an instruction that puts a value into a fresh temporary (`lowerValueToTemporary`). On `Stop::OutOfMemory` an
 /// allocation failed; no other stop comes, here and in the functions below.
 pub(crate) fn lower_value_to_temporary<U: ReadsUnit>(
-    builder: &mut HirBuilder<'_, U, MapBlocks>,
+    builder: &mut GraphBuilder<'_, U>,
     value: InstructionValue,
     span: Option<Span>,
 ) -> Result<Place, Stop>
@@ -67,7 +66,7 @@ pub(crate) fn lower_value_to_temporary<U: ReadsUnit>(
 /// Records the diagnostic of a row that refuses a node; its label is the node's span.
 fn refuse<U: ReadsUnit>(
     alloc: Global,
-    builder: &mut HirBuilder<'_, U, MapBlocks>,
+    builder: &mut GraphBuilder<'_, U>,
     row: Row,
     at: At,
 ) -> Result<(), OutOfMemory>
@@ -93,7 +92,7 @@ fn is_eval(binding: &NonLocalBinding) -> bool
 /// Lowers a name that no local variable has: a load of what it is bound to. The global `eval` is refused.
 fn lower_outer<U: ReadsUnit>(
     alloc: Global,
-    builder: &mut HirBuilder<'_, U, MapBlocks>,
+    builder: &mut GraphBuilder<'_, U>,
     at: At,
     binding: NonLocalBinding,
 ) -> Result<Place, Stop>
@@ -115,7 +114,7 @@ fn lower_outer<U: ReadsUnit>(
 
 /// Lowers a local variable, which has an identifier already: a load.
 fn lower_local<U: ReadsUnit>(
-    builder: &mut HirBuilder<'_, U, MapBlocks>,
+    builder: &mut GraphBuilder<'_, U>,
     names: &FunctionNames<'_>,
     at: At,
     symbol: SymbolId,
@@ -144,7 +143,7 @@ fn lower_local<U: ReadsUnit>(
 /// Lowers a name (`lowerIdentifier`).
 fn lower_identifier<U: ReadsUnit>(
     alloc: Global,
-    builder: &mut HirBuilder<'_, U, MapBlocks>,
+    builder: &mut GraphBuilder<'_, U>,
     names: &FunctionNames<'_>,
     identifier: &IdentifierReference<'_>,
 ) -> Result<Place, Stop>
@@ -176,7 +175,7 @@ fn expression_of(argument: ArgumentTree<'_>) -> ExpressionTree<'_>
 #[cycle(expressions)]
 fn lower_arguments<U: ReadsUnit>(
     alloc: Global,
-    builder: &mut HirBuilder<'_, U, MapBlocks>,
+    builder: &mut GraphBuilder<'_, U>,
     names: &FunctionNames<'_>,
     arguments: ArgumentTrees<'_>,
 ) -> Result<List<PlaceOrSpread>, Stop>
@@ -202,7 +201,7 @@ fn lower_arguments<U: ReadsUnit>(
 #[cycle(expressions)]
 pub(crate) fn lower_expression<U: ReadsUnit>(
     alloc: Global,
-    builder: &mut HirBuilder<'_, U, MapBlocks>,
+    builder: &mut GraphBuilder<'_, U>,
     names: &FunctionNames<'_>,
     expression: ExpressionTree<'_>,
 ) -> Result<Place, Stop>

@@ -34,6 +34,7 @@ ghost use Rattle.rl_syntax.specs.Syntax.{Absent, nodes, pieces_of, span_of, synt
 ghost use Rattle.rl_text.specs.Notation.{IsWritable};
 
 use crate::expression::{lower_expression, lower_value_to_temporary};
+use crate::graph_builder::GraphBuilder;
 use crate::statement::lower_statements;
 use rl_ast::binding::binding_identifier_view;
 use rl_ast::function::{Arrow, ArrowBody, arrow_body_view, function_body_view};
@@ -45,12 +46,12 @@ use rl_base::list::List;
 use rl_base::row::Row;
 use rl_base::stop::Stop;
 use rl_base::text::Text;
-use rl_builder::builder::{HirBuilder, create_temporary_place};
+use rl_builder::builder::create_temporary_place;
 use rl_builder::graph::Built;
 use rl_builder::unit_tables::{ReadsUnit, UnitTables};
 use rl_context::index::IdentifierLocIndex;
 use rl_grammar::sort::{BindingIdentifierTree, TextTrees};
-use rl_hir::blocks::MapBlocks;
+use rl_hir::blocks::GraphBlocks;
 use rl_hir::environment::Environment;
 use rl_hir::function::{BlockKind, HirFunction, Param};
 use rl_hir::instruction::{InstructionValue, Place, PrimitiveValue};
@@ -66,7 +67,7 @@ use std::collections::BTreeSet;
 #[derive(Drop)]
 struct Graph {
     params: List<Param>,
-    built: Built<MapBlocks>,
+    built: Built<GraphBlocks>,
 }
 
 /// The parts of a function of any form that its graph shows.
@@ -148,7 +149,7 @@ fn own_name(
 /// Gives each parameter an identifier, in order. On `Stop::Diagnostic` a parameter's name is reserved.
 fn lower_parameters<U: ReadsUnit>(
     alloc: Global,
-    builder: &mut HirBuilder<'_, U, MapBlocks>,
+    builder: &mut GraphBuilder<'_, U>,
     parameters: &[Parameter],
 ) -> Result<List<Param>, Stop>
     requires nothing { (state_of U.tables builder.old).bindings ≡ [] }
@@ -177,7 +178,7 @@ fn lower_parameters<U: ReadsUnit>(
 /// expression is lowered.
 fn lower_body<U: ReadsUnit>(
     alloc: Global,
-    builder: &mut HirBuilder<'_, U, MapBlocks>,
+    builder: &mut GraphBuilder<'_, U>,
     names: &FunctionNames<'_>,
     body: ArrowBody<'_>,
 ) -> Result<(), Stop>
@@ -234,7 +235,7 @@ fn lower_graph<U: ReadsUnit>(
     ensures goes_on { OnOk result (first_named (λ name. is_reserved name) parameters.now ≡ None) }
     ensures stopped { IfErr result (λ e. (d : Said) → e ≡ Stop.Diagnostic d → Some d ≡ stop_at row.S1 (first_named (λ name. is_reserved name) parameters.now) None) }
 {
-    let mut builder = HirBuilder::<U, MapBlocks>::over(
+    let mut builder = GraphBuilder::<U>::over(
         alloc,
         &mut *env,
         unit,
@@ -309,7 +310,7 @@ pub fn lower(
     function: FunctionNode<'_>,
     names: &FunctionNames<'_>,
     env: &mut Environment,
-) -> Result<HirFunction<MapBlocks>, Stop>
+) -> Result<HirFunction<GraphBlocks>, Stop>
     requires locals { LocalsAreParameters (seen names.now) (seen_function_node function) }
     requires texts { HasTexts (seen names.now) }
     requires covered { IsCoveredFunction (seen_function_node function) }
@@ -375,7 +376,7 @@ pub fn lower(
     Ok(HirFunction {
         span,
         name: own_name(alloc, parts.name)?,
-        fn_type: env.fn_type,
+        fn_type: env.fn_type(),
         generator: parts.generator,
         is_async: parts.is_async,
         directives: directives_of(alloc, parts.body)?,

@@ -3,4 +3,5 @@
 
 mod expression;
 pub mod function;
+mod graph_builder;
 mod statement;

@@ -11,14 +11,13 @@ ghost use Rattle.rl_names.specs.Seen.{seen};
 ghost use Rattle.rl_lower.specs.Sound.{AreSmallTrees, IsSmallTree, StaysSound};
 
 use crate::expression::{lower_expression, lower_value_to_temporary};
+use crate::graph_builder::GraphBuilder;
 use rl_ast::statement::{Statement, statement_view};
 use rl_base::ids::EvaluationOrder;
 use rl_base::span::Span;
 use rl_base::stop::Stop;
-use rl_builder::builder::HirBuilder;
 use rl_builder::unit_tables::ReadsUnit;
 use rl_grammar::sort::{StatementTree, StatementTrees};
-use rl_hir::blocks::MapBlocks;
 use rl_hir::function::BlockKind;
 use rl_hir::instruction::{InstructionValue, Place, PrimitiveValue};
 use rl_hir::terminal::{ReturnVariant, Terminal, TerminalKind};
@@ -27,7 +26,7 @@ use std::alloc::Global;
 
 /// Ends the block by a return of a value, and goes on in a fresh block, which is unreachable.
 fn lower_return<U: ReadsUnit>(
-    builder: &mut HirBuilder<'_, U, MapBlocks>,
+    builder: &mut GraphBuilder<'_, U>,
     span: Span,
     value: Place,
 ) -> Result<(), Stop>
@@ -54,7 +53,7 @@ fn lower_return<U: ReadsUnit>(
 /// Lowers a statement (`lowerStatement`).
 fn lower_statement<U: ReadsUnit>(
     alloc: Global,
-    builder: &mut HirBuilder<'_, U, MapBlocks>,
+    builder: &mut GraphBuilder<'_, U>,
     names: &FunctionNames<'_>,
     statement: StatementTree<'_>,
 ) -> Result<(), Stop>
@@ -89,7 +88,7 @@ fn lower_statement<U: ReadsUnit>(
 /// Lowers statements in order. Those behind a return stand in an unreachable block.
 pub(crate) fn lower_statements<U: ReadsUnit>(
     alloc: Global,
-    builder: &mut HirBuilder<'_, U, MapBlocks>,
+    builder: &mut GraphBuilder<'_, U>,
     names: &FunctionNames<'_>,
     statements: StatementTrees<'_>,
 ) -> Result<(), Stop>

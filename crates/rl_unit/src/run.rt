@@ -16,7 +16,7 @@ use rl_base::error::OutOfMemory;
 use rl_base::ids::NodeId;
 use rl_base::infallible_io::{SteadySink, SteadySource};
 use rl_base::io::{ReadError, Sink, Source, read_up_to, write_all};
-use rl_hir::blocks::MapBlocks;
+use rl_hir::blocks::GraphBlocks;
 use rl_hir::function::{HirFunction, Lowered};
 use rl_hir::instruction::{InstructionValue, PrimitiveValue};
 use rl_hir::listing::write_listing;
@@ -175,7 +175,7 @@ fn room_for_parts(value: &InstructionValue) -> usize {
 }
 
 /// Number of bytes for which `listed` makes room at once: about as many as the listing has.
-fn room_for(function: &HirFunction<MapBlocks>) -> usize {
+fn room_for(function: &HirFunction<GraphBlocks>) -> usize {
     let mut room = BYTES_OF_PARAMETER.saturating_mul(function.params.len());
     for instruction in function.instructions.as_slice() {
         let parts = room_for_parts(&instruction.value);

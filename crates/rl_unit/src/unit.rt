@@ -131,8 +131,8 @@ fn lower_function(
         Err(Stop::Diagnostic(diagnostic)) => return Err(LowerError::Stopped(diagnostic)),
         Err(Stop::OutOfMemory) => return Err(LowerError::OutOfMemory),
     };
-    if !env.diagnostics.is_empty() {
-        return Err(LowerError::Refused(env.diagnostics));
+    if !env.diagnostics().is_empty() {
+        return Err(LowerError::Refused(env.into_diagnostics()));
     }
     Ok(env.into_lowered(lowered))
 }

@@ -13,7 +13,6 @@ use indexmap::{IndexMap, IndexSet};
 use rl_base::diagnostic::Diagnostic;
 use rl_base::error::OutOfMemory;
 use rl_base::ids::{IdentifierId, SymbolId};
-use rl_base::list::List;
 use rl_base::name_table::{NameTable, Named};
 use rl_base::row::Row;
 use rl_base::span::Span;
@@ -399,7 +398,7 @@ fn merge_numbers(
 }
 
 /// True if an identifier is named `word` by the source; false past the end of the table.
-pub fn is_named(identifiers: &List<Identifier>, identifier: IdentifierId, word: &str) -> bool
+pub fn is_named(identifiers: &[Identifier], identifier: IdentifierId, word: &str) -> bool
     ensures { result ≡ is_named (name_of identifiers.now identifier.0) word.now }
 {
     let Some(identifier) = identifiers.get(identifier.0 as usize) else {
@@ -413,7 +412,7 @@ pub fn is_named(identifiers: &List<Identifier>, identifier: IdentifierId, word: 
 }
 
 /// True if `known`, the identifier of a symbol, is none or still named `fbt`.
-pub fn is_fbt(identifiers: &List<Identifier>, known: Option<IdentifierId>) -> bool
+pub fn is_fbt(identifiers: &[Identifier], known: Option<IdentifierId>) -> bool
     ensures { result ≡ is_fbt (option_map (λ identifier. identifier.0) known) identifiers.now }
 {
     match known {
