@@ -8,7 +8,8 @@ use Rattle.std.proofs.lemmas.Bool.Decides.{nat_tests}
 use Rattle.std.proofs.lemmas.Str.{IsUtf8-from_ascii}
 use Rattle.std.proofs.lemmas.Str.Ascii.{IsAscii-nil, IsAscii-cons}
 use Rattle.std.proofs.lemmas.Slice.Eq.{bytes_eq-Decides}
-use Rattle.rl_base.specs.ClosedTexts.{written_in, is_written, AreFound}
+use Rattle.rl_base.specs.ClosedTexts.{is_written}
+use Rattle.rl_base.specs.FoundTexts.{written_in, AreFound}
 
 -- The value that the search ends at is written by the text.
 pub written_is : {X : Type 0} (text_of : X → List ℕ) (values : List X) (text : List ℕ) (value : X)

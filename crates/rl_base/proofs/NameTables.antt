@@ -13,7 +13,8 @@ use Rattle.std.specs.declared.alloc.Global.{Global}
 use Rattle.std.specs.declared.string.String.{String}
 use Rattle.std.proofs.lemmas.Option.{slice_get-get_or, slice_get-map, slice_get_read}
 use Rattle.rl_base.specs.declared.error.OutOfMemory.{OutOfMemory}
-use Rattle.rl_base.specs.NameTables.{index_from, index_named, item_named, IsIndex}
+use Rattle.rl_base.specs.NameTables.{index_from, index_named, item_named}
+use Rattle.rl_base.specs.NameIndex.{IsIndex}
 use Rattle.rl_base.specs.Slots.{slot_at, is_key, numbered, place_of, IsSlotted}
 use Rattle.rl_base.specs.declared.slots.Slot.{Slot}
 use Rattle.rl_base.specs.declared.slots.Slot.TheVariants as slot
@@ -125,7 +126,7 @@ module _ {X : Type 0} (name_of : X → List ℕ) where
   pushed : (items : List X) (item : X) → index_named name_of items (name_of item) ≡ None → (name : List ℕ) → index_named name_of (items ++ item ∷ []) name ≡ (if bytes_eq (name_of item) name then Some (length items) else index_named name_of items name)
   pushed items item new name = index_from-push 0 (length items) items item name (omega arith) new
 
-  -- One more item, whose name has an empty slot.
+  -- A further item, whose name has an empty slot.
   pub pushed_empty : (slots after : List Slot) (indices : BTreeMap (String Global) ℕ) (items added : List X) (item : X) (place last : ℕ) → IsIndex name_of slots indices items → place ≡ place_of (length slots) (name_of item) → slot_at slots place ≡ slot.Empty
       → place < length slots → last ≡ length items → after ≡ slice_set slots place (slot.One last) → added ≡ items ++ item ∷ [] → IsIndex name_of after indices added
   pushed_empty slots after indices items added item place last index at is within counted set grown =

@@ -55,7 +55,7 @@ module _ {K : Type 0} (eq : K → K → Bool) (place : K → ℕ) (place_same : 
   numbered_push keys x many (slot.One k) key within = ap (λ o. if is_key eq o key then Some k else None) (get_push_old keys x k (within k refl))
   numbered_push keys x many slot.Many key within = refl
 
-  -- One more key at an empty slot.
+  -- A further key at an empty slot.
   pub push_empty : (slots after : List Slot) (keys : List K) (many number more : K → Option ℕ) (x : K) (last : ℕ) → IsSlotted eq place slots keys many number → slot_at slots (place x) ≡ slot.Empty → place x < length slots → last ≡ length keys
       → after ≡ slice_set slots (place x) (slot.One last) → ((key : K) → more key ≡ (if eq x key then Some last else number key)) → IsSlotted eq place after (keys ++ x ∷ []) many more
   push_empty slots after keys many number more x last is empty inside counted set grown = record {
@@ -91,7 +91,7 @@ module _ {K : Type 0} (eq : K → K → Bool) (place : K → ℕ) (place_same : 
       there : (p : ℕ) → (place x ≢ p) → slot_at after p ≡ slot_at slots p
       there p other = ap (λ ss. slot_at ss p) set ∙ slot_set_other slots (place x) p (slot.One last) other
 
-  -- One more key at a slot of many.
+  -- A further key at a slot of many.
   pub push_many : (slots : List Slot) (keys : List K) (many many_more number more : K → Option ℕ) (x : K) (last : ℕ) → IsSlotted eq place slots keys many number → slot_at slots (place x) ≡ slot.Many
       → ((key : K) → many_more key ≡ (if eq x key then Some last else many key)) → ((key : K) → more key ≡ (if eq x key then Some last else number key)) → IsSlotted eq place slots (keys ++ x ∷ []) many_more more
   push_many slots keys many many_more number more x last is full added grown = record {
@@ -147,7 +147,7 @@ module _ {K : Type 0} (eq : K → K → Bool) (place : K → ℕ) (place_same : 
       unnamed : (key : K) → (p ≢ place key) → many_more key ≡ many key
       unnamed key other = added key ∙ ap (λ (b : Bool). if b then Some k else many key) (apart y key (λ same. other (sym (is.placed p k y one got) ∙ same)))
 
--- The same numbers by another account of the keys that share a place.
+-- A map that says as much of the keys that share a place may stand for the other.
 pub many_same : {K : Type 0} (eq : K → K → Bool) (place : K → ℕ) (slots : List Slot) (keys : List K) (many other number : K → Option ℕ) → IsSlotted eq place slots keys many number → ((key : K) → other key ≡ many key) → IsSlotted eq place slots keys other number
 many_same eq place slots keys many other number is same = record {
   found = λ key. is.found key ∙ sym (ap (λ m. numbered eq keys m (slot_at slots (place key)) key) (same key));

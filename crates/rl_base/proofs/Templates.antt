@@ -2,7 +2,8 @@
 use Rattle.std.proofs.Common.{◌≡◌, ◌≢◌, ℕ, ◌<◌, List, [], ◌∷◌, ◌++◌, length, get_or, ap, sym, ◌∙◌, append_assoc, refl, suc, arith}
 use Rattle.std.proofs.lemmas.List.{append-nil}
 use Rattle.std.proofs.lemmas.Grind.{common_steps}
-use Rattle.rl_base.specs.Templates.{filled, tagged, tag_of}
+use Rattle.rl_base.specs.Templates.{filled, tag_of}
+use Rattle.rl_base.specs.Tags.{tagged}
 
 -- `front` holds no `byte`.
 abbrev pub Lacks : (byte : ℕ) → (front : List ℕ) → Type 0

@@ -1,6 +1,6 @@
 -- Each operator is found by its text among all of its kind.
 use Rattle.std.specs.Prelude.{refl}
-use Rattle.rl_base.specs.ClosedTexts.{AreFound}
+use Rattle.rl_base.specs.FoundTexts.{AreFound}
 use Rattle.rl_base.specs.Operators.{operator_text, logical_text, unary_text, update_text, assignment_text, operators, logical_operators, unary_operators, update_operators, assignment_operators}
 use Rattle.rl_base.specs.declared.operator.BinaryOperator.TheVariants as operator
 use Rattle.rl_base.specs.declared.operator.LogicalOperator.TheVariants as logical

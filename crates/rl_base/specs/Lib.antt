@@ -2,7 +2,10 @@ pub mod ClosedTexts
 pub mod Diagnostics
 pub mod Distinct
 pub mod Faults
+pub mod FoundKinds
 pub mod FoundOperators
+pub mod FoundTexts
+pub mod NameIndex
 pub mod NameTables
 pub mod Operators
 pub mod Pieces
@@ -10,6 +13,7 @@ pub mod Reserved
 pub mod Rows
 pub mod Scalars
 pub mod Slots
+pub mod Tags
 pub mod Templates
 pub mod TypeKinds
 pub mod VariableKinds

@@ -1,13 +1,8 @@
 -- Lists of items with names. `name_of` gives the name of an item.
-use Rattle.std.specs.Prelude.{ℕ, ◌+◌, Option, Some, None, List, [], ◌∷◌, if◌then◌else◌, length, map}
-use Rattle.std.specs.BTreeMap.{BTreeMap, get_by_text}
+use Rattle.std.specs.Prelude.{ℕ, ◌+◌, Option, Some, None, List, [], ◌∷◌, if◌then◌else◌}
 use Rattle.std.specs.Str.{bytes_eq}
-use Rattle.std.specs.declared.alloc.Global.{Global}
-use Rattle.std.specs.declared.string.String.{String}
-use Rattle.rl_base.specs.Slots.{place_of, IsSlotted}
-use Rattle.rl_base.specs.declared.slots.Slot.{Slot}
 
--- `index_from name_of first items name`: the index of the first of `items` that is named `name`, where indices count from `first`.
+-- `index_from name_of first items name`: the index of the first of `items` that is named `name`, if indices count from `first`.
 abbrev pub index_from : {X : Type 0} → (X → List ℕ) → ℕ → List X → List ℕ → Option ℕ
 index_from name_of first [] name = None
 index_from name_of first (x ∷ items) name = if bytes_eq (name_of x) name then Some first else index_from name_of (first + 1) items name
@@ -20,8 +15,3 @@ index_named name_of items name = index_from name_of 0 items name
 abbrev pub item_named : {X : Type 0} → (X → List ℕ) → List X → List ℕ → Option X
 item_named name_of [] name = None
 item_named name_of (x ∷ items) name = if bytes_eq (name_of x) name then Some x else item_named name_of items name
-
--- The slots and the map are the index of `items`: they have for a name the index of the first item of that name, or nothing. The map
--- has the names that share their place with others.
-abbrev pub IsIndex : {X : Type 0} → (name_of : X → List ℕ) → (slots : List Slot) → (indices : BTreeMap (String Global) ℕ) → (items : List X) → Type 0
-IsIndex name_of slots indices items = IsSlotted bytes_eq (place_of (length slots)) slots (map name_of items) (get_by_text indices) (index_named name_of items)

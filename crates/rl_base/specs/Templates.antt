@@ -6,11 +6,6 @@ use Rattle.std.specs.List.{before_first}
 abbrev pub tag_of : (word : List ℕ) → List ℕ
 tag_of word = before_first (λ byte. byte == 58) word
 
--- `template` with `tag` in each place of `#`.
-abbrev pub tagged : (template tag : List ℕ) → List ℕ
-tagged [] tag = []
-tagged (byte ∷ rest) tag = (if byte == 35 then tag else byte ∷ []) ++ tagged rest tag
-
 -- `template` with `word` in each place of `%`, and its tag in each place of `#`.
 abbrev pub filled : (template word : List ℕ) → List ℕ
 filled [] word = []

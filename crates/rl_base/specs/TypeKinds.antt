@@ -1,6 +1,5 @@
 -- Kinds of type annotations, and the text that writes each.
-use Rattle.std.specs.Prelude.{ℕ, List, [], ◌∷◌, codes, refl}
-use Rattle.rl_base.specs.ClosedTexts.{AreFound}
+use Rattle.std.specs.Prelude.{ℕ, List, [], ◌∷◌, codes}
 use Rattle.rl_base.specs.declared.type_kind.TypeKind.{TypeKind}
 use Rattle.rl_base.specs.declared.type_kind.TypeKind.TheVariants as kind
 
@@ -13,9 +12,3 @@ type_text kind.Other = codes "other"
 -- Every kind, in the order of the declaration.
 abbrev pub type_kinds : List TypeKind
 type_kinds = kind.Array ∷ kind.Primitive ∷ kind.Other ∷ []
-
--- Each kind is found by its text.
-pub type_kinds_found : AreFound type_text type_kinds
-type_kinds_found kind.Array = refl
-type_kinds_found kind.Primitive = refl
-type_kinds_found kind.Other = refl

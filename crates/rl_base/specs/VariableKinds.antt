@@ -1,6 +1,5 @@
 -- Kinds of variable declarations, and the text that writes each.
-use Rattle.std.specs.Prelude.{ℕ, List, [], ◌∷◌, codes, refl}
-use Rattle.rl_base.specs.ClosedTexts.{AreFound}
+use Rattle.std.specs.Prelude.{ℕ, List, [], ◌∷◌, codes}
 use Rattle.rl_base.specs.declared.variable_kind.VariableKind.{VariableKind}
 use Rattle.rl_base.specs.declared.variable_kind.VariableKind.TheVariants as kind
 
@@ -15,11 +14,3 @@ variable_text kind.AwaitUsing = codes "await using"
 -- Every kind, in the order of the declaration.
 abbrev pub variable_kinds : List VariableKind
 variable_kinds = kind.Var ∷ kind.Let ∷ kind.Const ∷ kind.Using ∷ kind.AwaitUsing ∷ []
-
--- Each kind is found by its text.
-pub variable_kinds_found : AreFound variable_text variable_kinds
-variable_kinds_found kind.Var = refl
-variable_kinds_found kind.Let = refl
-variable_kinds_found kind.Const = refl
-variable_kinds_found kind.Using = refl
-variable_kinds_found kind.AwaitUsing = refl

@@ -1,7 +1,8 @@
 //! Types with finitely many values, each written by a text of its own: operators, and kinds that the notation names by a text.
 
 ghost use Rattle.std.specs.Prelude.{◌≡◌, ℕ, List, true, Some, IfSome, IfNone};
-ghost use Rattle.rl_base.specs.ClosedTexts.{written_in, is_written};
+ghost use Rattle.rl_base.specs.ClosedTexts.{is_written};
+ghost use Rattle.rl_base.specs.FoundTexts.{written_in};
 
 /// A type whose values are listed, each with a text that writes it and no other.
 pub trait ClosedText: Copy + 'static {

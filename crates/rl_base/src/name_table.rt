@@ -25,9 +25,9 @@ pub trait Named: Drop {
         ensures { result.now ≡ name self.now };
 }
 
-/// Items with an index by name. A look-up takes a number of comparisons that is at most logarithmic in the number of items, and one
-/// comparison for most names in a table with slots. Contracts see the items, in the order in which their names came. No two have
-/// one name.
+/// Items with an index by name. A look-up takes a number of comparisons that is at most logarithmic in the number of items, and a
+/// single comparison for most names in a table with slots. Contracts see the items, in the order in which their names came. No two
+/// have the same name.
 #[derive(Drop)]
 pub struct NameTable<T: Named> {
     items: Vec<T>,
@@ -40,7 +40,7 @@ pub struct NameTable<T: Named> {
 impl<T: Named> Model for NameTable<T> {
     ghost use Rattle.std.specs.Prelude.{List};
     ghost use Rattle.std.specs.Coded.{coded_list};
-    ghost use Rattle.rl_base.specs.NameTables.{IsIndex};
+    ghost use Rattle.rl_base.specs.NameIndex.{IsIndex};
 
     ghost Value = { List T };
 
@@ -133,8 +133,8 @@ impl<T: Named> NameTable<T> {
         }
     }
 
-    /// Appends an item whose name is new and returns true, or returns false if its name is taken, and changes nothing. It takes
-    /// one look-up. On `OutOfMemory`, an allocation failed, and nothing has changed. An item that is not appended is dropped.
+    /// Appends an item whose name is new and returns true, or returns false if its name is taken, and changes nothing. It takes a
+    /// single look-up. On `OutOfMemory`, an allocation failed, and nothing has changed. An item that is not appended is dropped.
     pub fn insert_new(&mut self, alloc: Global, item: T) -> Result<bool, OutOfMemory>
         ensures is_new { IfOk result (λ is_new. is_new ≡ not (is_some (index_named T.name self.old (T.name item)))) }
         ensures items { IfOk result (λ is_new. self.new ≡ (if is_new then self.old ++ item ∷ [] else self.old)) }
@@ -186,8 +186,8 @@ fn is_named<T: Named>(items: &[T], index: usize, name: &str) -> bool
     }
 }
 
-/// Gives the map the index of the item there, whose name it does not have. On `OutOfMemory`, an allocation failed, and nothing has
-/// changed.
+/// Gives the map the index of the item there, whose name it does not have. On `OutOfMemory`, an allocation failed, and nothing
+/// has changed.
 fn add_other<T: Named>(
     alloc: Global,
     items: &[T],

@@ -1,7 +1,8 @@
 //! Templates of messages and help texts.
 
 ghost use Rattle.std.specs.Prelude.{◌≡◌, ◌++◌, ℕ, List, IfOk, OnOk, string_bytes};
-ghost use Rattle.rl_base.specs.Templates.{filled, tagged, tag_of};
+ghost use Rattle.rl_base.specs.Templates.{filled, tag_of};
+ghost use Rattle.rl_base.specs.Tags.{tagged};
 
 use crate::error::OutOfMemory;
 use crate::text::Text;

@@ -1,6 +1,7 @@
 //! Kinds of type annotations.
 
-ghost use Rattle.rl_base.specs.TypeKinds.{type_text, type_kinds, type_kinds_found};
+ghost use Rattle.rl_base.specs.TypeKinds.{type_text, type_kinds};
+ghost use Rattle.rl_base.specs.FoundKinds.{type_kinds_found};
 
 use crate::closed_text::ClosedText;
 

@@ -1,6 +1,7 @@
 //! Kinds of variable declarations.
 
-ghost use Rattle.rl_base.specs.VariableKinds.{variable_text, variable_kinds, variable_kinds_found};
+ghost use Rattle.rl_base.specs.VariableKinds.{variable_text, variable_kinds};
+ghost use Rattle.rl_base.specs.FoundKinds.{variable_kinds_found};
 
 use crate::closed_text::ClosedText;
 

@@ -4,7 +4,7 @@ use Rattle.std.proofs.Math.Seq.{drop-append_seam, drop-append-add}
 use Rattle.std.proofs.lemmas.Bool.Decides.{nat_tests}
 use Rattle.std.proofs.lemmas.List.{append_cancel_left}
 use Rattle.std.specs.Char.{is_ascii_digit}
-use Rattle.rl_base.specs.ClosedTexts.{AreFound}
+use Rattle.rl_base.specs.FoundTexts.{AreFound}
 use Rattle.rl_base.proofs.ClosedTexts.{one_text}
 use Rattle.rl_text.specs.Notation.{Tree, Said, Count, Flag, Spells, IsWritable, spelling, height}
 use Rattle.rl_text.specs.Places.{NoDigit, Begins, NoneBegins}

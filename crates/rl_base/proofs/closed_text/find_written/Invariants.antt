@@ -1,5 +1,5 @@
 use Rattle.std.proofs.Common.{◌≡◌, drop}
-use Rattle.rl_base.specs.ClosedTexts.{written_in}
+use Rattle.rl_base.specs.FoundTexts.{written_in}
 use Rattle.rl_base.proofs.closed_text.find_written.Given as goal
 
 -- No value before this one is written so.

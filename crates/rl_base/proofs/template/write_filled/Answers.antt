@@ -1,6 +1,7 @@
 use Rattle.std.proofs.Common.{◌≡◌, ◌++◌, Some, None, lit<, rules}
 use Rattle.std.proofs.lemmas.Str.Pattern.{split_parts}
-use Rattle.rl_base.specs.Templates.{filled, tagged, tag_of}
+use Rattle.rl_base.specs.Templates.{filled, tag_of}
+use Rattle.rl_base.specs.Tags.{tagged}
 use Rattle.rl_base.proofs.Templates.{filled-step, filled-plain}
 use Rattle.rl_base.proofs.template.write_filled.Goals as goal
 

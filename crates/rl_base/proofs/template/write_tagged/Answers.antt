@@ -1,6 +1,6 @@
 use Rattle.std.proofs.Common.{◌≡◌, ◌++◌, Some, None, lit<, rules}
 use Rattle.std.proofs.lemmas.Str.Pattern.{split_parts}
-use Rattle.rl_base.specs.Templates.{tagged}
+use Rattle.rl_base.specs.Tags.{tagged}
 use Rattle.rl_base.proofs.Templates.{tagged-step, tagged-plain}
 use Rattle.rl_base.proofs.template.write_tagged.Goals as goal
 

@@ -1,7 +1,7 @@
 use Rattle.std.proofs.Common.{◌≡◌, ◌++◌, length}
 use denote.Text.{Utf8}
 use denote.Shadow.{shadow}
-use Rattle.rl_base.specs.Templates.{tagged}
+use Rattle.rl_base.specs.Tags.{tagged}
 use Rattle.rl_base.proofs.template.write_tagged.Given as goal
 
 abbrev pub invariant-tagging : goal.invariant-tagging
