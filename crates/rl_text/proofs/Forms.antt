@@ -9,7 +9,8 @@ use Rattle.std.specs.Char.{is_ascii_digit}
 use Rattle.std.specs.Str.{IsUtf8, IsAscii}
 use Rattle.std.specs.Fmt.{decimal}
 use Rattle.rl_text.specs.Notation.{Tree, Node, Listed, Said, Count, Flag, Parts, End, Then, spelling, spelled_on, AreWritable, IsWord, Spells, height, height_of}
-use Rattle.rl_text.specs.Number.{largest, IsNumeral}
+use Rattle.rl_text.specs.Number.{largest}
+use Rattle.rl_text.specs.WrittenNumbers.{IsNumeral}
 use Rattle.rl_text.specs.Quoted.{quoted_rest}
 use Rattle.rl_text.specs.Raw.{tree, parts_of}
 use Rattle.rl_text.specs.Places.{is_letter, StopsAt, NoDigit, IsRun, Begins, NoneBegins, GoesOn, NoneGoesOn, Adds, spelled_parts}
@@ -22,7 +23,7 @@ use Rattle.rl_text.proofs.Worded.{begun, form_of_byte, form-of_digit, no_digit-o
 use Rattle.rl_text.proofs.Numbers.{decimal-digits, largest-small}
 use Rattle.rl_text.proofs.Trees.{tree-Node, tree-List, tree-Flag, tree-Absent, spelling-Listed}
 
--- the bytes behind each first byte
+-- Bytes that follow the first byte of each form.
 pub node-inside : (depth : ℕ) (t : Tree) (bytes rest u : List ℕ) → bytes ≡ 40 ∷ rest → Begins depth t bytes u → (word : List ℕ) × (parts : Parts) × IsWord word × AreWritable parts × (height_of parts + 1 ≤ depth) × (rest ≡ word ++ (spelled_on 41 parts ++ u))
 node-inside depth (Node word parts) bytes rest u o b = (word, parts, b.writable.0, b.writable.1, b.low, (heads 40 40 _ _ (sym o ∙ b.spelled)).1 ∙ append_assoc word (spelled_on 41 parts) u)
 node-inside depth t bytes rest u o b = let wrong = form-from_byte t 40 rest u b.writable (sym o ∙ b.spelled) in absurd (omega arith)
@@ -48,7 +49,7 @@ nothing-none depth bytes o t u b =
     let wrong : [] ≡ f.0 ∷ f.1 = sym o ∙ b.spelled ∙ f.2 in
     cc
 
--- nodes
+-- Forms of nodes.
 pub node-low : (depth : ℕ) (bytes rest : List ℕ) → bytes ≡ 40 ∷ rest → depth ≡ 0 → NoneBegins depth bytes
 node-low depth bytes rest o low t u b = let i = node-inside depth t bytes rest u o b in omega (arith, i.4)
 
@@ -65,7 +66,7 @@ pub letters-utf8 : (s : List ℕ) → list_all is_letter s ≡ true → IsUtf8 s
 letters-utf8 s h = IsUtf8-from_ascii s (letters-ascii s h)
 
 module _ (depth : ℕ) (bytes : List ℕ) (at after : ℕ) (opened : drop at bytes ≡ 40 ∷ drop (at + 1) bytes) (run : IsRun is_letter bytes (at + 1) after) where
-  -- the node's word is the run of letters
+  -- The node's word is the run of letters.
   pub node-word : (t : Tree) (u : List ℕ) → Begins depth t (drop at bytes) u → (parts : Parts) × IsWord (take (after - (at + 1)) (drop (at + 1) bytes)) × GoesOn 41 (depth - 1) parts (drop after bytes) u
   node-word t u b =
       let i = node-inside depth t (drop at bytes) (drop (at + 1) bytes) u opened b in
@@ -95,7 +96,7 @@ module _ (depth : ℕ) (bytes : List ℕ) (at after : ℕ) (opened : drop at byt
         spelled = opened ∙ ap (λ l. 40 ∷ l) (run-there bytes (at + 1) after run.forward ∙ ap (λ l. l ++ drop after bytes) (sym w) ∙ ap (λ l. word ++ l) adds.there.spelled ∙ sym (append_assoc word (spelled_on 41 (parts_of (map tree adds.more))) (drop next bytes)));
       }))
 
--- lists
+-- Forms of lists.
 pub list-low : (depth : ℕ) (bytes rest : List ℕ) → bytes ≡ 91 ∷ rest → depth ≡ 0 → NoneBegins depth bytes
 list-low depth bytes rest o low t u b = let i = list-inside depth t bytes rest u o b in omega (arith, i.2)
 
@@ -111,7 +112,7 @@ module _ (depth : ℕ) (bytes : List ℕ) (at : ℕ) (opened : drop at bytes ≡
       })
 
   module _ (open_list : (u : List ℕ) → drop (at + 1) bytes ≡ 93 ∷ u → ⊥) where
-    -- a list that is not empty begins with a part
+    -- A list that is not empty begins with a part.
     list-first : (parts : Parts) (u : List ℕ) → AreWritable parts → height_of parts + 1 ≤ depth → drop (at + 1) bytes ≡ spelled_parts false 93 parts ++ u → (t : Tree) × (more : Parts) × Begins (depth - 1) t (drop (at + 1) bytes) (spelled_on 93 more ++ u) × AreWritable more × (height_of more ≤ depth - 1)
     list-first End u w low e = absurd (open_list u e)
     list-first (Then t more) u w low e = (
@@ -151,14 +152,14 @@ module _ (depth : ℕ) (bytes : List ℕ) (at : ℕ) (opened : drop at bytes ≡
         spelled = opened ∙ ap (λ l. 91 ∷ l) (stands.spelled ∙ ap (λ l. spelling (tree raw) ++ l) adds.there.spelled ∙ sym (append_assoc (spelling (tree raw)) (spelled_on 93 (parts_of (map tree adds.more))) (drop next bytes)));
       }))
 
--- texts
+-- Forms of texts.
 pub text-found : (depth : ℕ) (bytes rest u text : List ℕ) → bytes ≡ 34 ∷ rest → IsUtf8 text → rest ≡ quoted_rest text ++ u → Begins depth (Said text) bytes u
 text-found depth bytes rest u text o utf8 e = record { writable = utf8; low = omega arith; ends = tt; spelled = o ∙ ap (λ l. 34 ∷ l) e }
 
 pub text-none : (depth : ℕ) (bytes rest : List ℕ) → bytes ≡ 34 ∷ rest → ((text u : List ℕ) → IsUtf8 text → rest ≡ quoted_rest text ++ u → ⊥) → NoneBegins depth bytes
 text-none depth bytes rest o none t u b = let i = text-inside depth t bytes rest u o b in none i.0 u i.1 i.2
 
--- numbers
+-- Forms of numbers.
 module _ (bytes : List ℕ) (at after : ℕ) (run : IsRun is_ascii_digit bytes at after) where
   pub number-found : (depth n : ℕ) → IsNumeral (take (after - at) (drop at bytes)) n → Begins depth (Count n) (drop at bytes) (drop after bytes)
   number-found depth n numeral = record {
@@ -174,7 +175,7 @@ module _ (bytes : List ℕ) (at after : ℕ) (run : IsRun is_ascii_digit bytes a
       let r = runs-apart is_ascii_digit (decimal i.0) (take (after - at) (drop at bytes)) u (drop after bytes) (decimal-digits i.0 i.1) run.passed i.2 run.stopped (sym i.3 ∙ run-there bytes at after run.forward) in
       none i.0 (record { bounded = i.1; written = sym r.0 })
 
--- flags and the sign of what is absent
+-- Forms of flags and of the sign of what is absent.
 pub flag-found : (depth : ℕ) (bytes rest : List ℕ) (flag : Bool) → bytes ≡ spelling (Flag flag) ++ rest → Begins depth (tree (V.Flag flag)) bytes rest
 flag-found depth bytes rest flag e = subst (λ t. Begins depth t bytes rest) (sym (tree-Flag flag)) (record { writable = tt; low = omega arith; ends = tt; spelled = e })
 
@@ -187,20 +188,20 @@ begins-higher low depth t bytes rest h b = record { writable = b.writable; low =
 first_stops : (bytes : List ℕ) (at : ℕ) → at < length bytes → is_ascii_digit (get_or bytes at 0) ≡ true → StopsAt is_ascii_digit (drop at bytes) → ⊥
 first_stops bytes at within digit stops = true≢false (sym digit ∙ subst (StopsAt is_ascii_digit) (drop_more bytes at 0 within) stops)
 
--- a run of digits at a digit goes on
+-- A run of digits at a digit goes on.
 pub number-longer : (bytes : List ℕ) (at after : ℕ) → IsRun is_ascii_digit bytes at after → at < length bytes → is_ascii_digit (get_or bytes at 0) ≡ true → at < after
 number-longer bytes at after run within digit =
     let differ : at ≡ after → ⊥ = λ e. first_stops bytes at within digit (subst (λ n. StopsAt is_ascii_digit (drop n bytes)) (sym e) run.stopped) in
     omega (arith, differ, run.forward)
 
--- bytes that spell a tree begin with it
+-- Bytes that spell a tree begin with it.
 pub begins-whole : (depth : ℕ) (bytes : List ℕ) (t : Tree) → Spells bytes t → height t ≤ depth → Begins depth t bytes []
 begins-whole depth bytes t s low = record { writable = s.writable; low = low; ends = ends-from_no_digit t [] tt; spelled = s.spelled ∙ sym (append-nil (spelling t)) }
 
 pub whole-spells : (depth : ℕ) (bytes rest : List ℕ) (t : Tree) → Begins depth t bytes rest → rest ≡ [] → Spells bytes t
 whole-spells depth bytes rest t b e = record { writable = b.writable; spelled = b.spelled ∙ ap (λ l. spelling t ++ l) e ∙ append-nil (spelling t) }
 
--- bytes that go on behind a tree spell none
+-- Bytes that go on behind a tree spell no tree.
 pub more-none : (depth : ℕ) (bytes rest : List ℕ) (t s : Tree) → Begins depth t bytes rest → 0 < length rest → Spells bytes s → ⊥
 more-none depth bytes rest t s b some spells =
     let same = spellings-apart t s rest [] b.writable spells.writable b.ends (ends-from_no_digit s [] tt) (sym b.spelled ∙ spells.spelled ∙ sym (append-nil (spelling s))) in

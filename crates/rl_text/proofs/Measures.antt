@@ -16,7 +16,7 @@ use Rattle.rl_text.proofs.Digits.{numeral-digits}
 use Rattle.rl_text.proofs.Quotes.{tested, escape-escaped, escape-plain}
 use Rattle.rl_text.proofs.Runs.{both}
 
--- wherever the bytes stand outside texts, they open so many nodes, so many at once, and close all of them
+-- Bytes that, wherever they stand outside texts, open `nodes` nodes, at most `deep` of them at once, and close all of them.
 pub record Balanced (bytes : List ℕ) (nodes deep : ℕ) : Type 0 where
   pub apart : (rest : List ℕ) → outside false (bytes ++ rest) ≡ outside false bytes ++ outside false rest
   pub opens : count_by (λ byte. byte == 40) (outside false bytes) ≡ nodes
@@ -29,7 +29,7 @@ pub balanced-deepest_in : (bytes : List ℕ) (nodes deep : ℕ) → Balanced byt
 balanced-deepest_in bytes nodes deep b =
     let e = rw append-nil at (b.reaches 0 []) in omega (arith, e)
 
--- one after the other
+-- Balanced bytes in a row are balanced.
 pub balanced-append : (s t : List ℕ) (a b c d : ℕ) → Balanced s a c → Balanced t b d → Balanced (s ++ t) (a + b) (max c d)
 balanced-append s t a b c d p q = record {
   apart = λ rest. ap (outside false) (append_assoc s t rest) ∙ p.apart (t ++ rest) ∙ ap (λ l. outside false s ++ l) (q.apart rest) ∙ sym (append_assoc (outside false s) (outside false t) (outside false rest)) ∙ ap (λ l. l ++ outside false rest) (sym (p.apart t));
@@ -37,7 +37,7 @@ balanced-append s t a b c d p q = record {
   reaches = λ from rest. rw (p.apart t, append_assoc) (let e = p.reaches from (outside false t ++ rest) in let f = q.reaches from rest in omega (arith, e, f));
 }
 
--- bytes that open nothing may stand in front or behind
+-- Bytes that open nothing may stand in front or behind.
 pub balanced-behind : (s t : List ℕ) (nodes deep : ℕ) → Balanced s 0 0 → Balanced t nodes deep → Balanced (s ++ t) nodes deep
 balanced-behind s t nodes deep p q =
     let e : 0 + nodes ≡ nodes = omega arith in
@@ -48,7 +48,7 @@ balanced-before s t nodes deep p q =
     let e : nodes + 0 ≡ nodes = omega arith in
     let f : max deep 0 ≡ deep = omega arith in rw (e, f) at (balanced-append s t nodes 0 deep 0 p q)
 
--- no quote and no parenthesis
+-- True of a byte that is no quote and no parenthesis.
 abbrev pub is_plain : ℕ → Bool
 is_plain byte = not (byte == 34 || byte == 40 || byte == 41)
 
@@ -87,7 +87,7 @@ balanced-plain s h =
       reaches = λ from rest. rw same (omega (arith, plain-reaches s rest from h, deepest_from-low from rest));
     }
 
--- in parentheses
+-- Balanced bytes in parentheses have a node more, and are deeper by it.
 pub balanced-node : (s : List ℕ) (nodes deep : ℕ) → Balanced s nodes deep → Balanced (40 ∷ (s ++ 41 ∷ [])) (nodes + 1) (deep + 1)
 balanced-node s nodes deep b = record {
   apart = λ rest. ap (λ l. 40 ∷ l) (ap (outside false) (append_assoc s (41 ∷ []) rest) ∙ b.apart (41 ∷ rest) ∙ sym (append_assoc (outside false s) (41 ∷ []) (outside false rest)) ∙ ap (λ l. l ++ outside false rest) (sym (b.apart (41 ∷ []))));
@@ -115,7 +115,7 @@ quoted_rest-outside [] rest = refl
 quoted_rest-outside (byte ∷ text) rest =
     ap (outside true) (append_assoc (escape byte) (quoted_rest text) rest) ∙ escape-outside byte (quoted_rest text ++ rest) ∙ quoted_rest-outside text rest
 
--- escapes keep quotes out of texts
+-- Escapes keep quotes out of texts.
 pub balanced-quoted : (text : List ℕ) → Balanced (quoted text) 0 0
 balanced-quoted text =
     let none : outside true (quoted_rest text) ≡ [] = ap (outside true) (sym (append-nil (quoted_rest text))) ∙ quoted_rest-outside text [] in record {
@@ -140,7 +140,7 @@ balanced-word word h = balanced-plain word (all-plain is_letter letter-plain wor
 pub balanced-digits : (digits : List ℕ) → list_all is_ascii_digit digits ≡ true → Balanced digits 0 0
 balanced-digits digits h = balanced-plain digits (all-plain is_ascii_digit digit-plain digits h)
 
--- parts, each behind a space
+-- Parts, each behind a space.
 abbrev spaced : Parts → List ℕ
 spaced End = []
 spaced (Then part parts) = 32 ∷ (spelling part ++ spaced parts)
@@ -150,7 +150,7 @@ spaced-closed close End = refl
 spaced-closed close (Then part parts) = ap (λ l. 32 ∷ (spelling part ++ l)) (spaced-closed close parts) ∙ ap (λ l. 32 ∷ l) (sym (append_assoc (spelling part) (spaced parts) (close ∷ [])))
 
 mutual
-  -- a tree's spelling opens the tree's nodes, as deep as the tree is
+  -- A tree's spelling opens the tree's nodes, as deep as the tree is.
   pub balanced-spelling : (t : Tree) → IsWritable t → Balanced (spelling t) (count t) (depth t)
   balanced-spelling (Node word parts) h =
       rw (spaced-closed 41 parts, ← append_assoc word (spaced parts) (41 ∷ [])) (balanced-node (word ++ spaced parts) (count_of parts) (depth_of parts) (balanced-behind word (spaced parts) (count_of parts) (depth_of parts) (balanced-word word h.0.1) (balanced-spaced parts h.1)))

@@ -7,9 +7,10 @@ use Rattle.std.specs.List.{count_by, list_all}
 use Rattle.std.specs.Ordering.{ord_max}
 use Rattle.rl_text.specs.Places.{StopsAt, IsRun}
 use Rattle.rl_text.proofs.Runs.{both, run-there}
-use Rattle.rl_text.specs.Measure.{is_inside, outside, open_after, deepest_from}
+use Rattle.rl_text.specs.Measure.{outside, open_after, deepest_from}
+use Rattle.rl_text.specs.ByteClasses.{is_inside}
 
--- the effect of one more byte outside and inside a text
+-- Effect of a further byte outside and inside a text.
 pub outside-quote : (within : Bool) (byte : ℕ) (bytes : List ℕ) → byte ≡ 34 → outside within (byte ∷ bytes) ≡ outside (not within) bytes
 outside-quote within byte bytes h = rw h refl
 
@@ -55,11 +56,11 @@ pub deepest_from-low : (depth : ℕ) (bytes : List ℕ) → depth ≤ deepest_fr
 deepest_from-low depth [] = omega arith
 deepest_from-low depth (byte ∷ bytes) = omega arith
 
--- the larger of two numbers, as the code compares them
+-- The larger of two numbers, as the code compares them.
 pub larger : (a b : ℕ) → ord_max nat_cmp a b ≡ max a b
 larger a b = grind (arith, nat_tests)
 
--- the measure of all the bytes outside texts, if these are left
+-- Measure of all the bytes outside texts, if the bytes `left` are left.
 pub record Measured (all : List ℕ) (at : ℕ) (left : List ℕ) (nodes depth deepest : ℕ) : Type 0 where
   pub counted : nodes + count_by (λ byte. byte == 40) left ≡ count_by (λ byte. byte == 40) all
   pub reached : max deepest (deepest_from depth left) ≡ deepest_from 0 all

@@ -4,7 +4,8 @@ use Rattle.std.specs.Str.{bytes_eq}
 use Rattle.std.specs.Fmt.{decimal}
 use Rattle.std.proofs.lemmas.Slice.Eq.{bytes_eq-Decides}
 use Rattle.std.proofs.lemmas.Bool.Decides.{nat_tests}
-use Rattle.rl_text.specs.Number.{largest, IsNumeral}
+use Rattle.rl_text.specs.Number.{largest}
+use Rattle.rl_text.specs.WrittenNumbers.{IsNumeral}
 use Rattle.rl_text.specs.Numeral.{number_on, number_of, is_numeral}
 use Rattle.rl_text.proofs.Runs.{both}
 use Rattle.rl_text.proofs.Numbers.{read_on, numeral-value}
@@ -13,7 +14,7 @@ same : (n : ℕ) (digits : List ℕ) → number_on n digits ≡ read_on n digits
 same n [] = refl
 same n (c ∷ cs) = same (10 * n + (c - 48)) cs
 
--- a numeral's number is what its digits write
+-- A numeral's number is what its digits write.
 pub numeral-number : (text : List ℕ) (n : ℕ) → IsNumeral text n → number_of text ≡ n
 numeral-number text n h = same 0 text ∙ numeral-value text n h
 
@@ -33,13 +34,13 @@ cases : (b : Bool) (x : ℕ) (r : Option ℕ) → (b ≡ true → r ≡ Some x) 
 cases true x r on off = on refl
 cases false x r on off = off refl
 
--- the answer of a reader of numerals
+-- Result of a reader of numerals.
 pub parse-exact : (text : List ℕ) (r : Option ℕ) → IfSome r (λ n. IsNumeral text n) → IfNone r ((n : ℕ) → IsNumeral text n → ⊥) → r ≡ (if is_numeral text then Some (number_of text) else None)
 parse-exact text None some none = cases (is_numeral text) (number_of text) None (λ h. absurd (none (number_of text) (numeral-from_test text h))) (λ _. refl)
 parse-exact text (Some n) some none = cases (is_numeral text) (number_of text) (Some n) (λ _. ap (λ m. Some m) (sym (numeral-number text n some)))
     (λ h. absurd (true≢false (sym (numeral-passes text n some) ∙ h)))
 
--- the meaning of such an answer
+-- Facts that such a result tells.
 found : (b : Bool) (x n : ℕ) → Some n ≡ (if b then Some x else None) → (b ≡ true) × (x ≡ n)
 found true x n e = (refl, cc)
 found false x n e = absurd (cc)

@@ -6,7 +6,8 @@ use Rattle.std.specs.List.{list_all}
 use Rattle.std.specs.Str.{IsUtf8}
 use Rattle.std.proofs.lemmas.Str.{IsUtf8-append, IsUtf8-from_ascii}
 use Rattle.std.proofs.lemmas.Str.Ascii.{IsAscii-cons, IsAscii-nil}
-use Rattle.rl_text.specs.Quoted.{hexadecimal, is_escaped, is_plain, escape, quoted_rest}
+use Rattle.rl_text.specs.Quoted.{hexadecimal, is_escaped, escape, quoted_rest}
+use Rattle.rl_text.specs.ByteClasses.{is_plain}
 use Rattle.rl_text.specs.Places.{IsRun}
 use Rattle.rl_text.proofs.Runs.{heads, both, run-there}
 
@@ -32,14 +33,14 @@ pub tested : (b : Bool) → (b ≡ true) ⊎ (b ≡ false)
 tested true = inl refl
 tested false = inr refl
 
--- behind a backslash stand the digits of a byte that is escaped
+-- Behind a backslash stand the digits of a byte that is escaped.
 pub after_backslash : (byte : ℕ) (bytes rest : List ℕ) → 92 ∷ bytes ≡ escape byte ++ rest → (is_escaped byte ≡ true) × (bytes ≡ hexadecimal (byte / 16) ∷ hexadecimal (byte % 16) ∷ rest)
 after_backslash byte bytes rest h = elim (tested (is_escaped byte)) [
   | inl said ↦ (said, (heads 92 92 _ _ (h ∙ ap (λ t. t ++ rest) (escape-escaped byte said))).1)
   | inr plain ↦ absurd (true≢false (sym (backslash-escaped byte (sym (heads 92 byte _ _ (h ∙ ap (λ t. t ++ rest) (escape-plain byte plain))).0)) ∙ plain))
 ]
 
--- any other first byte stands for itself
+-- Any other first byte stands for itself.
 pub after_other : (first byte : ℕ) (bytes rest : List ℕ) → (first ≡ 92 → ⊥) → first ∷ bytes ≡ escape byte ++ rest → (is_escaped byte ≡ false) × (first ≡ byte) × (bytes ≡ rest)
 after_other first byte bytes rest other h = elim (tested (is_escaped byte)) [
   | inl said ↦ absurd (other (heads first 92 _ _ (h ∙ ap (λ t. t ++ rest) (escape-escaped byte said))).0)
@@ -63,7 +64,7 @@ escapes-apart a b u v h = elim (tested (is_escaped a)) [
       let r = after_other a b u v other (sym (ap (λ t. t ++ u) (escape-plain a plain)) ∙ h) in (r.1, r.2))
 ]
 
--- a quote begins no escape
+-- A quote begins no escape.
 pub escape-no_quote : (byte : ℕ) (u v : List ℕ) → 34 ∷ u ≡ escape byte ++ v → ⊥
 escape-no_quote byte u v h =
     let other : ◌≡◌ {A = ℕ} 34 92 → ⊥ = λ e. let f : ◌≡◌ {A = ℕ} 34 92 = e in omega arith in

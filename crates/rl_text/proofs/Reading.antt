@@ -9,7 +9,7 @@ use Rattle.rl_text.proofs.Runs.{heads}
 use Rattle.rl_text.proofs.Spellings.{spellings-apart}
 use Rattle.rl_text.proofs.Worded.{bracket-no_space, no_digit-on, ends-from_no_digit}
 
--- trees in front of parts
+-- Trees in front of parts.
 abbrev pub joined : List Tree → Parts → Parts
 joined [] parts = parts
 joined (t ∷ ts) parts = Then t (joined ts parts)
@@ -23,7 +23,7 @@ joined-more [] t parts = refl
 joined-more (s ∷ ts) t parts = ap (Then s) (joined-more ts t parts)
 
 module _ (close depth : ℕ) (bytes : List ℕ) where
-  -- the trees were read from one place to another
+  -- The trees `ts` were read from the offset `at` up to `place`.
   pub record ReadsParts (at place : ℕ) (ts : List Tree) : Type 0 where
     pub whole : (parts : Parts) (rest : List ℕ) → GoesOn close depth parts (drop place bytes) rest → GoesOn close depth (joined ts parts) (drop at bytes) rest
     pub on : (parts : Parts) (rest : List ℕ) → GoesOn close depth parts (drop at bytes) rest → (more : Parts) × GoesOn close depth more (drop place bytes) rest
@@ -31,7 +31,7 @@ module _ (close depth : ℕ) (bytes : List ℕ) where
   pub parts-begun : (at : ℕ) → ReadsParts at at []
   parts-begun at = record { whole = λ parts rest e. e; on = λ parts rest e. (parts, e) }
 
-  -- a part that is behind a space begins there, and parts go on behind it
+  -- A part that is behind a space begins there, and parts go on behind it.
   on-space : (place : ℕ) (more : Parts) (rest : List ℕ) → IsBracket close → drop place bytes ≡ 32 ∷ drop (place + 1) bytes → GoesOn close depth more (drop place bytes) rest → (t : Tree) × (parts : Parts) × (more ≡ Then t parts) × Begins depth t (drop (place + 1) bytes) (spelled_on close parts ++ rest) × AreWritable parts × (height_of parts ≤ depth)
   on-space place End rest bracket space e = absurd (bracket-no_space close bracket (sym (heads 32 close _ _ (sym space ∙ e.spelled)).0))
   on-space place (Then t parts) rest bracket space e = (
@@ -49,7 +49,7 @@ module _ (close depth : ℕ) (bytes : List ℕ) where
   )
 
   module _ (at place : ℕ) (ts : List Tree) (bracket : IsBracket close) (reads : ReadsParts at place ts) where
-    -- one more part was read, behind a space
+    -- A further part was read, behind a space.
     pub parts-more : (t : Tree) (after : ℕ) → drop place bytes ≡ 32 ∷ drop (place + 1) bytes → Begins depth t (drop (place + 1) bytes) (drop after bytes) → ReadsParts at after (ts ++ t ∷ [])
     parts-more t after space stands = record {
       whole = λ parts rest e. subst (λ ps. GoesOn close depth ps (drop at bytes) rest) (sym (joined-more ts t parts))
@@ -65,12 +65,12 @@ module _ (close depth : ℕ) (bytes : List ℕ) where
           (s.1, record { writable = s.4; low = s.5; spelled = same.1 });
     }
 
-    -- the bracket stands here
+    -- The bracket stands here.
     pub parts-closed : drop place bytes ≡ close ∷ drop (place + 1) bytes → GoesOn close depth (parts_of ts) (drop at bytes) (drop (place + 1) bytes)
     parts-closed here = subst (λ ps. GoesOn close depth ps (drop at bytes) (drop (place + 1) bytes)) (joined-end ts)
         (reads.whole End (drop (place + 1) bytes) (record { writable = tt; low = omega arith; spelled = here }))
 
-    -- neither the bracket nor a space stands here
+    -- Neither the bracket nor a space stands here.
     pub parts-stopped : ((u : List ℕ) → drop place bytes ≡ close ∷ u → ⊥) → ((u : List ℕ) → drop place bytes ≡ 32 ∷ u → ⊥) → NoneGoesOn close depth (drop at bytes)
     parts-stopped no_bracket no_space parts rest e = let m = reads.on parts rest e in go m.0 m.1
       where
@@ -78,14 +78,14 @@ module _ (close depth : ℕ) (bytes : List ℕ) where
         go End d = no_bracket rest d.spelled
         go (Then t more) d = no_space ((spelling t ++ spelled_on close more) ++ rest) d.spelled
 
-    -- no part stands behind the space
+    -- No part stands behind the space.
     pub parts-none : drop place bytes ≡ 32 ∷ drop (place + 1) bytes → NoneBegins depth (drop (place + 1) bytes) → NoneGoesOn close depth (drop at bytes)
     parts-none space none parts rest e =
         let m = reads.on parts rest e in
         let s = on-space place m.0 rest bracket space m.1 in
         none s.0 (spelled_on close s.1 ++ rest) s.3
 
--- the parts between two places were added so far
+-- `new` is `old` followed by the parts that were read from the offset `at` up to `place`.
 pub record HasRead (close depth : ℕ) (bytes : List ℕ) (at place : ℕ) (old new : List Raw) : Type 0 where
   pub more : List Raw
   pub added : new ≡ old ++ more

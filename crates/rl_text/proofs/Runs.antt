@@ -14,7 +14,7 @@ both true b h = (refl, h)
 both false b h = absurd (true≢false (sym h))
 
 module _ (test : ℕ → Bool) where
-  -- a run and what stops it are determined
+  -- A run and what stops it are determined.
   pub runs-apart : (s t u v : List ℕ) → list_all test s ≡ true → list_all test t ≡ true → StopsAt test u → StopsAt test v → s ++ u ≡ t ++ v → (s ≡ t) × (u ≡ v)
   runs-apart [] [] u v p q m n h = (refl, h)
   runs-apart [] (d ∷ t) u v p q m n h = absurd (true≢false (sym (both (test d) _ q).0 ∙ subst (StopsAt test) h m))
@@ -51,7 +51,7 @@ module _ (test : ℕ → Bool) where
       let all = passed-block bytes at end after h run.forward run.within run.passed in
       record { forward = all.forward; within = all.within; passed = all.passed; stopped = run.stopped }
 
--- the bytes at the run's beginning
+-- The bytes at the run's beginning.
 pub run-there : (bytes : List ℕ) (at after : ℕ) → at ≤ after → drop at bytes ≡ take (after - at) (drop at bytes) ++ drop after bytes
 run-there bytes at after low =
     let there : (after - at) + at ≡ after = omega arith in

@@ -32,25 +32,25 @@ pub tree-Absent : tree V.Absent ≡ Absent
 unfolding tree
 tree-Absent = ap (λ q. fold-Raw Tree layer q) (sym V.rolls-Absent) ∙ fold-roll-Raw Tree layer O.Absent
 
--- a list's parts behind its bracket
+-- A list's parts behind its bracket.
 pub spelling-Listed : (parts : Parts) → spelling (Listed parts) ≡ 91 ∷ spelled_parts false 93 parts
 spelling-Listed End = refl
 spelling-Listed (Then part parts) = refl
 
 pub ruleset tree_forms = (tree-Node, tree-List, tree-Text, tree-Number, tree-Flag, tree-Absent, spelling-Listed)
 
--- a bracket, a word and parts were written one after the other
+-- A bracket, a word and parts were written in a row.
 pub node-written : (raw : Raw) (word : List ℕ) (parts : List Raw) (out opened worded written : List ℕ) → raw ≡ V.Node word parts → opened ≡ out ++ 40 ∷ [] → worded ≡ opened ++ word → written ≡ worded ++ spelled_parts true 41 (parts_of (map tree parts)) → written ≡ out ++ spelling (tree raw)
 node-written raw word parts out opened worded written r o w e =
     rw (r, tree-Node word parts, e, w, o) (append_assoc (out ++ 40 ∷ []) word (spelled_on 41 (parts_of (map tree parts))) ∙ append_assoc out (40 ∷ []) (word ++ spelled_on 41 (parts_of (map tree parts))))
 
--- a bracket and parts
+-- A bracket and parts were written.
 pub list-written : (raw : Raw) (parts : List Raw) (out opened written : List ℕ) → raw ≡ V.List parts → opened ≡ out ++ 91 ∷ [] → written ≡ opened ++ spelled_parts false 93 (parts_of (map tree parts)) → written ≡ out ++ spelling (tree raw)
 list-written raw parts out opened written r o e =
     rw (r, tree-List parts, e, o, spelling-Listed (parts_of (map tree parts))) (append_assoc out (91 ∷ []) (spelled_parts false 93 (parts_of (map tree parts))))
 
 mutual
-  -- a tree is no higher than its text is long
+  -- A tree is no higher than its text is long.
   pub height-le-length : (t : Tree) → height t ≤ length (spelling t)
   height-le-length (Node word parts) = omega (arith, height_of-le-length 41 parts, length-append word (spelled_on 41 parts))
   height-le-length (Listed End) = omega arith

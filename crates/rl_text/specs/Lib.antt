@@ -1,4 +1,5 @@
 pub mod Atoms
+pub mod ByteClasses
 pub mod Measure
 pub mod Nodes
 pub mod Notation
@@ -8,3 +9,4 @@ pub mod Places
 pub mod Quoted
 pub mod Raw
 pub mod Spaced
+pub mod WrittenNumbers

@@ -6,7 +6,7 @@ use Rattle.rl_text.specs.Quoted.{quoted}
 use Rattle.rl_text.specs.Number.{largest, numeral}
 
 mutual
-  -- a node with its word and parts, a list, a text, a number, a flag, or the sign of what is absent
+  -- A node with its word and parts, a list, a text, a number, a flag, or the sign of what is absent.
   pub data Tree : Type 0 where
     Node : (word : List ℕ) (parts : Parts) → Tree
     Listed : (parts : Parts) → Tree
@@ -20,7 +20,7 @@ mutual
     Then : (first : Tree) (rest : Parts) → Parts
 
 abbrev mutual
-  -- the text of a tree
+  -- The text of a tree.
   pub spelling : Tree → List ℕ
   spelling (Node word parts) = 40 ∷ (word ++ spelled_on 41 parts)
   spelling (Listed End) = 91 ∷ 93 ∷ []
@@ -30,17 +30,17 @@ abbrev mutual
   spelling (Flag flag) = (if flag then 121 else 110) ∷ []
   spelling Absent = 45 ∷ []
 
-  -- each part after a space, and then the bracket that closes
+  -- Each part after a space, and then the bracket `close`.
   pub spelled_on : ℕ → Parts → List ℕ
   spelled_on close End = close ∷ []
   spelled_on close (Then part parts) = 32 ∷ (spelling part ++ spelled_on close parts)
 
--- one or more letters a to z
+-- Words: letters a to z, at least one.
 abbrev pub IsWord : List ℕ → Type 0
 IsWord word = (0 < length word) × (list_all (λ c. nat_le 97 c && nat_le c 122) word ≡ true)
 
 abbrev mutual
-  -- the notation has this tree: words are words, texts are text, and numbers are not too large
+  -- The notation has this tree: words are words, texts are UTF-8, and numbers are at most `largest`.
   pub IsWritable : Tree → Type 0
   IsWritable (Node word parts) = IsWord word × AreWritable parts
   IsWritable (Listed parts) = AreWritable parts
@@ -53,13 +53,13 @@ abbrev mutual
   AreWritable End = Unit {0}
   AreWritable (Then part parts) = IsWritable part × AreWritable parts
 
--- the bytes are a tree of the notation, all of them
+-- The bytes, all of them, spell a tree of the notation.
 pub record Spells (bytes : List ℕ) (tree : Tree) : Type 0 where
   pub writable : IsWritable tree
   pub spelled : bytes ≡ spelling tree
 
 abbrev mutual
-  -- the largest number of nodes and lists open at once
+  -- The largest number of nodes and lists open at once.
   pub height : Tree → ℕ
   height (Node word parts) = height_of parts + 1
   height (Listed parts) = height_of parts + 1

@@ -5,12 +5,12 @@ use Rattle.rl_text.specs.declared.raw.Raw.{Raw}
 use Rattle.rl_text.specs.declared.raw.Raw.TheOpen as open_raw
 use Rattle.rl_text.specs.declared.raw.Raw.TheFolds.{fold-Raw}
 
--- trees in a row
+-- Trees in a row.
 abbrev pub parts_of : List Tree → Parts
 parts_of [] = End
 parts_of (tree ∷ trees) = Then tree (parts_of trees)
 
--- one layer
+-- A layer of `tree`.
 abbrev pub layer : open_raw.Raw-F Tree → Tree
 layer (open_raw.Node word parts) = Node word (parts_of parts)
 layer (open_raw.List parts) = Listed (parts_of parts)

@@ -1,7 +1,8 @@
 //! The measure of bytes, in one pass and with no allocation.
 
 ghost use Rattle.std.specs.Prelude.{◌≡◌, ◌≤◌, true, false, length, drop};
-ghost use Rattle.rl_text.specs.Measure.{is_inside, outside, nodes_in, deepest_in};
+ghost use Rattle.rl_text.specs.Measure.{outside, nodes_in, deepest_in};
+ghost use Rattle.rl_text.specs.ByteClasses.{is_inside};
 
 use crate::measurement::Measure;
 use crate::scan::{ByteClass, long_run_end};

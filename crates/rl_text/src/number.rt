@@ -1,7 +1,7 @@
 //! Numbers of the notation: decimal digits, with no leading zero, up to 2^53.
 
 ghost use Rattle.std.specs.Prelude.{◌≡◌, ℕ, IfSome, IfNone, Some, None, if◌then◌else◌};
-ghost use Rattle.rl_text.specs.Number.{IsNumeral};
+ghost use Rattle.rl_text.specs.WrittenNumbers.{IsNumeral};
 ghost use Rattle.rl_text.specs.Numeral.{is_numeral, number_of};
 
 /// The largest number of the notation, 2^53. Each integer up to it is a value of the Number type (ECMA-262, 6.1.6.1).

@@ -1,7 +1,8 @@
 //! Texts in quotes, with their escapes: a backslash and two hexadecimal digits in lower case.
 
 ghost use Rattle.std.specs.Prelude.{◌≡◌, ℕ, ◌+◌, ◌-◌, ◌<◌, ◌≤◌, true, List, ◌∷◌, ◌++◌, take, drop, length, IfSome, IfNone, IfOk, OnOk};
-ghost use Rattle.rl_text.specs.Quoted.{hexadecimal, is_escaped, is_plain, escape, quoted_rest, quoted};
+ghost use Rattle.rl_text.specs.Quoted.{hexadecimal, is_escaped, escape, quoted_rest, quoted};
+ghost use Rattle.rl_text.specs.ByteClasses.{is_plain};
 ghost use Rattle.rl_text.specs.Places.{StopsAt, IsRun};
 
 use crate::scan::{ByteClass, has_byte, long_run_end};

@@ -1,5 +1,5 @@
 use Rattle.std.proofs.Common.{◌-◌, ◌≤◌, drop, length}
-use Rattle.rl_text.specs.Quoted.{is_plain}
+use Rattle.rl_text.specs.ByteClasses.{is_plain}
 use Rattle.rl_text.specs.Places.{StopsAt}
 use Rattle.rl_text.proofs.Quotes.{ReadsText}
 use Rattle.rl_text.proofs.quoted.read_quoted.Given as goal

@@ -1,5 +1,6 @@
 use Rattle.std.proofs.Common.{◌≡◌, ◌-◌, ◌≤◌, ◌++◌, drop, length}
-use Rattle.rl_text.specs.Quoted.{is_plain, quoted_rest}
+use Rattle.rl_text.specs.Quoted.{quoted_rest}
+use Rattle.rl_text.specs.ByteClasses.{is_plain}
 use Rattle.rl_text.specs.Places.{StopsAt}
 use Rattle.rl_text.proofs.quoted.write_rest.Given as goal
 

@@ -5,7 +5,7 @@ use Rattle.rl_text.specs.Places.{spelled_parts}
 use Rattle.rl_text.proofs.Trees.{node-written, list-written}
 use Rattle.rl_text.proofs.write.+writing.Goals as goal
 
--- consequences of an outcome's fact
+-- Consequences of an outcome's fact.
 on_ok : {T E P Q : Type 0} (r : Result T E) → (P → Q) → OnOk r P → OnOk r Q
 on_ok (Ok v) f h = f h
 on_ok (Err e) f h = tt
