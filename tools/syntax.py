@@ -311,7 +311,7 @@ def enum_view(sort, life):
 def view(sort):
     life, name = ("<'b>" if has_lifetime(sort) else ""), snake(sort)
     rust, arms, seen = (struct_view if GRAMMAR.is_struct(sort) else enum_view)(sort, life)
-    rust.append(f"/// One level of a tree of the sort `{sort}`.\n#[tactic(auto, using(rl_grammar::proofs::Viewing::viewing))]\n"
+    rust.append(f"/// A level of a tree of the sort `{sort}`.\n#[tactic(auto, using(rl_grammar::proofs::Viewing::viewing))]\n"
                 f"pub fn {name}_view(tree: {sort}Tree<'_>) -> {sort}{'<' + chr(39) + '_>' if life else ''}\n    ensures {{ seen_{name} result ≡ syntax tree.entry.tree.now }}\n{{\n"
                 "    let (at, word, parts) = node_of(tree.tree);\n    match word {\n" + "\n".join(arms) + "\n    }\n}\n")
     return "\n".join(rust), f"abbrev pub seen_{name} : {sort} → Syntax\n" + "\n".join(seen) + "\n"

@@ -4,9 +4,10 @@ use Rattle.std.proofs.lemmas.Bool.{and_parts}
 use Rattle.rl_grammar.proofs.Functions.{arrow_fits, declaration_fits, expression_fits}
 use Rattle.rl_grammar.specs.Grammar.{fits, each, every}
 use Rattle.rl_grammar.specs.Rules.{rule}
-use Rattle.rl_syntax.specs.Forms.{is_node}
+use Rattle.rl_syntax.specs.Shapes.{is_node}
 use Rattle.rl_syntax.specs.Syntax.{Syntax, Node, Listed, Said, Count, Flag, Absent, Pieces, End, Then, IsPlaced, ArePlaced, behind, inside, next_byte, is_item, nodes, nodes_of}
-use Rattle.rl_ast.specs.Marked.{first, is_function, is_marked, marked_among, marked_functions}
+use Rattle.rl_ast.specs.Marked.{first, is_marked, marked_among, marked_functions}
+use Rattle.rl_ast.specs.FunctionTrees.{is_function}
 use Rattle.rl_grammar.specs.declared.kind.Field.{Field}
 use Rattle.rl_grammar.specs.declared.kind.Field.TheVariants as field
 use Rattle.rl_grammar.specs.declared.kind.Kind.{Kind}
@@ -16,7 +17,7 @@ use Rattle.rl_syntax.specs.declared.numbered.Position.{Position}
 use Rattle.rl_syntax.specs.declared.word.Word.{Word}
 use Rattle.rl_syntax.specs.declared.word.Word.TheVariants as word
 
--- the first item of two lists in a row
+-- The first item of two lists in a row.
 pub first_behind : {X : Type 0} (xs ys : List X) → first xs ≡ None → first (xs ++ ys) ≡ first ys
 first_behind [] ys none = refl
 first_behind (x ∷ xs) ys none = absurd (cc)
@@ -33,7 +34,7 @@ pub first_none : {X : Type 0} (xs : List X) → first xs ≡ None → xs ≡ []
 first_none [] none = refl
 first_none (x ∷ xs) none = absurd (cc)
 
--- the first marked function of a node
+-- The first marked function of a node.
 pub marked_itself : (at : At) (w : Word) (parts : Pieces) → is_marked w parts ≡ true → first (marked_functions (Node at w parts)) ≡ Some (Node at w parts)
 marked_itself at w parts marked = rw marked refl
 
@@ -42,7 +43,7 @@ marked_inside at w parts unmarked = rw unmarked refl
 
 pub ruleset finding = (first_behind, first_before, marked_itself, marked_inside)
 
--- a node with a mark
+-- A node with a mark.
 pub record IsMarked (f : Syntax) : Type 0 where
   pub at : At
   pub word : Word
@@ -50,7 +51,7 @@ pub record IsMarked (f : Syntax) : Type 0 where
   pub is : f ≡ Node at word parts
   pub marked : is_marked word parts ≡ true
 
--- a node is the first marked function of its own tree, or that stands in its parts
+-- A node is the first marked function of its own tree, or that stands in its parts.
 own_first : (at : At) (w : Word) (parts : Pieces) (mark : Bool) (f : Syntax) → is_marked w parts ≡ mark → first ((if mark then Node at w parts ∷ [] else []) ++ marked_among parts) ≡ Some f → ((f ≡ Node at w parts) × IsMarked f) ⊎ (first (marked_among parts) ≡ Some f)
 own_first at w parts true f is found = let same : f ≡ Node at w parts = cc in inl (same, record { at = at; word = w; parts = parts; is = same; marked = is })
 own_first at w parts false f is found = inr found
@@ -71,7 +72,7 @@ abbrev mutual
   InsideOf f (Then piece pieces) = Inside f piece ⊎ InsideOf f pieces
 
 mutual
-  -- the first marked function stands in the tree, and has a mark
+  -- The first marked function stands in the tree, and has a mark.
   pub first_found : (t f : Syntax) → first (marked_functions t) ≡ Some f → Inside f t × IsMarked f
   first_found (Node at w parts) f found = elim (own_first at w parts (is_marked w parts) f refl found) [
     | inl itself ↦ (inl itself.0, itself.1)
@@ -90,7 +91,7 @@ mutual
     | inr there ↦ (let part = first_found_among ps f there in (inr part.0, part.1))
   ]
 
--- a marked function fits the grammar, wherever it stands
+-- A marked function fits the grammar, wherever it stands.
 node_function : (k : Kind) (at : At) (w : Word) (parts : Pieces) → is_marked w parts ≡ true → each (rule k w) parts ≡ true → is_function (Node at w parts) ≡ true
 node_function k at word.Arrow parts marked h = arrow_fits k parts h
 node_function k at word.Fundecl parts marked h = declaration_fits k parts h
@@ -137,7 +138,7 @@ mutual
 pub marked_fits : (u f : Syntax) → first (marked_functions u) ≡ Some f → fits (field.One kind.Unit) u ≡ true → is_function f ≡ true
 marked_fits u f found h = let there = first_found u f found in inside_function (field.One kind.Unit) u f h there.1 there.0
 
--- a function that fits the grammar is a node
+-- A function that fits the grammar is a node.
 pub function_node : (t : Syntax) → is_function t ≡ true → is_node t ≡ true
 function_node (Node at w parts) h = refl
 function_node _ h = absurd (cc)
@@ -145,7 +146,7 @@ function_node _ h = absurd (cc)
 pub ruleset viewing = (function_node)
 
 mutual
-  -- a tree inside another has at most its nodes
+  -- A tree inside another has at most its nodes.
   pub inside_few : (t f : Syntax) → Inside f t → nodes f ≤ nodes t
   inside_few (Node at w parts) f (inl same) = let few : nodes f ≡ nodes (Node at w parts) = ap nodes same in omega (arith, few)
   inside_few (Node at w parts) f (inr more) = let few : nodes f ≤ nodes_of parts = inside_few_of parts f more in omega (arith, few)
@@ -160,7 +161,7 @@ mutual
   inside_few_of (Then p ps) f (inl here) = let few : nodes f ≤ nodes p = inside_few p f here in omega (arith, few)
   inside_few_of (Then p ps) f (inr there) = let few : nodes f ≤ nodes_of ps = inside_few_of ps f there in omega (arith, few)
 
--- the tree `f` is placed, and its nodes have ids from `low` to before `high`
+-- The tree `f` is placed, and its nodes have ids from `low` to before `high`.
 pub record StandsIn (f : Syntax) (low high : ℕ) : Type 0 where
   pub from : Position
   pub placed : IsPlaced from f

@@ -3,6 +3,7 @@ pub mod ClassViews
 pub mod ExpressionPartViews
 pub mod ExpressionViews
 pub mod FunctionNodes
+pub mod FunctionTrees
 pub mod FunctionViews
 pub mod JsxViews
 pub mod Marked

@@ -1,8 +1,5 @@
 -- The marked functions of a tree.
 use Rattle.std.specs.Prelude.{Bool, true, false, if◌then◌else◌, Option, Some, None, List, [], ◌∷◌, ◌++◌}
-use Rattle.rl_grammar.specs.Grammar.{fits}
-use Rattle.rl_grammar.specs.declared.kind.Field.TheVariants as field
-use Rattle.rl_grammar.specs.declared.kind.Kind.TheVariants as kind
 use Rattle.rl_syntax.specs.Syntax.{Syntax, Node, Listed, Said, Count, Flag, Absent, Pieces, End, Then}
 use Rattle.rl_syntax.specs.declared.word.Word.{Word}
 use Rattle.rl_syntax.specs.declared.word.Word.TheVariants as word
@@ -33,10 +30,3 @@ abbrev mutual
 abbrev pub first : {X : Type 0} → List X → Option X
 first [] = None
 first (x ∷ xs) = Some x
-
--- True of a function that fits the grammar.
-abbrev pub is_function : Syntax → Bool
-is_function (Node at word.Arrow parts) = fits (field.One kind.Arrow) (Node at word.Arrow parts)
-is_function (Node at word.Fundecl parts) = fits (field.One kind.FunctionDeclaration) (Node at word.Fundecl parts)
-is_function (Node at word.Funexpr parts) = fits (field.One kind.FunctionExpression) (Node at word.Funexpr parts)
-is_function _ = false

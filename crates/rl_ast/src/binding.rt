@@ -30,7 +30,7 @@ pub struct BindingIdentifier<'b> {
     pub annotation: Option<TypeAnnotationTree<'b>>,
 }
 
-/// One level of a tree of the sort `BindingIdentifier`.
+/// A level of a tree of the sort `BindingIdentifier`.
 #[tactic(auto, using(rl_grammar::proofs::Viewing::viewing))]
 pub fn binding_identifier_view(tree: BindingIdentifierTree<'_>) -> BindingIdentifier<'_>
     ensures { seen_binding_identifier result ≡ syntax tree.entry.tree.now }
@@ -60,7 +60,7 @@ pub struct TypeAnnotation<'b> {
     pub names: IdentifierReferenceTrees<'b>,
 }
 
-/// One level of a tree of the sort `TypeAnnotation`.
+/// A level of a tree of the sort `TypeAnnotation`.
 #[tactic(auto, using(rl_grammar::proofs::Viewing::viewing))]
 pub fn type_annotation_view(tree: TypeAnnotationTree<'_>) -> TypeAnnotation<'_>
     ensures { seen_type_annotation result ≡ syntax tree.entry.tree.now }
@@ -88,7 +88,7 @@ pub struct IdentifierReference<'b> {
     pub name: &'b Text,
 }
 
-/// One level of a tree of the sort `IdentifierReference`.
+/// A level of a tree of the sort `IdentifierReference`.
 #[tactic(auto, using(rl_grammar::proofs::Viewing::viewing))]
 pub fn identifier_reference_view(tree: IdentifierReferenceTree<'_>) -> IdentifierReference<'_>
     ensures { seen_identifier_reference result ≡ syntax tree.entry.tree.now }
@@ -131,7 +131,7 @@ pub enum BindingPattern<'b> {
     },
 }
 
-/// One level of a tree of the sort `BindingPattern`.
+/// A level of a tree of the sort `BindingPattern`.
 #[tactic(auto, using(rl_grammar::proofs::Viewing::viewing))]
 pub fn binding_pattern_view(tree: BindingPatternTree<'_>) -> BindingPattern<'_>
     ensures { seen_binding_pattern result ≡ syntax tree.entry.tree.now }
@@ -175,7 +175,7 @@ pub enum BindingPatternMaybeDefault<'b> {
     },
 }
 
-/// One level of a tree of the sort `BindingPatternMaybeDefault`.
+/// A level of a tree of the sort `BindingPatternMaybeDefault`.
 #[tactic(auto, using(rl_grammar::proofs::Viewing::viewing))]
 pub fn binding_pattern_maybe_default_view(
     tree: BindingPatternMaybeDefaultTree<'_>,
@@ -208,7 +208,7 @@ pub enum BindingPatternElement<'b> {
     },
 }
 
-/// One level of a tree of the sort `BindingPatternElement`.
+/// A level of a tree of the sort `BindingPatternElement`.
 #[tactic(auto, using(rl_grammar::proofs::Viewing::viewing))]
 pub fn binding_pattern_element_view(
     tree: BindingPatternElementTree<'_>,
@@ -236,7 +236,7 @@ pub struct BindingProperty<'b> {
     pub value: BindingPatternMaybeDefaultTree<'b>,
 }
 
-/// One level of a tree of the sort `BindingProperty`.
+/// A level of a tree of the sort `BindingProperty`.
 #[tactic(auto, using(rl_grammar::proofs::Viewing::viewing))]
 pub fn binding_property_view(tree: BindingPropertyTree<'_>) -> BindingProperty<'_>
     ensures { seen_binding_property result ≡ syntax tree.entry.tree.now }
@@ -277,7 +277,7 @@ pub enum PropertyKey<'b> {
     Expression(ExpressionTree<'b>),
 }
 
-/// One level of a tree of the sort `PropertyKey`.
+/// A level of a tree of the sort `PropertyKey`.
 #[tactic(auto, using(rl_grammar::proofs::Viewing::viewing))]
 pub fn property_key_view(tree: PropertyKeyTree<'_>) -> PropertyKey<'_>
     ensures { seen_property_key result ≡ syntax tree.entry.tree.now }

@@ -42,7 +42,7 @@ pub enum ClassElement<'b> {
     },
 }
 
-/// One level of a tree of the sort `ClassElement`.
+/// A level of a tree of the sort `ClassElement`.
 #[tactic(auto, using(rl_grammar::proofs::Viewing::viewing))]
 pub fn class_element_view(tree: ClassElementTree<'_>) -> ClassElement<'_>
     ensures { seen_class_element result ≡ syntax tree.entry.tree.now }
@@ -102,7 +102,7 @@ pub enum ImportSpecifier<'b> {
     },
 }
 
-/// One level of a tree of the sort `ImportSpecifier`.
+/// A level of a tree of the sort `ImportSpecifier`.
 #[tactic(auto, using(rl_grammar::proofs::Viewing::viewing))]
 pub fn import_specifier_view(tree: ImportSpecifierTree<'_>) -> ImportSpecifier<'_>
     ensures { seen_import_specifier result ≡ syntax tree.entry.tree.now }

@@ -351,7 +351,7 @@ pub enum Expression<'b> {
     },
 }
 
-/// One level of a tree of the sort `Expression`.
+/// A level of a tree of the sort `Expression`.
 #[tactic(auto, using(rl_grammar::proofs::Viewing::viewing))]
 pub fn expression_view(tree: ExpressionTree<'_>) -> Expression<'_>
     ensures { seen_expression result ≡ syntax tree.entry.tree.now }

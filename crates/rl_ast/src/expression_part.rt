@@ -29,7 +29,7 @@ pub struct TemplateLiteral<'b> {
     pub expressions: ExpressionTrees<'b>,
 }
 
-/// One level of a tree of the sort `TemplateLiteral`.
+/// A level of a tree of the sort `TemplateLiteral`.
 #[tactic(auto, using(rl_grammar::proofs::Viewing::viewing))]
 pub fn template_literal_view(tree: TemplateLiteralTree<'_>) -> TemplateLiteral<'_>
     ensures { seen_template_literal result ≡ syntax tree.entry.tree.now }
@@ -60,7 +60,7 @@ pub struct TemplateElement<'b> {
     pub cooked: Option<&'b Text>,
 }
 
-/// One level of a tree of the sort `TemplateElement`.
+/// A level of a tree of the sort `TemplateElement`.
 #[tactic(auto, using(rl_grammar::proofs::Viewing::viewing))]
 pub fn template_element_view(tree: TemplateElementTree<'_>) -> TemplateElement<'_>
     ensures { seen_template_element result ≡ syntax tree.entry.tree.now }
@@ -98,7 +98,7 @@ pub enum ArrayElement<'b> {
     },
 }
 
-/// One level of a tree of the sort `ArrayElement`.
+/// A level of a tree of the sort `ArrayElement`.
 #[tactic(auto, using(rl_grammar::proofs::Viewing::viewing))]
 pub fn array_element_view(tree: ArrayElementTree<'_>) -> ArrayElement<'_>
     ensures { seen_array_element result ≡ syntax tree.entry.tree.now }
@@ -131,7 +131,7 @@ pub enum Argument<'b> {
     },
 }
 
-/// One level of a tree of the sort `Argument`.
+/// A level of a tree of the sort `Argument`.
 #[tactic(auto, using(rl_grammar::proofs::Viewing::viewing))]
 pub fn argument_view(tree: ArgumentTree<'_>) -> Argument<'_>
     ensures { seen_argument result ≡ syntax tree.entry.tree.now }
@@ -205,7 +205,7 @@ pub enum ObjectProperty<'b> {
     },
 }
 
-/// One level of a tree of the sort `ObjectProperty`.
+/// A level of a tree of the sort `ObjectProperty`.
 #[tactic(auto, using(rl_grammar::proofs::Viewing::viewing))]
 pub fn object_property_view(tree: ObjectPropertyTree<'_>) -> ObjectProperty<'_>
     ensures { seen_object_property result ≡ syntax tree.entry.tree.now }

@@ -32,7 +32,7 @@ pub struct Arrow<'b> {
     pub body: ArrowBodyTree<'b>,
 }
 
-/// One level of a tree of the sort `Arrow`.
+/// A level of a tree of the sort `Arrow`.
 #[tactic(auto, using(rl_grammar::proofs::Viewing::viewing))]
 pub fn arrow_view(tree: ArrowTree<'_>) -> Arrow<'_>
     ensures { seen_arrow result ≡ syntax tree.entry.tree.now }
@@ -65,7 +65,7 @@ pub struct FormalParameters<'b> {
     pub rest: Option<BindingRestElementTree<'b>>,
 }
 
-/// One level of a tree of the sort `FormalParameters`.
+/// A level of a tree of the sort `FormalParameters`.
 #[tactic(auto, using(rl_grammar::proofs::Viewing::viewing))]
 pub fn formal_parameters_view(tree: FormalParametersTree<'_>) -> FormalParameters<'_>
     ensures { seen_formal_parameters result ≡ syntax tree.entry.tree.now }
@@ -95,7 +95,7 @@ pub struct FormalParameter<'b> {
     pub default: Option<ExpressionTree<'b>>,
 }
 
-/// One level of a tree of the sort `FormalParameter`.
+/// A level of a tree of the sort `FormalParameter`.
 #[tactic(auto, using(rl_grammar::proofs::Viewing::viewing))]
 pub fn formal_parameter_view(tree: FormalParameterTree<'_>) -> FormalParameter<'_>
     ensures { seen_formal_parameter result ≡ syntax tree.entry.tree.now }
@@ -124,7 +124,7 @@ pub struct BindingRestElement<'b> {
     pub pattern: BindingPatternTree<'b>,
 }
 
-/// One level of a tree of the sort `BindingRestElement`.
+/// A level of a tree of the sort `BindingRestElement`.
 #[tactic(auto, using(rl_grammar::proofs::Viewing::viewing))]
 pub fn binding_rest_element_view(tree: BindingRestElementTree<'_>) -> BindingRestElement<'_>
     ensures { seen_binding_rest_element result ≡ syntax tree.entry.tree.now }
@@ -154,7 +154,7 @@ pub struct FunctionBody<'b> {
     pub statements: StatementTrees<'b>,
 }
 
-/// One level of a tree of the sort `FunctionBody`.
+/// A level of a tree of the sort `FunctionBody`.
 #[tactic(auto, using(rl_grammar::proofs::Viewing::viewing))]
 pub fn function_body_view(tree: FunctionBodyTree<'_>) -> FunctionBody<'_>
     ensures { seen_function_body result ≡ syntax tree.entry.tree.now }
@@ -182,7 +182,7 @@ pub enum ArrowBody<'b> {
     Expression(ExpressionTree<'b>),
 }
 
-/// One level of a tree of the sort `ArrowBody`.
+/// A level of a tree of the sort `ArrowBody`.
 #[tactic(auto, using(rl_grammar::proofs::Viewing::viewing))]
 pub fn arrow_body_view(tree: ArrowBodyTree<'_>) -> ArrowBody<'_>
     ensures { seen_arrow_body result ≡ syntax tree.entry.tree.now }

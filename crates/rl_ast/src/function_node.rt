@@ -48,7 +48,7 @@ pub struct Function<'b> {
     pub body: Option<FunctionBodyTree<'b>>,
 }
 
-/// One level of a tree of the sort `FunctionDeclaration`.
+/// A level of a tree of the sort `FunctionDeclaration`.
 #[tactic(auto, using(rl_grammar::proofs::Viewing::viewing))]
 pub fn function_declaration_view(tree: FunctionDeclarationTree<'_>) -> Function<'_>
     ensures { seen_function result ≡ syntax tree.entry.tree.now }
@@ -72,7 +72,7 @@ pub fn function_declaration_view(tree: FunctionDeclarationTree<'_>) -> Function<
     }
 }
 
-/// One level of a tree of the sort `FunctionExpression`.
+/// A level of a tree of the sort `FunctionExpression`.
 #[tactic(auto, using(rl_grammar::proofs::Viewing::viewing))]
 pub fn function_expression_view(tree: FunctionExpressionTree<'_>) -> Function<'_>
     ensures { seen_function result ≡ syntax tree.entry.tree.now }

@@ -31,7 +31,7 @@ pub struct JsxElement<'b> {
     pub closing: Option<JsxClosingElementTree<'b>>,
 }
 
-/// One level of a tree of the sort `JsxElement`.
+/// A level of a tree of the sort `JsxElement`.
 #[tactic(auto, using(rl_grammar::proofs::Viewing::viewing))]
 pub fn jsx_element_view(tree: JsxElementTree<'_>) -> JsxElement<'_>
     ensures { seen_jsx_element result ≡ syntax tree.entry.tree.now }
@@ -60,7 +60,7 @@ pub struct JsxFragment<'b> {
     pub children: JsxChildTrees<'b>,
 }
 
-/// One level of a tree of the sort `JsxFragment`.
+/// A level of a tree of the sort `JsxFragment`.
 #[tactic(auto, using(rl_grammar::proofs::Viewing::viewing))]
 pub fn jsx_fragment_view(tree: JsxFragmentTree<'_>) -> JsxFragment<'_>
     ensures { seen_jsx_fragment result ≡ syntax tree.entry.tree.now }
@@ -89,7 +89,7 @@ pub struct JsxOpeningElement<'b> {
     pub attributes: JsxAttributeTrees<'b>,
 }
 
-/// One level of a tree of the sort `JsxOpeningElement`.
+/// A level of a tree of the sort `JsxOpeningElement`.
 #[tactic(auto, using(rl_grammar::proofs::Viewing::viewing))]
 pub fn jsx_opening_element_view(tree: JsxOpeningElementTree<'_>) -> JsxOpeningElement<'_>
     ensures { seen_jsx_opening_element result ≡ syntax tree.entry.tree.now }
@@ -115,7 +115,7 @@ pub struct JsxClosingElement {
     pub at: At,
 }
 
-/// One level of a tree of the sort `JsxClosingElement`.
+/// A level of a tree of the sort `JsxClosingElement`.
 #[tactic(auto, using(rl_grammar::proofs::Viewing::viewing))]
 pub fn jsx_closing_element_view(tree: JsxClosingElementTree<'_>) -> JsxClosingElement
     ensures { seen_jsx_closing_element result ≡ syntax tree.entry.tree.now }
@@ -164,7 +164,7 @@ pub enum JsxElementName<'b> {
     },
 }
 
-/// One level of a tree of the sort `JsxElementName`.
+/// A level of a tree of the sort `JsxElementName`.
 #[tactic(auto, using(rl_grammar::proofs::Viewing::viewing))]
 pub fn jsx_element_name_view(tree: JsxElementNameTree<'_>) -> JsxElementName<'_>
     ensures { seen_jsx_element_name result ≡ syntax tree.entry.tree.now }
@@ -221,7 +221,7 @@ pub enum JsxAttribute<'b> {
     },
 }
 
-/// One level of a tree of the sort `JsxAttribute`.
+/// A level of a tree of the sort `JsxAttribute`.
 #[tactic(auto, using(rl_grammar::proofs::Viewing::viewing))]
 pub fn jsx_attribute_view(tree: JsxAttributeTree<'_>) -> JsxAttribute<'_>
     ensures { seen_jsx_attribute result ≡ syntax tree.entry.tree.now }
@@ -268,7 +268,7 @@ pub enum JsxAttributeName<'b> {
     },
 }
 
-/// One level of a tree of the sort `JsxAttributeName`.
+/// A level of a tree of the sort `JsxAttributeName`.
 #[tactic(auto, using(rl_grammar::proofs::Viewing::viewing))]
 pub fn jsx_attribute_name_view(tree: JsxAttributeNameTree<'_>) -> JsxAttributeName<'_>
     ensures { seen_jsx_attribute_name result ≡ syntax tree.entry.tree.now }
@@ -317,7 +317,7 @@ pub enum JsxAttributeValue<'b> {
     Fragment(JsxFragmentTree<'b>),
 }
 
-/// One level of a tree of the sort `JsxAttributeValue`.
+/// A level of a tree of the sort `JsxAttributeValue`.
 #[tactic(auto, using(rl_grammar::proofs::Viewing::viewing))]
 pub fn jsx_attribute_value_view(tree: JsxAttributeValueTree<'_>) -> JsxAttributeValue<'_>
     ensures { seen_jsx_attribute_value result ≡ syntax tree.entry.tree.now }
@@ -374,7 +374,7 @@ pub enum JsxChild<'b> {
     },
 }
 
-/// One level of a tree of the sort `JsxChild`.
+/// A level of a tree of the sort `JsxChild`.
 #[tactic(auto, using(rl_grammar::proofs::Viewing::viewing))]
 pub fn jsx_child_view(tree: JsxChildTree<'_>) -> JsxChild<'_>
     ensures { seen_jsx_child result ≡ syntax tree.entry.tree.now }

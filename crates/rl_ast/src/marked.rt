@@ -3,7 +3,8 @@
 ghost use Rattle.std.specs.Prelude.{◌≡◌, true, Some, [], map, option_map, MatchOption};
 ghost use Rattle.rl_syntax.specs.Syntax.{pieces_of, syntax};
 ghost use Rattle.rl_ast.specs.FunctionNodes.{seen_function_node};
-ghost use Rattle.rl_ast.specs.Marked.{first, is_function, is_marked, marked_among, marked_functions};
+ghost use Rattle.rl_ast.specs.Marked.{first, is_marked, marked_among, marked_functions};
+ghost use Rattle.rl_ast.specs.FunctionTrees.{is_function};
 
 use crate::function::arrow_view;
 use crate::function_node::{FunctionNode, function_declaration_view, function_expression_view};

@@ -25,7 +25,7 @@ pub struct Entity<'b> {
     pub value: u32,
 }
 
-/// One level of a tree of the sort `Entity`.
+/// A level of a tree of the sort `Entity`.
 #[tactic(auto, using(rl_grammar::proofs::Viewing::viewing))]
 pub fn entity_view(tree: EntityTree<'_>) -> Entity<'_>
     ensures { seen_entity result ≡ syntax tree.entry.tree.now }
@@ -53,7 +53,7 @@ pub struct Program<'b> {
     pub body: StatementTrees<'b>,
 }
 
-/// One level of a tree of the sort `Program`.
+/// A level of a tree of the sort `Program`.
 #[tactic(auto, using(rl_grammar::proofs::Viewing::viewing))]
 pub fn program_view(tree: ProgramTree<'_>) -> Program<'_>
     ensures { seen_program result ≡ syntax tree.entry.tree.now }

@@ -258,7 +258,7 @@ pub enum Statement<'b> {
     },
 }
 
-/// One level of a tree of the sort `Statement`.
+/// A level of a tree of the sort `Statement`.
 #[tactic(auto, using(rl_grammar::proofs::Viewing::viewing))]
 pub fn statement_view(tree: StatementTree<'_>) -> Statement<'_>
     ensures { seen_statement result ≡ syntax tree.entry.tree.now }

@@ -28,7 +28,7 @@ pub struct BlockStatement<'b> {
     pub body: StatementTrees<'b>,
 }
 
-/// One level of a tree of the sort `BlockStatement`.
+/// A level of a tree of the sort `BlockStatement`.
 #[tactic(auto, using(rl_grammar::proofs::Viewing::viewing))]
 pub fn block_statement_view(tree: BlockStatementTree<'_>) -> BlockStatement<'_>
     ensures { seen_block_statement result ≡ syntax tree.entry.tree.now }
@@ -57,7 +57,7 @@ pub struct SwitchCase<'b> {
     pub consequent: StatementTrees<'b>,
 }
 
-/// One level of a tree of the sort `SwitchCase`.
+/// A level of a tree of the sort `SwitchCase`.
 #[tactic(auto, using(rl_grammar::proofs::Viewing::viewing))]
 pub fn switch_case_view(tree: SwitchCaseTree<'_>) -> SwitchCase<'_>
     ensures { seen_switch_case result ≡ syntax tree.entry.tree.now }
@@ -88,7 +88,7 @@ pub struct CatchClause<'b> {
     pub body: BlockStatementTree<'b>,
 }
 
-/// One level of a tree of the sort `CatchClause`.
+/// A level of a tree of the sort `CatchClause`.
 #[tactic(auto, using(rl_grammar::proofs::Viewing::viewing))]
 pub fn catch_clause_view(tree: CatchClauseTree<'_>) -> CatchClause<'_>
     ensures { seen_catch_clause result ≡ syntax tree.entry.tree.now }
@@ -119,7 +119,7 @@ pub struct VariableDeclaration<'b> {
     pub declarators: VariableDeclaratorTrees<'b>,
 }
 
-/// One level of a tree of the sort `VariableDeclaration`.
+/// A level of a tree of the sort `VariableDeclaration`.
 #[tactic(auto, using(rl_grammar::proofs::Viewing::viewing))]
 pub fn variable_declaration_view(tree: VariableDeclarationTree<'_>) -> VariableDeclaration<'_>
     ensures { seen_variable_declaration result ≡ syntax tree.entry.tree.now }
@@ -150,7 +150,7 @@ pub struct VariableDeclarator<'b> {
     pub init: Option<ExpressionTree<'b>>,
 }
 
-/// One level of a tree of the sort `VariableDeclarator`.
+/// A level of a tree of the sort `VariableDeclarator`.
 #[tactic(auto, using(rl_grammar::proofs::Viewing::viewing))]
 pub fn variable_declarator_view(tree: VariableDeclaratorTree<'_>) -> VariableDeclarator<'_>
     ensures { seen_variable_declarator result ≡ syntax tree.entry.tree.now }
@@ -178,7 +178,7 @@ pub enum ForInit<'b> {
     Expression(ExpressionTree<'b>),
 }
 
-/// One level of a tree of the sort `ForInit`.
+/// A level of a tree of the sort `ForInit`.
 #[tactic(auto, using(rl_grammar::proofs::Viewing::viewing))]
 pub fn for_init_view(tree: ForInitTree<'_>) -> ForInit<'_>
     ensures { seen_for_init result ≡ syntax tree.entry.tree.now }
@@ -199,7 +199,7 @@ pub enum ForHead<'b> {
     Target(AssignmentTargetTree<'b>),
 }
 
-/// One level of a tree of the sort `ForHead`.
+/// A level of a tree of the sort `ForHead`.
 #[tactic(auto, using(rl_grammar::proofs::Viewing::viewing))]
 pub fn for_head_view(tree: ForHeadTree<'_>) -> ForHead<'_>
     ensures { seen_for_head result ≡ syntax tree.entry.tree.now }
@@ -220,7 +220,7 @@ pub enum ExportDefault<'b> {
     Expression(ExpressionTree<'b>),
 }
 
-/// One level of a tree of the sort `ExportDefault`.
+/// A level of a tree of the sort `ExportDefault`.
 #[tactic(auto, using(rl_grammar::proofs::Viewing::viewing))]
 pub fn export_default_view(tree: ExportDefaultTree<'_>) -> ExportDefault<'_>
     ensures { seen_export_default result ≡ syntax tree.entry.tree.now }

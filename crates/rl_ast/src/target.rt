@@ -113,7 +113,7 @@ pub enum AssignmentTarget<'b> {
     },
 }
 
-/// One level of a tree of the sort `AssignmentTarget`.
+/// A level of a tree of the sort `AssignmentTarget`.
 #[tactic(auto, using(rl_grammar::proofs::Viewing::viewing))]
 pub fn assignment_target_view(tree: AssignmentTargetTree<'_>) -> AssignmentTarget<'_>
     ensures { seen_assignment_target result ≡ syntax tree.entry.tree.now }
@@ -215,7 +215,7 @@ pub enum AssignmentTargetMaybeDefault<'b> {
     },
 }
 
-/// One level of a tree of the sort `AssignmentTargetMaybeDefault`.
+/// A level of a tree of the sort `AssignmentTargetMaybeDefault`.
 #[tactic(auto, using(rl_grammar::proofs::Viewing::viewing))]
 pub fn assignment_target_maybe_default_view(
     tree: AssignmentTargetMaybeDefaultTree<'_>,
@@ -248,7 +248,7 @@ pub enum AssignmentTargetElement<'b> {
     },
 }
 
-/// One level of a tree of the sort `AssignmentTargetElement`.
+/// A level of a tree of the sort `AssignmentTargetElement`.
 #[tactic(auto, using(rl_grammar::proofs::Viewing::viewing))]
 pub fn assignment_target_element_view(
     tree: AssignmentTargetElementTree<'_>,
@@ -288,7 +288,7 @@ pub enum AssignmentTargetProperty<'b> {
     },
 }
 
-/// One level of a tree of the sort `AssignmentTargetProperty`.
+/// A level of a tree of the sort `AssignmentTargetProperty`.
 #[tactic(auto, using(rl_grammar::proofs::Viewing::viewing))]
 pub fn assignment_target_property_view(
     tree: AssignmentTargetPropertyTree<'_>,
@@ -328,7 +328,7 @@ pub struct AssignmentTargetRest<'b> {
     pub target: AssignmentTargetTree<'b>,
 }
 
-/// One level of a tree of the sort `AssignmentTargetRest`.
+/// A level of a tree of the sort `AssignmentTargetRest`.
 #[tactic(auto, using(rl_grammar::proofs::Viewing::viewing))]
 pub fn assignment_target_rest_view(tree: AssignmentTargetRestTree<'_>) -> AssignmentTargetRest<'_>
     ensures { seen_assignment_target_rest result ≡ syntax tree.entry.tree.now }

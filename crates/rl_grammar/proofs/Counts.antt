@@ -1,6 +1,6 @@
 -- The number of parts, by their plain trees.
 use Rattle.std.proofs.Common.{◌≡◌, true, List, [], ◌∷◌, length, get_or, map, refl, arith}
-use Rattle.rl_syntax.specs.Forms.{is_one, is_two, is_three, is_four, is_six}
+use Rattle.rl_syntax.specs.Shapes.{is_one, is_two, is_three, is_four, is_six}
 use Rattle.rl_syntax.specs.Syntax.{End, Then, pieces_of, syntax}
 use Rattle.rl_syntax.specs.declared.numbered.Numbered.{Numbered}
 
@@ -40,7 +40,7 @@ six_count (a ∷ b ∷ c ∷ d ∷ []) h = absurd (cc)
 six_count (a ∷ b ∷ c ∷ d ∷ e ∷ []) h = absurd (cc)
 six_count (a ∷ b ∷ c ∷ d ∷ e ∷ f ∷ g ∷ ps) h = absurd (cc)
 
--- the parts by their indices
+-- The parts by their indices.
 pub one_of : (parts : List Numbered) (a : Numbered) → length parts ≡ 1 → a ≡ get_or parts 0 a → pieces_of (map syntax parts) ≡ Then (syntax a) End
 one_of [] a count first = absurd (omega arith)
 one_of (x ∷ []) a count first = rw first refl

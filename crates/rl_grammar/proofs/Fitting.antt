@@ -1,7 +1,8 @@
 -- The fields that a tree may stand in, by the tree's form.
 use Rattle.std.proofs.Common.{◌≡◌, true, false, refl}
 use Rattle.rl_syntax.specs.Syntax.{Syntax, Listed, Absent}
-use Rattle.rl_syntax.specs.Forms.{is_absent, is_list}
+use Rattle.rl_syntax.specs.Forms.{is_absent}
+use Rattle.rl_syntax.specs.Shapes.{is_list}
 use Rattle.rl_grammar.specs.Grammar.{fits}
 use Rattle.rl_grammar.specs.declared.kind.Field.TheVariants as field
 use Rattle.rl_grammar.specs.declared.kind.Kind.{Kind}

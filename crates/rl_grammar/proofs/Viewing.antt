@@ -6,9 +6,10 @@ use Rattle.rl_base.specs.ClosedTexts.{is_written}
 use Rattle.rl_base.specs.Scalars.{is_scalar_value}
 use Rattle.rl_base.specs.TypeKinds.{type_text, type_kinds}
 use Rattle.rl_base.specs.VariableKinds.{variable_text, variable_kinds}
-use Rattle.rl_syntax.specs.Forms.{is_node, is_text, is_flag, is_number, is_list, is_absent, is_none, is_one, is_two, is_three, is_four, is_five, is_six}
+use Rattle.rl_syntax.specs.Forms.{is_absent}
+use Rattle.rl_syntax.specs.Shapes.{is_node, is_text, is_flag, is_number, is_list, is_none, is_one, is_two, is_three, is_four, is_five, is_six}
 use Rattle.rl_grammar.specs.Fields.{writes}
-use Rattle.rl_grammar.specs.Grammar.{fits, each, every, text_fits, takes_flags, number_fits, is_leaf}
+use Rattle.rl_grammar.specs.Grammar.{fits, each, every, text_fits, takes_flags, number_fits}
 use Rattle.rl_syntax.specs.Syntax.{Syntax, Node, Listed, Said, Count, Flag, Absent, Pieces, End, Then, is_item}
 use Rattle.rl_grammar.specs.declared.kind.Field.{Field}
 use Rattle.rl_grammar.specs.declared.kind.Field.TheVariants as field
@@ -16,7 +17,7 @@ use Rattle.rl_grammar.specs.declared.kind.Kind.{Kind}
 use Rattle.rl_grammar.specs.declared.kind.Kind.TheVariants as kind
 use Rattle.rl_syntax.proofs.Layers.{syntax_node, syntax_list, syntax_text, syntax_number, syntax_flag, syntax_absent}
 
--- the fields of the parts behind the first
+-- The fields of the parts behind the first.
 behind : (f : Field) (fields : List Field) (a : Syntax) (ps : Pieces) → each (Some (f ∷ fields)) (Then a ps) ≡ true → each (Some fields) ps ≡ true
 behind f fields a ps h = (and_parts (fits f a) (each (Some fields) ps) h).1
 
@@ -55,7 +56,7 @@ pub arity_six : (f0 f1 f2 f3 f4 f5 : Field) (ps : Pieces) → each (Some (f0 ∷
 arity_six f0 f1 f2 f3 f4 f5 End h = absurd (cc)
 arity_six f0 f1 f2 f3 f4 f5 (Then a ps) h = arity_five f1 f2 f3 f4 f5 ps (behind f0 (f1 ∷ f2 ∷ f3 ∷ f4 ∷ f5 ∷ []) a ps h)
 
--- the parts, one for each field
+-- Each part fits its field.
 pub one_fits : (ps : Pieces) (a : Syntax) → ps ≡ Then a End → (f : Field) → each (Some (f ∷ [])) ps ≡ true → fits f a ≡ true
 one_fits ps a is f h = front f [] a End (sym (ap (each (Some (f ∷ []))) is) ∙ h)
 
@@ -97,7 +98,7 @@ six_in f0 f1 f2 f3 f4 f5 a b c d e f h =
 pub six_fit : (ps : Pieces) (a b c d e f : Syntax) → ps ≡ Then a (Then b (Then c (Then d (Then e (Then f End))))) → (f0 f1 f2 f3 f4 f5 : Field) → each (Some (f0 ∷ f1 ∷ f2 ∷ f3 ∷ f4 ∷ f5 ∷ [])) ps ≡ true → (fits f0 a ≡ true) × (fits f1 b ≡ true) × (fits f2 c ≡ true) × (fits f3 d ≡ true) × (fits f4 e ≡ true) × (fits f5 f ≡ true)
 six_fit ps a b c d e f is f0 f1 f2 f3 f4 f5 h = six_in f0 f1 f2 f3 f4 f5 a b c d e f (sym (ap (each (Some (f0 ∷ f1 ∷ f2 ∷ f3 ∷ f4 ∷ f5 ∷ []))) is) ∙ h)
 
--- the items of a list
+-- The items of a list.
 item_parts : (k : Kind) (a : Syntax) (ps : Pieces) → every k (Then a ps) ≡ true → (fits (field.One k) a ≡ true) × (every k ps ≡ true)
 item_parts k a ps h =
     let whole = and_parts (is_item a && fits (field.One k) a) (every k ps) h in
@@ -111,7 +112,7 @@ rest_fit k all a ps is h = (item_parts k a ps (sym (ap (every k) is) ∙ h)).1
 
 pub ruleset items = (first_fits, rest_fit)
 
--- the form of a part, by its field
+-- The form of a part, by its field.
 pub of_text : (t : Syntax) → fits (field.One kind.Text) t ≡ true → is_text t ≡ true
 of_text (Said text) h = refl
 of_text _ h = absurd (cc)
@@ -164,7 +165,7 @@ pub of_assignment_operator : (t : Syntax) → fits (field.One kind.AssignmentOpe
 of_assignment_operator (Said text) h = h
 of_assignment_operator _ h = absurd (cc)
 
--- a text that writes a value
+-- A text that writes a value.
 pub writes_text : {X : Type 0} (text_of : X → List ℕ) (values : List X) (t : Syntax) → writes text_of values t ≡ true → is_text t ≡ true
 writes_text text_of values (Said text) h = refl
 writes_text text_of values _ h = absurd (cc)
@@ -174,7 +175,21 @@ writes_value text_of values t text is h = sym (ap (writes text_of values) is) �
 
 pub ruleset closed = (writes_text, writes_value)
 
--- the texts, flags and numbers of a kind whose trees are nodes: none
+-- True of the kinds of texts, flags and numbers; the trees of every other kind are nodes.
+abbrev pub is_leaf : Kind → Bool
+is_leaf kind.Text = true
+is_leaf kind.Flag = true
+is_leaf kind.ScalarValue = true
+is_leaf kind.VariableKind = true
+is_leaf kind.TypeKind = true
+is_leaf kind.UnaryOperator = true
+is_leaf kind.UpdateOperator = true
+is_leaf kind.BinaryOperator = true
+is_leaf kind.LogicalOperator = true
+is_leaf kind.AssignmentOperator = true
+is_leaf _ = false
+
+-- Trees of a kind that is no leaf are no texts, flags or numbers.
 no_text : (k : Kind) (text : List ℕ) → is_leaf k ≡ false → text_fits k text ≡ false
 no_text kind.Text text h = absurd (cc)
 no_text kind.VariableKind text h = absurd (cc)
@@ -202,7 +217,7 @@ of_sort k (Count number) leaf h = let none = no_number k number leaf in cc
 of_sort k (Listed parts) leaf h = absurd (cc)
 of_sort k Absent leaf h = absurd (cc)
 
--- a part that may be absent
+-- A part that may be absent.
 pub present_fits : (k : Kind) (t : Syntax) → is_absent t ≡ false → fits (field.Maybe k) t ≡ true → fits (field.One k) t ≡ true
 present_fits k Absent missing h = absurd (cc)
 present_fits k (Node at word parts) _ h = h

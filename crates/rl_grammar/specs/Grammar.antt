@@ -61,17 +61,3 @@ abbrev mutual
   pub every : Kind → Pieces → Bool
   every k End = true
   every k (Then part parts) = is_item part && fits (field.One k) part && every k parts
-
--- True of the kinds of texts, flags and numbers; the trees of every other kind are nodes.
-abbrev pub is_leaf : Kind → Bool
-is_leaf kind.Text = true
-is_leaf kind.Flag = true
-is_leaf kind.ScalarValue = true
-is_leaf kind.VariableKind = true
-is_leaf kind.TypeKind = true
-is_leaf kind.UnaryOperator = true
-is_leaf kind.UpdateOperator = true
-is_leaf kind.BinaryOperator = true
-is_leaf kind.LogicalOperator = true
-is_leaf kind.AssignmentOperator = true
-is_leaf _ = false

@@ -128,9 +128,9 @@ pub enum Kind {
 /// A field of a node: the parts that may stand at one place.
 #[derive(Clone, Copy, Debug, PartialEq, Eq)]
 pub enum Field {
-    /// One part of the kind.
+    /// A part of the kind.
     One(Kind),
-    /// One part of the kind, or `-`.
+    /// A part of the kind, or `-`.
     Maybe(Kind),
     /// A list of parts of the kind.
     Many(Kind),

@@ -1,7 +1,7 @@
 //! Parts of trees that fit the grammar, by their fields.
 
 ghost use Rattle.std.specs.Prelude.{◌≡◌, true, Some, [], ◌∷◌, map};
-ghost use Rattle.rl_syntax.specs.Forms.{is_one, is_two, is_three, is_four, is_six, is_list};
+ghost use Rattle.rl_syntax.specs.Shapes.{is_one, is_two, is_three, is_four, is_six, is_list};
 ghost use Rattle.rl_syntax.specs.Syntax.{Absent, Count, End, Listed, Said, Then, pieces_of, syntax};
 ghost use Rattle.rl_grammar.specs.Fields.{maybe, writes};
 ghost use Rattle.rl_grammar.specs.Grammar.{fits, each, every};

@@ -1,6 +1,6 @@
 -- The parts of covered trees that fit the grammar: names, parameters, and the node of a function's parameters.
 use Rattle.std.proofs.Common.{◌≡◌, ℕ, true, true≢false, List, [], ◌∷◌, map, Some, refl, sym, ap, ◌∙◌, subst}
-use Rattle.rl_syntax.specs.Forms.{is_two}
+use Rattle.rl_syntax.specs.Shapes.{is_two}
 use Rattle.rl_grammar.specs.Grammar.{fits, each, every}
 use Rattle.rl_grammar.specs.declared.kind.Field.TheVariants as field
 use Rattle.rl_grammar.specs.declared.kind.Kind.TheVariants as kind

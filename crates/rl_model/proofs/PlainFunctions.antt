@@ -1,7 +1,7 @@
 -- Covered functions are plain: no node inside one makes a scope, and only its parameters declare names.
 use Rattle.std.proofs.Common.{◌≡◌, Bool, true, false, ◌&&◌, Option, Some, None, List, [], ◌∷◌, refl, sym, subst}
 use Rattle.std.proofs.lemmas.Bool.{and_parts}
-use Rattle.rl_syntax.specs.Forms.{is_four, is_six}
+use Rattle.rl_syntax.specs.Shapes.{is_four, is_six}
 use Rattle.rl_syntax.specs.Syntax.{Syntax, Node, Listed, Said, Count, Flag, Absent, Pieces, End, Then}
 use Rattle.rl_syntax.specs.declared.numbered.At.{At}
 use Rattle.rl_syntax.specs.declared.word.Word.{Word}
@@ -13,7 +13,7 @@ use Rattle.rl_grammar.specs.declared.kind.Field.TheVariants as field
 use Rattle.rl_grammar.specs.declared.kind.Kind.{Kind}
 use Rattle.rl_grammar.specs.declared.kind.Kind.TheVariants as kind
 use Rattle.rl_grammar.proofs.Viewing.{arity_four, arity_six, first_fits, four_fit, rest_fit, six_fit}
-use Rattle.rl_ast.specs.Marked.{is_function}
+use Rattle.rl_ast.specs.FunctionTrees.{is_function}
 use Rattle.rl_bindings.specs.Roles.{role_of}
 use Rattle.rl_names.specs.Plain.{is_plain, IsPlain, ArePlain, ArePlainParameters, HasPlainParameters, IsPlainFunction}
 use Rattle.rl_model.specs.Covered.{AreCovered, IsCovered, IsCoveredFunction, covers}

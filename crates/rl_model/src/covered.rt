@@ -7,7 +7,7 @@ ghost use Rattle.rl_ast.specs.Marked.{first};
 ghost use Rattle.rl_ast.specs.Marked.{first as first_item};
 ghost use Rattle.rl_grammar.specs.Fields.{maybe};
 ghost use Rattle.rl_model.specs.Covered as spec;
-ghost use Rattle.rl_syntax.specs.Forms.{is_flag};
+ghost use Rattle.rl_syntax.specs.Shapes.{is_flag};
 ghost use Rattle.rl_syntax.specs.Syntax.{Flag, IsPlaced, pieces_of, syntax};
 ghost use Rattle.rl_syntax.specs.declared.numbered.Position.{Position};
 

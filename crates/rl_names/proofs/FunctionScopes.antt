@@ -11,7 +11,8 @@ use Rattle.rl_bindings.specs.declared.names.Name.{Name}
 use Rattle.rl_bindings.specs.declared.role.Above.{Above}
 use Rattle.rl_bindings.specs.declared.role.Role.{Role}
 use Rattle.rl_bindings.specs.declared.role.Role.TheVariants as role
-use Rattle.rl_syntax.specs.Syntax.{Syntax, Node, Listed, Said, Count, Flag, Absent, Pieces, End, Then, scopes, scopes_of, one_if, inside, next_byte, behind, IsPlaced, ArePlaced}
+use Rattle.rl_syntax.specs.Syntax.{Syntax, Node, Listed, Said, Count, Flag, Absent, Pieces, End, Then, scopes, one_if, inside, next_byte, behind, IsPlaced, ArePlaced}
+use Rattle.rl_syntax.specs.Tallies.{scopes_of}
 use Rattle.rl_syntax.specs.Words.{makes_scope}
 use Rattle.rl_syntax.specs.declared.numbered.At.{At}
 use Rattle.rl_syntax.specs.declared.numbered.Position.{Position}

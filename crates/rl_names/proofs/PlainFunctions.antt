@@ -1,7 +1,7 @@
 -- The declarations of a plain function: those of its parameters, and its name, which binds around it.
 use Rattle.std.proofs.Common.{◌≡◌, ℕ, zero, true, List, [], ◌∷◌, ◌++◌, refl, sym, subst, arith}
 use Rattle.std.specs.List.{AllByRecursion}
-use Rattle.rl_ast.specs.Marked.{is_function}
+use Rattle.rl_ast.specs.FunctionTrees.{is_function}
 use Rattle.rl_bindings.specs.Events.{bound_of}
 use Rattle.rl_bindings.specs.Names.{texts, texts_of}
 use Rattle.rl_bindings.specs.Roles.{outside}
@@ -12,7 +12,8 @@ use Rattle.rl_bindings.specs.declared.event.Place.{Place}
 use Rattle.rl_bindings.specs.declared.event.Place.TheVariants as place
 use Rattle.rl_bindings.specs.declared.names.Name.{Name}
 use Rattle.rl_bindings.specs.declared.role.Above.{Above}
-use Rattle.rl_syntax.specs.Syntax.{Syntax, Node, Listed, Said, Pieces, End, Then, scopes, scopes_of}
+use Rattle.rl_syntax.specs.Syntax.{Syntax, Node, Listed, Said, Pieces, End, Then, scopes}
+use Rattle.rl_syntax.specs.Tallies.{scopes_of}
 use Rattle.rl_syntax.specs.Words.{makes_scope}
 use Rattle.rl_syntax.specs.declared.numbered.At.{At}
 use Rattle.rl_syntax.specs.declared.word.Word.{Word}

@@ -7,7 +7,8 @@ use Rattle.rl_bindings.specs.Tables.{scopes_in}
 use Rattle.rl_bindings.specs.declared.event.ScopeEntry.{ScopeEntry}
 use Rattle.rl_bindings.proofs.Numbered.{scopes_listed}
 use Rattle.rl_syntax.specs.Nodes.{entries_under, entries_among, entries}
-use Rattle.rl_syntax.specs.Syntax.{Syntax, Node, Listed, Said, Count, Flag, Absent, Pieces, End, Then, nodes, nodes_of, scopes, scopes_of, one_if, inside, next_byte, behind, outset, IsPlaced, ArePlaced}
+use Rattle.rl_syntax.specs.Syntax.{Syntax, Node, Listed, Said, Count, Flag, Absent, Pieces, End, Then, nodes, nodes_of, scopes, one_if, inside, next_byte, behind, outset, IsPlaced, ArePlaced}
+use Rattle.rl_syntax.specs.Tallies.{scopes_of}
 use Rattle.rl_syntax.specs.Words.{makes_scope}
 use Rattle.rl_syntax.specs.declared.nodes.NodeEntry.{NodeEntry}
 use Rattle.rl_syntax.specs.declared.numbered.At.{At}

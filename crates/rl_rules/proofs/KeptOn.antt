@@ -1,4 +1,4 @@
--- What a walk knows of the rules B1 and B6 to B9, from node to node.
+-- The state of a walk that tests the rules B1 and B6 to B9, from node to node.
 use Rattle.std.proofs.Common.{◌≡◌, ◌++◌, [], Bool, ◌&&◌, List, Option, Some, None, true, false, refl, sym, ap, ◌∙◌}
 use Rattle.rl_syntax.specs.Syntax.{Syntax}
 use Rattle.rl_rules.specs.Finding.{found_behind, found_if}

@@ -28,13 +28,13 @@ node_passes = both_pass link_fits (both_pass variables_fit (both_pass node_stand
 abbrev pub part_below : Context → Word → (index : ℕ) → Context
 part_below = both_below spine_below (both_below head_below (both_below place_below nothing_below))
 
--- What a walk knows behind more nodes: nothing if a rule is broken by then, else if the marked function is found by then. `passed`
--- says that the nodes pass the test of each rule, and `bodies` are those of their marked functions.
+-- The state of a walk behind further nodes: `None` if a rule is broken by then, else true if the marked function is found by
+-- then. `passed` says that the nodes pass the test of each rule, and `bodies` are those of their marked functions.
 abbrev pub followed : (kept : Option Bool) → (passed : Bool) → (bodies : List Bool) → Option Bool
 followed None passed bodies = None
 followed (Some found) passed bodies = found_if passed (found_behind found bodies)
 
--- What a walk knows at its end says that the rules are kept.
+-- The state of a walk at its end says that the rules are kept.
 abbrev pub is_kept : (kept : Option Bool) → Bool
 is_kept None = false
 is_kept (Some found) = found

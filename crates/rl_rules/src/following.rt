@@ -36,8 +36,8 @@ pub fn part_below(above: Context, word: Word, index: usize) -> Context
     AllForms::below(above, word, index)
 }
 
-/// What a walk knows behind a node, if it knows `kept` before it: `None` if one of the rules is broken by then, else true if the
-/// marked function is found by then.
+/// The state of a walk behind a node, if it is `kept` before the node: `None` if one of the rules is broken by then, else true if
+/// the marked function is found by then.
 #[inline(always)]
 pub fn test_node(kept: Option<bool>, above: Context, word: Word, parts: &[Numbered]) -> Option<bool>
     ensures { result ≡ spec.followed kept (spec.node_passes above word (pieces_of (map syntax parts.now))) (body_of word (pieces_of (map syntax parts.now))) }

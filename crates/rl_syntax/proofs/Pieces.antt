@@ -8,12 +8,13 @@ use Rattle.rl_text.specs.Places.{Begins, GoesOn, IsBracket}
 use Rattle.rl_text.proofs.Runs.{heads}
 use Rattle.rl_text.proofs.Spellings.{spellings-apart}
 use Rattle.rl_text.proofs.Worded.{bracket-no_space, no_digit-on, ends-from_no_digit}
-use Rattle.rl_syntax.specs.Syntax.{Syntax, Pieces, End, Then, pieces_of, syntax, plain, plain_parts, width, nodes_of, scopes_of, references_of, part_count, is_item, is_shaped, are_items, are_shaped, next_byte, behind, IsPlaced, ArePlaced}
+use Rattle.rl_syntax.specs.Syntax.{Syntax, Pieces, End, Then, pieces_of, syntax, plain, plain_parts, width, nodes_of, part_count, is_item, is_shaped, are_items, are_shaped, next_byte, behind, IsPlaced, ArePlaced}
+use Rattle.rl_syntax.specs.Tallies.{scopes_of, references_of}
 use Rattle.rl_syntax.specs.Reads.{IsLow, IsRead, behind_all, AddsRead, NoneAdds, may_stand, may_hold, are_parts}
 use Rattle.rl_syntax.specs.declared.numbered.Position.{Position}
 use Rattle.rl_syntax.specs.declared.numbered.Numbered.{Numbered}
 
--- One more piece behind others.
+-- A further piece behind others.
 count_behind : (ss : List Syntax) (s : Syntax) → part_count (pieces_of (ss ++ s ∷ [])) ≡ part_count (pieces_of ss) + 1
 count_behind [] s = refl
 count_behind (first ∷ ss) s = ap (λ n. n + 1) (count_behind ss s)
@@ -139,7 +140,7 @@ module _ (close depth : ℕ) (bytes : List ℕ) where
       (f.more, ap part_count f.is, record { shaped = f.shaped_more; there = record { writable = f.writable; low = f.low; spelled = same.1 } })
 
   module _ (at place : ℕ) (ss : List Syntax) (bracket : IsBracket close) (reads : ReadsPieces at place ss) where
-    -- One more piece was read, behind a space.
+    -- A further piece was read, behind a space.
     pieces-more : (s : Syntax) (after : ℕ) → drop place bytes ≡ 32 ∷ drop (place + 1) bytes → may_stand (close == 93) s ≡ true → is_shaped s ≡ true → Begins depth (plain s) (drop (place + 1) bytes) (drop after bytes) → ReadsPieces at after (ss ++ s ∷ [])
     pieces-more s after space allowed shaped stands = record {
       whole = λ p rest c. subst (λ q. Continues close depth q (drop at bytes) rest) (sym (before-more ss s p))

@@ -1,6 +1,7 @@
 -- The entry of each word in the table, by computation; no two words have one spelling.
 use Rattle.std.proofs.Common.{◌≡◌, ℕ, List, Option, Some, None, get_or, sym, ap, ◌∙◌, refl}
-use Rattle.rl_syntax.specs.Words.{word_text, word_index}
+use Rattle.rl_syntax.specs.Words.{word_text}
+use Rattle.rl_syntax.specs.WordIndex.{word_index}
 use Rattle.rl_syntax.specs.declared.word.Word.{Word}
 use Rattle.rl_syntax.specs.declared.word.Word.TheVariants as word
 use Rattle.rl_syntax.specs.declared.word_table.TheConstants.{TABLE}

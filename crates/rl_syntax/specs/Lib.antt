@@ -2,6 +2,9 @@ pub mod Forms
 pub mod Limits
 pub mod Nodes
 pub mod Reads
+pub mod Shapes
 pub mod Sizes
 pub mod Syntax
+pub mod Tallies
+pub mod WordIndex
 pub mod Words

@@ -28,7 +28,7 @@ abbrev pub pieces_of : List Syntax → Pieces
 pieces_of [] = End
 pieces_of (piece ∷ pieces) = Then piece (pieces_of pieces)
 
--- One layer of `syntax`.
+-- A layer of `syntax`.
 abbrev pub layer : numbered.Numbered-F Syntax → Syntax
 layer (numbered.Node at word parts) = Node at word (pieces_of parts)
 layer (numbered.List parts) = Listed (pieces_of parts)
@@ -107,17 +107,9 @@ abbrev mutual
 abbrev pub scopes : Syntax → ℕ
 scopes tree = tally makes_scope tree
 
--- As `scopes`, for parts.
-abbrev pub scopes_of : Pieces → ℕ
-scopes_of pieces = tally_of makes_scope pieces
-
 -- The number of a tree's nodes that are references.
 abbrev pub references : Syntax → ℕ
 references tree = tally is_reference tree
-
--- As `references`, for parts.
-abbrev pub references_of : Pieces → ℕ
-references_of pieces = tally_of is_reference pieces
 
 -- The position before a unit's text.
 abbrev pub outset : Position

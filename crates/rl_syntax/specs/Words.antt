@@ -1,7 +1,6 @@
 -- The spelling of the words of nodes, and the words of the nodes that make a scope.
 -- Written by tools/syntax.py from tools/grammar.txt.
-use Rattle.std.specs.Prelude.{ℕ, ◌+◌, ◌-◌, ◌*◌, ◌/◌, ◌%◌, Bool, true, false, List, length, get_or, codes}
-use Rattle.rl_syntax.specs.declared.word.TheConstants.{ENTRIES, LAST, MIDDLE, LENGTH}
+use Rattle.std.specs.Prelude.{ℕ, Bool, true, false, List, codes}
 use Rattle.rl_syntax.specs.declared.word.Word.{Word}
 use Rattle.rl_syntax.specs.declared.word.Word.TheVariants as word
 
@@ -124,10 +123,6 @@ word_text word.Attrns = codes "attrns"
 word_text word.Container = codes "container"
 word_text word.Text = codes "text"
 word_text word.Spreadchild = codes "spreadchild"
-
--- A hash of a text, different for any two words.
-abbrev pub word_index : List ℕ → ℕ
-word_index text = (get_or text 0 0 + LAST * get_or text (length text - 1) 0 + MIDDLE * get_or text (length text / 2) 0 + LENGTH * (length text % 32)) % ENTRIES
 
 -- True of the words of the nodes that make a scope.
 abbrev pub makes_scope : Word → Bool

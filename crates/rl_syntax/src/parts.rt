@@ -2,6 +2,7 @@
 
 ghost use Rattle.std.specs.Prelude.{◌≡◌, true, false, map, MatchOption};
 ghost use Rattle.rl_syntax.specs.Forms as forms;
+ghost use Rattle.rl_syntax.specs.Shapes as shapes;
 ghost use Rattle.rl_syntax.specs.Syntax.{Node, Listed, Said, Count, Flag, End, Then, pieces_of, syntax, is_item};
 
 use crate::numbered::{At, Numbered};
@@ -41,7 +42,7 @@ pub fn is_absent(tree: &Numbered) -> bool
 /// The items of a list. `None` at any other tree.
 #[tactic(auto, using(crate::proofs::Layers::by_layer))]
 pub fn as_items(tree: &Numbered) -> Option<&[Numbered]>
-    ensures { MatchOption result (forms.is_list (syntax tree.now) ≡ false) (λ items. syntax tree.now ≡ Listed (pieces_of (map syntax items.now))) }
+    ensures { MatchOption result (shapes.is_list (syntax tree.now) ≡ false) (λ items. syntax tree.now ≡ Listed (pieces_of (map syntax items.now))) }
 {
     match tree {
         Numbered::List(items) => Some(items.as_slice()),
@@ -56,7 +57,7 @@ pub fn as_items(tree: &Numbered) -> Option<&[Numbered]>
 /// The ids and span, the word and the parts of a node.
 #[tactic(auto, using(crate::proofs::Layers::by_layer))]
 pub fn node_of(tree: &Numbered) -> (At, Word, &[Numbered])
-    requires { forms.is_node (syntax tree.now) ≡ true }
+    requires { shapes.is_node (syntax tree.now) ≡ true }
     ensures { syntax tree.now ≡ Node result.0 result.1 (pieces_of (map syntax result.2.now)) }
 {
     match tree {
@@ -72,7 +73,7 @@ pub fn node_of(tree: &Numbered) -> (At, Word, &[Numbered])
 /// The value of a text.
 #[tactic(auto, using(crate::proofs::Layers::by_layer))]
 pub fn text_of(tree: &Numbered) -> &Text
-    requires { forms.is_text (syntax tree.now) ≡ true }
+    requires { shapes.is_text (syntax tree.now) ≡ true }
     ensures { syntax tree.now ≡ Said result.now }
 {
     match tree {
@@ -88,7 +89,7 @@ pub fn text_of(tree: &Numbered) -> &Text
 /// The value of a number.
 #[tactic(auto, using(crate::proofs::Layers::by_layer))]
 pub fn number_of(tree: &Numbered) -> u64
-    requires { forms.is_number (syntax tree.now) ≡ true }
+    requires { shapes.is_number (syntax tree.now) ≡ true }
     ensures { syntax tree.now ≡ Count result }
 {
     match tree {
@@ -104,7 +105,7 @@ pub fn number_of(tree: &Numbered) -> u64
 /// The value of a flag: true of `y`.
 #[tactic(auto, using(crate::proofs::Layers::by_layer))]
 pub fn flag_of(tree: &Numbered) -> bool
-    requires { forms.is_flag (syntax tree.now) ≡ true }
+    requires { shapes.is_flag (syntax tree.now) ≡ true }
     ensures { syntax tree.now ≡ Flag result }
 {
     match tree {
@@ -120,7 +121,7 @@ pub fn flag_of(tree: &Numbered) -> bool
 /// The value of a number. `None` at any other tree.
 #[tactic(auto, using(crate::proofs::Layers::by_layer))]
 pub fn as_number(tree: &Numbered) -> Option<u64>
-    ensures { MatchOption result (forms.is_number (syntax tree.now) ≡ false) (λ number. syntax tree.now ≡ Count number) }
+    ensures { MatchOption result (shapes.is_number (syntax tree.now) ≡ false) (λ number. syntax tree.now ≡ Count number) }
 {
     match tree {
         Numbered::Number(number) => Some(*number),

@@ -1,7 +1,8 @@
 //! Words of nodes. Written by tools/syntax.py from tools/grammar.txt.
 
 ghost use Rattle.std.specs.Prelude.{◌≡◌, ◌<◌, MatchOption};
-ghost use Rattle.rl_syntax.specs.Words.{word_text, word_index, makes_scope};
+ghost use Rattle.rl_syntax.specs.Words.{word_text, makes_scope};
+ghost use Rattle.rl_syntax.specs.WordIndex.{word_index};
 
 use crate::word_table::TABLE;
 
