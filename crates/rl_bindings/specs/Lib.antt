@@ -1,5 +1,6 @@
 pub mod Names
 pub mod Roles
+pub mod DeclarationNames
 pub mod Events
 pub mod Walks
 pub mod Quiet

@@ -21,7 +21,8 @@ abbrev pub write_all : List Entry → (env : List (Option ℕ)) → List (Option
 write_all [] env = env
 write_all (e ∷ es) env = write_all es (slice_set env e.name e.symbol)
 
--- What `write_all` overwrites: an entry for each of those that are written, with the symbol that the list has at its name just before.
+-- The entries that `write_all` overwrites: one for each that is written, with the symbol that the list has at its name just
+-- before.
 abbrev pub overwritten : List Entry → (env : List (Option ℕ)) → List Entry
 overwritten [] env = []
 overwritten (e ∷ es) env = record { name = e.name; symbol = look env e.name } ∷ overwritten es (slice_set env e.name e.symbol)

@@ -1,5 +1,4 @@
 -- Kinds of symbols, by their first declaration.
-use Rattle.std.specs.Prelude.{ℕ, List, codes}
 use Rattle.rl_bindings.specs.declared.event.BindKind.{BindKind}
 use Rattle.rl_bindings.specs.declared.event.BindKind.TheVariants as kind
 use Rattle.rl_bindings.specs.declared.symbol_kind.BindingKind.{BindingKind}
@@ -44,21 +43,3 @@ decl_kind kind.TypeAlias = declaration.TSTypeAliasDeclaration
 decl_kind kind.Enum = declaration.TSEnumDeclaration
 decl_kind kind.Namespace = declaration.TSModuleDeclaration
 decl_kind kind.Interface = declaration.Unknown
-
--- The name of a kind of declaration: that of its variant.
-abbrev pub decl_name : DeclKind → List ℕ
-decl_name declaration.BindingIdentifier = codes "BindingIdentifier"
-decl_name declaration.VariableDeclarator = codes "VariableDeclarator"
-decl_name declaration.FunctionDeclaration = codes "FunctionDeclaration"
-decl_name declaration.FunctionExpression = codes "FunctionExpression"
-decl_name declaration.ClassDeclaration = codes "ClassDeclaration"
-decl_name declaration.ClassExpression = codes "ClassExpression"
-decl_name declaration.FormalParameter = codes "FormalParameter"
-decl_name declaration.ImportSpecifier = codes "ImportSpecifier"
-decl_name declaration.ImportDefaultSpecifier = codes "ImportDefaultSpecifier"
-decl_name declaration.ImportNamespaceSpecifier = codes "ImportNamespaceSpecifier"
-decl_name declaration.CatchClause = codes "CatchClause"
-decl_name declaration.TSTypeAliasDeclaration = codes "TSTypeAliasDeclaration"
-decl_name declaration.TSEnumDeclaration = codes "TSEnumDeclaration"
-decl_name declaration.TSModuleDeclaration = codes "TSModuleDeclaration"
-decl_name declaration.Unknown = codes "Unknown"

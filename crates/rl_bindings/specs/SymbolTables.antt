@@ -28,8 +28,8 @@ key_place count key = if nat_eq count 0 then 0 else (key.0 % 4294967296 + key.1 
 abbrev pub number_by : (symbols : List Bound) → ℕ × ℕ × Bool → Option ℕ
 number_by symbols key = number_at key.2 key.1 key.0 symbols
 
--- The slots and the map are the index of `symbols`, no two of which have one key. The map has the keys that share their place with
--- others.
+-- The slots and the map are the index of `symbols`, no two of which have one key. The map has the keys that share their place
+-- with others.
 pub record IsTable (slots : List Slot) (numbers : BTreeMap (ℕ × ℕ × Bool) ℕ) (symbols : List Bound) : Type 0 where
   pub slotted : IsSlotted same_key (key_place (length slots)) slots (map key_of symbols) (get key_cmp numbers) (number_by symbols)
   pub unique : (k : ℕ) (b : Bound) → slice_get symbols k ≡ Some b → number_at (is_own b.kind) b.scope.0 b.name symbols ≡ Some k

@@ -1,6 +1,7 @@
 //! Kinds of symbols, by their first declaration.
 
 ghost use Rattle.std.specs.Prelude.{◌≡◌};
+ghost use Rattle.rl_bindings.specs.DeclarationNames.{decl_name};
 ghost use Rattle.rl_bindings.specs.SymbolKinds as kinds;
 
 use crate::event::BindKind;
@@ -114,7 +115,7 @@ impl BindKind {
 impl DeclKind {
     /// The name of the kind, which is the variant's own name: `as_str` of the original.
     pub fn as_str(self) -> &'static str
-        ensures { result.now ≡ kinds.decl_name self }
+        ensures { result.now ≡ decl_name self }
     {
         match self {
             DeclKind::BindingIdentifier => "BindingIdentifier",

@@ -1,7 +1,8 @@
 -- The bindings that a tree's imports make, by the tree's form, behind those that were found before.
 use Rattle.std.proofs.Common.{◌≡◌, ℕ, Bool, true, false, ◌||◌, true≢false, Option, Some, None, List, [], ◌∷◌, ◌++◌, map, append-nil, append_assoc, ap, refl, sym, ◌∙◌}
 use Rattle.rl_base.specs.declared.ids.NodeId.{NodeId}
-use Rattle.rl_semantic.specs.Imports.{binding_of, kind_of, specifier, import_of, imports_in, imports_among, is_import, has_import}
+use Rattle.rl_semantic.specs.Imports.{binding_of, kind_of, specifier, import_of, imports_in, imports_among}
+use Rattle.rl_semantic.specs.ImportNodes.{is_import, has_import}
 use Rattle.rl_semantic.specs.Items.{of_item}
 use Rattle.rl_semantic.specs.declared.imports.ImportBindingData.{ImportBindingData}
 use Rattle.rl_syntax.specs.Nodes.{entries_under, entries_among, entries}

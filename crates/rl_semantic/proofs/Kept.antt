@@ -1,4 +1,4 @@
--- Where B1 and B6 to B9 are kept, the least rule that is broken is one on names.
+-- The least rule that is broken is one on names, if B1 and B6 to B9 are kept.
 use Rattle.std.proofs.Common.{◌≡◌, ℕ, Bool, ◌&&◌, Option, Some, None, true, false, refl}
 use Rattle.rl_semantic.specs.Rules.{least, least_form}
 

@@ -1,5 +1,5 @@
 -- The bindings that the imports of a unit make: of which module, and of which of its exports.
-use Rattle.std.specs.Prelude.{ℕ, Bool, true, false, ◌||◌, Option, Some, None, option_map, List, [], ◌∷◌, ◌++◌}
+use Rattle.std.specs.Prelude.{ℕ, Option, Some, None, option_map, List, [], ◌∷◌, ◌++◌}
 use Rattle.rl_base.specs.declared.ids.NodeId.{NodeId}
 use Rattle.rl_rules.specs.Pieces.{first_items, behind}
 use Rattle.rl_semantic.specs.Items.{of_item}
@@ -8,7 +8,6 @@ use Rattle.rl_semantic.specs.declared.imports.ImportBindingKind.{ImportBindingKi
 use Rattle.rl_semantic.specs.declared.imports.ImportBindingKind.TheVariants as import
 use Rattle.rl_semantic.specs.declared.imports.ImportEntry.{ImportEntry}
 use Rattle.rl_syntax.specs.Syntax.{Syntax, Node, Listed, Said, Count, Flag, Absent, Pieces, End, Then}
-use Rattle.rl_syntax.specs.declared.nodes.NodeEntry.{NodeEntry}
 use Rattle.rl_syntax.specs.declared.word.Word.{Word}
 use Rattle.rl_syntax.specs.declared.word.Word.TheVariants as word
 
@@ -72,16 +71,6 @@ abbrev mutual
   pub imports_among : Pieces → List (ℕ × ImportBindingData)
   imports_among End = []
   imports_among (Then piece pieces) = imports_in piece ++ imports_among pieces
-
--- True of the word of imports.
-abbrev pub is_import : Word → Bool
-is_import word.Import = true
-is_import _ = false
-
--- True if an import is among nodes.
-abbrev pub has_import : List NodeEntry → Bool
-has_import [] = false
-has_import (e ∷ es) = is_import e.word || has_import es
 
 -- The data of an entry.
 abbrev pub data_of : ImportEntry → ImportBindingData

@@ -1,5 +1,6 @@
 pub mod Rules
 pub mod Items
+pub mod ImportNodes
 pub mod Imports
 pub mod Functions
 pub mod Buckets

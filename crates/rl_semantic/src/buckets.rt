@@ -59,8 +59,8 @@ fn keys_used<T: Copy>(count: usize, pairs: &[(usize, T)]) -> usize
     most
 }
 
-/// The table that has for each key below `count` the items of that key. It takes memory for the keys up to the largest of the pairs
-/// alone. On `OutOfMemory`, an allocation failed.
+/// The table that has for each key below `count` the items of that key. It takes memory for the keys up to the largest of the
+/// pairs alone. On `OutOfMemory`, an allocation failed.
 #[tactic(auto, using(crate::proofs::Filling::are_buckets))]
 pub fn buckets<T: Copy>(
     alloc: Global,
@@ -121,8 +121,8 @@ fn firsts_tabled<T: Copy>(
     Ok(List::from_vec(table))
 }
 
-/// The table that has for each key below `count` the first item of that key. It takes memory for the keys up to the largest of the
-/// pairs alone, and no more for the items. On `OutOfMemory`, an allocation failed.
+/// The table that has for each key below `count` the first item of that key. It takes memory for the keys up to the largest of
+/// the pairs alone, and no more for the items. On `OutOfMemory`, an allocation failed.
 #[tactic(auto, using(crate::proofs::Filling::are_firsts))]
 pub fn firsts<T: Copy>(
     alloc: Global,

@@ -2,6 +2,7 @@
 
 ghost use Rattle.std.specs.Prelude.{◌≡◌, ◌++◌, map, option_map, IfOk, OnOk};
 ghost use Rattle.rl_semantic.specs.Imports as spec;
+ghost use Rattle.rl_semantic.specs.ImportNodes as import_nodes;
 ghost use Rattle.rl_syntax.specs.Syntax.{pieces_of, syntax};
 
 use rl_ast::unit::Unit;
@@ -268,7 +269,7 @@ fn push_among<'u>(
 
 /// True of the word of imports.
 fn is_import(word: Word) -> bool
-    ensures { result ≡ spec.is_import word }
+    ensures { result ≡ import_nodes.is_import word }
 {
     match word {
         Word::Import => true,
@@ -278,7 +279,7 @@ fn is_import(word: Word) -> bool
 
 /// True if an import is among nodes.
 fn has_import(nodes: &[NodeEntry]) -> bool
-    ensures { result ≡ spec.has_import nodes.now }
+    ensures { result ≡ import_nodes.has_import nodes.now }
 {
     for entry in nodes {
         if is_import(entry.word) {

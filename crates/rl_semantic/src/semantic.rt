@@ -77,8 +77,8 @@ fn least(marked: bool, named: Option<u8>, formed: Option<u8>) -> Option<u8>
     }
 }
 
-/// The least of the rules B1 to B9 that a tree breaks, if `named` is the least rule on names that it breaks, and `kept` says that it
-/// keeps B1 and B6 to B9. A walk for each of these finds the least only if one is not kept.
+/// The least of the rules B1 to B9 that a tree breaks, if `named` is the least rule on names that it breaks, and `kept` says that
+/// it keeps B1 and B6 to B9. A walk for each of these finds the least only if one is not kept.
 #[tactic(auto, using(crate::proofs::Kept::all_kept))]
 fn least_broken(tree: &Numbered, named: Option<u8>, kept: bool) -> Option<u8>
     requires { kept ≡ keeps_all (syntax tree.now) }

@@ -1,5 +1,5 @@
 use Rattle.std.proofs.Common.{◌≡◌, drop}
-use Rattle.rl_semantic.specs.Imports.{has_import}
+use Rattle.rl_semantic.specs.ImportNodes.{has_import}
 use Rattle.rl_semantic.proofs.imports.has_import.Given as goal
 
 abbrev pub invariant-loop-entry : goal.invariant-loop-entry
