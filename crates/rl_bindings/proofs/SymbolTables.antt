@@ -191,7 +191,7 @@ slot_crowded slots key place at within =
     ap (slot_at (slice_set slots place slot.Many)) (ap (λ n. key_place n key) (length-set slots place slot.Many) ∙ sym at)
     ∙ slot_set_same slots place slot.Many within
 
--- One more symbol, whose key has an empty slot.
+-- A further symbol, whose key has an empty slot.
 pub pushed_empty : (slots after : List Slot) (numbers : BTreeMap (ℕ × ℕ × Bool) ℕ) (symbols added : List Bound) (b : Bound) (place last : ℕ) → IsTable slots numbers symbols → place ≡ key_place (length slots) (key_of b) → slot_at slots place ≡ slot.Empty
     → place < length slots → last ≡ length symbols → after ≡ slice_set slots place (slot.One last) → added ≡ symbols ++ b ∷ [] → IsTable after numbers added
 pushed_empty slots after numbers symbols added b place last table at is within counted set grown =
@@ -223,7 +223,7 @@ crowded slots after before more symbols place other y table one within set added
       unique = table.unique;
     }
 
--- The same symbols with the same map.
+-- A table stays one if its symbols and its map stay.
 pub table_same : (slots : List Slot) (before after : BTreeMap (ℕ × ℕ × Bool) ℕ) (symbols kept : List Bound) → IsTable slots before symbols → IsUnchanged before after → kept ≡ symbols → IsTable slots after kept
 table_same slots before after symbols kept table unchanged same =
     subst (λ (l : List Bound). IsTable slots after l) (sym same)

@@ -52,7 +52,7 @@ fn any_var(events: &[Event]) -> bool
 
 /// True if B3 is broken by the declarations among events. Names are resolved by the lexical symbols alone, and only if there are
 /// such symbols and a `var` declaration. On `OutOfMemory`, an allocation failed.
-#[tactic(auto, using(crate::proofs::Passing::none_passes))]
+#[tactic(auto, using(crate::proofs::NameRules::none_passes))]
 fn passes(alloc: Global, events: &[Event]) -> Result<bool, OutOfMemory>
     ensures { IfOk result (λ b. b ≡ list_any (is_passing (check.lexical_steps [] events.now)) (machine.resolved (check.lexical_steps [] events.now) events.now)) }
 {

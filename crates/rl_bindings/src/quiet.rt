@@ -9,8 +9,8 @@ use rl_rules::declarations::Place as Stands;
 use rl_rules::following::Context;
 use rl_syntax::word::Word;
 
-/// True of the words whose nodes make no scope, say neither the kind nor the place of a declaration in them, and are no functions,
-/// declarations, links or chains, and of no form that a rule asks for.
+/// True of the words whose nodes make no scope, say neither the kind nor the place of a declaration in them, and are no
+/// functions, declarations, links or chains, and of no form that a rule asks for.
 #[inline(always)]
 fn is_quiet_word(word: Word) -> bool
     ensures { result ≡ spec.is_quiet_word word }

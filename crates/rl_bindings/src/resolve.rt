@@ -177,7 +177,7 @@ fn count_uses(events: &[Event]) -> usize {
 
 /// The names that events use and declare, each by the symbol that it stands for, if `env` has the symbols that names stand for
 /// around the events. On `OutOfMemory`, an allocation failed.
-#[tactic(auto, using(crate::proofs::Passing::or_regroup))]
+#[tactic(auto, using(crate::proofs::NameRules::or_regroup))]
 fn run(
     alloc: Global,
     table: &SymbolTable,
@@ -192,7 +192,7 @@ fn run(
     let symbols = table.as_slice();
     let mut found = List::with_capacity(alloc, count_uses(events))?;
     let mut passing = false;
-    // What the entries of the open scopes overwrite, and where those of each begin.
+    // The entries that those of the open scopes overwrite, and the index at which those of each scope begin.
     let mut saved: Vec<Entry> = Vec::new(alloc);
     let mut starts: Vec<usize> = Vec::new(alloc);
     for event in events {

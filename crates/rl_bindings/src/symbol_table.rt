@@ -24,7 +24,7 @@ type SymbolKey = (usize, u32, bool);
 #[derive(Drop)]
 pub struct SymbolTable {
     symbols: Vec<Bound>,
-    /// What is known of the keys with one place.
+    /// For each place, the keys that have it: none, one by its number, or many.
     slots: Vec<Slot>,
     /// The numbers of the keys that share a place.
     numbers: BTreeMap<SymbolKey, usize>,
@@ -180,8 +180,8 @@ fn has_key(symbols: &[Bound], index: usize, key: SymbolKey) -> bool
     }
 }
 
-/// Gives the map the index of the symbol there, whose key it does not have. On `OutOfMemory`, an allocation failed, and nothing has
-/// changed.
+/// Gives the map the index of the symbol there, whose key it does not have. On `OutOfMemory`, an allocation failed, and nothing
+/// has changed.
 fn add_other(
     symbols: &[Bound],
     numbers: &mut BTreeMap<SymbolKey, usize>,
@@ -195,8 +195,8 @@ fn add_other(
     Ok(())
 }
 
-/// Appends the symbol of a declaration and gives its index to the map, unless the map has its key. Otherwise returns the number that
-/// the map has. On `OutOfMemory`, an allocation failed, and nothing has changed.
+/// Appends the symbol of a declaration and gives its index to the map, unless the map has its key. Otherwise returns the number
+/// that the map has. On `OutOfMemory`, an allocation failed, and nothing has changed.
 fn add_among(
     symbols: &mut Vec<Bound>,
     numbers: &mut BTreeMap<SymbolKey, usize>,

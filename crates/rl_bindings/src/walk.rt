@@ -1,5 +1,5 @@
-//! One walk over a tree: the events of its nodes in the order of the text, the names that they declare and use, and the rules that do
-//! not speak of names.
+//! A walk over a tree: the events of its nodes in the order of the text, the names that they declare and use, and the rules that
+//! do not speak of names.
 
 ghost use Rattle.std.specs.Prelude.{◌≡◌, ◌+◌, ◌^◌, ◌<◌, ◌≤◌, ◌++◌, take, drop, length, map, IfOk, OnOk};
 ghost use Rattle.rl_bindings.specs.Events.{events, trail, sign, front, back, top};
@@ -55,8 +55,9 @@ fn push_sign(
     }
 }
 
-/// Appends the event of a node before the parts that stand in its scope, and adds its name. On `OutOfMemory`, an allocation failed.
-#[tactic(auto, using(crate::proofs::Walking::by_role))]
+/// Appends the event of a node before the parts that stand in its scope, and adds its name. On `OutOfMemory`, an allocation
+/// failed.
+#[tactic(auto, using(crate::proofs::Walks::by_role))]
 fn push_front(
     alloc: Global,
     out: &mut Vec<Event>,
@@ -110,7 +111,7 @@ fn push_back(out: &mut Vec<Event>, role: Role) -> Result<(), OutOfMemory>
 }
 
 /// The parts of a node that stand before the scope that it makes, and the others.
-#[tactic(auto, using(crate::proofs::Splitting::split_past, crate::proofs::Splitting::taken_less, crate::proofs::Splitting::dropped_less))]
+#[tactic(auto, using(crate::proofs::ListParts::split_past, crate::proofs::ListParts::taken_less, crate::proofs::ListParts::dropped_less))]
 fn split_parts(word: Word, parts: &[Numbered]) -> (&[Numbered], &[Numbered])
     ensures ahead { result.0.now ≡ take (roles.parts_ahead word) parts.now }
     ensures behind { result.1.now ≡ drop (roles.parts_ahead word) parts.now }
@@ -126,8 +127,8 @@ fn split_parts(word: Word, parts: &[Numbered]) -> (&[Numbered], &[Numbered])
     }
 }
 
-/// Appends the events of a tree, by what stands above it, and adds its names. Tests its nodes by the rules B1 and B6 to B9: `kept`
-/// is what is known of these, and `context` the tree's context. On `OutOfMemory`, an allocation failed.
+/// Appends the events of a tree, by what stands above it, and adds its names. Tests its nodes by the rules B1 and B6 to B9:
+/// `kept` is what is known of these, and `context` the tree's context. On `OutOfMemory`, an allocation failed.
 #[cycle(walking)]
 #[inline(always)]
 #[tactic(auto, using(rl_syntax::proofs::Layers::by_layer))]
@@ -227,8 +228,8 @@ fn push_node(
     }
 }
 
-/// As `push_events`, for parts in a row of a node of the word `word`, whose context is `context`. The first of them is its part at
-/// the index `start`. On `OutOfMemory`, an allocation failed.
+/// As `push_events`, for parts in a row of a node of the word `word`, whose context is `context`. The first of them is its part
+/// at the index `start`. On `OutOfMemory`, an allocation failed.
 #[cycle(walking)]
 fn push_parts(
     alloc: Global,
@@ -283,15 +284,15 @@ pub struct Found {
     pub kept: bool,
 }
 
-/// Number of slots for the names of a tree with about `nodes` nodes. Names that end in numbers share fewer places among a power of
-/// two than among other numbers of slots, where the places of neighbours are often the same.
+/// Number of slots for the names of a tree with about `nodes` nodes. Names that end in numbers share fewer places among a power
+/// of two than among other numbers of slots, where the places of neighbours are often the same.
 fn slots_for(nodes: usize) -> usize {
     nodes.min(MOST_SLOTS).next_power_of_two()
 }
 
-/// The names of a unit's tree, its events, and whether it keeps the rules B1 and B6 to B9. `nodes` is about the number of nodes of
-/// the tree. On `OutOfMemory`, an allocation failed.
-#[tactic(auto, using(crate::proofs::Walking::all_named, crate::proofs::Walking::all_walked, rl_rules::proofs::KeptOn::kept_whole))]
+/// The names of a unit's tree, its events, and whether it keeps the rules B1 and B6 to B9. `nodes` is about the number of nodes
+/// of the tree. On `OutOfMemory`, an allocation failed.
+#[tactic(auto, using(crate::proofs::Walks::all_named, crate::proofs::Walks::all_walked, rl_rules::proofs::KeptOn::kept_whole))]
 pub fn walk(alloc: Global, nodes: usize, tree: &Numbered) -> Result<Found, OutOfMemory>
     ensures names { IfOk result (λ found. found.names ≡ names_in (syntax tree.now)) }
     ensures events { IfOk result (λ found. found.events.items ≡ events found.names top (syntax tree.now)) }

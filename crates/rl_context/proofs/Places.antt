@@ -2,7 +2,7 @@
 use Rattle.std.proofs.Common.{◌≡◌, ◌<◌, ℕ, zero, suc, Bool, if◌then◌else◌, nat_eq, eqb-true, length, slice_get, slice_set, Option, Some, None, List, [], ◌∷◌, ◌++◌, refl, sym, ap, ◌∙◌}
 use Rattle.std.proofs.lemmas.Bool.{eqb-false}
 use Rattle.rl_bindings.specs.Symbols.{option_or}
-use Rattle.rl_bindings.proofs.Looking.{by_test, get_set_same, get_set_other}
+use Rattle.rl_bindings.proofs.LookUps.{by_test, get_set_same, get_set_other}
 use Rattle.rl_context.specs.declared.site.IdentEntry.{IdentEntry}
 use Rattle.rl_semantic.specs.Buckets.{same, first_at}
 use Rattle.rl_semantic.specs.Items.{of_item}

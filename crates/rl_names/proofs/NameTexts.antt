@@ -9,7 +9,7 @@ use Rattle.rl_bindings.specs.Names.{number_of, add_name, add_names, named_by, te
 use Rattle.rl_bindings.specs.declared.names.Name.{Name}
 use Rattle.rl_resolver.specs.Lookups.{name_text}
 use Rattle.rl_syntax.specs.Syntax.{Syntax, Node, Listed, Said, Count, Flag, Absent, Pieces, End, Then}
-use Rattle.rl_bindings.proofs.Looking.{by_test}
+use Rattle.rl_bindings.proofs.LookUps.{by_test}
 use Rattle.rl_names.proofs.Items.{each_left, each_right}
 
 abbrev from : (first : ℕ) → List Name → (text : List ℕ) → Option ℕ

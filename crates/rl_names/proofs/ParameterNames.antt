@@ -28,7 +28,7 @@ use Rattle.rl_names.specs.Locals.{IsApart, AreApart, AreDeclared}
 use Rattle.rl_names.proofs.NameTexts.{IsKnown, numbered_text}
 use Rattle.rl_names.proofs.PlainFunctions.{param_above, param_bounds}
 use Rattle.rl_names.proofs.SymbolNumbers.{HasSymbol, number_of_bound}
-use Rattle.rl_bindings.proofs.Looking.{by_test}
+use Rattle.rl_bindings.proofs.LookUps.{by_test}
 use Rattle.rl_names.proofs.Items.{Has, has_left, has_right, each_right, each_weaker}
 
 none_passes : (test : Bound → Bool) (bs : List Bound) (b : Bound) → list_any test bs ≡ false → Has bs b → test b ≡ false

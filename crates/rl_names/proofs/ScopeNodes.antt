@@ -5,7 +5,7 @@ use Rattle.rl_base.specs.declared.ids.NodeId.{NodeId}
 use Rattle.rl_ast.proofs.MarkedFunctions.{Inside, InsideOf, StandsIn, inside_placed}
 use Rattle.rl_bindings.specs.Tables.{scopes_in}
 use Rattle.rl_bindings.specs.declared.event.ScopeEntry.{ScopeEntry}
-use Rattle.rl_bindings.proofs.Numbered.{scopes_listed}
+use Rattle.rl_bindings.proofs.TableIds.{scopes_listed}
 use Rattle.rl_syntax.specs.Nodes.{entries_under, entries_among, entries}
 use Rattle.rl_syntax.specs.Syntax.{Syntax, Node, Listed, Said, Count, Flag, Absent, Pieces, End, Then, nodes, nodes_of, scopes, one_if, inside, next_byte, behind, outset, IsPlaced, ArePlaced}
 use Rattle.rl_syntax.specs.Tallies.{scopes_of}
@@ -16,7 +16,7 @@ use Rattle.rl_syntax.specs.declared.numbered.Position.{Position}
 use Rattle.rl_syntax.specs.declared.word.Word.{Word}
 use Rattle.rl_syntax.proofs.Numbers.{scopes_numbered}
 use Rattle.rl_names.specs.Names.{is_inside, is_scope_inside}
-use Rattle.rl_bindings.proofs.Looking.{by_test}
+use Rattle.rl_bindings.proofs.LookUps.{by_test}
 use Rattle.rl_bindings.proofs.SymbolTables.{both_left, both_right}
 use Rattle.rl_names.proofs.Items.{each-append}
 

@@ -11,7 +11,7 @@ use Rattle.rl_semantic.specs.Buckets.{those}
 use Rattle.rl_resolver.specs.Listed.{declaration_pair, of_first}
 use Rattle.rl_resolver.specs.Lookups.{symbol_id}
 use Rattle.rl_names.proofs.Declarations.{Ascends, ascends_end}
-use Rattle.rl_bindings.proofs.Looking.{by_test}
+use Rattle.rl_bindings.proofs.LookUps.{by_test}
 use Rattle.rl_names.proofs.Items.{Has, has_cases, has_item}
 
 -- An item with which a list ends, or one before it.

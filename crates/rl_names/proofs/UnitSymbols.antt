@@ -12,7 +12,7 @@ use Rattle.rl_bindings.specs.Symbols.{bounds, binding}
 use Rattle.rl_bindings.specs.Tables.{declarations_in, declared_by, events_in, references_in, scopes_in, symbols_in}
 use Rattle.rl_bindings.specs.declared.event.Bound.{Bound}
 use Rattle.rl_bindings.specs.declared.event.ScopeEntry.{ScopeEntry}
-use Rattle.rl_bindings.proofs.Declared.{each_declared}
+use Rattle.rl_bindings.proofs.Declarations.{each_declared}
 use Rattle.rl_semantic.specs.Buckets.{those}
 use Rattle.rl_resolver.specs.Listed.{declaration_pair, of_first}
 use Rattle.rl_resolver.specs.Lookups.{is_number, symbol_id}
@@ -29,7 +29,7 @@ use Rattle.rl_names.proofs.Declarations.{Ascends, ascends_few, ascending, declar
 use Rattle.rl_names.proofs.FunctionScopes.{Splits}
 use Rattle.rl_names.proofs.ParameterNames.{IsTold}
 use Rattle.rl_names.proofs.SymbolNumbers.{ascends_within, declared_at, few_symbols, number_of_bound, symbol_of}
-use Rattle.rl_bindings.proofs.Looking.{by_test}
+use Rattle.rl_bindings.proofs.LookUps.{by_test}
 use Rattle.rl_bindings.proofs.SymbolTables.{both_right}
 use Rattle.rl_names.proofs.Items.{Has, has_cases, has_left, has_right, has_map, each_has}
 

@@ -2,7 +2,7 @@
 use Rattle.std.proofs.Common.{◌≡◌, ◌+◌, ◌<◌, ◌≤◌, arith, ℕ, zero, suc, Bool, true, false, if◌then◌else◌, nat_eq, nat_lt, eqb-true, ltb-true, ltb-false, Option, Some, None, List, [], ◌∷◌, ◌++◌, length, length-set, slice_get, replicate, append-nil, append_assoc, refl, sym, ap, subst, ◌∙◌}
 use Rattle.std.proofs.lemmas.Bool.{eqb-false, lt-ltb}
 use Rattle.rl_ast.specs.Marked.{first}
-use Rattle.rl_bindings.proofs.Looking.{get_set_same, get_set_other, by_test}
+use Rattle.rl_bindings.proofs.LookUps.{get_set_same, get_set_other, by_test}
 use Rattle.rl_semantic.specs.Items.{of_item}
 use Rattle.rl_semantic.specs.Buckets.{further, those, those_below, keys_used, itself, bucket, put, put_all, tabled, AreBuckets, same, first_at, put_at, put_first, put_firsts, firsts_tabled, AreFirsts}
 

@@ -1,7 +1,7 @@
 use Rattle.std.proofs.Common.{◌≡◌, ◌==◌, true, List, [], ◌∷◌, length, eqb-true, refl, sym, ◌∙◌, arith}
 use Rattle.rl_bindings.specs.Checks as check
 use Rattle.rl_bindings.specs.declared.event.Bound.{Bound}
-use Rattle.rl_bindings.proofs.Passing.{none_lexical}
+use Rattle.rl_bindings.proofs.NameRules.{none_lexical}
 use Rattle.rl_bindings.proofs.bindings.passes.Goals as goal
 
 empty : (l : List Bound) → (length l == 0) ≡ true → l ≡ []

@@ -1,6 +1,6 @@
 use Rattle.std.proofs.Common.{rules, ◌<◌, length, ap, sym, subst, ◌∙◌}
 use Rattle.rl_bindings.specs.Machines.{look}
-use Rattle.rl_bindings.proofs.Linking.{Follows, above, begins, link_at, link_get, follow_step, follows_down}
+use Rattle.rl_bindings.proofs.Links.{Follows, above, begins, link_at, link_get, follow_step, follows_down}
 use Rattle.rl_bindings.proofs.resolve.enter.Goals as goal
 
 pub links-init : goal.links-init

@@ -1,4 +1,4 @@
-use Rattle.rl_bindings.proofs.Linking.{Follows, above}
+use Rattle.rl_bindings.proofs.Links.{Follows, above}
 use Rattle.rl_bindings.proofs.resolve.enter.Given as goal
 
 abbrev pub invariant-links : goal.invariant-links

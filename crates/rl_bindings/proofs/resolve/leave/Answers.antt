@@ -1,6 +1,6 @@
 use Rattle.std.proofs.Common.{◌<◌, length, drop, ap, ◌∙◌, arith}
 use Rattle.rl_bindings.specs.Machines.{undo}
-use Rattle.rl_bindings.proofs.Linking.{undone_one, taken_one}
+use Rattle.rl_bindings.proofs.Links.{undone_one, taken_one}
 use Rattle.rl_bindings.proofs.resolve.leave.Goals as goal
 
 pub saved-preserved-in-Some : goal.saved-preserved-in-Some

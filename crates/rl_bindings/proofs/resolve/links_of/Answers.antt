@@ -1,5 +1,5 @@
 use Rattle.std.proofs.Common.{arith}
-use Rattle.rl_bindings.proofs.Linking.{linked_step, all_linked}
+use Rattle.rl_bindings.proofs.Links.{linked_step, all_linked}
 use Rattle.rl_bindings.proofs.resolve.links_of.Goals as goal
 
 pub symbols-preserved : goal.symbols-preserved

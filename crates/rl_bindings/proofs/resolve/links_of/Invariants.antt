@@ -1,4 +1,4 @@
-use Rattle.rl_bindings.proofs.Linking.{AreLinked}
+use Rattle.rl_bindings.proofs.Links.{AreLinked}
 use Rattle.rl_bindings.proofs.resolve.links_of.Given as goal
 
 abbrev pub invariant-symbols : goal.invariant-symbols

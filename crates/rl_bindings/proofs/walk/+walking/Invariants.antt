@@ -1,6 +1,6 @@
 use Rattle.std.proofs.Common.{◌≡◌, ◌+◌, ◌*◌, ◌≤◌, map, drop}
-use Rattle.rl_bindings.proofs.Keeping.{behind_parts, behind_items}
-use Rattle.rl_bindings.proofs.Walking.{IsLeft}
+use Rattle.rl_bindings.proofs.Following.{behind_parts, behind_items}
+use Rattle.rl_bindings.proofs.Walks.{IsLeft}
 use Rattle.rl_syntax.specs.Sizes.{size, size_of}
 use Rattle.rl_syntax.specs.Syntax.{pieces_of, syntax}
 use Rattle.rl_bindings.proofs.walk.+walking.Given as goal

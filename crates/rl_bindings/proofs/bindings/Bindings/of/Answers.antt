@@ -5,9 +5,9 @@ use Rattle.rl_bindings.specs.Machines.{resolved}
 use Rattle.rl_bindings.specs.NameRules.{is_passing}
 use Rattle.rl_bindings.specs.Standing.{references}
 use Rattle.rl_bindings.specs.Tables.{references_in, events_in, scopes_of}
-use Rattle.rl_bindings.proofs.Declared.{each_declared}
-use Rattle.rl_bindings.proofs.Within.{references_within}
-use Rattle.rl_bindings.proofs.Whole.{scopes_made, symbols_made, declarations_made, found_within, references_made, broken_made}
+use Rattle.rl_bindings.proofs.Declarations.{each_declared}
+use Rattle.rl_bindings.proofs.SymbolIndices.{references_within}
+use Rattle.rl_bindings.proofs.Tables.{scopes_made, symbols_made, declarations_made, found_within, references_made, broken_made}
 use Rattle.rl_syntax.specs.Syntax.{syntax}
 use Rattle.rl_bindings.proofs.bindings.Bindings.of.Goals as goal
 

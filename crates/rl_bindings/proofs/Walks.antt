@@ -12,8 +12,8 @@ use Rattle.rl_bindings.specs.declared.role.Above.{Above}
 use Rattle.rl_bindings.specs.declared.role.Role.{Role}
 use Rattle.rl_bindings.specs.declared.role.Role.TheVariants as role
 use Rattle.rl_bindings.specs.Quiet.{inside}
-use Rattle.rl_bindings.proofs.Passed.{IsPassed}
-use Rattle.rl_bindings.proofs.Adding.{keeps_self, keeps_further, keeps_added, add_names_append}
+use Rattle.rl_bindings.proofs.Quiet.{IsPassed}
+use Rattle.rl_bindings.proofs.Names.{keeps_self, keeps_further, keeps_added, add_names_append}
 use Rattle.rl_syntax.specs.Syntax.{Syntax, Node, Listed, Said, Count, Flag, Absent, Pieces, End, Then, pieces_of, syntax}
 use Rattle.rl_syntax.specs.declared.numbered.At.{At}
 use Rattle.rl_syntax.specs.declared.numbered.Numbered.{Numbered}
@@ -29,7 +29,7 @@ appended names before after es is = record { names = refl; events = λ later kee
 nothing : (names : List Name) (out : List Event) → Walked names names [] out out (λ later. [])
 nothing names out = appended names out out [] (sym (append-nil out))
 
--- One walk after another.
+-- A walk after another.
 walked_then : (n0 n1 n2 : List Name) (s t : List (List ℕ)) (o0 o1 o2 : List Event) (f g : List Name → List Event)
     → Walked n0 n1 s o0 o1 f → Walked n1 n2 t o1 o2 g → Walked n0 n2 (s ++ t) o0 o2 (λ later. f later ++ g later)
 walked_then n0 n1 n2 s t o0 o1 o2 f g first second = record {

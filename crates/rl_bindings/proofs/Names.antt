@@ -7,8 +7,8 @@ use Rattle.rl_base.specs.NameTables.{index_from}
 use Rattle.rl_bindings.specs.Names.{number_of, numbered, add_name, add_names}
 use Rattle.rl_bindings.specs.Walks.{KeepsNumbers, IsNumber}
 use Rattle.rl_bindings.specs.declared.names.Name.{Name}
-use Rattle.rl_bindings.proofs.Looking.{by_test}
-use Rattle.rl_bindings.proofs.Numbering.{at_head}
+use Rattle.rl_bindings.proofs.LookUps.{by_test}
+use Rattle.rl_bindings.proofs.NameNumbers.{at_head}
 
 index-kept : (first k : ℕ) (names : List Name) (x : Name) (text : List ℕ) → index_from (λ n. n.text) first names text ≡ Some k → index_from (λ n. n.text) first (names ++ x ∷ []) text ≡ Some k
 index-kept first k [] x text found = absurd (cc)

@@ -6,7 +6,7 @@ use Rattle.std.specs.Str.{bytes_eq}
 use Rattle.rl_base.specs.NameTables.{index_from}
 use Rattle.rl_bindings.specs.Names.{number_of, add_name, add_names, texts, names_in}
 use Rattle.rl_bindings.specs.declared.names.Name.{Name}
-use Rattle.rl_bindings.proofs.Looking.{by_test}
+use Rattle.rl_bindings.proofs.LookUps.{by_test}
 use Rattle.rl_syntax.specs.Syntax.{Syntax}
 
 pub at_head : (first : ℕ) (x : Name) (names : List Name) (text : List ℕ) (b : Bool) → bytes_eq x.text text ≡ b → index_from (λ n. n.text) first (x ∷ names) text ≡ (if b then Some first else index_from (λ n. n.text) (first + 1) names text)

@@ -17,11 +17,11 @@ use Rattle.rl_bindings.specs.declared.resolve.Answer.{Answer}
 use Rattle.rl_bindings.specs.declared.resolve.Reference.{Reference}
 use Rattle.rl_bindings.specs.declared.resolve.Reference.{Reference}
 use Rattle.rl_bindings.specs.declared.rules.Found.{Found}
-use Rattle.rl_bindings.proofs.Entering.{named, length-blank}
-use Rattle.rl_bindings.proofs.Looking.{look-blank}
-use Rattle.rl_bindings.proofs.Running.{runs-tree}
-use Rattle.rl_bindings.proofs.Checking.{checked, lexical_found}
-use Rattle.rl_bindings.proofs.Within.{declarations_within}
+use Rattle.rl_bindings.proofs.Entries.{named, length-blank}
+use Rattle.rl_bindings.proofs.LookUps.{look-blank}
+use Rattle.rl_bindings.proofs.Machines.{runs-tree}
+use Rattle.rl_bindings.proofs.Checks.{checked, lexical_found}
+use Rattle.rl_bindings.proofs.SymbolIndices.{declarations_within}
 use Rattle.rl_syntax.specs.Syntax.{Syntax}
 
 pub resolved_is : (names : List Name) (symbols : List Bound) (tree : Syntax) → resolved symbols (events names top tree) ≡ standing names symbols top [] tree

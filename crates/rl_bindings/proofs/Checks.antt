@@ -15,10 +15,10 @@ use Rattle.rl_bindings.specs.declared.event.Event.{Event}
 use Rattle.rl_bindings.specs.declared.event.Event.TheVariants as event
 use Rattle.rl_bindings.specs.declared.rules.Found.{Found}
 use Rattle.rl_bindings.specs.declared.rules.Marks.{Marks}
-use Rattle.rl_bindings.proofs.Entering.{some_at}
-use Rattle.rl_bindings.proofs.Looking.{by_test, get_set_same, get_set_other}
+use Rattle.rl_bindings.proofs.Entries.{some_at}
+use Rattle.rl_bindings.proofs.LookUps.{by_test, get_set_same, get_set_other}
 use Rattle.rl_bindings.proofs.SymbolTables.{at_self, at_both, number-same, number-push, position-kept}
-use Rattle.rl_bindings.proofs.Within.{number-below}
+use Rattle.rl_bindings.proofs.SymbolIndices.{number-below}
 
 or_false : (a : Bool) → (a || false) ≡ a
 or_false true = refl

@@ -5,7 +5,7 @@ use Rattle.rl_bindings.specs.Machines.{entries_at, entries_before, entry_before,
 use Rattle.rl_bindings.specs.Symbols.{same, is_own, is_at, number_at, option_or, binding}
 use Rattle.rl_bindings.specs.declared.event.Bound.{Bound}
 use Rattle.rl_bindings.specs.declared.resolve.Entry.{Entry}
-use Rattle.rl_bindings.proofs.Looking.{by_test, has, Says}
+use Rattle.rl_bindings.proofs.LookUps.{by_test, has, Says}
 
 -- Each symbol has a name below `most`.
 abbrev pub AreNamed : (most : ℕ) → List Bound → Type 0

@@ -1,4 +1,4 @@
--- What a walk knows of the rules that do not speak of names, by the tree's form.
+-- The state of a walk that tests the rules that do not speak of names, by the tree's form.
 use Rattle.std.proofs.Common.{◌≡◌, ℕ, zero, suc, ◌+◌, Bool, true, Option, List, [], ◌∷◌, length, map, take, drop, ap, sym, refl, ◌∙◌, arith}
 use Rattle.rl_rules.specs.Following.{Context, followed, node_passes, part_below}
 use Rattle.rl_rules.specs.Marks.{body_of, bodies, bodies_among}
@@ -9,7 +9,7 @@ use Rattle.rl_syntax.specs.declared.numbered.At.{At}
 use Rattle.rl_syntax.specs.declared.numbered.Numbered.{Numbered}
 use Rattle.rl_syntax.specs.declared.word.Word.{Word}
 
--- What is known behind a tree, and behind parts in a row.
+-- The states behind a tree, and behind parts in a row.
 abbrev pub behind_tree : Option Bool → Context → Syntax → Option Bool
 behind_tree kept c tree = followed kept (passes node_passes part_below c tree) (bodies tree)
 

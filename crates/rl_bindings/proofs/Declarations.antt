@@ -6,7 +6,7 @@ use Rattle.rl_bindings.specs.Symbols.{is_own, is_at, add, add_all, bounds, symbo
 use Rattle.rl_bindings.specs.Tables.{declared_by, declarations_of}
 use Rattle.rl_bindings.specs.declared.event.Bound.{Bound}
 use Rattle.rl_bindings.specs.declared.event.Event.{Event}
-use Rattle.rl_bindings.proofs.Checking.{knows-add}
+use Rattle.rl_bindings.proofs.Checks.{knows-add}
 use Rattle.rl_bindings.proofs.SymbolTables.{at_self}
 
 or_true : (a : Bool) → (a || true) ≡ true

@@ -1,4 +1,4 @@
--- What a walk passes by at a quiet node.
+-- Steps of a walk at the quiet nodes, which it passes by.
 use Rattle.std.proofs.Common.{◌≡◌, ℕ, ◌+◌, Bool, true, false, ◌&&◌, Option, List, [], map, ap, sym, refl, ◌∙◌}
 use Rattle.rl_bindings.specs.Events.{sign, back}
 use Rattle.rl_bindings.specs.Quiet.{is_quiet_word, is_open, is_quiet, is_plain, is_silent, inside}
@@ -6,7 +6,7 @@ use Rattle.rl_bindings.specs.Roles.{role_of, parts_ahead, below}
 use Rattle.rl_bindings.specs.declared.role.Above.{Above}
 use Rattle.rl_bindings.specs.declared.role.Role.{Role}
 use Rattle.rl_bindings.specs.declared.role.Role.TheVariants as role
-use Rattle.rl_bindings.proofs.Keeping.{behind_tree, behind_parts, behind_items, node_kept}
+use Rattle.rl_bindings.proofs.Following.{behind_tree, behind_parts, behind_items, node_kept}
 use Rattle.rl_rules.specs.Declarations.{other_stands}
 use Rattle.rl_rules.specs.Following.{Context, followed, node_passes, part_below, outermost}
 use Rattle.rl_rules.specs.Marks.{body_of, bodies_among}

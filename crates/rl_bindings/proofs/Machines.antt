@@ -16,8 +16,8 @@ use Rattle.rl_bindings.specs.declared.resolve.Entry.{Entry}
 use Rattle.rl_bindings.specs.declared.role.Above.{Above}
 use Rattle.rl_bindings.specs.declared.role.Role.{Role}
 use Rattle.rl_bindings.specs.declared.role.Role.TheVariants as role
-use Rattle.rl_bindings.proofs.Entering.{AreNamed, says-at, has-below, has-binding}
-use Rattle.rl_bindings.proofs.Looking.{by_test, has, length-write, look-write_not, look-write_has, undone}
+use Rattle.rl_bindings.proofs.Entries.{AreNamed, says-at, has-below, has-binding}
+use Rattle.rl_bindings.proofs.LookUps.{by_test, has, length-write, look-write_not, look-write_has, undone}
 use Rattle.rl_syntax.specs.Syntax.{Syntax, Node, Listed, Said, Count, Flag, Absent, Pieces, End, Then}
 use Rattle.rl_syntax.specs.declared.numbered.At.{At}
 use Rattle.rl_syntax.specs.declared.word.Word.{Word}

@@ -8,8 +8,8 @@ use Rattle.rl_bindings.specs.Machines.{joined, look, write_all, overwritten, und
 use Rattle.rl_bindings.specs.Symbols.{binding}
 use Rattle.rl_bindings.specs.declared.event.Bound.{Bound}
 use Rattle.rl_bindings.specs.declared.resolve.Entry.{Entry}
-use Rattle.rl_bindings.proofs.Entering.{AreScoped, scoped, length-blank}
-use Rattle.rl_bindings.proofs.Looking.{get_set_same, get_set_other, by_test, look-blank}
+use Rattle.rl_bindings.proofs.Entries.{AreScoped, scoped, length-blank}
+use Rattle.rl_bindings.proofs.LookUps.{get_set_same, get_set_other, by_test, look-blank}
 
 length_push : {X : Type 0} (xs : List X) (x : X) → length (xs ++ x ∷ []) ≡ suc (length xs)
 length_push [] x = refl
@@ -164,8 +164,8 @@ above_last : (symbols : List Bound) (s n : ℕ) → above (last_before symbols s
 above_last symbols s zero = omega arith
 above_last symbols s (suc n) = above_or s n (last_before symbols s n) (slice_get symbols n) (above_last symbols s n)
 
--- The links of a scope are followed from `first` and `before` to `next`: what is left to do makes of `env` and `saved` what all of it
--- made of `first` and `before`.
+-- The links of a scope are followed from `first` and `before` to `next`: what is left to do makes of `env` and `saved` what all
+-- of it made of `first` and `before`.
 pub record Follows (symbols : List Bound) (s : ℕ) (first env : List (Option ℕ)) (before saved : List Entry) (next : Option ℕ) : Type 0 where
   pub of : IsOf symbols s next
   pub saved_is : saved ++ overwritten (entries_before symbols s (above next)) env ≡ before ++ overwritten (entries_at symbols s) first
@@ -253,7 +253,7 @@ written_back items new n whole same =
     ∙ ap (take n) (append-nil new)
     ∙ take_all new n (omega (arith, whole, same))
 
--- One step of the loop that links symbols, where the list of the last symbols is a vector of `len` items.
+-- A step of the loop that links symbols, if the list of the last symbols is a vector of `len` items.
 pub linked_step : (symbols : List Bound) (last seen opened new earlier more : List (Option ℕ)) (n len : ℕ) (d : Bound) (o : Option ℕ) → AreLinked symbols last earlier n → n < length symbols → len ≡ length last
     → o ≡ look seen (get_or symbols n d).scope.0 → seen ≡ last → new ≡ slice_set opened (get_or symbols n d).scope.0 (Some n) → opened ≡ last → more ≡ earlier ++ o ∷ []
     → AreLinked symbols (take len (new ++ drop (length new) last)) more (n + 1)
@@ -269,7 +269,7 @@ pub link_get : (symbols : List Bound) (s : ℕ) (first env : List (Option ℕ)) 
 link_get symbols s first env before saved k seen d follows same =
     slice_get-get_or symbols k d (get_within symbols k follows.of.b follows.of.got) ∙ ap (λ l. Some (get_or l k d)) (sym same)
 
--- One step of the loop that follows links.
+-- A step of the loop that follows links.
 pub follow_step : (symbols : List Bound) (s : ℕ) (last earlier first env after : List (Option ℕ)) (before saved more : List Entry) (k : ℕ) (seen : List Bound) (d : Bound) (o p : Option ℕ) (links : List (Option ℕ)) (next : Option ℕ) → AreLinks symbols last earlier
     → Follows symbols s first env before saved (Some k) → seen ≡ symbols → p ≡ look env (get_or seen k d).name → o ≡ binding symbols (get_or seen k d).scope.0 (get_or seen k d).name → after ≡ slice_set env (get_or seen k d).name o
     → more ≡ saved ++ record { name = (get_or seen k d).name; symbol = p } ∷ [] → next ≡ look links k → links ≡ earlier → Follows symbols s first after before more next

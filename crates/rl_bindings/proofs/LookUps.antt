@@ -55,7 +55,7 @@ set_set [] n o = refl
 set_set (x ∷ env) zero o = refl
 set_set (x ∷ env) (suc n) o = ap (λ l. x ∷ l) (set_set env n o)
 
--- What was overwritten, written back.
+-- Entries that were overwritten, written back, give the list of before.
 pub undone : (es : List Entry) (env : List (Option ℕ)) → undo (overwritten es env) (write_all es env) ≡ env
 undone [] env = refl
 undone (e ∷ es) env = ap (λ l. slice_set l e.name (look env e.name)) (undone es (slice_set env e.name e.symbol)) ∙ set_set env e.name e.symbol
