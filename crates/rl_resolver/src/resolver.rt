@@ -318,8 +318,9 @@ impl<'s> ScopeResolver<'s> {
         }
     }
 
-    /// The node that captures of a scope's function count from: the method, getter or setter of an object that the function is
-    /// that of, else the node of the scope. The unit's node for a number that is no scope's.
+    /// The node that captures of a scope's function count from: the method, getter or setter of an object, where the function is
+    /// the function of this property, or a function expression that is its computed key; else the node of the scope. The unit's
+    /// node for a number that is no scope's.
     pub fn capture_root_node(&self, scope: ScopeId) -> NodeId
         ensures { result ≡ made.capture_root_node self.now.semantic.now.nodes.now self.now.semantic.now.bindings.scopes scope.0 }
     {
@@ -330,8 +331,9 @@ impl<'s> ScopeResolver<'s> {
         )
     }
 
-    /// The half-open byte ranges of all functions in the unit's text, in the order of their scopes: that of the function, and for
-    /// one in a method, getter or setter of an object, that from the start of this to the end of the function.
+    /// The half-open byte ranges of all functions in the unit's text, in the order of their scopes: the function's own; and for
+    /// the function of a method, getter or setter of an object, and a function expression that is its computed key, also the range
+    /// from the start of this property to the end of the function.
     pub fn function_scope_ranges(&self) -> &[(u32, u32)]
         ensures { result.now ≡ made.function_scope_ranges self.now.semantic.now.nodes.now self.now.semantic.now.bindings.scopes }
     {

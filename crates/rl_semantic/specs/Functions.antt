@@ -42,20 +42,28 @@ around nodes e = entry_at nodes e.parent
 abbrev pub is_property : List NodeEntry → NodeEntry → Bool
 is_property nodes e = is_accessor e.word && of_item false (λ o. is_object o.word) (around nodes e)
 
--- The node `p` around a node, if it is a method, a getter or a setter of an object and the node is its last part: then both end
--- with the same node.
-abbrev pub if_property : List NodeEntry → NodeEntry → (p : NodeEntry) → Option NodeEntry
-if_property nodes e p = if is_property nodes p && nat_eq e.at.end.0 p.at.end.0 then Some p else None
+-- The node `p`, if it is a method, a getter or a setter of an object.
+abbrev pub if_property : List NodeEntry → (p : NodeEntry) → Option NodeEntry
+if_property nodes p = if is_property nodes p then Some p else None
+
+-- The method, getter or setter of an object that a function expression is a part of: the function of the property, or its
+-- computed key. None for any other node, as an arrow function, or a function expression deeper in a key.
+abbrev pub property_around : List NodeEntry → NodeEntry → Option NodeEntry
+property_around nodes e = if is_function_expression e.word then of_item None (if_property nodes) (around nodes e) else None
+
+-- The node `p` around a node, if the node is its last part: then both end with the same node.
+abbrev pub if_last : NodeEntry → (p : NodeEntry) → Option NodeEntry
+if_last e p = if nat_eq e.at.end.0 p.at.end.0 then Some p else None
 
 -- The method, getter or setter of an object that a function expression is the function of. None for any other node, and for one
 -- that is the computed key of a property.
 abbrev pub property_of : List NodeEntry → NodeEntry → Option NodeEntry
-property_of nodes e = if is_function_expression e.word then of_item None (if_property nodes e) (around nodes e) else None
+property_of nodes e = of_item None (if_last e) (property_around nodes e)
 
--- The node that captures of a scope's node count from: the property that it is the function of, if it is that of one, else
--- itself.
+-- The node that captures of a scope's node count from: the property that it is a part of (`property_around`), if there is one,
+-- else itself.
 abbrev pub capture_root : List NodeEntry → NodeEntry → NodeId
-capture_root nodes e = of_item e.at.id (λ p. p.at.id) (property_of nodes e)
+capture_root nodes e = of_item e.at.id (λ p. p.at.id) (property_around nodes e)
 
 -- The node that captures of a scope count from. The unit's node for a number that is no scope's.
 abbrev pub capture_root_node : List NodeEntry → List ScopeEntry → (scope : ℕ) → NodeId
@@ -70,14 +78,14 @@ functions_from number (s ∷ scopes) = if is_function s.kind then record { 0 = n
 abbrev pub function_scopes : List ScopeEntry → List ScopeId
 function_scopes scopes = functions_from 0 scopes
 
--- From the start of a function's property to the end of the function, if it is one of a property.
+-- The range from the start of the property around a function to the end of the function. None without such a property.
 abbrev pub property_range : (property : Option NodeEntry) → NodeEntry → List (ℕ × ℕ)
 property_range None e = []
 property_range (Some p) e = (p.at.span.start, e.at.span.end) ∷ []
 
--- The ranges of text of a function: its own, and that from the start of its property.
+-- The ranges of text of a function: its own, and that from the start of the property that it is a part of (`property_around`).
 abbrev pub function_ranges : List NodeEntry → NodeEntry → List (ℕ × ℕ)
-function_ranges nodes e = (e.at.span.start, e.at.span.end) ∷ property_range (property_of nodes e) e
+function_ranges nodes e = (e.at.span.start, e.at.span.end) ∷ property_range (property_around nodes e) e
 
 -- The node of a function's scope. None for any other scope.
 abbrev pub function_node : List NodeEntry → ScopeEntry → Option NodeEntry

@@ -85,17 +85,17 @@ pub fn is_property(nodes: &[NodeEntry], entry: NodeEntry) -> bool
     }
 }
 
-/// The method, getter or setter of an object that a function expression is the function of: its last part, so that both end with
-/// the same node. `None` for any other node, and for the computed key of a property.
-pub fn property_of(nodes: &[NodeEntry], entry: NodeEntry) -> Option<NodeEntry>
-    ensures { result ≡ spec.property_of nodes.now entry }
+/// The method, getter or setter of an object that a function expression is a part of: the function of the property, or its
+/// computed key. `None` for any other node, as an arrow function, or a function expression deeper in a key.
+pub fn property_around(nodes: &[NodeEntry], entry: NodeEntry) -> Option<NodeEntry>
+    ensures { result ≡ spec.property_around nodes.now entry }
 {
     if !is_function_expression(entry.word) {
         return None;
     }
     match around(nodes, entry) {
         Some(property) => {
-            if is_property(nodes, property) && entry.at.end.0 == property.at.end.0 {
+            if is_property(nodes, property) {
                 Some(property)
             } else {
                 None
@@ -105,14 +105,31 @@ pub fn property_of(nodes: &[NodeEntry], entry: NodeEntry) -> Option<NodeEntry>
     }
 }
 
-/// The node that captures of a scope count from: the property that its node is the function of, if it is that of one, else its
-/// node. The unit's node for a number that is no scope's.
+/// The method, getter or setter of an object that a function expression is the function of: its last part, so that both end with
+/// the same node. `None` for any other node, and for the computed key of a property.
+pub fn property_of(nodes: &[NodeEntry], entry: NodeEntry) -> Option<NodeEntry>
+    ensures { result ≡ spec.property_of nodes.now entry }
+{
+    match property_around(nodes, entry) {
+        Some(property) => {
+            if entry.at.end.0 == property.at.end.0 {
+                Some(property)
+            } else {
+                None
+            }
+        }
+        None => None,
+    }
+}
+
+/// The node that captures of a scope count from: the property that its node is a part of (`property_around`), if there is one,
+/// else its node. The unit's node for a number that is no scope's.
 pub fn capture_root_node(nodes: &[NodeEntry], scopes: &[ScopeEntry], scope: ScopeId) -> NodeId
     ensures { result ≡ spec.capture_root_node nodes.now scopes.now scope.0 }
 {
     match scopes.get(scope.0 as usize) {
         Some(found) => match nodes.get(found.node.0 as usize) {
-            Some(entry) => match property_of(nodes, *entry) {
+            Some(entry) => match property_around(nodes, *entry) {
                 Some(property) => property.at.id,
                 None => entry.at.id,
             },
@@ -141,8 +158,8 @@ pub fn function_scopes(alloc: Global, scopes: &[ScopeEntry]) -> Result<List<Scop
     Ok(found)
 }
 
-/// Appends the ranges of text of a function: its own, and that from the start of its property. On `OutOfMemory`, an allocation
-/// failed.
+/// Appends the ranges of text of a function: its own, and that from the start of the property that it is a part of
+/// (`property_around`). On `OutOfMemory`, an allocation failed.
 fn push_ranges(
     found: &mut List<(u32, u32)>,
     nodes: &[NodeEntry],
@@ -151,7 +168,7 @@ fn push_ranges(
     ensures { OnOk result (found.new ≡ found.old ++ spec.function_ranges nodes.now entry) }
 {
     found.push((entry.at.span.start, entry.at.span.end))?;
-    if let Some(property) = property_of(nodes, entry) {
+    if let Some(property) = property_around(nodes, entry) {
         found.push((property.at.span.start, entry.at.span.end))?;
     }
     Ok(())
