@@ -1,5 +1,5 @@
 -- The scopes around a scope, and what a name is bound to from there; the symbols of a unit by number.
-use Rattle.std.specs.Prelude.{ℕ, zero, suc, ◌+◌, if◌then◌else◌, nat_le, Option, Some, None, List, [], ◌∷◌, length}
+use Rattle.std.specs.Prelude.{ℕ, zero, suc, ◌+◌, if◌then◌else◌, nat_le, Option, Some, None, slice_get, List, [], ◌∷◌, length}
 use Rattle.rl_base.specs.declared.ids.ScopeId.{ScopeId}
 use Rattle.rl_base.specs.declared.ids.SymbolId.{SymbolId}
 use Rattle.rl_bindings.specs.Names.{number_of}
@@ -16,12 +16,13 @@ outward scopes zero scope = []
 outward scopes (suc most) None = []
 outward scopes (suc most) (Some scope) = scope ∷ outward scopes most (scope_parent scopes scope.0)
 
--- The scopes around a scope, itself first. A scope has a larger number than the one around it, so that they are no more than
--- its number and one.
+-- The scopes around a scope, itself first. Empty for a number that is no scope's. A scope has a larger number than the one around
+-- it, so that they are no more than its number and one.
 abbrev pub ancestors : List ScopeEntry → ScopeId → List ScopeId
-ancestors scopes scope = outward scopes (scope.0 + 1) (Some scope)
+ancestors scopes scope = of_item [] (λ s. outward scopes (scope.0 + 1) (Some scope)) (slice_get scopes scope.0)
 
--- The symbol that a name stands for in a scope: that of the nearest scope around it that binds the name. None for a global.
+-- The symbol that a name stands for in a scope: that of the nearest scope around it that binds the name. None for a global, and
+-- for a number that is no scope's.
 abbrev pub find_binding : List Name → List Bound → List ScopeEntry → ScopeId → (text : List ℕ) → Option SymbolId
 find_binding names symbols scopes scope text = of_item None (λ name. symbol_id (resolve symbols (ancestors scopes scope) name)) (number_of names text)
 

@@ -22,7 +22,7 @@ use Rattle.rl_syntax.specs.declared.word.Word.TheVariants as word
 abbrev pub is_scope : (wanted : ScopeId) → ScopeId → Bool
 is_scope wanted scope = nat_eq scope.0 wanted.0
 
--- True of a scope that is `ancestor` or stands inside it.
+-- True of a scope that is `ancestor` or stands inside it. Not true of a number that is no scope's.
 abbrev pub descends : List ScopeEntry → (ancestor scope : ScopeId) → Bool
 descends scopes ancestor scope = list_any (is_scope ancestor) (ancestors scopes scope)
 
@@ -30,14 +30,14 @@ descends scopes ancestor scope = list_any (is_scope ancestor) (ancestors scopes 
 abbrev pub bound_inside : List ScopeEntry → List Bound → (ancestor : ScopeId) → (name scope : ℕ) → Option ℕ
 bound_inside scopes symbols ancestor name scope = of_item None (λ number. if descends scopes ancestor (record { 0 = scope }) then Some number else None) (binding symbols scope name)
 
--- What the first of some scopes binds a name to that is `ancestor` or inside it and binds the name; `scope` is the number of
--- the first of `left`.
+-- The symbol that a name is bound to by the first of some scopes that is `ancestor` or stands inside it and binds the name; `scope`
+-- is the number of the first of `left`.
 abbrev pub found_from : List ScopeEntry → List Bound → (ancestor : ScopeId) → (name scope : ℕ) → (left : List ScopeEntry) → Option ℕ
 found_from scopes symbols ancestor name scope [] = None
 found_from scopes symbols ancestor name scope (s ∷ left) = option_or (bound_inside scopes symbols ancestor name scope) (found_from scopes symbols ancestor name (scope + 1) left)
 
 -- The symbol that a name is bound to in a scope or in one inside it: in that with the least number, if several bind it. None if
--- none does. Scopes inside another have larger numbers.
+-- none does, and for a number that is no scope's. Scopes inside another have larger numbers.
 abbrev pub find_binding_in_descendants : List Name → List Bound → List ScopeEntry → (text : List ℕ) → (ancestor : ScopeId) → Option SymbolId
 find_binding_in_descendants names symbols scopes text ancestor = of_item None (λ name. symbol_id (found_from scopes symbols ancestor name ancestor.0 (drop ancestor.0 scopes))) (number_of names text)
 

@@ -16,7 +16,7 @@ use rl_syntax::nodes::NodeEntry;
 use rl_syntax::word::Word;
 use std::alloc::Global;
 
-/// True of a scope that is `ancestor` or stands inside it.
+/// True of a scope that is `ancestor` or stands inside it. False for a number that is no scope's.
 fn descends(scopes: &[ScopeEntry], ancestor: ScopeId, scope: ScopeId) -> bool
     ensures { result ≡ spec.descends scopes.now ancestor scope }
 {
@@ -53,7 +53,7 @@ fn bound_inside(
 }
 
 /// The index of the symbol that a name is bound to in a scope or in one inside it: in that with the least number, if several bind
-/// it. `None` if none does.
+/// it. `None` if none does, and for a number that is no scope's.
 #[tactic(auto, using(crate::proofs::Stepping::found_step))]
 pub(crate) fn found_inside(
     scopes: &[ScopeEntry],

@@ -25,14 +25,21 @@ pub struct Ancestors<'s> {
 }
 
 impl<'s> Ancestors<'s> {
-    /// The scopes around a scope.
+    /// The scopes around a scope. Empty for a number that is no scope's.
     pub(crate) fn of(scopes: &'s [ScopeEntry], scope: ScopeId) -> Ancestors<'s>
         ensures { outward result.scopes.now result.most result.next ≡ ancestors scopes.now scope }
     {
-        Ancestors {
-            scopes,
-            most: scope.0 as usize + 1,
-            next: Some(scope),
+        match scopes.get(scope.0 as usize) {
+            Some(_) => Ancestors {
+                scopes,
+                most: scope.0 as usize + 1,
+                next: Some(scope),
+            },
+            None => Ancestors {
+                scopes,
+                most: 0,
+                next: None,
+            },
         }
     }
 }
@@ -143,7 +150,7 @@ pub struct ContainingFunctionScopes<'s> {
 }
 
 impl<'s> ContainingFunctionScopes<'s> {
-    /// The scopes of the functions that a node stands inside of.
+    /// The scopes of the functions that a node stands inside of. Empty for a number that is no node's.
     pub(crate) fn of(
         nodes: &'s [NodeEntry],
         methods: &'s List<List<ScopeId>>,

@@ -277,14 +277,15 @@ impl<'s> ScopeResolver<'s> {
         }
     }
 
-    /// The scopes around a scope, itself first.
+    /// The scopes around a scope, itself first. Empty for a number that is no scope's.
     pub fn ancestors(&self, scope: ScopeId) -> Ancestors<'s>
         ensures { around.outward result.scopes.now result.most result.next ≡ around.ancestors self.now.semantic.now.bindings.scopes scope }
     {
         Ancestors::of(self.semantic.bindings.scopes.as_slice(), scope)
     }
 
-    /// The index of the symbol that the nearest scope around a scope binds a name to. `None` if none binds it.
+    /// The index of the symbol that the nearest scope around a scope binds a name to. `None` if none binds it, and for a number
+    /// that is no scope's.
     fn resolve(&self, scope: ScopeId, name: usize) -> Option<usize>
         ensures { result ≡ resolve self.now.semantic.now.bindings.symbols (around.ancestors self.now.semantic.now.bindings.scopes scope) name }
     {
@@ -298,7 +299,7 @@ impl<'s> ScopeResolver<'s> {
     }
 
     /// The symbol that a name stands for in a scope: that of the nearest scope around it that binds the name. `None` for a
-    /// global.
+    /// global, and for a number that is no scope's.
     pub fn find_binding(&self, scope: ScopeId, name: &str) -> Option<SymbolId>
         ensures { result ≡ around.find_binding self.now.semantic.now.bindings.names self.now.semantic.now.bindings.symbols self.now.semantic.now.bindings.scopes scope name.now }
     {
@@ -389,8 +390,8 @@ impl<'s> ScopeResolver<'s> {
     }
 
     /// The symbol that a name is bound to in a scope or in one inside it: in that with the least number, if several bind it.
-    /// `None` if none does. It takes a look-up for each scope behind the scope, and a walk outwards for each that binds the
-    /// name.
+    /// `None` if none does, and for a number that is no scope's. It takes a look-up for each scope behind the scope, and a walk
+    /// outwards for each that binds the name.
     pub fn find_binding_in_descendants(&self, name: &str, ancestor: ScopeId) -> Option<SymbolId>
         ensures { result ≡ within.find_binding_in_descendants self.now.semantic.now.bindings.names self.now.semantic.now.bindings.symbols self.now.semantic.now.bindings.scopes name.now ancestor }
     {
