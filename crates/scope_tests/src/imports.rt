@@ -1,10 +1,7 @@
 //! Imports of small units.
 
 use crate::listing::{MARKED, Table, check, check_before, read};
-use rl_ast::unit::Unit;
-use rl_base::ids::{ScopeId, SymbolId};
-use rl_resolver::resolver::ScopeResolver;
-use rl_semantic::semantic::Semantic;
+use rl_scope::{ScopeId, ScopeResolver, Semantic, SymbolId, Unit};
 use std::alloc::Global;
 use std::process::Abort;
 use std::test::Fail;

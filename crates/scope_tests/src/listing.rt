@@ -1,11 +1,9 @@
 //! Tables of a unit as one text each.
 
 use rl_ast::read::read_tree;
-use rl_ast::unit::Unit;
-use rl_base::ids::{NodeId, ReferenceId, ScopeId, SymbolId};
-use rl_resolver::resolver::ScopeResolver;
-use rl_semantic::imports::ImportBindingData;
-use rl_semantic::semantic::Semantic;
+use rl_scope::{
+    ImportBindingData, NodeId, ReferenceId, ScopeId, ScopeResolver, Semantic, SymbolId, Unit,
+};
 use std::alloc::{AllocError, Global};
 use std::process::Abort;
 use std::test::Fail;

@@ -1,9 +1,7 @@
 //! Binding rules: small units that break a rule and none with a lower number, and units that nearly do.
 
 use crate::listing::{MARKED, read};
-use rl_ast::unit::Unit;
-use rl_base::error::OutOfMemory;
-use rl_semantic::semantic::{RuleError, Semantic};
+use rl_scope::{OutOfMemory, RuleError, Semantic, Unit};
 use std::alloc::Global;
 use std::process::Abort;
 use std::test::Fail;
