@@ -13,7 +13,7 @@ pub mod Examples
 pub mod NameRules
 pub mod NameNumbers
 pub mod SymbolIndices
-pub mod Names
+pub mod AddedNames
 pub mod ListParts
 pub mod Following
-pub mod Quiet
+pub mod QuietNodes

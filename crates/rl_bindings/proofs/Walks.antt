@@ -12,8 +12,8 @@ use Rattle.rl_bindings.specs.declared.role.Above.{Above}
 use Rattle.rl_bindings.specs.declared.role.Role.{Role}
 use Rattle.rl_bindings.specs.declared.role.Role.TheVariants as role
 use Rattle.rl_bindings.specs.Quiet.{inside}
-use Rattle.rl_bindings.proofs.Quiet.{IsPassed}
-use Rattle.rl_bindings.proofs.Names.{keeps_self, keeps_further, keeps_added, add_names_append}
+use Rattle.rl_bindings.proofs.QuietNodes.{IsPassed}
+use Rattle.rl_bindings.proofs.AddedNames.{keeps_self, keeps_further, keeps_added, add_names_append}
 use Rattle.rl_syntax.specs.Syntax.{Syntax, Node, Listed, Said, Count, Flag, Absent, Pieces, End, Then, pieces_of, syntax}
 use Rattle.rl_syntax.specs.declared.numbered.At.{At}
 use Rattle.rl_syntax.specs.declared.numbered.Numbered.{Numbered}

@@ -27,7 +27,7 @@ impl Named for Name {
 }
 
 /// Adds a name, if it is new, and returns its number. On `OutOfMemory`, an allocation failed.
-#[tactic(auto, using(crate::proofs::Names::number_last))]
+#[tactic(auto, using(crate::proofs::AddedNames::number_last))]
 fn find_or_add(
     alloc: Global,
     names: &mut NameTable<Name>,
@@ -74,7 +74,7 @@ pub(crate) fn said(parts: &[Numbered]) -> Option<&Text>
 
 /// Adds the name that a `bind` or `id` node with these parts says, if it is new, and returns its number; 0 where the parts say
 /// none. On `OutOfMemory`, an allocation failed, or the number would not fit a `u32`.
-#[tactic(auto, using(crate::proofs::Names::none_numbered, crate::proofs::Names::text_numbered))]
+#[tactic(auto, using(crate::proofs::AddedNames::none_numbered, crate::proofs::AddedNames::text_numbered))]
 pub(crate) fn add_said(
     alloc: Global,
     names: &mut NameTable<Name>,

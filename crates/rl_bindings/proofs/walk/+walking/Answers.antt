@@ -2,7 +2,7 @@ use Rattle.std.proofs.Common.{◌≡◌, ◌+◌, ◌∷◌, length, map, drop, 
 use Rattle.std.proofs.Math.ListN.{drop_of_length-le}
 use Rattle.rl_bindings.proofs.Following.{behind_items, part_on, item_on, node_kept, split_kept}
 use Rattle.rl_bindings.specs.Roles.{parts_ahead}
-use Rattle.rl_bindings.proofs.Quiet.{passed, silent_quiet, silent_plain, node_passed}
+use Rattle.rl_bindings.proofs.QuietNodes.{passed, silent_quiet, silent_plain, node_passed}
 use Rattle.rl_bindings.proofs.Steps.{drop_step}
 use Rattle.rl_bindings.proofs.Walks.{node_is, node_maker, node_binder, node_user, node_plain, node_quiet, node_silent, text_walked, number_walked, flag_walked, absent_walked, left_less, left_none}
 use Rattle.rl_syntax.specs.Sizes.{size, size_of}
