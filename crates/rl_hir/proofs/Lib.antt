@@ -1,5 +1,7 @@
 pub mod Identifiers
-pub mod Keeping
+pub mod IndexEntries
+pub mod Indexed
+pub mod KeptBlocks
 pub mod Listings
 pub mod OwnIds
 pub mod ReadBack

@@ -46,7 +46,7 @@ put (p ∷ pairs) id block own = by_head (same_id id p.0) refl (put pairs id blo
         ]
 
 -- An id among those without a block is one of the old ones.
-in_fewer : (pairs : List Pair) (id : BlockId) (other : ℕ) → IsIn (ids (without_block pairs id)) other → IsIn (ids pairs) other
+pub in_fewer : (pairs : List Pair) (id : BlockId) (other : ℕ) → IsIn (ids (without_block pairs id)) other → IsIn (ids pairs) other
 in_fewer [] id other h = h
 in_fewer (p ∷ pairs) id other h = by_head (same_id id p.0) refl (λ r. in_fewer pairs id other r) h
   where
@@ -67,7 +67,7 @@ removed (p ∷ pairs) id own = by_head (same_id id p.0) refl (removed pairs id (
     by_head true e rest = rw e (distinct_tail p.0.0 (ids pairs) own)
     by_head false e rest = rw e (distinct_cons p.0.0 (ids (without_block pairs id)) (λ h. distinct_head p.0.0 (ids pairs) own (in_fewer pairs id p.0.0 h)) rest)
 
-same_ids : (pairs : List Pair) (place : ℕ) (block : BasicBlock) → ids (with_block_at pairs place block) ≡ ids pairs
+pub same_ids : (pairs : List Pair) (place : ℕ) (block : BasicBlock) → ids (with_block_at pairs place block) ≡ ids pairs
 same_ids [] place block = refl
 same_ids (p ∷ pairs) zero block = refl
 same_ids (p ∷ pairs) (suc place) block = ap (λ (t : List ℕ). p.0.0 ∷ t) (same_ids pairs place block)

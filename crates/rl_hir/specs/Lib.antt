@@ -1,6 +1,7 @@
 pub mod Blocks
 pub mod IdHashes
 pub mod Identifiers
+pub mod Indexed
 pub mod Instructions
 pub mod Listing
 pub mod Numbered

@@ -5,6 +5,7 @@
 pub mod binding;
 pub mod block_sets;
 pub mod blocks;
+pub mod dense_blocks;
 mod ends;
 pub mod environment;
 pub mod function;

@@ -7,6 +7,7 @@ ghost use Rattle.rl_text.specs.Spaced.{separated};
 ghost use Rattle.rl_hir.specs.Listing as spec;
 
 use crate::blocks::{Blocks, GraphBlocks, MapBlocks};
+use crate::dense_blocks::DenseBlocks;
 use crate::function::{
     BasicBlock, BlockKind, HirFunction, Identifier, IdentifierName, InnerFunction, Lowered, Pair,
     Param, ReactFunctionType,
@@ -74,15 +75,31 @@ fn write_blocks<B: Blocks>(blocks: &B, out: &mut Vec<u8>) -> Result<(), OutOfMem
     Ok(())
 }
 
+/// Appends the listing of a table: of its blocks, in order. On `OutOfMemory` an allocation failed, and `out` may hold a part of it.
+#[tactic(auto, using(rl_text::proofs::Tails::items_written))]
+fn write_table<B: Blocks>(blocks: &B, out: &mut Vec<u8>) -> Result<(), OutOfMemory>
+    ensures written { OnOk result (out.new.items ≡ out.old.items ++ spelling (spec.list spec.block (B.pairs blocks.now))) }
+    ensures writable { OnOk result (IsWritable (spec.list spec.block (B.pairs blocks.now))) }
+{
+    out.push(b'[')?;
+    write_blocks(blocks, out)?;
+    out.push(b']')?;
+    Ok(())
+}
+
 impl Written for MapBlocks {
     ghost shown = { spec.list spec.block };
 
-    #[tactic(auto, using(rl_text::proofs::Tails::items_written))]
     fn write(&self, out: &mut Vec<u8>) -> Result<(), OutOfMemory> {
-        out.push(b'[')?;
-        write_blocks(self, out)?;
-        out.push(b']')?;
-        Ok(())
+        write_table(self, out)
+    }
+}
+
+impl Written for DenseBlocks {
+    ghost shown = { spec.list spec.block };
+
+    fn write(&self, out: &mut Vec<u8>) -> Result<(), OutOfMemory> {
+        write_table(self, out)
     }
 }
 

@@ -3,7 +3,7 @@ use Rattle.std.proofs.Math.ListN.{drop_of_length-le}
 use Rattle.std.proofs.Math.Seq.{drop-cons}
 use Rattle.rl_base.specs.declared.ids.BlockId.{BlockId}
 use Rattle.rl_hir.specs.Blocks.{HaveOwnIds, Pair, kept}
-use Rattle.rl_hir.proofs.Keeping.{first_out, kept_all}
+use Rattle.rl_hir.proofs.KeptBlocks.{first_out, kept_all}
 use Rattle.rl_hir.proofs.OwnIds.{removed}
 use Rattle.rl_hir.proofs.blocks.Blocks.remove_all.Goals as goal
 

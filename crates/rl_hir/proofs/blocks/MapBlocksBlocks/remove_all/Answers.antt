@@ -1,7 +1,7 @@
 use Rattle.std.proofs.Common.{rules, ◌≡◌, List, ap, sym, subst, ◌∙◌}
 use Rattle.indexmap.proofs.CallerLemmas.{filter-RetainsPairs}
 use Rattle.rl_hir.specs.Blocks.{HaveOwnIds, Pair, kept}
-use Rattle.rl_hir.proofs.Keeping.{kept_own}
+use Rattle.rl_hir.proofs.KeptBlocks.{kept_own}
 use Rattle.rl_hir.proofs.blocks.MapBlocksBlocks.remove_all.Goals as goal
 
 pub invariant_of-self : goal.invariant_of-self

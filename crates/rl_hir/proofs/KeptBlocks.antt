@@ -45,7 +45,7 @@ first_out lost id (p ∷ pairs) own = by_id (same_id id p.0) refl (first_out los
     by_id false e rest = by_lost (list_any (same_id p.0) lost) refl e (flipped e (same_id p.0 id) refl) rest
 
 -- An id of a block that stays is an id of the old blocks.
-in_kept : (lost : List BlockId) (pairs : List Pair) (other : ℕ) → IsIn (ids (kept lost pairs)) other → IsIn (ids pairs) other
+pub in_kept : (lost : List BlockId) (pairs : List Pair) (other : ℕ) → IsIn (ids (kept lost pairs)) other → IsIn (ids pairs) other
 in_kept lost [] other h = h
 in_kept lost (p ∷ pairs) other h = by_lost (list_any (same_id p.0) lost) refl (in_kept lost pairs other) h
   where
