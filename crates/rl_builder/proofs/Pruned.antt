@@ -18,7 +18,8 @@ use Rattle.rl_machine.specs.Conditions.{KeepsRuns, MayOrder}
 use Rattle.rl_machine.specs.Machine.{Graph}
 use Rattle.rl_order.proofs.Pruning.{ordered_once, ordered_orders, ordered_within}
 use Rattle.rl_order.specs.Numbering.{ordered_blocks, ordered_table, orders_of}
-use Rattle.rl_order.specs.Predecessors.{IsMarked, PredecessorsReached}
+use Rattle.rl_order.specs.PredecessorWalk.{IsMarked}
+use Rattle.rl_order.specs.Predecessors.{PredecessorsReached}
 use Rattle.rl_order.specs.Prune.{IsPruned, cleaned}
 use Rattle.rl_order.specs.Walk.{IsOrdered, IsWhole}
 

@@ -19,7 +19,7 @@ use Rattle.rl_model.specs.Held.{HoldsCalls, call_at, calls_in, calls_of, graph_c
 use Rattle.rl_names.specs.Names.{Names}
 use Rattle.rl_names.specs.Locals.{AreApart}
 use Rattle.rl_names.specs.declared.parameters.Parameter.{Parameter}
-use Rattle.rl_order.proofs.Used.{reached_used}
+use Rattle.rl_order.proofs.IsUsed.{reached_used}
 use Rattle.rl_order.specs.Prune.{IsPruned}
 use Rattle.rl_order.specs.Reached.{Begins}
 use Rattle.rl_order.specs.Walk.{is_used}

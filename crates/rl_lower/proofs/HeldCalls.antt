@@ -17,11 +17,11 @@ use Rattle.rl_machine.proofs.Cleaned.{cleaned_lists, lists}
 use Rattle.rl_machine.proofs.KeptRuns.{no_preds_ordered}
 use Rattle.rl_model.specs.Held.{graph_calls, listed_calls}
 use Rattle.rl_order.proofs.Ordering.{or_right, walked_good}
-use Rattle.rl_order.proofs.Used.{used_reached}
-use Rattle.rl_order.proofs.Whole.{used_done}
+use Rattle.rl_order.proofs.IsUsed.{used_reached}
+use Rattle.rl_order.proofs.KeepsReached.{used_done}
 use Rattle.rl_order.specs.Numbering.{ordered_blocks, ordered_table}
 use Rattle.rl_order.specs.Own.{AreOwn}
-use Rattle.rl_order.specs.Predecessors.{with_predecessors}
+use Rattle.rl_order.specs.PredecessorWalk.{with_predecessors}
 use Rattle.rl_order.specs.Prune.{IsPruned, cleaned}
 use Rattle.rl_order.specs.Reached.{IsReached}
 use Rattle.rl_order.specs.Walk.{Walk, emptied, is_noted, is_used, kept, kept_block}

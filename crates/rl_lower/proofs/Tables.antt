@@ -4,7 +4,7 @@ use Rattle.rl_base.proofs.DistinctLists.{IsIn, distinct_head, distinct_tail, in_
 use Rattle.rl_base.specs.declared.ids.BlockId.{BlockId}
 use Rattle.rl_hir.specs.Blocks.{HaveOwnIds, Pair, ids, same_id, with_block}
 use Rattle.rl_hir.specs.declared.function.BasicBlock.{BasicBlock}
-use Rattle.rl_order.proofs.Following.{one_id}
+use Rattle.rl_order.proofs.Follows.{one_id}
 use Rattle.rl_builder.specs.Build.{table_of}
 use Rattle.rl_lower.proofs.Permuted.{in_one}
 

@@ -12,7 +12,7 @@ use Rattle.rl_hir.specs.declared.terminal.GotoVariant.TheVariants as gotos
 use Rattle.rl_hir.specs.declared.terminal.TerminalKind.{TerminalKind}
 use Rattle.rl_hir.specs.declared.terminal.TerminalKind.TheVariants as kinds
 use Rattle.rl_order.specs.Numbering.{ordered_block, ordered_blocks, order_after}
-use Rattle.rl_order.specs.Predecessors.{sources, with_predecessors}
+use Rattle.rl_order.specs.PredecessorWalk.{sources, with_predecessors}
 use Rattle.rl_order.specs.Removals.{dead_tries, dead_try, ended_by_goto, is_alone, is_lost, is_there, live_do_while, live_for, with_changed, with_kind, with_kinds, without_dead_do_whiles, without_dead_tries, without_predecessor, without_try, without_unreachable_updates}
 use Rattle.rl_order.specs.declared.predecessors.Edge.{Edge}
 use Rattle.rl_order.specs.declared.tries.DeadTry.{DeadTry}

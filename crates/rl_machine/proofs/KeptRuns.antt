@@ -25,12 +25,12 @@ use Rattle.rl_machine.specs.Traces.{World}
 use Rattle.rl_order.specs.Numbering.{ordered_table}
 use Rattle.rl_order.proofs.Fallthroughs.{fallthrough_there}
 use Rattle.rl_order.proofs.Ordering.{walked_good}
-use Rattle.rl_order.proofs.Whole.{ends_reached}
+use Rattle.rl_order.proofs.KeepsReached.{ends_reached}
 use Rattle.rl_order.specs.Own.{AreOwn}
 use Rattle.rl_order.specs.Prune.{IsPruned}
-use Rattle.rl_order.specs.Reached.{Begins, KeepsReached}
+use Rattle.rl_order.specs.Reached.{Begins}
 use Rattle.rl_order.specs.Removals.{dead_try, is_there, without_dead_do_whiles, without_dead_tries, without_unreachable_updates}
-use Rattle.rl_order.specs.Walk.{IsOrdered, IsWhole, Walk, emptied, is_noted, is_used, kept, kept_block}
+use Rattle.rl_order.specs.Walk.{IsOrdered, IsWhole, KeepsReached, Walk, emptied, is_noted, is_used, kept, kept_block}
 use Rattle.rl_order.specs.declared.predecessors.Edge.{Edge}
 use Rattle.rl_machine.proofs.Found.{Found, NoPreds, found_passed, passed_blocks, passed_kind, there_tested, there_updated, with_dead}
 use Rattle.rl_machine.proofs.Points.{item_within, points_count, points_in}

@@ -19,11 +19,11 @@ use Rattle.rl_machine.proofs.Found.{NoPreds, found_passed, passed_blocks, passed
 use Rattle.rl_machine.proofs.KeptRuns.{no_preds_ordered, own_ordered}
 use Rattle.rl_machine.proofs.Reading.{any_first, any_later, each_of, any_left, leads_on, led, reached_there}
 use Rattle.rl_order.proofs.Fallthroughs.{fallthrough_there}
-use Rattle.rl_order.proofs.Whole.{ends_reached}
+use Rattle.rl_order.proofs.KeepsReached.{ends_reached}
 use Rattle.rl_order.specs.Prune.{IsPruned}
-use Rattle.rl_order.specs.Reached.{IsReached, Begins, Goes, KeepsReached}
+use Rattle.rl_order.specs.Reached.{IsReached, Begins, Goes}
 use Rattle.rl_order.specs.Removals.{dead_try, is_there, live_update, without_dead_do_whiles, without_unreachable_updates}
-use Rattle.rl_order.specs.Walk.{IsWhole}
+use Rattle.rl_order.specs.Walk.{IsWhole, KeepsReached}
 use Rattle.rl_order.specs.declared.predecessors.Edge.{Edge}
 
 each_contains : (is_so : ℕ → Type 0) (bs : List BlockId) (b : BlockId) → Each is_so bs → Contains bs b → is_so b.0

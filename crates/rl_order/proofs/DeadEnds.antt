@@ -7,7 +7,7 @@ use Rattle.rl_hir.specs.Blocks.{Pair, same_id, with_block_at}
 use Rattle.rl_hir.specs.declared.terminal.GotoVariant.TheVariants as gotos
 use Rattle.rl_hir.specs.declared.terminal.TerminalKind.{TerminalKind}
 use Rattle.rl_hir.specs.declared.terminal.TerminalKind.TheVariants as kinds
-use Rattle.rl_order.proofs.Dropping.{drop_pair, next_try}
+use Rattle.rl_order.proofs.DeadTries.{drop_pair, next_try}
 use Rattle.rl_order.proofs.PlaceSteps.{same_later}
 use Rattle.rl_order.proofs.RemovalSteps.{Changing, changing_begin, changing_end, changing_step, value_at}
 use Rattle.rl_order.specs.Prune.{cleaned}

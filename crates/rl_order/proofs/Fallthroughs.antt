@@ -9,9 +9,9 @@ use Rattle.rl_hir.specs.Blocks.{Pair, block_at, same_id}
 use Rattle.rl_hir.specs.Terminals.{fallthrough, listed_id, successor_ids}
 use Rattle.rl_hir.specs.declared.function.BasicBlock.{BasicBlock}
 use Rattle.rl_order.proofs.Ordering.{is_done, is_seen, or_left, same_ids, same_self, walked_opened}
-use Rattle.rl_order.proofs.Seen.{lookup_inserted}
-use Rattle.rl_order.proofs.Used.{reached_used, used_before, used_left}
-use Rattle.rl_order.proofs.Whole.{kept_skip}
+use Rattle.rl_order.proofs.Lookups.{lookup_inserted}
+use Rattle.rl_order.proofs.IsUsed.{reached_used, used_before, used_left}
+use Rattle.rl_order.proofs.KeepsReached.{kept_skip}
 use Rattle.rl_order.specs.Reached.{IsReached}
 use Rattle.rl_order.specs.Walk.{Ends, Expands, IsOrdered, Passes, Walk, Walks, WalksFrom, entered, has_block, is_first, is_noted, is_passed, is_used, kept, left, nothing, visit, visits_from, with_noted}
 use Rattle.rl_order.specs.declared.tasks.Visit.{Visit}

@@ -5,7 +5,7 @@ use Rattle.indexmap.specs.IndexMap.{insert_entry}
 use Rattle.rl_base.specs.declared.ids.BlockId.{BlockId}
 use Rattle.rl_hir.specs.Blocks.{Pair, block_at, same_id}
 use Rattle.rl_hir.specs.declared.function.BasicBlock.{BasicBlock}
-use Rattle.rl_order.proofs.Seen.{lookup_inserted}
+use Rattle.rl_order.proofs.Lookups.{lookup_inserted}
 
 -- `weight n seen`: `n` for each expansion that a block may still have.
 abbrev pub weight : ℕ → Option Bool → ℕ

@@ -7,7 +7,7 @@ use Rattle.rl_base.specs.declared.ids.BlockId.{BlockId}
 use Rattle.rl_hir.specs.Blocks.{Pair, block_at, same_id}
 use Rattle.rl_hir.specs.Terminals.{fallthrough, listed_id, successor_ids}
 use Rattle.rl_hir.specs.declared.function.BasicBlock.{BasicBlock}
-use Rattle.rl_order.proofs.Seen.{lookup_inserted}
+use Rattle.rl_order.proofs.Lookups.{lookup_inserted}
 use Rattle.rl_order.specs.Forward.{Leads, Leaves, Reaches, Stays}
 use Rattle.rl_order.specs.Own.{AreOwn}
 use Rattle.rl_order.specs.Walk.{Ends, Expands, Passes, Walk, Walks, WalksFrom, appended, entered, is_first, is_passed, leads_to, left, nothing, visit, visits_from}

@@ -8,7 +8,7 @@ use Rattle.rl_hir.specs.declared.terminal.GotoVariant.TheVariants as gotos
 use Rattle.rl_hir.specs.declared.terminal.TerminalKind.{TerminalKind}
 use Rattle.rl_hir.specs.declared.terminal.TerminalKind.TheVariants as kinds
 use Rattle.rl_order.specs.Numbering.{ordered_blocks}
-use Rattle.rl_order.specs.Predecessors.{IsMarked, Visits, Ends}
+use Rattle.rl_order.specs.PredecessorWalk.{IsMarked, Visits, Ends}
 use Rattle.rl_order.specs.Removals.{without_dead_do_whiles, without_dead_tries, without_unreachable_updates}
 
 abbrev id : ℕ → BlockId

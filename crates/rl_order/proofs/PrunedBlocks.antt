@@ -14,7 +14,7 @@ use Rattle.rl_hir.specs.declared.terminal.TerminalKind.TheVariants as kinds
 use Rattle.rl_order.proofs.Ordering.{same_ids}
 use Rattle.rl_order.proofs.Pruning.{cleaned_orders, ordered_orders}
 use Rattle.rl_order.specs.Numbering.{order_after, ordered_at, ordered_block, ordered_blocks, ordered_list, ordered_table, orders_of}
-use Rattle.rl_order.specs.Predecessors.{Ends, Follows, IsMarked, Meets, Misses, Trail, Visits, distinct_ids, edges_from, entry_edges, sources}
+use Rattle.rl_order.specs.PredecessorWalk.{Ends, Follows, IsMarked, Meets, Misses, Trail, Visits, distinct_ids, edges_from, entry_edges, sources}
 use Rattle.rl_order.specs.Prune.{IsPruned, cleaned}
 use Rattle.rl_order.specs.Removals.{dead_tries, dead_try, ended_by_goto, is_lost, is_there, live_do_while, live_for, with_changed, with_kind, with_kinds, without_dead_do_whiles, without_predecessor, without_try, without_unreachable_updates}
 use Rattle.rl_order.specs.Walk.{Walk, emptied, is_noted, is_used, kept, kept_block}

@@ -17,10 +17,11 @@ use Rattle.rl_hir.specs.declared.terminal.Terminal.{Terminal}
 use Rattle.rl_hir.specs.declared.function.BasicBlock.{BasicBlock}
 use Rattle.rl_hir.specs.declared.instruction.Instruction.{Instruction}
 use Rattle.rl_order.proofs.Ordering.{walked_good}
-use Rattle.rl_order.proofs.Reached.{predecessors_reached}
+use Rattle.rl_order.proofs.PredecessorsReached.{predecessors_reached}
 use Rattle.rl_order.proofs.Totals.{IsLeast, cleaned_total, kept_total, marked_total, ordered_total, total}
 use Rattle.rl_order.specs.Numbering.{ordered_blocks, orders_of}
-use Rattle.rl_order.specs.Predecessors.{IsMarked, LeadsTo, PredecessorsReached, sources, with_predecessors}
+use Rattle.rl_order.specs.PredecessorWalk.{IsMarked, sources, with_predecessors}
+use Rattle.rl_order.specs.Predecessors.{LeadsTo, PredecessorsReached}
 use Rattle.rl_order.specs.Prune.{IsPruned, cleaned}
 use Rattle.rl_order.specs.Reached.{Begins, Goes, IsReached}
 use Rattle.rl_order.specs.Walk.{IsOrdered}

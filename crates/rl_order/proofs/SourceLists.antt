@@ -8,8 +8,8 @@ use Rattle.rl_base.proofs.DistinctLists.{distinct_tail}
 use Rattle.rl_base.specs.declared.ids.BlockId.{BlockId}
 use Rattle.rl_hir.specs.Blocks.{Pair, HaveOwnIds, block_at, ids, same_id, with_block_at}
 use Rattle.rl_hir.specs.declared.function.BasicBlock.{BasicBlock}
-use Rattle.rl_order.proofs.Following.{one_id}
-use Rattle.rl_order.specs.Predecessors.{IsMarked, WalksAlong, source_lists, sources, with_predecessors}
+use Rattle.rl_order.proofs.Follows.{one_id}
+use Rattle.rl_order.specs.PredecessorWalk.{IsMarked, WalksAlong, source_lists, sources, with_predecessors}
 use Rattle.rl_order.specs.Walked.{with_lists, with_source}
 use Rattle.rl_order.specs.declared.predecessors.Edge.{Edge}
 

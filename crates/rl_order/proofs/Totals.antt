@@ -6,10 +6,10 @@ use Rattle.rl_base.specs.declared.ids.InstructionId.{InstructionId}
 use Rattle.rl_hir.specs.Blocks.{Pair, block_at, same_id}
 use Rattle.rl_hir.specs.declared.function.BasicBlock.{BasicBlock}
 use Rattle.rl_hir.specs.declared.terminal.TerminalKind.{TerminalKind}
-use Rattle.rl_order.proofs.Following.{one_id}
+use Rattle.rl_order.proofs.Follows.{one_id}
 use Rattle.rl_order.specs.Numbering.{order_after, ordered_blocks}
 use Rattle.rl_order.specs.Own.{AreOwn}
-use Rattle.rl_order.specs.Predecessors.{with_predecessors}
+use Rattle.rl_order.specs.PredecessorWalk.{with_predecessors}
 use Rattle.rl_order.specs.Prune.{cleaned}
 use Rattle.rl_order.specs.Removals.{dead_tries, ended_by_goto, is_lost, is_there, live_do_while, live_for, with_changed, with_kinds, without_dead_do_whiles, without_predecessor, without_try, without_unreachable_updates}
 use Rattle.rl_order.specs.Walk.{Walk, emptied, is_noted, is_used, kept, kept_block}

@@ -12,7 +12,7 @@ use Rattle.rl_base.specs.declared.ids.InstructionId.{InstructionId}
 use Rattle.rl_hir.specs.Blocks.{Pair, HaveOwnIds, block_at, ids, same_id}
 use Rattle.rl_hir.specs.Terminals.{fallthrough, listed_id, successor_ids}
 use Rattle.rl_hir.specs.declared.function.BasicBlock.{BasicBlock}
-use Rattle.rl_order.proofs.Dropping.{drop_pair}
+use Rattle.rl_order.proofs.DeadTries.{drop_pair}
 use Rattle.rl_order.proofs.Ordering.{same_self}
 use Rattle.rl_order.proofs.SourceLists.{apart, id_at}
 use Rattle.rl_order.specs.Numbering.{HaveOrders, orders_of}

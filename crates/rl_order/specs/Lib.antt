@@ -2,6 +2,7 @@ pub mod Forward
 pub mod Kept
 pub mod Numbering
 pub mod Own
+pub mod PredecessorWalk
 pub mod Predecessors
 pub mod Prune
 pub mod Reached

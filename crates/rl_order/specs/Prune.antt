@@ -4,7 +4,7 @@ use Rattle.rl_base.specs.declared.ids.BlockId.{BlockId}
 use Rattle.rl_hir.specs.Blocks.{Pair}
 use Rattle.rl_hir.specs.declared.instruction.Instruction.{Instruction}
 use Rattle.rl_order.specs.Numbering.{ordered_blocks, ordered_table}
-use Rattle.rl_order.specs.Predecessors.{IsMarked}
+use Rattle.rl_order.specs.PredecessorWalk.{IsMarked}
 use Rattle.rl_order.specs.Removals.{without_dead_do_whiles, without_dead_tries, without_unreachable_updates}
 use Rattle.rl_order.specs.Walk.{IsOrdered}
 

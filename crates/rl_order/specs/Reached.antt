@@ -11,7 +11,3 @@ pub data IsReached (graph : List Pair) (entry : BlockId) : BlockId → Type 0 wh
   Begins : IsReached graph entry entry
   Goes : (a b : BlockId) (block : BasicBlock) → IsReached graph entry a → block_at graph a ≡ Some block
       → list_any (same_id b) (successor_ids block.terminal) ≡ true → IsReached graph entry b
-
--- A block to which successors lead from the entry is among the ordered blocks, as it stands in the graph.
-abbrev pub KeepsReached : (graph : List Pair) (entry : BlockId) (ordered : List Pair) → Type 0
-KeepsReached graph entry ordered = (id : BlockId) → IsReached graph entry id → block_at ordered id ≡ block_at graph id

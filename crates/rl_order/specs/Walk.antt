@@ -8,6 +8,7 @@ use Rattle.rl_base.specs.declared.ids.BlockId.{BlockId}
 use Rattle.rl_hir.specs.Blocks.{Pair, block_at, same_id}
 use Rattle.rl_hir.specs.Terminals.{fallthrough, listed_id, successor_ids, unreachable}
 use Rattle.rl_hir.specs.declared.function.BasicBlock.{BasicBlock}
+use Rattle.rl_order.specs.Reached.{IsReached}
 use Rattle.rl_order.specs.declared.tasks.Visit.{Visit}
 
 -- The blocks to which a block leads: its successors, and the fallthrough of its terminal.
@@ -110,3 +111,7 @@ pub record IsOrdered (graph : List Pair) (entry : BlockId) (ordered : List Pair)
   pub end : Walk
   pub walk : WalksFrom graph entry end
   pub blocks : ordered ≡ kept graph end (reverse end.appended)
+
+-- A block to which successors lead from the entry is among the ordered blocks, as it stands in the graph.
+abbrev pub KeepsReached : (graph : List Pair) (entry : BlockId) (ordered : List Pair) → Type 0
+KeepsReached graph entry ordered = (id : BlockId) → IsReached graph entry id → block_at ordered id ≡ block_at graph id

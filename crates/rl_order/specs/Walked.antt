@@ -3,7 +3,7 @@ use Rattle.std.specs.Prelude.{ℕ, ◌+◌, if◌then◌else◌, Option, Some, N
 use Rattle.std.specs.List.{list_any}
 use Rattle.rl_base.specs.declared.ids.BlockId.{BlockId}
 use Rattle.rl_hir.specs.Blocks.{Pair, same_id}
-use Rattle.rl_order.specs.Predecessors.{Follows, Trail, distinct_ids}
+use Rattle.rl_order.specs.PredecessorWalk.{Follows, Trail, distinct_ids}
 use Rattle.rl_order.specs.declared.predecessors.Edge.{Edge}
 use Rattle.rl_order.specs.declared.predecessors.Walk.{Walk}
 

@@ -4,8 +4,7 @@ ghost use Rattle.std.specs.Prelude.{◌≡◌, ◌+◌, ◌*◌, ◌≤◌, ◌+
 ghost use Rattle.rl_hir.specs.Blocks.{block_at};
 ghost use Rattle.rl_order.specs.Forward.{GoesForward};
 ghost use Rattle.rl_order.specs.Own.{AreOwn};
-ghost use Rattle.rl_order.specs.Reached.{KeepsReached};
-ghost use Rattle.rl_order.specs.Walk.{IsOrdered, IsWhole, WalksFrom, emptied, kept};
+ghost use Rattle.rl_order.specs.Walk.{IsOrdered, IsWhole, KeepsReached, WalksFrom, emptied, kept};
 
 use crate::step::do_task;
 use crate::tasks::{Task, Visit};

@@ -1,7 +1,8 @@
 //! The predecessors of blocks.
 
 ghost use Rattle.std.specs.Prelude.{◌≡◌, ◌≤◌, ◌++◌, ◌∷◌, [], IfOk, OnOk, OnErr, length, reverse, vec_len};
-ghost use Rattle.rl_order.specs.Predecessors.{IsMarked, PredecessorsReached, WalksAlong, distinct_ids, edges_from, source_lists};
+ghost use Rattle.rl_order.specs.PredecessorWalk.{IsMarked, WalksAlong, distinct_ids, edges_from, source_lists};
+ghost use Rattle.rl_order.specs.Predecessors.{PredecessorsReached};
 ghost use Rattle.rl_order.specs.Walked.{Goes, left_of, trail_of, with_lists, with_source, worklist};
 
 use crate::places::{place_index, take_block};

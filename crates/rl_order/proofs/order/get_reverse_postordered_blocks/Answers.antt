@@ -1,11 +1,10 @@
 use Rattle.std.proofs.Common.{◌≡◌, reverse}
 use Rattle.rl_order.proofs.Forwards.{ends_forward, if_ok}
 use Rattle.rl_order.proofs.Ordering.{walked_good}
-use Rattle.rl_order.proofs.Whole.{ends_reached}
+use Rattle.rl_order.proofs.KeepsReached.{ends_reached}
 use Rattle.rl_order.proofs.order.get_reverse_postordered_blocks.Goals as goal
 use Rattle.rl_order.specs.Forward.{GoesForward}
-use Rattle.rl_order.specs.Reached.{KeepsReached}
-use Rattle.rl_order.specs.Walk.{kept}
+use Rattle.rl_order.specs.Walk.{KeepsReached, kept}
 
 pub keep_blocks-requires : goal.keep_blocks-requires
 keep_blocks-requires g c =

@@ -1,6 +1,6 @@
 use Rattle.std.proofs.Common.{◌∙◌, sym}
 use Rattle.indexmap.proofs.MapLemmas.{OnOk-map}
-use Rattle.rl_order.proofs.Keeping.{keep_noted, keep_used}
+use Rattle.rl_order.proofs.KeptBlocks.{keep_noted, keep_used}
 use Rattle.rl_order.proofs.order.keep_block.Goals as goal
 
 pub returns-then-is_used : goal.returns-then-is_used

@@ -1,4 +1,4 @@
-use Rattle.rl_order.proofs.Keeping.{keeping_begins, keeping_goes_on}
+use Rattle.rl_order.proofs.KeptBlocks.{keeping_begins, keeping_goes_on}
 use Rattle.rl_order.proofs.order.keep_blocks.Goals as goal
 
 pub loop-id-init : goal.loop-id-init

@@ -1,5 +1,5 @@
 use Rattle.std.proofs.Common.{length}
-use Rattle.rl_order.proofs.Keeping.{Keeps}
+use Rattle.rl_order.proofs.KeptBlocks.{Keeps}
 use Rattle.rl_order.proofs.order.keep_blocks.Given as goal
 
 abbrev pub invariant-loop-id : goal.invariant-loop-id

@@ -2,7 +2,7 @@ use Rattle.std.proofs.Common.{◌++◌, ◌∷◌, List, [], ap, sym, ◌∙◌,
 use Rattle.rl_base.specs.declared.ids.BlockId.{BlockId}
 use Rattle.rl_hir.specs.Blocks.{Pair}
 use Rattle.rl_order.proofs.SourceLists.{one_more_list}
-use Rattle.rl_order.specs.Predecessors.{source_lists}
+use Rattle.rl_order.specs.PredecessorWalk.{source_lists}
 use Rattle.rl_order.proofs.predecessors.empty_lists.Goals as goal
 
 pub loop-preserved : goal.loop-preserved

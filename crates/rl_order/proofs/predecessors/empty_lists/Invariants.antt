@@ -1,5 +1,5 @@
 use Rattle.std.proofs.Common.{◌≡◌, [], take}
-use Rattle.rl_order.specs.Predecessors.{source_lists}
+use Rattle.rl_order.specs.PredecessorWalk.{source_lists}
 use Rattle.rl_order.proofs.predecessors.empty_lists.Given as goal
 
 abbrev pub invariant-loop : goal.invariant-loop

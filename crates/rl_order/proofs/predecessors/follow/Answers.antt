@@ -1,7 +1,7 @@
 use Rattle.std.proofs.Common.{◌≡◌, ◌∙◌, None, reverse, sym}
 use Rattle.std.specs.List.{list_any}
 use Rattle.rl_hir.specs.Blocks.{block_at, same_id}
-use Rattle.rl_order.proofs.Following.{meets, misses, not_false, not_true, visits, visit_falls}
+use Rattle.rl_order.proofs.Follows.{meets, misses, not_false, not_true, visits, visit_falls}
 use Rattle.rl_order.proofs.predecessors.follow.Goals as goal
 
 pub returns-in_ok-leave_edges-clause-goes : goal.returns-in_ok-leave_edges-clause-goes

@@ -1,5 +1,5 @@
 use Rattle.std.proofs.Common.{reverse}
-use Rattle.rl_order.proofs.Following.{back_step}
+use Rattle.rl_order.proofs.Follows.{back_step}
 use Rattle.rl_order.proofs.predecessors.leave_edges.Goals as goal
 
 pub loop-back-preserved : goal.loop-back-preserved

@@ -1,7 +1,7 @@
 use Rattle.std.proofs.Common.{ap, ◌∙◌}
-use Rattle.rl_order.proofs.Reached.{predecessors_reached}
+use Rattle.rl_order.proofs.PredecessorsReached.{predecessors_reached}
 use Rattle.rl_order.proofs.SourceLists.{is_marked}
-use Rattle.rl_order.specs.Predecessors.{source_lists}
+use Rattle.rl_order.specs.PredecessorWalk.{source_lists}
 use Rattle.rl_order.proofs.predecessors.mark_predecessors.Goals as goal
 
 pub returns-clause-walked : goal.returns-clause-walked

@@ -4,7 +4,7 @@ use Rattle.std.proofs.lemmas.List.{take_more}
 use Rattle.rl_base.specs.declared.ids.BlockId.{BlockId}
 use Rattle.rl_hir.specs.Blocks.{Pair, same_id}
 use Rattle.rl_order.proofs.SourceLists.{one_more_source}
-use Rattle.rl_order.specs.Predecessors.{source_lists}
+use Rattle.rl_order.specs.PredecessorWalk.{source_lists}
 use Rattle.rl_order.specs.Walked.{with_source}
 use Rattle.rl_order.specs.declared.predecessors.Edge.{Edge}
 use Rattle.rl_order.proofs.predecessors.predecessor_lists.Goals as goal

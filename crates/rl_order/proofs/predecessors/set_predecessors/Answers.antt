@@ -3,7 +3,7 @@ use Rattle.std.specs.Map.{values_of}
 use Rattle.rl_base.specs.declared.ids.BlockId.{BlockId}
 use Rattle.rl_hir.specs.Blocks.{Pair, with_block_at}
 use Rattle.rl_hir.specs.declared.function.BasicBlock.{BasicBlock}
-use Rattle.rl_order.proofs.Following.{empty_list}
+use Rattle.rl_order.proofs.Follows.{empty_list}
 use Rattle.rl_order.proofs.PlaceSteps.{same_count}
 use Rattle.rl_order.proofs.SourceLists.{last_list, no_lists}
 use Rattle.rl_order.specs.Walked.{with_lists}

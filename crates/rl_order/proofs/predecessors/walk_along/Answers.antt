@@ -1,8 +1,8 @@
 use Rattle.std.proofs.Common.{◌≡◌, List, [], reverse, subst, sym, arith}
 use Rattle.rl_order.specs.declared.predecessors.Edge.{Edge}
-use Rattle.rl_order.specs.Predecessors.{Follows, Ends, Trail}
+use Rattle.rl_order.specs.PredecessorWalk.{Follows, Ends, Trail}
 use Rattle.rl_order.specs.Walked.{trail_of}
-use Rattle.rl_order.proofs.Following.{empty_list}
+use Rattle.rl_order.proofs.Follows.{empty_list}
 use Rattle.rl_order.proofs.predecessors.walk_along.Goals as goal
 
 pub returns : goal.returns

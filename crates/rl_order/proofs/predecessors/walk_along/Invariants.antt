@@ -1,5 +1,5 @@
 use Rattle.std.proofs.Common.{[], ◌∷◌}
-use Rattle.rl_order.specs.Predecessors.{entry_edges}
+use Rattle.rl_order.specs.PredecessorWalk.{entry_edges}
 use Rattle.rl_order.specs.Walked.{Goes, left_of, trail_of, worklist}
 use Rattle.rl_order.proofs.predecessors.walk_along.Given as goal
 

@@ -1,6 +1,6 @@
 use Rattle.std.proofs.Common.{List, ◌∙◌}
 use Rattle.rl_hir.specs.Blocks.{Pair}
-use Rattle.rl_order.proofs.Dropping.{drop_pair, next_try}
+use Rattle.rl_order.proofs.DeadTries.{drop_pair, next_try}
 use Rattle.rl_order.specs.Removals.{is_there}
 use Rattle.rl_order.proofs.tries.dead_tries.Goals as goal
 

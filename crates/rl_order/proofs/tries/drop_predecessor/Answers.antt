@@ -2,7 +2,7 @@ use Rattle.std.proofs.Common.{◌≡◌, List, Some, ap, filter, not, sym, ◌�
 use Rattle.rl_base.specs.declared.ids.BlockId.{BlockId}
 use Rattle.rl_hir.specs.Blocks.{Pair, same_id}
 use Rattle.rl_hir.specs.declared.function.BasicBlock.{BasicBlock}
-use Rattle.rl_order.proofs.Dropping.{preds_changed}
+use Rattle.rl_order.proofs.DeadTries.{preds_changed}
 use Rattle.rl_order.proofs.RemovalSteps.{value_at}
 use Rattle.rl_order.proofs.tries.drop_predecessor.Goals as goal
 

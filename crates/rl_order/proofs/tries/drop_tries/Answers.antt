@@ -2,7 +2,7 @@ use Rattle.std.proofs.Common.{List, ap, fold, refl, ◌∙◌}
 use Rattle.rl_base.specs.declared.ids.BlockId.{BlockId}
 use Rattle.rl_hir.specs.Blocks.{HaveOwnIds, Pair, kept}
 use Rattle.rl_hir.proofs.KeptBlocks.{kept_all}
-use Rattle.rl_order.proofs.Dropping.{own_by_keys, rest_next}
+use Rattle.rl_order.proofs.DeadTries.{own_by_keys, rest_next}
 use Rattle.rl_order.specs.Removals.{without_try}
 use Rattle.rl_order.specs.declared.tries.DeadTry.{DeadTry}
 use Rattle.rl_order.proofs.tries.drop_tries.Goals as goal

@@ -2,7 +2,7 @@ use Rattle.std.proofs.Common.{◌≡◌, List, ap, position, sym, ◌∙◌}
 use Rattle.std.specs.Map.{keys_of}
 use Rattle.rl_base.specs.declared.ids.BlockId.{BlockId}
 use Rattle.rl_hir.specs.Blocks.{HaveOwnIds, Pair, same_id}
-use Rattle.rl_order.proofs.Dropping.{change_there, keys_changed, own_by_keys, place_within, try_dropped}
+use Rattle.rl_order.proofs.DeadTries.{change_there, keys_changed, own_by_keys, place_within, try_dropped}
 use Rattle.rl_order.specs.Removals.{ended_by_goto, with_changed, without_predecessor}
 use Rattle.rl_order.proofs.tries.drop_try.Goals as goal
 

@@ -2,7 +2,7 @@ use Rattle.std.proofs.Common.{List, ap, sym, ◌∙◌}
 use Rattle.rl_base.specs.declared.ids.BlockId.{BlockId}
 use Rattle.rl_hir.proofs.KeptBlocks.{kept_all}
 use Rattle.rl_hir.specs.Blocks.{Pair, kept}
-use Rattle.rl_order.proofs.Following.{empty_list}
+use Rattle.rl_order.proofs.Follows.{empty_list}
 use Rattle.rl_order.proofs.tries.remove_lost.Goals as goal
 
 -- Where no block is lost, all stay.

@@ -7,7 +7,7 @@ use Rattle.rl_hir.specs.Blocks.{Pair, block_at, same_id}
 use Rattle.rl_hir.specs.Terminals.{fallthrough, listed_id, successor_ids}
 use Rattle.rl_hir.specs.declared.function.BasicBlock.{BasicBlock}
 use Rattle.rl_order.proofs.Ordering.{any_reverse, any_reversed, decide, either, or_left, or_right, same_ids, same_self}
-use Rattle.rl_order.proofs.Seen.{lookup_inserted}
+use Rattle.rl_order.proofs.Lookups.{lookup_inserted}
 use Rattle.rl_order.specs.Reached.{Begins, IsReached, Goes}
 use Rattle.rl_order.specs.Walk.{Ends, Expands, Passes, Walk, Walks, WalksFrom, entered, is_first, is_passed, is_used, left, nothing, visit, visits_from}
 use Rattle.rl_order.specs.declared.tasks.Visit.{Visit}

@@ -12,8 +12,8 @@ use Rattle.rl_base.proofs.DistinctLists.{distinct_tail}
 use Rattle.rl_base.specs.declared.ids.BlockId.{BlockId}
 use Rattle.rl_hir.specs.Blocks.{HaveOwnIds, Pair, block_at, ids, kept, same_id, with_block_at}
 use Rattle.rl_hir.specs.declared.function.BasicBlock.{BasicBlock}
-use Rattle.rl_order.proofs.Following.{one_id}
-use Rattle.rl_order.proofs.Reached.{In}
+use Rattle.rl_order.proofs.Follows.{one_id}
+use Rattle.rl_order.proofs.PredecessorsReached.{In}
 use Rattle.rl_order.proofs.SourceLists.{apart, get_keys, passes}
 use Rattle.rl_order.specs.Kept.{changed_at}
 use Rattle.rl_order.specs.Removals.{dead_tries, dead_try, is_alone, is_lost, with_changed, without_predecessor, without_try, ended_by_goto}

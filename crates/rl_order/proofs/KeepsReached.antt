@@ -6,11 +6,10 @@ use Rattle.rl_base.specs.declared.ids.BlockId.{BlockId}
 use Rattle.rl_hir.specs.Blocks.{Pair, block_at, same_id}
 use Rattle.rl_hir.specs.Terminals.{fallthrough}
 use Rattle.rl_hir.specs.declared.function.BasicBlock.{BasicBlock}
-use Rattle.rl_order.proofs.Keeping.{kept_apart}
+use Rattle.rl_order.proofs.KeptBlocks.{kept_apart}
 use Rattle.rl_order.proofs.Ordering.{is_done, same_ids, same_self, walked_opened}
-use Rattle.rl_order.proofs.Used.{reached_used}
-use Rattle.rl_order.specs.Reached.{KeepsReached}
-use Rattle.rl_order.specs.Walk.{Ends, Expands, IsOrdered, Passes, Walk, Walks, WalksFrom, entered, is_first, is_passed, is_used, kept, kept_block, left, nothing, visit, visits_from}
+use Rattle.rl_order.proofs.IsUsed.{reached_used}
+use Rattle.rl_order.specs.Walk.{Ends, Expands, IsOrdered, KeepsReached, Passes, Walk, Walks, WalksFrom, entered, is_first, is_passed, is_used, kept, kept_block, left, nothing, visit, visits_from}
 use Rattle.rl_order.specs.declared.tasks.Visit.{Visit}
 
 -- A block that no pair of the first list has is looked up in the second.

@@ -6,8 +6,9 @@ use Rattle.rl_base.specs.declared.ids.BlockId.{BlockId}
 use Rattle.rl_hir.specs.Blocks.{Pair, block_at, same_id}
 use Rattle.rl_hir.specs.Terminals.{successor_ids}
 use Rattle.rl_hir.specs.declared.function.BasicBlock.{BasicBlock}
-use Rattle.rl_order.proofs.Following.{one_id}
-use Rattle.rl_order.specs.Predecessors.{Follows, Ends, Misses, Meets, Visits, Trail, LeadsTo, IsMarked, PredecessorsReached, distinct_ids, edges_from, followed, sources, visited, with_predecessors}
+use Rattle.rl_order.proofs.Follows.{one_id}
+use Rattle.rl_order.specs.PredecessorWalk.{Follows, Ends, Misses, Meets, Visits, Trail, IsMarked, distinct_ids, edges_from, followed, sources, visited, with_predecessors}
+use Rattle.rl_order.specs.Predecessors.{LeadsTo, PredecessorsReached}
 use Rattle.rl_order.specs.Reached.{IsReached, Begins, Goes}
 use Rattle.rl_order.specs.declared.predecessors.Edge.{Edge}
 

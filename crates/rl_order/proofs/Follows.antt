@@ -8,7 +8,7 @@ use Rattle.indexmap.specs.IndexSet.{insert_key}
 use Rattle.rl_base.specs.declared.ids.BlockId.{BlockId}
 use Rattle.rl_hir.specs.Blocks.{Pair, block_at, same_id}
 use Rattle.rl_hir.specs.declared.function.BasicBlock.{BasicBlock}
-use Rattle.rl_order.specs.Predecessors.{Follows, Misses, Meets, Visits, Trail, distinct_ids, edges_from}
+use Rattle.rl_order.specs.PredecessorWalk.{Follows, Misses, Meets, Visits, Trail, distinct_ids, edges_from}
 use Rattle.rl_order.specs.Walked.{Goes, unseen_edges}
 use Rattle.rl_order.specs.declared.predecessors.Edge.{Edge}
 
