@@ -1,4 +1,4 @@
--- One walk over the blocks for the three removals.
+-- The three removals in a single walk over the blocks.
 use Rattle.std.proofs.Common.{◌≡◌, ℕ, ◌+◌, Bool, true, false, if◌then◌else◌, Option, Some, None, List, [], ◌∷◌, ◌++◌, length, drop, fold, append-nil, slice_get, ap, sym, ◌∙◌, refl, arith}
 use Rattle.std.specs.Option.{option_to_list}
 use Rattle.std.proofs.lemmas.List.{drop_all}

@@ -13,6 +13,7 @@ use Rattle.rl_base.specs.declared.ids.BlockId.{BlockId}
 use Rattle.rl_hir.specs.Blocks.{HaveOwnIds, Pair, block_at, ids, kept, same_id, with_block_at}
 use Rattle.rl_hir.specs.declared.function.BasicBlock.{BasicBlock}
 use Rattle.rl_order.proofs.Follows.{one_id}
+use Rattle.rl_order.proofs.PlaceSteps.{keys_put}
 use Rattle.rl_order.proofs.PredecessorsReached.{In}
 use Rattle.rl_order.proofs.SourceLists.{apart, get_keys, passes}
 use Rattle.rl_order.specs.Kept.{changed_at}
@@ -45,6 +46,19 @@ next_try there graph place p at dead tells tries listed is =
 pub keys_changed : (id : BlockId) (change : BasicBlock → BasicBlock) (graph : List Pair) → keys_of (with_changed id change graph) ≡ keys_of graph
 keys_changed id change [] = refl
 keys_changed id change (p ∷ graph) = ap (λ (t : List BlockId). p.0 ∷ t) (keys_changed id change graph)
+
+-- A change at a place leaves the ids.
+pub keys_changed_at : (place : Option ℕ) (change : BasicBlock → BasicBlock) (graph after : List Pair) → after ≡ changed_at place change graph
+    → keys_of after ≡ keys_of graph
+keys_changed_at place change graph after is = ap keys_of is ∙ by_place place
+  where
+    by_place : (o : Option ℕ) → keys_of (changed_at o change graph) ≡ keys_of graph
+    by_place None = refl
+    by_place (Some n) = by_block (slice_get (values_of graph) n)
+      where
+        by_block : (b : Option BasicBlock) → keys_of (elim b [ Some block ↦ with_block_at graph n (change block) | None ↦ graph ]) ≡ keys_of graph
+        by_block (Some block) = keys_put graph n (change block)
+        by_block None = refl
 
 ids_of_keys : (graph : List Pair) → ids graph ≡ map (λ (k : BlockId). k.0) (keys_of graph)
 ids_of_keys [] = refl
@@ -245,7 +259,7 @@ fold_next : (now : List Pair) (tries : List DeadTry) (index : ℕ) (dead : DeadT
     → fold (λ (b : List Pair) (d : DeadTry). without_try d b) (without_try (get_or tries index dead) now) (drop (index + 1) tries) ≡ fold (λ (b : List Pair) (d : DeadTry). without_try d b) now (drop index tries)
 fold_next now tries index dead within = rw add-one (ap (fold (λ (b : List Pair) (d : DeadTry). without_try d b) now) (sym (drop-cons tries index dead within)))
 
--- One more `try` is dropped.
+-- A further `try` is dropped.
 pub rest_next : (now now1 : List Pair) (tries : List DeadTry) (index : ℕ) (dead : DeadTry) → index < length tries → now1 ≡ without_try (get_or tries index dead) now
     → fold (λ (b : List Pair) (d : DeadTry). without_try d b) now1 (drop (index + 1) tries) ≡ fold (λ (b : List Pair) (d : DeadTry). without_try d b) now (drop index tries)
 rest_next now now1 tries index dead within is = ap (λ (t : List Pair). fold (λ (b : List Pair) (d : DeadTry). without_try d b) t (drop (index + 1) tries)) is ∙ fold_next now tries index dead within

@@ -12,7 +12,7 @@ use Rattle.rl_order.specs.PredecessorWalk.{Follows, Misses, Meets, Visits, Trail
 use Rattle.rl_order.specs.Walked.{Goes, unseen_edges}
 use Rattle.rl_order.specs.declared.predecessors.Edge.{Edge}
 
--- One more edge from a block is left: those to its last successors, from the next one before them on.
+-- A further edge from a block is left: those to its last successors, from the next one before them on.
 pub back_step : (from : BlockId) (ids : List BlockId) (back : ℕ) (d : BlockId) (left left1 old : List Edge) → back < length ids
     → left1 ≡ left ++ (record { from = from; to = get_or ids (length ids - 1 - back) d }) ∷ []
     → reverse left ≡ map (λ (to : BlockId). record { from = from; to = to }) (drop (length ids - back) ids) ++ old

@@ -1,4 +1,4 @@
--- Reached blocks are kept whole, and a graph has one order.
+-- Reached blocks are kept whole.
 use Rattle.std.proofs.Common.{◌≡◌, Bool, true, false, ◌||◌, ◌⊎◌, inl, inr, true≢false, Option, Some, None, is_some, unwrap_or, List, [], ◌∷◌, ◌++◌, reverse, refl, append-nil, sym, ap, ◌∙◌, subst}
 use Rattle.std.specs.List.{list_any}
 use Rattle.std.specs.Map.{lookup}
@@ -87,54 +87,3 @@ pub ends_reached : (graph : List Pair) (entry : BlockId) (end : Walk) (ordered :
     → ordered ≡ kept graph end (reverse end.appended) → KeepsReached graph entry ordered
 ends_reached graph entry end ordered walk is =
     subst (λ pairs. KeepsReached graph entry pairs) (sym is) (keeps_reached graph entry end walk)
-
--- The first of some visits expands a block.
-record Expanded (graph : List Pair) (v : Visit) (vs : List Visit) (w end : Walk) : Type 0 where
-  block : BasicBlock
-  inner : Walk
-  passed : is_passed w v ≡ false
-  there : block_at graph v.id ≡ Some block
-  within : Walks graph (visits_from v.used block) (entered w v (fallthrough block.terminal)) inner
-  rest : Walks graph vs (left (is_first w v.id) inner v.id) end
-
-walks_none : (graph : List Pair) (w end : Walk) → Walks graph [] w end → w ≡ end
-walks_none graph _ _ (Ends w) = refl
-
-walks_first : (graph : List Pair) (v : Visit) (vs : List Visit) (w end : Walk) → Walks graph (v ∷ vs) w end
-    → ((is_passed w v ≡ true) × Walks graph vs w end) ⊎ Expanded graph v vs w end
-walks_first graph _ _ _ _ (Passes v vs w end passed rest) = inl (passed, rest)
-walks_first graph _ _ _ _ (Expands v vs block w inner end passed there within rest) =
-    inr (record { block = block; inner = inner; passed = passed; there = there; within = within; rest = rest })
-
--- A walk has one end.
-pub walks_same : (graph : List Pair) (vs : List Visit) (w a b : Walk) → Walks graph vs w a → Walks graph vs w b → a ≡ b
-walks_same graph _ _ _ b (Ends w) other = walks_none graph w b other
-walks_same graph _ _ _ b (Passes v vs w a passed rest) other =
-    elim (walks_first graph v vs w b other) [
-      | inl both ↦ walks_same graph vs w a b rest both.1
-      | inr e ↦ absurd (true≢false (sym passed ∙ e.passed))
-    ]
-walks_same graph _ _ _ b (Expands v vs block w inner a passed there within rest) other =
-    by_first (walks_first graph v vs w b other)
-    (λ x walk. walks_same graph (visits_from v.used block) (entered w v (fallthrough block.terminal)) inner x within walk)
-    (λ walk. walks_same graph vs (left (is_first w v.id) inner v.id) a b rest walk)
-  where
-    some_same : (x y : BasicBlock) → Some x ≡ Some y → x ≡ y
-    some_same x y e = ap (λ (o : Option BasicBlock). elim o [ Some z ↦ z | None ↦ x ]) e
-
-    by_first : ((is_passed w v ≡ true) × Walks graph vs w b) ⊎ Expanded graph v vs w b
-        → ((x : Walk) → Walks graph (visits_from v.used block) (entered w v (fallthrough block.terminal)) x → inner ≡ x)
-        → (Walks graph vs (left (is_first w v.id) inner v.id) b → a ≡ b) → a ≡ b
-    by_first (inl both) inside behind = absurd (true≢false (sym both.0 ∙ passed))
-    by_first (inr e) inside behind =
-        let same : e.block ≡ block = some_same e.block block (sym e.there ∙ there) in
-        let within' = subst (λ x. Walks graph (visits_from v.used x) (entered w v (fallthrough x.terminal)) e.inner) same
-        e.within in
-        behind (subst (λ x. Walks graph vs (left (is_first w v.id) x v.id) b) (sym (inside e.inner within')) e.rest)
-
--- A graph has one order.
-pub order_same : (graph : List Pair) (entry : BlockId) (a b : List Pair) → IsOrdered graph entry a
-    → IsOrdered graph entry b → a ≡ b
-order_same graph entry a b x y =
-    x.blocks ∙ ap (λ (w : Walk). kept graph w (reverse w.appended))
-    (walks_same graph (visit true entry ∷ []) nothing x.end y.end x.walk y.walk) ∙ sym y.blocks

@@ -1,3 +1,4 @@
+pub mod CleanedIds
 pub mod DeadEnds
 pub mod DeadTries
 pub mod Examples
@@ -19,6 +20,7 @@ pub mod PredecessorsReached
 pub mod PrunedBlocks
 pub mod Pruning
 pub mod RemovalSteps
+pub mod SameWalks
 pub mod SourceLists
 pub mod Stack
 pub mod Totals

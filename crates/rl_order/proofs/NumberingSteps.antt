@@ -3,7 +3,7 @@ use Rattle.std.proofs.Common.{◌≡◌, ℕ, ◌+◌, ◌<◌, List, [], ◌∷
 use Rattle.std.proofs.lemmas.List.{drop_all, take_all}
 use Rattle.std.proofs.lemmas.Option.{slice_get-get_or}
 use Rattle.rl_base.specs.declared.ids.InstructionId.{InstructionId}
-use Rattle.rl_hir.specs.Blocks.{Pair}
+use Rattle.rl_hir.specs.Blocks.{Pair, with_block_at}
 use Rattle.rl_hir.specs.Terminals.{with_order}
 use Rattle.rl_hir.specs.declared.function.BasicBlock.{BasicBlock}
 use Rattle.rl_hir.specs.declared.instruction.Instruction.{Instruction}
@@ -17,6 +17,14 @@ ordered_at-within order place table d within = rw (ordered_at, slice_get-get_or 
 -- The block with the order after those of its instructions, which begin with `order`.
 abbrev pub marked : ℕ → BasicBlock → BasicBlock
 marked order block = record block { terminal = with_order (order + length block.instructions) block.terminal }
+
+-- The block was put, with the order of its terminal counted from the last order before it.
+pub put_marked : (now after : List Pair) (place last : ℕ) (old new : BasicBlock)
+    → new ≡ record old { terminal = with_order (last + length old.instructions + 1) old.terminal } → after ≡ with_block_at now place new
+    → after ≡ with_block_at now place (marked (last + 1) old)
+put_marked now after place last old new is put =
+    let order : last + length old.instructions + 1 ≡ last + 1 + length old.instructions = omega arith in
+    put ∙ ap (λ (b : BasicBlock). with_block_at now place b) (is ∙ ap (λ n. record old { terminal = with_order n old.terminal }) order)
 
 module _ (now after : List Pair) (place next next1 : ℕ) (old : BasicBlock) (r : IsReplaced now after place old (marked next old)) (ends : next1 ≡ next + length old.instructions + 1) where
   pub blocks_step : take (place + 1) after ++ ordered_blocks next1 (drop (place + 1) after) ≡ take place now ++ ordered_blocks next (drop place now)

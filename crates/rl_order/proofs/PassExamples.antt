@@ -26,7 +26,7 @@ missing_test : without_dead_do_whiles (block 0 7 (kinds.DoWhile (id 1) (id 2) (i
     ≡ block 0 7 (kinds.Goto (id 1) gotos.Break) [] ∷ block 1 8 (kinds.Throw place) (0 ∷ []) ∷ []
 missing_test = refl
 
--- One whose test is there stays.
+-- A loop whose test is there stays.
 present_test : without_dead_do_whiles (block 0 7 (kinds.DoWhile (id 0) (id 1) (id 1)) [] ∷ block 1 8 (kinds.Throw place) [] ∷ []) ≡ block 0 7 (kinds.DoWhile (id 0) (id 1) (id 1)) [] ∷ block 1 8 (kinds.Throw place) [] ∷ []
 present_test = refl
 

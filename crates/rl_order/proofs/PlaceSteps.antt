@@ -1,6 +1,6 @@
 -- Blocks that are taken out and put back.
 use Rattle.std.proofs.Common.{◌≡◌, ℕ, zero, suc, ◌+◌, List, [], ◌∷◌, ◌++◌, length, take, drop, Some, slice_get, get_or, get_or-drop, add-zero, add-one, append_assoc, ap, sym, ◌∙◌, refl}
-use Rattle.std.specs.Map.{values_of}
+use Rattle.std.specs.Map.{keys_of, values_of}
 use Rattle.indexmap.specs.Layout.{length-set_value_at}
 use Rattle.rl_base.specs.declared.ids.BlockId.{BlockId}
 use Rattle.rl_hir.specs.Blocks.{Pair, with_block_at}
@@ -18,6 +18,11 @@ put_back pairs after place first is block = ap (λ (t : List Pair). with_block_a
 
 pub same_count : (pairs after : List Pair) (place : ℕ) (first : BasicBlock) → after ≡ with_block_at pairs place first → length after ≡ length pairs
 same_count pairs after place first is = ap length is ∙ length-set_value_at pairs place first
+
+pub keys_put : (pairs : List Pair) (place : ℕ) (block : BasicBlock) → keys_of (with_block_at pairs place block) ≡ keys_of pairs
+keys_put [] place block = refl
+keys_put (p ∷ pairs) zero block = refl
+keys_put (p ∷ pairs) (suc place) block = ap (λ (ids : List BlockId). p.0 ∷ ids) (keys_put pairs place block)
 
 -- The block at a place was replaced by another.
 pub record IsReplaced (pairs after : List Pair) (place : ℕ) (old new : BasicBlock) : Type 0 where
@@ -52,7 +57,7 @@ replaced pairs after place old new at is =
       rest = rw add-one (ap (λ (t : List Pair). drop (suc place) t) is ∙ p.rest);
     }
 
--- One more pair of those in front.
+-- A further pair joins those in front.
 pub one_more : (front : List Pair) (p : Pair) (rest : List Pair) → (front ++ p ∷ []) ++ rest ≡ front ++ p ∷ rest
 one_more front p rest = append_assoc front (p ∷ []) rest
 

@@ -1,12 +1,12 @@
 -- Steps of the passes that change the kinds of terminals.
 use Rattle.std.proofs.Common.{◌≡◌, ℕ, zero, suc, ◌+◌, Bool, true, false, List, [], ◌∷◌, ◌++◌, length, take, drop, append-nil, Some, slice_get, ap, sym, ◌∙◌, refl, arith}
-use Rattle.std.specs.Map.{values_of}
+use Rattle.std.specs.Map.{keys_of, values_of}
 use Rattle.std.proofs.lemmas.List.{drop_all, take_all}
 use Rattle.rl_base.specs.declared.ids.BlockId.{BlockId}
 use Rattle.rl_hir.specs.Blocks.{Pair, same_id, with_block_at}
 use Rattle.rl_hir.specs.declared.function.BasicBlock.{BasicBlock}
 use Rattle.rl_hir.specs.declared.terminal.TerminalKind.{TerminalKind}
-use Rattle.rl_order.proofs.PlaceSteps.{IsReplaced, one_more, replaced, same_count, same_later}
+use Rattle.rl_order.proofs.PlaceSteps.{IsReplaced, keys_put, one_more, replaced, same_count, same_later}
 use Rattle.rl_order.specs.Removals.{is_there, with_kind, with_kinds}
 
 pub unchanged : (pairs : List Pair) (place : ℕ) (block : BasicBlock) → slice_get (values_of pairs) place ≡ Some block → pairs ≡ with_block_at pairs place block
@@ -39,9 +39,10 @@ pub record Changing (change : TerminalKind → TerminalKind) (pairs now : List P
   pub rest : drop place now ≡ drop place pairs
   pub count : length now ≡ length pairs
   pub there : (id : BlockId) → is_there now id ≡ is_there pairs id
+  pub keys : keys_of now ≡ keys_of pairs
 
 pub changing_begin : (change : TerminalKind → TerminalKind) (pairs : List Pair) → Changing change pairs pairs 0
-changing_begin change pairs = record { blocks = refl; rest = refl; count = refl; there = λ id. refl }
+changing_begin change pairs = record { blocks = refl; rest = refl; count = refl; there = λ id. refl; keys = refl }
 
 pub changing_step : (change : TerminalKind → TerminalKind) (pairs now after : List Pair) (place : ℕ) (block : BasicBlock) (kind : TerminalKind)
     → Changing change pairs now place → slice_get (values_of now) place ≡ Some block → kind ≡ change block.terminal.kind
@@ -60,6 +61,7 @@ changing_step change pairs now after place block kind h at is put =
       rest = r.rest ∙ same_later now pairs place h.rest;
       count = same_count now after place new put ∙ h.count;
       there = λ id. ap (λ (t : List Pair). is_there t id) put ∙ still_there now place new id ∙ h.there id;
+      keys = ap keys_of put ∙ keys_put now place new ∙ h.keys;
     }
 
 -- The kinds of blocks by what is there are the same with the blocks that were there at first.

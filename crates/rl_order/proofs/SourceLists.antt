@@ -45,7 +45,7 @@ one_more_key graph place p keys keys1 own at is before =
     let fresh : list_any (same_id p.0) keys ≡ false = ap (list_any (same_id p.0)) before ∙ fresh_id graph place p.0 own (id_at graph place p at) in
     rw add-one (is ∙ ap (λ (b : Bool). if b then keys else keys ++ p.0 ∷ []) fresh ∙ ap (λ (t : List BlockId). t ++ p.0 ∷ []) before ∙ sym (key_more graph place p at))
 
--- One more edge
+-- A further edge
 
 source_hit : (e : Edge) (done : List Edge) (id : BlockId) → e.to ≡ id → sources (done ++ e ∷ []) id ≡ sources done id ++ e.from ∷ []
 source_hit e [] id is = let hit : same_id id e.to ≡ true = eq-eqb id.0 e.to.0 (ap (λ (x : BlockId). x.0) (sym is)) in rw hit refl
@@ -122,7 +122,7 @@ get_keys [] place within = absurd (omega arith)
 get_keys (p ∷ graph) zero within = (p.0, refl, refl)
 get_keys (p ∷ graph) (suc place) within = get_keys graph place (omega arith)
 
--- One more edge is counted at the place of the block that it leads to.
+-- A further edge is counted at the place of the block that it leads to.
 pub one_more_source : (graph : List Pair) (e : Edge) (done : List Edge) (place : Option ℕ) → HaveOwnIds graph → place ≡ position (same_id e.to) (keys_of graph)
     → with_source place e.from (source_lists done graph) ≡ source_lists (done ++ e ∷ []) graph
 one_more_source graph e done None own is = sym (none_hit graph e done (Missing-position (same_id e.to) graph (sym is)).value)
@@ -132,7 +132,7 @@ one_more_source graph e done (Some place) own is =
     let same : e.to ≡ k.0 = passes graph e.to k.0 (f.key ∙ k.1) in
     one_hit graph place e done own (k.2 ∙ ap (λ (x : BlockId). Some x.0) (sym same))
 
--- One more list is empty.
+-- A further list is empty.
 pub one_more_list : (graph : List Pair) (count : ℕ) → count < length graph → take (count + 1) (source_lists [] graph) ≡ take count (source_lists [] graph) ++ [] ∷ []
 one_more_list graph count within = rw add-one (more graph count within)
   where

@@ -9,44 +9,73 @@ use Rattle.rl_hir.specs.Terminals.{fallthrough, listed_id, successor_ids}
 use Rattle.rl_hir.specs.declared.function.BasicBlock.{BasicBlock}
 use Rattle.rl_order.proofs.Measure.{total, total_falls}
 use Rattle.rl_order.specs.Tasks.{is_expanding, is_known, tasks_after, tasks_from, walk_after}
-use Rattle.rl_order.specs.Walk.{IsWhole, Walk, Walks, Ends, Passes, Expands, appended, entered, has_block, is_first, is_passed, left, visit, visits_from}
+use Rattle.rl_order.specs.Walk.{IsWhole, Walk, Walks, Ends, Passes, Expands, appended, entered, expansions, has_block, is_first, is_passed, left, visit, visits_from}
 use Rattle.rl_order.specs.declared.tasks.Task.{Task}
 use Rattle.rl_order.specs.declared.tasks.Task.TheVariants as tasks
 use Rattle.rl_order.specs.declared.tasks.Visit.{Visit}
 
--- The visit of a block takes the walk from `w` to a state with which `rest` goes on.
-pub record Visited (graph : List Pair) (v : Visit) (w : Walk) (rest : Walk → Type 0) : Type 0 where
+-- A walk that expands `count` blocks.
+pub record WalksIn (graph : List Pair) (vs : List Visit) (w end : Walk) (count : ℕ) : Type 0 where
+  pub walk : Walks graph vs w end
+  pub expanded : expansions walk ≡ count
+
+-- The visit of a block takes the walk from `w` to a state with which `rest` goes on. Together they expand `count` blocks.
+pub record Visited (graph : List Pair) (v : Visit) (w : Walk) (rest : Walk → ℕ → Type 0) (count : ℕ) : Type 0 where
   pub mid : Walk
-  pub walk : Walks graph (v ∷ []) w mid
-  pub onward : rest mid
+  pub first : ℕ
+  pub others : ℕ
+  pub walk : WalksIn graph (v ∷ []) w mid first
+  pub onward : rest mid others
+  pub sum : first + others ≡ count
 
--- The tasks, in order, take the walk from one state to another.
-abbrev pub Runs : List Pair → List Task → Walk → Walk → Type 0
-Runs graph [] w end = w ≡ end
-Runs graph (tasks.Append id ∷ ts) w end = Runs graph ts (appended w id) end
-Runs graph (tasks.Enter v ∷ ts) w end = Visited graph v w (λ mid. Runs graph ts mid end)
+-- The tasks, in order, take the walk from one state to another and expand `count` blocks.
+abbrev pub Runs : List Pair → List Task → Walk → Walk → (count : ℕ) → Type 0
+Runs graph [] w end count = (w ≡ end) × (count ≡ 0)
+Runs graph (tasks.Append id ∷ ts) w end count = Runs graph ts (appended w id) end count
+Runs graph (tasks.Enter v ∷ ts) w end count = Visited graph v w (λ mid others. Runs graph ts mid end others) count
 
-pub walks_append : (graph : List Pair) (xs ys : List Visit) (w mid end : Walk) → Walks graph xs w mid
-    → Walks graph ys mid end → Walks graph (xs ++ ys) w end
-walks_append graph _ ys _ _ end (Ends w) more = more
-walks_append graph _ ys _ mid end (Passes v vs w _ h rest) more =
-    Passes v (vs ++ ys) w end h (walks_append graph vs ys w mid end rest more)
-walks_append graph _ ys _ mid end (Expands v vs block w inner _ h at within rest) more =
-    Expands v (vs ++ ys) block w inner end h at within
-    (walks_append graph vs ys (left (is_first w v.id) inner v.id) mid end rest more)
+walks_onward : (graph : List Pair) (xs ys : List Visit) (w mid end : Walk) (n : ℕ) (first : Walks graph xs w mid)
+    → WalksIn graph ys mid end n → WalksIn graph (xs ++ ys) w end (expansions first + n)
+walks_onward graph _ ys _ _ end n (Ends w) more =
+    let rest = more.expanded in record { walk = more.walk; expanded = omega (arith, rest) }
+walks_onward graph _ ys _ mid end n (Passes v vs w _ h rest) more =
+    let joined = walks_onward graph vs ys w mid end n rest more in
+    record { walk = Passes v (vs ++ ys) w end h joined.walk; expanded = joined.expanded }
+walks_onward graph _ ys _ mid end n (Expands v vs block w inner _ h at within rest) more =
+    let joined = walks_onward graph vs ys (left (is_first w v.id) inner v.id) mid end n rest more in
+    let others = joined.expanded in
+    record { walk = Expands v (vs ++ ys) block w inner end h at within joined.walk; expanded = omega (arith, others) }
+
+walks_append : (graph : List Pair) (xs ys : List Visit) (w mid end : Walk) (m n : ℕ) → WalksIn graph xs w mid m
+    → WalksIn graph ys mid end n → WalksIn graph (xs ++ ys) w end (m + n)
+walks_append graph xs ys w mid end m n first more =
+    subst (λ (k : ℕ). WalksIn graph (xs ++ ys) w end (k + n)) first.expanded (walks_onward graph xs ys w mid end n first.walk more)
 
 -- Visits and then tasks.
-record Split (graph : List Pair) (vs : List Visit) (ts : List Task) (w end : Walk) : Type 0 where
+record Split (graph : List Pair) (vs : List Visit) (ts : List Task) (w end : Walk) (count : ℕ) : Type 0 where
   mid : Walk
-  walk : Walks graph vs w mid
-  onward : Runs graph ts mid end
+  first : ℕ
+  others : ℕ
+  walk : WalksIn graph vs w mid first
+  onward : Runs graph ts mid end others
+  sum : first + others ≡ count
 
-split : (graph : List Pair) (vs : List Visit) (ts : List Task) (w end : Walk)
-    → Runs graph (map (λ v. tasks.Enter v) vs ++ ts) w end → Split graph vs ts w end
-split graph [] ts w end r = record { mid = w; walk = Ends w; onward = r }
-split graph (v ∷ vs) ts w end r =
-    let rest = split graph vs ts r.mid end r.onward in
-    record { mid = rest.mid; walk = walks_append graph (v ∷ []) vs w r.mid rest.mid r.walk rest.walk; onward = rest.onward }
+split : (graph : List Pair) (vs : List Visit) (ts : List Task) (w end : Walk) (count : ℕ)
+    → Runs graph (map (λ v. tasks.Enter v) vs ++ ts) w end count → Split graph vs ts w end count
+split graph [] ts w end count r =
+    record { mid = w; first = 0; others = count; walk = record { walk = Ends w; expanded = refl }; onward = r; sum = omega arith }
+split graph (v ∷ vs) ts w end count r =
+    let rest = split graph vs ts r.mid end r.others r.onward in
+    let both = r.sum in
+    let parts = rest.sum in
+    record {
+      mid = rest.mid;
+      first = r.first + rest.first;
+      others = rest.others;
+      walk = walks_append graph (v ∷ []) vs w r.mid rest.mid r.first rest.first r.walk rest.walk;
+      onward = rest.onward;
+      sum = omega (arith, both, parts);
+    }
 
 and_both : (a b : Bool) → (a && b) ≡ true → (a ≡ true) × (b ≡ true)
 and_both true b h = (refl, h)
@@ -119,38 +148,51 @@ tasks_turned first v block ts =
         ∙ ap (λ (t : List Task). t ++ (closing first v.id ++ ts))
         (sym (map_append (λ v. tasks.Enter v) (map (visit false) (listed_id behind)) (map (visit v.used) (reverse ss))))
 
-closed : (graph : List Pair) (first : Bool) (id : BlockId) (ts : List Task) (w end : Walk)
-    → Runs graph (closing first id ++ ts) w end → Runs graph ts (left first w id) end
-closed graph true id ts w end r = r
-closed graph false id ts w end r = r
+closed : (graph : List Pair) (first : Bool) (id : BlockId) (ts : List Task) (w end : Walk) (count : ℕ)
+    → Runs graph (closing first id ++ ts) w end count → Runs graph ts (left first w id) end count
+closed graph true id ts w end count r = r
+closed graph false id ts w end count r = r
 
--- Before a task, the walk leads where it leads after it.
-pub step_back : (graph : List Pair) (w : Walk) (task : Task) (ts : List Task) (end : Walk) → is_known graph task ≡ true
-    → Runs graph (reverse (tasks_after graph w task) ++ ts) (walk_after graph w task) end → Runs graph (task ∷ ts) w end
-step_back graph w (tasks.Append id) ts end known r = r
-step_back graph w (tasks.Enter v) ts end known r = by_test (is_passed w v) refl (block_at graph v.id) refl
+-- Before a task, the walk leads where it leads after it, and expands the block of the task too.
+pub step_back : (graph : List Pair) (w : Walk) (task : Task) (ts : List Task) (end : Walk) (count all : ℕ)
+    → is_known graph task ≡ true → (if is_expanding w task then 1 else 0) + count ≡ all
+    → Runs graph (reverse (tasks_after graph w task) ++ ts) (walk_after graph w task) end count → Runs graph (task ∷ ts) w end all
+step_back graph w (tasks.Append id) ts end count all known sum r =
+    let same : count ≡ all = omega (arith, sum) in subst (λ (n : ℕ). Runs graph ts (appended w id) end n) same r
+step_back graph w (tasks.Enter v) ts end count all known sum r = by_test (is_passed w v) refl (block_at graph v.id) refl
   where
-    expanded : (block : BasicBlock) → is_passed w v ≡ false → block_at graph v.id ≡ Some block
-        → Runs graph (reverse (tasks_from (is_first w v.id) v block) ++ ts) (entered w v (fallthrough block.terminal)) end
-        → Visited graph v w (λ mid. Runs graph ts mid end)
-    expanded block h at r =
+    expanded : (block : BasicBlock) → is_passed w v ≡ false → block_at graph v.id ≡ Some block → 1 + count ≡ all
+        → Runs graph (reverse (tasks_from (is_first w v.id) v block) ++ ts) (entered w v (fallthrough block.terminal)) end count
+        → Visited graph v w (λ mid others. Runs graph ts mid end others) all
+    expanded block h at more r =
         let parts = split graph (visits_from v.used block) (closing (is_first w v.id) v.id ++ ts)
-        (entered w v (fallthrough block.terminal)) end
-        (subst (λ t. Runs graph t (entered w v (fallthrough block.terminal)) end)
+        (entered w v (fallthrough block.terminal)) end count
+        (subst (λ t. Runs graph t (entered w v (fallthrough block.terminal)) end count)
         (tasks_turned (is_first w v.id) v block ts) r) in
+        let inner = parts.walk.expanded in
+        let both = parts.sum in
         record {
           mid = left (is_first w v.id) parts.mid v.id;
-          walk =
-              Expands v [] block w parts.mid (left (is_first w v.id) parts.mid v.id) h at parts.walk
-              (Ends (left (is_first w v.id) parts.mid v.id));
-          onward = closed graph (is_first w v.id) v.id ts parts.mid end parts.onward;
+          first = 1 + parts.first;
+          others = parts.others;
+          walk = record {
+            walk =
+                Expands v [] block w parts.mid (left (is_first w v.id) parts.mid v.id) h at parts.walk.walk
+                (Ends (left (is_first w v.id) parts.mid v.id));
+            expanded = omega (arith, inner);
+          };
+          onward = closed graph (is_first w v.id) v.id ts parts.mid end parts.others parts.onward;
+          sum = omega (arith, both, more);
         }
 
     by_test : (passed : Bool) → is_passed w v ≡ passed → (found : Option BasicBlock) → block_at graph v.id ≡ found
-        → Visited graph v w (λ mid. Runs graph ts mid end)
-    by_test true h found at = let r' = rw h at r in record { mid = w; walk = Passes v [] w w h (Ends w); onward = r' }
+        → Visited graph v w (λ mid others. Runs graph ts mid end others) all
+    by_test true h found at =
+        let r' = rw h at r in
+        let none = rw h at sum in
+        record { mid = w; first = 0; others = count; walk = record { walk = Passes v [] w w h (Ends w); expanded = refl }; onward = r'; sum = none }
     by_test false h None at = absurd (true≢false (sym known ∙ ap (λ o. is_some o) at))
-    by_test false h (Some block) at = let r' = rw (h, at) at r in expanded block h at r'
+    by_test false h (Some block) at = let r' = rw (h, at) at r in let more = rw h at sum in expanded block h at more r'
 
 -- The blocks to which a block leads are known, so the tasks that its visit adds are.
 known_visits : (graph : List Pair) (used : Bool) (ids : List BlockId) → list_all (has_block graph) ids ≡ true

@@ -38,7 +38,7 @@ in_all test (q ∷ pairs) zero p all at =
     let same : q ≡ p = cc in subst (λ (r : Pair). test r ≡ true) same (both (test q) (list_all test pairs) all).0
 in_all test (q ∷ pairs) (suc place) p all at = in_all test pairs place p (both (test q) (list_all test pairs) all).1 at
 
--- What a block leads to is there if its fallthrough and its successors are.
+-- The blocks to which a block leads are there if its fallthrough and its successors are.
 pub both_parts : (graph : List Pair) (block : BasicBlock) (behind ahead : Bool) → behind ≡ list_all (has_block graph) (listed_id (fallthrough block.terminal))
     → ahead ≡ list_all (has_block graph) (successor_ids block.terminal) → (behind && ahead) ≡ list_all (has_block graph) (leads_to block)
 both_parts graph block behind ahead b a =
@@ -91,8 +91,8 @@ module _ (table : ℕ) (graph : List Pair) (place : ℕ) (p : Pair) (at : slice_
       All-more (Within table) graph place p (slice_get_within graph place p at) before
       (subst (Within table) (sym (get_or_from_slice_get graph place p p at)) (place_within this))
 
-  pub one_more_order : (next : ℕ) → next + orders_of (drop place graph) ≡ 1 + orders_of graph → next + (length listed + 1) + orders_of (drop (place + 1) graph) ≡ 1 + orders_of graph
-  one_more_order next sum = let taken = orders_taken in omega (arith, taken, sum)
+  pub one_more_order : (count : ℕ) → count + orders_of (drop place graph) ≡ orders_of graph → count + (length listed + 1) + orders_of (drop (place + 1) graph) ≡ orders_of graph
+  one_more_order count sum = let taken = orders_taken in omega (arith, taken, sum)
 
   -- Instructions outside the table rule it out that all are within.
   pub not_within : (All (λ (id : InstructionId). id.0 < table) listed → ⊥) → HaveOrders table graph → ⊥
@@ -100,13 +100,13 @@ module _ (table : ℕ) (graph : List Pair) (place : ℕ) (p : Pair) (at : slice_
       none (within_place (subst (Within table) (get_or_from_slice_get graph place p p at) (All-get_or (Within table) graph place p (slice_get_within graph place p at) have.within)))
 
   -- Too many instructions rule it out that there is an order for each.
-  pub no_room : (next : ℕ) → next + orders_of (drop place graph) ≡ 1 + orders_of graph → 2 ^ 32 ≤ next + (length listed + 1) → HaveOrders table graph → ⊥
-  no_room next sum full have = let taken = orders_taken in let room = have.room in omega (arith, taken, sum, full, room)
+  pub no_room : (count : ℕ) → count + orders_of (drop place graph) ≡ orders_of graph → 2 ^ 32 ≤ count + (length listed + 1) → HaveOrders table graph → ⊥
+  no_room count sum full have = let taken = orders_taken in let room = have.room in omega (arith, taken, sum, full, room)
 
 -- At the end of the blocks all were looked at.
-pub all_orders : (table : ℕ) (graph : List Pair) (place next : ℕ) → length graph ≤ place → All (Within table) (take place graph)
-    → next + orders_of (drop place graph) ≡ 1 + orders_of graph → next < 2 ^ 32 → HaveOrders table graph
-all_orders table graph place next end within sum room =
+pub all_orders : (table : ℕ) (graph : List Pair) (place count : ℕ) → length graph ≤ place → All (Within table) (take place graph)
+    → count + orders_of (drop place graph) ≡ orders_of graph → count < 2 ^ 32 → HaveOrders table graph
+all_orders table graph place count end within sum room =
     let none : orders_of (drop place graph) ≡ 0 = ap orders_of (drop_all place graph end) in
     record {
       within = subst (All (Within table)) (take_all place graph end) within;

@@ -41,7 +41,7 @@ abbrev pub orders_of : List Pair → ℕ
 orders_of [] = 0
 orders_of (p ∷ pairs) = length p.1.instructions + 1 + orders_of pairs
 
--- Listed instructions lie in a table of this length, and there is an order below 2^32 for each instruction and terminal.
+-- Listed instructions lie in a table of this length, and listed instructions and blocks together are fewer than 2^32.
 pub record HaveOrders (table : ℕ) (pairs : List Pair) : Type 0 where
   pub within : All (λ (p : Pair). All (λ (id : InstructionId). id.0 < table) p.1.instructions) pairs
-  pub room : 1 + orders_of pairs < 2 ^ 32
+  pub room : orders_of pairs < 2 ^ 32

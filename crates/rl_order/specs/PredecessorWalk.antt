@@ -19,9 +19,9 @@ edges_from id block = map (λ to. record { from = id; to = to }) (distinct_ids b
 
 -- The state of a walk.
 pub record Trail : Type 0 where
-  -- the blocks that were visited, in this order
+  -- The blocks that were visited, in this order
   pub seen : List BlockId
-  -- the edges to blocks of the graph that were followed, in this order
+  -- The edges to blocks of the graph that were followed, in this order
   pub edges : List Edge
 
 abbrev pub is_seen : Trail → BlockId → Bool

@@ -1,5 +1,5 @@
 -- Graphs in their order, without what names dropped blocks, numbered, and with their predecessors.
-use Rattle.std.specs.Prelude.{◌≡◌, List}
+use Rattle.std.specs.Prelude.{◌≡◌, List, [], ◌∷◌}
 use Rattle.rl_base.specs.declared.ids.BlockId.{BlockId}
 use Rattle.rl_hir.specs.Blocks.{Pair}
 use Rattle.rl_hir.specs.declared.instruction.Instruction.{Instruction}
@@ -11,6 +11,12 @@ use Rattle.rl_order.specs.Walk.{IsOrdered}
 -- The blocks after the three removals, in their order.
 abbrev pub cleaned : List Pair → List Pair
 cleaned pairs = without_dead_tries (without_dead_do_whiles (without_unreachable_updates pairs))
+
+-- `part` is `all` without some of its items, in order.
+pub data IsPart : (part all : List BlockId) → Type 0 where
+  Ends : IsPart [] []
+  Keeps : (id : BlockId) (part all : List BlockId) → IsPart part all → IsPart (id ∷ part) (id ∷ all)
+  Drops : (id : BlockId) (part all : List BlockId) → IsPart part all → IsPart part (id ∷ all)
 
 -- `pruned` is the graph in its order after the removals, with orders from 1 and with predecessors; `numbered` is the instruction table
 -- `table` with the orders that its blocks give.

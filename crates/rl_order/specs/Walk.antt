@@ -1,5 +1,5 @@
 -- The ordering of the blocks of a graph (`getReversePostorderedBlocks`): a walk from the entry, and the blocks that are kept.
-use Rattle.std.specs.Prelude.{◌≡◌, Bool, true, false, not, ◌||◌, if◌then◌else◌, Option, Some, None, List, [], ◌∷◌, ◌++◌, map, reverse, is_some, unwrap_or}
+use Rattle.std.specs.Prelude.{◌≡◌, ℕ, ◌+◌, Bool, true, false, not, ◌||◌, if◌then◌else◌, Option, Some, None, List, [], ◌∷◌, ◌++◌, map, reverse, is_some, unwrap_or}
 use Rattle.std.specs.Map.{lookup}
 use Rattle.std.specs.List.{list_any, list_all}
 use Rattle.indexmap.specs.IndexMap.{insert_entry}
@@ -27,11 +27,11 @@ pub record IsWhole (graph : List Pair) (entry : BlockId) : Type 0 where
 
 -- The state of a walk.
 pub record Walk : Type 0 where
-  -- the blocks that were visited, each with true if it is used
+  -- The blocks that were visited, each with true if it is used
   pub seen : List (BlockId × Bool)
-  -- the fallthroughs of used blocks
+  -- The fallthroughs of used blocks
   pub noted : List BlockId
-  -- the blocks whose first visit has ended, in the order of these ends
+  -- The blocks whose first visit has ended, in the order of these ends
   pub appended : List BlockId
 
 abbrev pub nothing : Walk
@@ -66,7 +66,7 @@ entered w v behind = record w { seen = insert_entry same_id w.seen v.id v.used; 
 abbrev pub appended : Walk → BlockId → Walk
 appended w id = record w { appended = w.appended ++ id ∷ [] }
 
--- It ends: the block is appended if this was its first visit.
+-- The visit ends: the block is appended if this was its first visit.
 abbrev pub left : (first : Bool) → Walk → BlockId → Walk
 left first w id = if first then appended w id else w
 
@@ -80,6 +80,12 @@ pub data Walks (graph : List Pair) : List Visit → Walk → Walk → Type 0 whe
       → Walks graph (visits_from v.used block) (entered w v (fallthrough block.terminal)) inner
       → Walks graph vs (left (is_first w v.id) inner v.id) end
       → Walks graph (v ∷ vs) w end
+
+-- The number of visits in a walk that expand a block: those in the list that are not passed over, and those that they make.
+abbrev pub expansions : {graph : List Pair} {vs : List Visit} {w end : Walk} → Walks graph vs w end → ℕ
+expansions (Ends w) = 0
+expansions (Passes v vs w end passed rest) = expansions rest
+expansions (Expands v vs block w inner end passed there within rest) = 1 + expansions within + expansions rest
 
 -- The walk from the entry, as a used block, ends in this state.
 abbrev pub WalksFrom : (graph : List Pair) (entry : BlockId) → Walk → Type 0

@@ -72,21 +72,22 @@ fn are_within(listed: &[InstructionId], table: usize) -> bool
     true
 }
 
-/// True if listed instructions lie in a table of this length, and there are fewer than 2^32 orders, as `mark_instruction_ids` asks.
+/// True if listed instructions lie in a table of this length, and blocks and listed instructions together are fewer than 2^32, as
+/// `mark_instruction_ids` asks.
 pub fn has_orders<B: Blocks>(hir: &Hir<B>, table: usize) -> bool
     ensures { IsTrue result ↔ HaveOrders table (B.pairs hir.now.blocks) }
 {
-    let mut next: u32 = 1;
+    let mut count: u32 = 0;
     for place in 0..hir.blocks.len() {
         let (_, block) = hir.blocks.at(place);
         let listed = block.instructions.as_slice();
         if !are_within(listed, table) {
             return false;
         }
-        if listed.len() >= (u32::MAX - next) as usize {
+        if listed.len() >= (u32::MAX - count) as usize {
             return false;
         }
-        next += listed.len() as u32 + 1;
+        count += listed.len() as u32 + 1;
     }
     true
 }

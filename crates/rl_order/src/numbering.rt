@@ -12,49 +12,50 @@ use rl_hir::blocks::Blocks;
 use rl_hir::function::{BasicBlock, Hir};
 use rl_hir::instruction::Instruction;
 
-/// Gives the instructions that are listed consecutive orders from `first` on. Returns the next order.
-fn mark_listed(listed: &[InstructionId], table: &mut [Instruction], first: u32) -> u32
+/// Gives the instructions that are listed consecutive orders, which follow the order `last`. Returns the last order given, or `last` if
+/// none is listed.
+fn mark_listed(listed: &[InstructionId], table: &mut [Instruction], last: u32) -> u32
     requires within { All (λ id. id.0 < length table.old) listed.now }
-    requires room { first + length listed.now < 2 ^ 32 }
-    ensures table { table.new ≡ ordered_list first listed.now table.old }
-    ensures next { result ≡ first + length listed.now }
+    requires room { last + length listed.now < 2 ^ 32 }
+    ensures table { table.new ≡ ordered_list (last + 1) listed.now table.old }
+    ensures last { result ≡ last + length listed.now }
 {
-    let mut next = first;
+    let mut order = last;
     for id in listed {
-        table[id.0 as usize].order = EvaluationOrder(next);
-        next += 1;
+        order += 1;
+        table[id.0 as usize].order = EvaluationOrder(order);
     }
-    next
+    order
 }
 
-/// Gives a block's instructions and then its terminal consecutive orders from `first` on. Returns the next order.
-fn mark_block(block: &mut BasicBlock, table: &mut [Instruction], first: u32) -> u32
+/// Gives a block's instructions and then its terminal consecutive orders, which follow the order `last`. Returns the terminal's.
+fn mark_block(block: &mut BasicBlock, table: &mut [Instruction], last: u32) -> u32
     requires within { All (λ id. id.0 < length table.old) block.old.instructions }
-    requires room { first + length block.old.instructions + 1 < 2 ^ 32 }
-    ensures block { block.new ≡ record block.old { terminal = with_order (first + length block.old.instructions) block.old.terminal } }
-    ensures table { table.new ≡ ordered_list first block.old.instructions table.old }
-    ensures next { result ≡ first + length block.old.instructions + 1 }
+    requires room { last + length block.old.instructions + 1 < 2 ^ 32 }
+    ensures block { block.new ≡ record block.old { terminal = with_order (last + length block.old.instructions + 1) block.old.terminal } }
+    ensures table { table.new ≡ ordered_list (last + 1) block.old.instructions table.old }
+    ensures last { result ≡ last + length block.old.instructions + 1 }
 {
-    let order = mark_listed(block.instructions.as_slice(), table, first);
+    let order = mark_listed(block.instructions.as_slice(), table, last) + 1;
     block.terminal.order = EvaluationOrder(order);
-    order + 1
+    order
 }
 
 /// Sets the evaluation orders of instructions and terminals, from 1 in block order (`markInstructionIds`). An instruction
 /// that no block lists keeps its order.
 pub fn mark_instruction_ids<B: Blocks>(hir: &mut Hir<B>, table: &mut [Instruction])
     requires within { All (λ p. All (λ id. id.0 < length table.old) p.1.instructions) (B.pairs hir.old.blocks) }
-    requires room { 1 + orders_of (B.pairs hir.old.blocks) < 2 ^ 32 }
+    requires room { orders_of (B.pairs hir.old.blocks) < 2 ^ 32 }
     ensures entry { hir.new.entry ≡ hir.old.entry }
     ensures blocks { B.pairs hir.new.blocks ≡ ordered_blocks 1 (B.pairs hir.old.blocks) }
     ensures table { table.new ≡ ordered_table 1 (B.pairs hir.old.blocks) table.old }
     ensures counted { AreDistinct (listed_in (B.pairs hir.old.blocks)) → IsCounted table.new (B.pairs hir.new.blocks) }
     ensures numbered { AreDistinct (listed_in (B.pairs hir.old.blocks)) → All (λ i. i.order.0 ≡ 0) table.old → IsNumbered table.new (B.pairs hir.new.blocks) }
 {
-    let mut next = 1;
+    let mut last = 0;
     for place in 0..hir.blocks.len() {
         let mut block = take_block(&mut hir.blocks, place);
-        next = mark_block(&mut block, table, next);
+        last = mark_block(&mut block, table, last);
         let _ = hir.blocks.set_at(place, block);
     }
 }

@@ -4,7 +4,7 @@ ghost use Rattle.std.specs.Prelude.{◌≡◌, ◌+◌, ◌*◌, ◌≤◌, ◌+
 ghost use Rattle.rl_hir.specs.Blocks.{block_at};
 ghost use Rattle.rl_order.specs.Forward.{GoesForward};
 ghost use Rattle.rl_order.specs.Own.{AreOwn};
-ghost use Rattle.rl_order.specs.Walk.{IsOrdered, IsWhole, KeepsReached, WalksFrom, emptied, kept};
+ghost use Rattle.rl_order.specs.Walk.{IsOrdered, IsWhole, KeepsReached, WalksFrom, emptied, expansions, kept};
 
 use crate::step::do_task;
 use crate::tasks::{Task, Visit};
@@ -18,8 +18,8 @@ use rl_hir::function::{BasicBlock, Hir};
 use std::alloc::Global;
 use std::sync::ledger::Ledger;
 
-/// Walks over the graph of `blocks` from the entry. Counts a step for each block that is expanded. On `OutOfMemory` an allocation
-/// failed.
+/// Walks over the graph of `blocks` from the entry, with a stack of tasks in a vector and without recursion. Counts a step for each
+/// block that is expanded. On `OutOfMemory` an allocation failed.
 fn walk<B: Blocks, L: Ledger>(
     alloc: Global,
     blocks: &B,
@@ -28,6 +28,7 @@ fn walk<B: Blocks, L: Ledger>(
 ) -> Result<Walked, OutOfMemory>
     requires { IsWhole (B.pairs blocks.now) entry }
     ensures walk { IfOk result (λ walked. WalksFrom (B.pairs blocks.now) entry walked) }
+    ensures steps { IfOk result (λ walked. (walk : WalksFrom (B.pairs blocks.now) entry walked) × (steps.new ≡ steps.old + expansions walk)) }
     ensures cost { steps.new ≤ steps.old + 2 * length (B.pairs blocks.now) }
 {
     let mut walked = Walked::new(alloc, blocks.len())?;
@@ -94,8 +95,8 @@ fn keep_blocks<B: Blocks>(alloc: Global, blocks: &B, mut walked: Walked) -> Resu
 
 /// The blocks of a graph in their order (`getReversePostorderedBlocks`). Blocks to which successors lead from the entry are
 /// used and kept; of the others, the fallthroughs of used blocks are kept without instructions, and the rest are dropped.
-/// Counts a step for each block that is expanded, at most two for each block of the graph. On `OutOfMemory` an allocation
-/// failed, and nothing is left behind.
+/// The walk has its stack in a vector, without recursion. It counts a step for each block that it expands, and none else: at most two
+/// for each block of the graph. On `OutOfMemory` an allocation failed, and nothing is left behind but the steps counted so far.
 pub fn get_reverse_postordered_blocks<B: Blocks, L: Ledger>(
     alloc: Global,
     hir: &Hir<B>,
@@ -105,6 +106,7 @@ pub fn get_reverse_postordered_blocks<B: Blocks, L: Ledger>(
     ensures ordered { IfOk result (λ ordered. IsOrdered (B.pairs hir.now.blocks) hir.now.entry (B.pairs ordered)) }
     ensures forward { IfOk result (λ ordered. GoesForward (B.pairs hir.now.blocks) (B.pairs ordered)) }
     ensures reached { IfOk result (λ ordered. KeepsReached (B.pairs hir.now.blocks) hir.now.entry (B.pairs ordered)) }
+    ensures steps { IfOk result (λ ordered. (order : IsOrdered (B.pairs hir.now.blocks) hir.now.entry (B.pairs ordered)) × (steps.new ≡ steps.old + expansions order.walk)) }
     ensures cost { steps.new ≤ steps.old + 2 * length (B.pairs hir.now.blocks) }
 {
     let walked = walk(alloc, &hir.blocks, hir.entry, steps)?;

@@ -21,7 +21,7 @@ use std::alloc::Global;
 pub struct Edge {
     /// The block that leads on.
     pub from: BlockId,
-    /// One of its successors.
+    /// A successor of it.
     pub to: BlockId,
 }
 
@@ -85,7 +85,8 @@ fn follow<B: Blocks>(
     Ok(())
 }
 
-/// The edges that the walk from the entry follows. On `OutOfMemory`, an allocation failed.
+/// The edges that the walk from the entry follows, found with a stack of edges in a vector and without recursion. On `OutOfMemory`, an
+/// allocation failed.
 fn walk_along<B: Blocks>(
     alloc: Global,
     blocks: &B,
@@ -166,8 +167,8 @@ fn set_predecessors<B: Blocks>(blocks: &mut B, lists: Vec<List<BlockId>>)
 }
 
 /// Gives each block its predecessors (`markPredecessors`): those that a walk over successors comes from, depth first from the entry, in
-/// the order in which it comes from them. Fallthroughs count only where they are successors too. On `OutOfMemory`, an allocation failed,
-/// nothing has changed.
+/// the order in which it comes from them. The walk has its stack in a vector, without recursion. Fallthroughs count only where they are
+/// successors too. On `OutOfMemory`, an allocation failed, and nothing has changed.
 pub fn mark_predecessors<B: Blocks>(alloc: Global, hir: &mut Hir<B>) -> Result<(), OutOfMemory>
     ensures entry { hir.new.entry ≡ hir.old.entry }
     ensures walked { OnOk result (IsMarked (B.pairs hir.old.blocks) hir.old.entry (B.pairs hir.new.blocks)) }

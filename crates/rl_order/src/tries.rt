@@ -1,6 +1,6 @@
 //! The removal of each `try` whose handler was dropped.
 
-ghost use Rattle.std.specs.Prelude.{◌≡◌, ◌<◌, ◌++◌, [], IfOk, IfSome, OnOk, Some, None, filter, fold, if◌then◌else◌, length, not};
+ghost use Rattle.std.specs.Prelude.{◌≡◌, ◌<◌, ◌++◌, [], IfOk, IfSome, OnErr, OnOk, Some, None, filter, fold, if◌then◌else◌, length, not};
 ghost use Rattle.std.specs.Map.{keys_of};
 ghost use Rattle.std.specs.Option.{option_to_list};
 ghost use Rattle.indexmap.specs.IndexSet.{insert_key};
@@ -113,7 +113,8 @@ fn without_id(alloc: Global, ids: &[BlockId], id: BlockId) -> Result<List<BlockI
     Ok(List::from_vec(rest))
 }
 
-/// Takes an id from the predecessors of the block at a place, if there is one. On `OutOfMemory`, an allocation failed, nothing has changed.
+/// Takes an id from the predecessors of the block at a place, if there is one. On `OutOfMemory`, an allocation failed, and nothing
+/// has changed.
 fn drop_predecessor<B: Blocks>(
     alloc: Global,
     blocks: &mut B,
@@ -121,7 +122,8 @@ fn drop_predecessor<B: Blocks>(
     id: BlockId,
 ) -> Result<(), OutOfMemory>
     requires { IfSome place (λ p. p < length (B.pairs blocks.old)) }
-    ensures { OnOk result (B.pairs blocks.new ≡ changed_at place (without_predecessor id) (B.pairs blocks.old)) }
+    ensures ok { OnOk result (B.pairs blocks.new ≡ changed_at place (without_predecessor id) (B.pairs blocks.old)) }
+    ensures err { OnErr result (B.pairs blocks.new ≡ B.pairs blocks.old) }
 {
     let Some(place) = place else {
         return Ok(());
@@ -165,7 +167,7 @@ fn note_lost(lost: &mut BlockSet, id: BlockId, is_lost: bool) -> Result<(), OutO
 }
 
 /// Drops a `try` from the blocks: its block ends with a goto, and its handler is taken from the predecessors of the fallthrough, which
-/// is listed as lost if it had no other. On `OutOfMemory`, an allocation failed.
+/// is listed as lost if it had no other. On `OutOfMemory`, an allocation failed, and its block may end with the goto already.
 fn drop_try<B: Blocks>(
     alloc: Global,
     blocks: &mut B,
@@ -176,7 +178,7 @@ fn drop_try<B: Blocks>(
     requires places { places.now.keys ≡ keys_of (B.pairs blocks.old) }
     requires distinct { HaveOwnIds (B.pairs blocks.old) }
     ensures kept { OnOk result (kept lost.new.keys (B.pairs blocks.new) ≡ without_try dead (kept lost.old.keys (B.pairs blocks.old))) }
-    ensures keys { OnOk result (keys_of (B.pairs blocks.new) ≡ keys_of (B.pairs blocks.old)) }
+    ensures keys { keys_of (B.pairs blocks.new) ≡ keys_of (B.pairs blocks.old) }
 {
     end_by_goto(blocks, places.get_index_of(&dead.id), dead.block);
     let is_lost = has_alone(blocks, dead.fallthrough, dead.handler);
@@ -200,14 +202,15 @@ fn remove_lost<B: Blocks>(blocks: &mut B, lost: &BlockSet)
     blocks.remove_all(lost);
 }
 
-/// Drops `try`s from the blocks, one after the other. On `OutOfMemory`, an allocation failed, and some of them may be gotos
-/// already.
+/// Drops `try`s from the blocks, one after the other. On `OutOfMemory`, an allocation failed, no block is removed, and some of them
+/// may be gotos already.
 pub(crate) fn drop_tries<B: Blocks>(
     alloc: Global,
     blocks: &mut B,
     tries: &[DeadTry],
 ) -> Result<(), OutOfMemory>
-    ensures { OnOk result (B.pairs blocks.new ≡ fold (λ now dead. without_try dead now) (B.pairs blocks.old) tries.now) }
+    ensures ok { OnOk result (B.pairs blocks.new ≡ fold (λ now dead. without_try dead now) (B.pairs blocks.old) tries.now) }
+    ensures err { OnErr result (keys_of (B.pairs blocks.new) ≡ keys_of (B.pairs blocks.old)) }
 {
     if tries.is_empty() {
         return Ok(());
@@ -223,13 +226,15 @@ pub(crate) fn drop_tries<B: Blocks>(
 
 /// Makes a goto to its block of each `try` whose handler is missing (`removeUnnecessaryTryCatch`), with order 0 and its span. A
 /// fallthrough with the handler as its only predecessor is removed; from the predecessors of others the handler is taken. On
-/// `OutOfMemory`, an allocation failed, and some of these `try`s may be gotos already.
+/// `OutOfMemory`, an allocation failed: the ids of the blocks are as before, in order, and some of these `try`s may be gotos already,
+/// with the handler taken from the predecessors of the fallthrough.
 pub fn remove_unnecessary_try_catch<B: Blocks>(
     alloc: Global,
     hir: &mut Hir<B>,
 ) -> Result<(), OutOfMemory>
     ensures entry { hir.new.entry ≡ hir.old.entry }
     ensures blocks { OnOk result (B.pairs hir.new.blocks ≡ without_dead_tries (B.pairs hir.old.blocks)) }
+    ensures err { OnErr result (keys_of (B.pairs hir.new.blocks) ≡ keys_of (B.pairs hir.old.blocks)) }
 {
     let tries = dead_tries(alloc, &hir.blocks)?;
     drop_tries(alloc, &mut hir.blocks, tries.as_slice())?;

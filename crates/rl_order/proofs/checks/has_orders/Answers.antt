@@ -9,11 +9,11 @@ returns-then-not-are_within g c = (
       c.as_slice-listed.result.now c.as_slice-listed.ensures (λ all. true≢false (sym (c.are_within.ensures.1 all) ∙ c.if-not-are_within.true)) have),
 )
 
-pub returns-then-listed-next : goal.returns-then-listed-next
-returns-then-listed-next g c = (
+pub returns-then-listed-count : goal.returns-then-listed-count
+returns-then-listed-count g c = (
   λ f. absurd (true≢false (sym f)),
   λ have. absurd (no_room c.args.table (g.B.Blocks.pairs c.args.hir.now.blocks) c.loop-place.place (c.at.result.0, c.at.result.1.now) c.at.ensures
-      c.as_slice-listed.result.now c.as_slice-listed.ensures c.loop-place.next c.loop-place.invariant.room (omega arith) have),
+      c.as_slice-listed.result.now c.as_slice-listed.ensures c.loop-place.count c.loop-place.invariant.room (omega arith) have),
 )
 
 pub loop-place-preserved : goal.loop-place-preserved
@@ -22,12 +22,12 @@ loop-place-preserved g c =
       within = one_more_within c.args.table (g.B.Blocks.pairs c.args.hir.now.blocks) c.loop-place.place (c.at.result.0, c.at.result.1.now) c.at.ensures
           c.as_slice-listed.result.now c.as_slice-listed.ensures (c.are_within.ensures.0 c.if-not-are_within.false) c.loop-place.invariant.within;
       room = one_more_order c.args.table (g.B.Blocks.pairs c.args.hir.now.blocks) c.loop-place.place (c.at.result.0, c.at.result.1.now) c.at.ensures
-          c.as_slice-listed.result.now c.as_slice-listed.ensures c.loop-place.next c.loop-place.invariant.room;
+          c.as_slice-listed.result.now c.as_slice-listed.ensures c.loop-place.count c.loop-place.invariant.room;
     }
 
 pub returns : goal.returns
 returns g c = (
-  λ t. all_orders c.args.table (g.B.Blocks.pairs c.args.hir.now.blocks) c.loop-place.place c.loop-place.next (omega arith) c.loop-place.invariant.within c.loop-place.invariant.room
-      (let fits = c.loop-place.auto.next-fits in omega (arith, fits)),
+  λ t. all_orders c.args.table (g.B.Blocks.pairs c.args.hir.now.blocks) c.loop-place.place c.loop-place.count (omega arith) c.loop-place.invariant.within c.loop-place.invariant.room
+      (let fits = c.loop-place.auto.count-fits in omega (arith, fits)),
   λ have. refl,
 )

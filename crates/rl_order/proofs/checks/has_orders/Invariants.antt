@@ -7,5 +7,5 @@ abbrev pub invariant-loop-place : goal.invariant-loop-place
 invariant-loop-place g l =
     record {
       within : All (Within l.table) (take l.place (g.B.Blocks.pairs l.hir.blocks));
-      room : l.next + orders_of (drop l.place (g.B.Blocks.pairs l.hir.blocks)) ≡ 1 + orders_of (g.B.Blocks.pairs l.hir.blocks);
+      room : l.count + orders_of (drop l.place (g.B.Blocks.pairs l.hir.blocks)) ≡ orders_of (g.B.Blocks.pairs l.hir.blocks);
     }

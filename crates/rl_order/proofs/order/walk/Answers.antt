@@ -1,4 +1,5 @@
-use Rattle.rl_order.proofs.Loop.{begins, falls, goes_on, stops}
+use Rattle.std.proofs.Common.{arith}
+use Rattle.rl_order.proofs.Loop.{begins, ends, falls, goes_on, stops}
 use Rattle.rl_order.proofs.order.walk.Goals as goal
 
 pub loop-task-init : goal.loop-task-init
@@ -25,3 +26,13 @@ returns-in_err-do_task-clause-cost g c =
     stops (g.B.Blocks.pairs c.args.blocks.now) c.args.entry c.loop-task.tasks.items c.pop.new.self.items c.in-Some.task
     c.loop-task.walked c.args.steps.now c.loop-task.steps c.do_task.new.steps
     c.loop-task.invariant c.in-Some.ensures.items c.in_err-do_task.ensures.cost
+
+pub returns-clause-walk : goal.returns-clause-walk
+returns-clause-walk g c =
+    (ends (g.B.Blocks.pairs c.args.blocks.now) c.args.entry c.loop-task.tasks.items c.loop-task.walked c.args.steps.now
+    c.loop-task.steps c.loop-task.invariant (omega (arith, c.in_default.ensures.cases.0))).0
+
+pub returns-clause-steps : goal.returns-clause-steps
+returns-clause-steps g c =
+    ends (g.B.Blocks.pairs c.args.blocks.now) c.args.entry c.loop-task.tasks.items c.loop-task.walked c.args.steps.now
+    c.loop-task.steps c.loop-task.invariant (omega (arith, c.in_default.ensures.cases.0))

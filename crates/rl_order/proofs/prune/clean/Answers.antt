@@ -6,6 +6,7 @@ use Rattle.rl_hir.specs.Numbered.{listed_in}
 use Rattle.rl_order.specs.Numbering.{ordered_blocks, ordered_table, orders_of}
 use Rattle.rl_order.specs.Prune.{cleaned}
 use Rattle.rl_order.specs.Predecessors.{PredecessorsReached}
+use Rattle.rl_order.proofs.CleanedIds.{numbered_part, on_err, same_part}
 use Rattle.rl_order.proofs.Pruning.{cleaned_once, cleaned_orders, cleaned_within, marked_numbered, marked_same, own_predecessors}
 use Rattle.rl_order.proofs.prune.clean.Goals as goal
 
@@ -45,3 +46,14 @@ returns-clause-predecessors g c =
     subst (λ (entry : BlockId). PredecessorsReached (g.B.Blocks.pairs c.mark_predecessors.new.hir.blocks) entry (g.B.Blocks.pairs c.mark_predecessors.new.hir.blocks))
     (sym c.mark_predecessors.ensures.entry)
     (own_predecessors (g.B.Blocks.pairs c.mark_instruction_ids.new.hir.blocks) (g.B.Blocks.pairs c.mark_predecessors.new.hir.blocks) _ c.in_ok-mark_predecessors.ensures.walked)
+
+pub returns-in_err-remove_dead_ends-clause-err : goal.returns-in_err-remove_dead_ends-clause-err
+returns-in_err-remove_dead_ends-clause-err g c =
+    on_err c.from_residual.result
+    (same_part (g.B.Blocks.pairs c.remove_dead_ends.new.hir.blocks) (g.B.Blocks.pairs c.args.hir.now.blocks) c.in_err-remove_dead_ends.ensures.err)
+
+pub returns-in_err-mark_predecessors-clause-err : goal.returns-in_err-mark_predecessors-clause-err
+returns-in_err-mark_predecessors-clause-err g c =
+    on_err c.from_residual-in_err-mark_predecessors.result
+    (numbered_part (g.B.Blocks.pairs c.args.hir.now.blocks) (g.B.Blocks.pairs c.remove_dead_ends.new.hir.blocks) (g.B.Blocks.pairs c.mark_predecessors.new.hir.blocks)
+    c.in_ok-remove_dead_ends.ensures.blocks (c.in_err-mark_predecessors.ensures.err ∙ c.mark_instruction_ids.ensures.blocks))

@@ -22,3 +22,10 @@ returns-clause-pruned g c = record {
 pub returns-clause-numbered : goal.returns-clause-numbered
 returns-clause-numbered g c once none =
     c.in_ok-clean.ensures.numbered (ordered_once (g.B.Blocks.pairs c.args.hir.now.blocks) c.args.hir.now.entry (g.B.Blocks.pairs c.in_ok-blocks.blocks) c.in_ok-blocks.ensures.ordered once) none
+
+pub returns-clause-steps : goal.returns-clause-steps
+returns-clause-steps g c =
+    let counted = c.in_ok-blocks.ensures.steps in (
+      record { ordered = g.B.Blocks.pairs c.in_ok-blocks.blocks; order = counted.0; marked = c.in_ok-clean.ensures.marked; orders = c.in_ok-clean.ensures.orders },
+      counted.1,
+    )

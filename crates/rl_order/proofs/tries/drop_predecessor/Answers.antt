@@ -6,8 +6,8 @@ use Rattle.rl_order.proofs.DeadTries.{preds_changed}
 use Rattle.rl_order.proofs.RemovalSteps.{value_at}
 use Rattle.rl_order.proofs.tries.drop_predecessor.Goals as goal
 
-pub returns : goal.returns
-returns g c =
+pub returns-clause-ok : goal.returns-clause-ok
+returns-clause-ok g c =
     let graph : List Pair = g.B.Blocks.pairs c.args.blocks.now in
     let place = c.in-Some.place in
     let block : BasicBlock = c.take_block-block.result in

@@ -4,7 +4,7 @@ use Rattle.rl_hir.specs.Blocks.{kept}
 use Rattle.rl_order.specs.Removals.{without_try}
 use Rattle.rl_order.proofs.tries.drop_tries.Given as goal
 
--- the `try`s that are left are dropped from the blocks that are kept
+-- The `try`s that are left are dropped from the blocks that are kept
 abbrev pub invariant-loop-dead : goal.invariant-loop-dead
 invariant-loop-dead g l =
     record {

@@ -5,7 +5,7 @@ use Rattle.rl_hir.specs.Blocks.{Pair, kept}
 use Rattle.rl_order.proofs.Follows.{empty_list}
 use Rattle.rl_order.proofs.tries.remove_lost.Goals as goal
 
--- Where no block is lost, all stay.
+-- All blocks stay if none is lost.
 pub returns-then-is_empty : goal.returns-then-is_empty
 returns-then-is_empty g c =
     let graph : List Pair = g.B.Blocks.pairs c.args.blocks.now in
