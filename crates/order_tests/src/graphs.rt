@@ -3,16 +3,16 @@
 use rl_base::error::OutOfMemory;
 use rl_base::ids::{BlockId, EvaluationOrder, IdentifierId, InstructionId};
 use rl_base::list::List;
-use rl_hir::blocks::{Blocks, MapBlocks};
+use rl_hir::blocks::Blocks;
 use rl_hir::function::{BasicBlock, BlockKind, Hir};
 use rl_hir::instruction::{Instruction, InstructionValue, Place};
 use rl_hir::terminal::{GotoVariant, ReturnVariant, Terminal, TerminalKind};
 use std::alloc::Global;
 
-/// A graph, whose entry is block 0, and its table of instructions.
+/// A graph with the table `B` of blocks, whose entry is block 0, and its table of instructions.
 #[derive(Drop)]
-pub struct Graph {
-    pub hir: Hir<MapBlocks>,
+pub struct Graph<B> {
+    pub hir: Hir<B>,
     pub table: Vec<Instruction>,
 }
 
@@ -91,13 +91,13 @@ fn instructions(alloc: Global, count: u32) -> Result<Vec<Instruction>, OutOfMemo
     Ok(table)
 }
 
-impl Graph {
+impl<B: Blocks> Graph<B> {
     /// A graph without blocks, and with a table of `count` instructions. On `OutOfMemory` an allocation failed.
-    pub fn new(alloc: Global, count: u32) -> Result<Graph, OutOfMemory> {
+    pub fn new(alloc: Global, count: u32) -> Result<Graph<B>, OutOfMemory> {
         Ok(Graph {
             hir: Hir {
                 entry: BlockId(0),
-                blocks: MapBlocks::empty(alloc),
+                blocks: B::empty(alloc),
             },
             table: instructions(alloc, count)?,
         })
@@ -258,8 +258,8 @@ impl Graph {
 }
 
 /// The graph of a source. On `OutOfMemory` an allocation failed.
-pub fn graph_of(alloc: Global, source: Source) -> Result<Graph, OutOfMemory> {
-    let mut graph = Graph::new(alloc, 4)?;
+pub fn graph_of<B: Blocks>(alloc: Global, source: Source) -> Result<Graph<B>, OutOfMemory> {
+    let mut graph = Graph::<B>::new(alloc, 4)?;
     match source {
         Source::If => graph.put_if(alloc)?,
         Source::DoWhile => graph.put_do_while(alloc)?,

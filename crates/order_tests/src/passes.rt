@@ -24,12 +24,12 @@ use std::sync::ledger::{Blank, Ledger};
 use std::test::Fail;
 
 /// A graph in its order, with a ledger for the steps.
-fn ordered_by<L: Ledger>(
+fn ordered_by<B: Blocks, L: Ledger>(
     rt: &impl Abort,
     alloc: Global,
-    hir: &Hir<MapBlocks>,
+    hir: &Hir<B>,
     blank: Blank,
-) -> Result<Hir<MapBlocks>, Fail>
+) -> Result<Hir<B>, Fail>
     requires name { blank.name ≡ L.name }
     requires parts { blank.parts ≡ L.parts }
     requires shared { 0 < blank.parts }
@@ -44,15 +44,15 @@ fn ordered_by<L: Ledger>(
 }
 
 /// A graph in its order.
-fn ordered(rt: &impl Abort, alloc: Global, hir: &Hir<MapBlocks>) -> Result<Hir<MapBlocks>, Fail> {
-    ordered_by::<Brand>(rt, alloc, hir, Blank::new(1))
+fn ordered<B: Blocks>(rt: &impl Abort, alloc: Global, hir: &Hir<B>) -> Result<Hir<B>, Fail> {
+    ordered_by::<B, Brand>(rt, alloc, hir, Blank::new(1))
 }
 
-/// Does all passes.
-fn pass_over(
+/// Makes all passes over an ordered graph.
+fn pass_over<B: Blocks>(
     rt: &impl Abort,
     alloc: Global,
-    hir: &mut Hir<MapBlocks>,
+    hir: &mut Hir<B>,
     table: &mut [Instruction],
 ) -> Result<(), Fail> {
     remove_unreachable_for_updates(hir);
@@ -65,12 +65,12 @@ fn pass_over(
 }
 
 /// A graph after the ordering and all passes in a row, with a ledger for the steps.
-fn pruned_by<L: Ledger>(
+fn pruned_by<B: Blocks, L: Ledger>(
     rt: &impl Abort,
     alloc: Global,
-    graph: &mut Graph,
+    graph: &mut Graph<B>,
     blank: Blank,
-) -> Result<Hir<MapBlocks>, Fail>
+) -> Result<Hir<B>, Fail>
     requires name { blank.name ≡ L.name }
     requires parts { blank.parts ≡ L.parts }
     requires shared { 0 < blank.parts }
@@ -82,15 +82,15 @@ fn pruned_by<L: Ledger>(
 }
 
 /// A graph after the ordering and all passes in a row.
-fn pruned(rt: &impl Abort, alloc: Global, graph: &mut Graph) -> Result<Hir<MapBlocks>, Fail> {
-    pruned_by::<Brand>(rt, alloc, graph, Blank::new(1))
+fn pruned<B: Blocks>(rt: &impl Abort, alloc: Global, graph: &mut Graph<B>) -> Result<Hir<B>, Fail> {
+    pruned_by::<B, Brand>(rt, alloc, graph, Blank::new(1))
 }
 
 /// Checks a graph in its order, before the passes and after them.
-fn check_passes(
+fn check_passes<B: Blocks>(
     rt: &impl Abort,
     alloc: Global,
-    graph: &mut Graph,
+    graph: &mut Graph<B>,
     before: &str,
     after: &str,
 ) -> Result<(), Fail> {
@@ -101,26 +101,31 @@ fn check_passes(
 }
 
 /// Checks a graph after the ordering and all passes in a row.
-fn check_pruned(rt: &impl Abort, alloc: Global, source: Source, after: &str) -> Result<(), Fail> {
-    let mut graph = graph_of(alloc, source)?;
+fn check_pruned<B: Blocks>(
+    rt: &impl Abort,
+    alloc: Global,
+    source: Source,
+    after: &str,
+) -> Result<(), Fail> {
+    let mut graph = graph_of::<B>(alloc, source)?;
     let hir = pruned(rt, alloc, &mut graph)?;
     check(rt, alloc, &hir.blocks, graph.table.as_slice(), after)
 }
 
 /// Checks the graph of a source, before the passes and after them.
-fn check_source(
+fn check_source<B: Blocks>(
     rt: &impl Abort,
     alloc: Global,
     source: Source,
     before: &str,
     after: &str,
 ) -> Result<(), Fail> {
-    let mut graph = graph_of(alloc, source)?;
+    let mut graph = graph_of::<B>(alloc, source)?;
     check_passes(rt, alloc, &mut graph, before, after)
 }
 
-#[test]
-fn graphs_are_ordered_and_passed_over(rt: HostRuntime) -> Result<(), Fail> {
+/// Checks the graph of each source, over the table `B`.
+fn check_sources<B: Blocks>(rt: &impl Abort, alloc: Global) -> Result<(), Fail> {
     let rows = [
         (
             Source::If,
@@ -154,35 +159,28 @@ fn graphs_are_ordered_and_passed_over(rt: HostRuntime) -> Result<(), Fail> {
         ),
     ];
     for (source, before, after) in rows {
-        check_source(&rt, rt.alloc(), source, before, after)?;
-        check_pruned(&rt, rt.alloc(), source, after)?;
+        check_source::<B>(rt, alloc, source, before, after)?;
+        check_pruned::<B>(rt, alloc, source, after)?;
     }
     Ok(())
 }
 
-#[test]
-fn a_block_that_is_there_keeps_its_place(rt: HostRuntime) -> Result<(), Fail> {
-    let alloc = rt.alloc();
-    let mut graph = Graph::new(alloc, 0)?;
+/// Checks that a block which is put under the id of another takes its place.
+fn check_place<B: Blocks>(rt: &impl Abort, alloc: Global) -> Result<(), Fail> {
+    let mut graph = Graph::<B>::new(alloc, 0)?;
     for (id, to) in [(5, 3), (3, 5), (5, 5)] {
         graph.put(alloc, id, &[], goto(to, GotoVariant::Break))?;
     }
     let wanted = r#"5 [] (goto 0 - 5 "break") []; 3 [] (goto 0 - 5 "break") []"#;
-    check(
-        &rt,
-        alloc,
-        &graph.hir.blocks,
-        graph.table.as_slice(),
-        wanted,
-    )
+    check(rt, alloc, &graph.hir.blocks, graph.table.as_slice(), wanted)
 }
 
 /// Number of blocks of a graph whose walk is as deep as it has blocks.
 const MANY: u32 = 131_072;
 
-/// A chain of blocks.
-fn chain(alloc: Global) -> Result<Graph, Fail> {
-    let mut graph = Graph::new(alloc, 0)?;
+/// A chain of `MANY` blocks.
+fn chain<B: Blocks>(alloc: Global) -> Result<Graph<B>, Fail> {
+    let mut graph = Graph::<B>::new(alloc, 0)?;
     for id in 1..MANY {
         graph.put(alloc, id - 1, &[], goto(id, GotoVariant::Break))?;
     }
@@ -190,17 +188,31 @@ fn chain(alloc: Global) -> Result<Graph, Fail> {
     Ok(graph)
 }
 
-#[test]
-fn many_blocks_in_a_row_take_no_stack(rt: HostRuntime) -> Result<(), Fail> {
-    let alloc = rt.alloc();
-    let mut graph = chain(alloc)?;
-    let hir = pruned(&rt, alloc, &mut graph)?;
-    assert_eq!(&rt; hir.blocks.len(), MANY as usize);
+/// Checks that a long chain is ordered and passed over within a small stack.
+fn check_chain<B: Blocks>(rt: &impl Abort, alloc: Global) -> Result<(), Fail> {
+    let mut graph = chain::<B>(alloc)?;
+    let hir = pruned(rt, alloc, &mut graph)?;
+    assert_eq!(rt; hir.blocks.len(), MANY as usize);
     let last = hir
         .blocks
         .get(BlockId(MANY - 1))
         .ok_or("the last block is lost")?;
-    assert_eq!(&rt; last.preds.as_slice(), [BlockId(MANY - 2)].as_slice());
-    assert_eq!(&rt; last.terminal.order.0, MANY);
+    assert_eq!(rt; last.preds.as_slice(), [BlockId(MANY - 2)].as_slice());
+    assert_eq!(rt; last.terminal.order.0, MANY);
     Ok(())
+}
+
+#[test]
+fn graphs_in_map_blocks_are_ordered_and_passed_over(rt: HostRuntime) -> Result<(), Fail> {
+    check_sources::<MapBlocks>(&rt, rt.alloc())
+}
+
+#[test]
+fn a_block_that_is_in_map_blocks_keeps_its_place(rt: HostRuntime) -> Result<(), Fail> {
+    check_place::<MapBlocks>(&rt, rt.alloc())
+}
+
+#[test]
+fn many_map_blocks_in_a_row_take_no_stack(rt: HostRuntime) -> Result<(), Fail> {
+    check_chain::<MapBlocks>(&rt, rt.alloc())
 }
