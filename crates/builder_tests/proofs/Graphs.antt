@@ -78,5 +78,5 @@ module _ (given : Given) where
   listed =
       All-from_recursion AreListed (graph_of (made given)) (All-nil IsEntry, (All-from_recursion IsEntry (record { 0 = 0 } ∷ []) (omega arith, tt), (All-nil IsEntry, tt)))
 
-  pub room : 1 + orders_of (graph_of (made given)) < 2 ^ 32
+  pub room : orders_of (graph_of (made given)) < 2 ^ 32
   room = omega arith

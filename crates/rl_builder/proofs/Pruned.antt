@@ -36,7 +36,7 @@ ordered_listed s blocks ordered table is old o listed =
     ordered_within (length table) blocks s.entry ordered o (subst (λ (pairs : List Pair). AreListed table pairs) (sym is) given)
 
 pub ordered_room : (s : State) (blocks ordered : List Pair) → blocks ≡ graph_of s → IsOrdered blocks s.entry ordered
-    → 1 + orders_of (graph_of s) < 2 ^ 32 → 1 + orders_of ordered < 2 ^ 32
+    → orders_of (graph_of s) < 2 ^ 32 → orders_of ordered < 2 ^ 32
 ordered_room s blocks ordered is o room =
     let fewer = ordered_orders blocks s.entry ordered o in
     let count : orders_of blocks ≡ orders_of (graph_of s) = ap orders_of is in

@@ -437,7 +437,7 @@ impl<'e, U: ReadsUnit, B: Blocks> Over<'e, Work<U, B>> {
     pub fn build(self) -> Result<Built<B>, OutOfMemory>
         requires whole { IsWhole (graph_of (state_of U.tables self)) (state_of U.tables self).entry }
         requires listed { All (λ p. All (λ id. id.0 < length (state_of U.tables self).table) p.1.instructions) (graph_of (state_of U.tables self)) }
-        requires room { 1 + orders_of (graph_of (state_of U.tables self)) < 2 ^ 32 }
+        requires room { orders_of (graph_of (state_of U.tables self)) < 2 ^ 32 }
         ensures built { IfOk result (λ built. IsBuilt (state_of U.tables self.entry) (record { blocks = B.pairs built.hir.blocks; table = built.instructions; entry = built.hir.entry }) self.exit.0.now) }
         ensures bindings { IfOk result (λ built. built.bindings ≡ (state_of U.tables self.entry).bindings) }
         ensures used_names { IfOk result (λ built. built.used_names ≡ (state_of U.tables self.entry).used_names) }

@@ -1,5 +1,5 @@
 -- A builder that was closed off can be built.
-use Rattle.std.proofs.Common.{◌≡◌, ◌+◌, ◌*◌, ◌<◌, ◌^◌, Bool, true, false, if◌then◌else◌, Option, Some, None, is_some, List, [], ◌∷◌, ◌++◌, All, length, slice_get, append-nil, refl, sym, ap, ◌∙◌, subst}
+use Rattle.std.proofs.Common.{◌≡◌, ◌+◌, ◌*◌, ◌<◌, ◌^◌, Bool, true, false, if◌then◌else◌, Option, Some, None, is_some, List, [], ◌∷◌, ◌++◌, All, length, slice_get, append-nil, arith, refl, sym, ap, ◌∙◌, subst}
 use Rattle.rl_base.specs.declared.diagnostic.Diagnostic.{Diagnostic}
 use Rattle.rl_base.specs.declared.ids.InstructionId.{InstructionId}
 use Rattle.rl_builder.specs.Dropped.{first_function, function_or, is_function_expression, refused_blocks, refused_function}
@@ -57,9 +57,11 @@ module _ (names : Names) (begun : State) (body : Syntax) (s : State) (fresh : Is
       subst (λ (pairs : List BlockPair). All (λ b. AreBelow (length (closed_off s).table) b.1.instructions) pairs) (sym closed_table)
       (closed_listed names begun body s fresh l).completed
 
-  pub closed_orders : HasRoom begun (4 * (nodes body + 2)) → 1 + orders_of (graph_of (closed_off s)) < 2 ^ 32
+  pub closed_orders : HasRoom begun (4 * (nodes body + 2)) → orders_of (graph_of (closed_off s)) < 2 ^ 32
   closed_orders room =
-      subst (λ (pairs : List BlockPair). 1 + orders_of pairs < 2 ^ 32) (sym closed_table) (orders_fit names begun body s fresh l room)
+      let fits : 1 + orders_of (closed_off s).completed < 2 ^ 32 = orders_fit names begun body s fresh l room in
+      let fewer : orders_of (closed_off s).completed < 2 ^ 32 = omega (arith, fits) in
+      subst (λ (pairs : List BlockPair). orders_of pairs < 2 ^ 32) (sym closed_table) fewer
 
   -- No block makes a function, so none is refused.
   pub closed_env : (built : Graph) (env : Environment) → IsBuilt (closed_off s) built env → env ≡ (closed_off s).env

@@ -50,9 +50,9 @@ listed_call names begun body s s1 s2 place fresh l given placed ended =
     subst (λ (t : State). All (λ b. AreBelow (length t.table) b.1.instructions) (graph_of t)) (sym (closed_is s s1 s2 place given placed ended)) (closed_below names begun body s fresh l)
 
 pub orders_call : (names : Names) (begun : State) (body : Syntax) (s s1 s2 : State) (place : Place) → IsFresh begun → LowersBody names body begun s → s1 ≡ with_undefined s → place ≡ temporary s None → s2 ≡ completed_by s1 (return_of None returns.Void place) placeholder
-    → HasRoom begun (4 * (nodes body + 2)) → 1 + orders_of (graph_of s2) < 2 ^ 32
+    → HasRoom begun (4 * (nodes body + 2)) → orders_of (graph_of s2) < 2 ^ 32
 orders_call names begun body s s1 s2 place fresh l given placed ended room =
-    subst (λ (t : State). 1 + orders_of (graph_of t) < 2 ^ 32) (sym (closed_is s s1 s2 place given placed ended)) (closed_orders names begun body s fresh l room)
+    subst (λ (t : State). orders_of (graph_of t) < 2 ^ 32) (sym (closed_is s s1 s2 place given placed ended)) (closed_orders names begun body s fresh l room)
 
 pub graph_call : (names : Names) (tables : FunctionTables) (parameters : List Parameter) (env new : Environment) (body : Syntax) (begun s s1 s2 : State) (place : Place) (params : List Param) (built : Graph) → TellDeclarations names tables.semantic → IsFresh begun → begun ≡ with_parameters (begun_by env tables) parameters → params ≡ places_from (length env.identifiers) parameters → LowersBody names body begun s → s1 ≡ with_undefined s → place ≡ temporary s None → s2 ≡ completed_by s1 (return_of None returns.Void place) placeholder
     → IsBuilt s2 built new → IsGraphOf names tables parameters body env new params built
