@@ -74,8 +74,8 @@ fn check_resolver(
     assert_eq!(rt; resolver.find_binding(ScopeId(2), "p"), Some(symbol));
     assert_eq!(rt; resolver.find_binding(outer, "p"), None);
     assert_eq!(rt; resolver.find_binding(ScopeId(3), "p"), None);
-    assert_eq!(rt; resolver.ancestors(ScopeId(2)).count(), 3);
-    assert_eq!(rt; resolver.ancestors(ScopeId(3)).count(), 0);
+    assert_eq!(rt; resolver.ancestors(outer).next(), Some(outer));
+    assert_eq!(rt; resolver.ancestors(ScopeId(3)).next(), None);
     assert_eq!(rt;
         resolver.find_binding_in_descendants("p", outer),
         Some(symbol)
