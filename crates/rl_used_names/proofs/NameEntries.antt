@@ -6,6 +6,7 @@ use Rattle.std.proofs.lemmas.List.{map-append}
 use Rattle.std.proofs.lemmas.Option.{none-some, same_Some, slice_get-get_or, slice_get-map}
 use Rattle.std.proofs.lemmas.Slice.Eq.{bytes_eq-Decides}
 use Rattle.rl_base.proofs.NameTables.{found-within, item-found}
+use Rattle.std.specs.List.{AllZip}
 use Rattle.std.specs.Map.{lookup}
 use Rattle.std.specs.Option.{option_map, option_map_or}
 use Rattle.std.specs.Str.{bytes_eq}
@@ -143,3 +144,10 @@ missing-inserted users new user is_new is grown = by is_new (known-entries users
         ap (map used_name_of) added ∙ map-append used_name_of users (user ∷ [])
         ∙ sym (ap (λ (b : Bool). if b then map used_name_of users else map used_name_of users ++ used_name_of user ∷ []) missing)
     by false known same = ap (map used_name_of) same ∙ missing-known (map used_name_of users) (used_name_of user) known
+
+-- A clone of the map has its pairs.
+pub pairs_cloned : (es fs : List (SymbolId × IdentifierId)) → AllZip (λ p q. (q.0 ≡ p.0) × (q.1 ≡ p.1)) es fs → map pair_of fs ≡ map pair_of es
+pairs_cloned [] [] zip = refl
+pairs_cloned [] (f ∷ fs) zip = absurd zip
+pairs_cloned (e ∷ es) [] zip = absurd zip
+pairs_cloned (e ∷ es) (f ∷ fs) zip = λ i. pair_of (zip.0.0 i, zip.0.1 i) ∷ pairs_cloned es fs zip.1 i

@@ -61,6 +61,15 @@ impl Bindings {
         Ok(Bindings { identifiers })
     }
 
+    /// A copy in memory of its own. On `OutOfMemory` an allocation failed.
+    #[tactic(auto, using(crate::proofs::NameEntries::pairs_cloned))]
+    pub fn copy(&self) -> Result<Bindings, OutOfMemory>
+        ensures { IfOk result (λ copy. copy ≡ self.now) }
+    {
+        let identifiers = self.identifiers.clone()?;
+        Ok(Bindings { identifiers })
+    }
+
     /// The identifier of a symbol, or `None` where it has none.
     pub fn get(&self, symbol: SymbolId) -> Option<IdentifierId>
         ensures { option_map (λ identifier. identifier.0) result ≡ identifier_of self.now symbol.0 }
@@ -144,7 +153,8 @@ impl Named for NameUser {
 #[derive(Drop)]
 pub struct UsedNames {
     users: NameTable<NameUser>,
-    /// For the index of an entry, a number: the candidates of its name that end in smaller numbers are used. Past the end it is 0.
+    /// For the index of an entry, a number: the candidates of its name that end in smaller numbers are used. Past the end it
+    /// is 0.
     numbers: Vec<usize>,
     /// The symbols that have names, and maybe others.
     owners: IndexSet<SymbolId, BuildHasherDefault<IdHasher>>,
@@ -194,6 +204,20 @@ impl UsedNames {
         })
     }
 
+    /// A copy in memory of its own. On `OutOfMemory` an allocation failed.
+    pub fn copy(&self, alloc: Global) -> Result<UsedNames, OutOfMemory>
+        ensures { IfOk result (λ copy. copy ≡ self.now) }
+    {
+        let users = copy_users(alloc, &self.users)?;
+        let numbers = Vec::from_slice(alloc, self.numbers.as_slice())?;
+        let owners = self.owners.clone()?;
+        Ok(UsedNames {
+            users,
+            numbers,
+            owners,
+        })
+    }
+
     /// The first of `name`, `name_0`, `name_1` .. that no other symbol has, which is given to `symbol`. (Of one candidate more
     /// than there are used names one is free.) On `OutOfMemory` an allocation failed, and the entries are unspecified.
     pub fn claim(
@@ -218,8 +242,8 @@ impl UsedNames {
         Ok(text)
     }
 
-    /// Adds the names that are not used yet, each with its symbol, in the order of `child`. On `OutOfMemory` an allocation failed,
-    /// and the entries are unspecified.
+    /// Adds the names that are not used yet, each with its symbol, in the order of `child`. On `OutOfMemory` an allocation
+    /// failed, and the entries are unspecified.
     pub fn merge(&mut self, alloc: Global, child: &UsedNames) -> Result<(), OutOfMemory>
         ensures { OnOk result (self.new ≡ merged_names self.old child.now) }
     {
@@ -232,6 +256,23 @@ impl UsedNames {
         )?;
         Ok(())
     }
+}
+
+/// A copy of a table, in memory of its own. On `OutOfMemory` an allocation failed.
+fn copy_users(
+    alloc: Global,
+    users: &NameTable<NameUser>,
+) -> Result<NameTable<NameUser>, OutOfMemory>
+    ensures { IfOk result (λ copy. copy ≡ users.now) }
+{
+    let mut copies = Vec::with_capacity(alloc, users.len())?;
+    for user in users.as_slice() {
+        copies.push(NameUser {
+            name: user.name.copy(alloc)?,
+            symbol: user.symbol,
+        })?;
+    }
+    users.with_items(alloc, copies)
 }
 
 /// Gives the name `candidate` to `symbol`, unless another symbol has it. Returns the index of the name's entry, and true if it is
@@ -383,7 +424,8 @@ fn merge_users(
     Ok(entries)
 }
 
-/// Raises the number of each entry to that of the entry of its name in another map, `child`. On `OutOfMemory` an allocation failed.
+/// Raises the number of each entry to that of the entry of its name in another map, `child`. On `OutOfMemory` an allocation
+/// failed.
 fn merge_numbers(
     numbers: &mut Vec<usize>,
     entries: &[usize],
