@@ -1,4 +1,5 @@
 pub mod Apart
+pub mod Clones
 pub mod Examples
 pub mod Kept
 pub mod NameLaws

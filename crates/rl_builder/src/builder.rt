@@ -37,7 +37,8 @@ use std::alloc::Global;
 use std::collections::BTreeSet;
 use std::marker::PhantomData;
 
-/// The parts of a builder beside the environment. `U` shows the tables of its unit, `B` is the table of blocks that `build` makes.
+/// The parts of a builder beside the environment. `U` shows the tables of its unit, `B` is the table of blocks that `build`
+/// makes.
 #[derive(Drop)]
 pub struct Work<U, B> {
     pub(crate) alloc: Global,
@@ -90,9 +91,9 @@ impl<W: Drop> Drop for Over<'_, W> {
     }
 }
 
-/// A function's graph under construction, whose blocks become a table `B`, over the tables of its unit, which `U` shows. Its calls are
-/// moves on a state (`State` of specs/Builder.antt). After an error that a call does not speak of, the state is unspecified: the
-/// caller drops the builder.
+/// A function's graph under construction, whose blocks become a table `B`, over the tables of its unit, which `U` shows. Its
+/// calls are moves on a state (`State` of specs/Builder.antt). After an error that a call does not speak of, the state is
+/// unspecified: the caller drops the builder.
 pub type HirBuilder<'e, U, B> = Over<'e, Work<U, B>>;
 
 /// Adds an identifier without a name, with the span if there is one. On `OutOfMemory` an allocation failed, and nothing
@@ -136,7 +137,8 @@ pub fn create_temporary_place(
     })
 }
 
-/// The identifiers that were given; without any, the empty map with room for `count` symbols. On `OutOfMemory` an allocation failed.
+/// The identifiers that were given; without any, the empty map with room for `count` symbols. On `OutOfMemory` an allocation
+/// failed.
 fn bindings_or_room(
     alloc: Global,
     bindings: Option<Bindings>,
@@ -181,8 +183,8 @@ impl<'e, W> Over<'e, W> {
     ghost use Rattle.std.specs.Borrow.{sem};
     ghost use Rattle.rl_builder.specs.Lending.{LendsEnvironment};
 
-    /// The environment that the unit's builders share, to be changed. A caller that renames or takes away identifiers breaks the rule
-    /// on names, which the calls that resolve names keep.
+    /// The environment that the unit's builders share, to be changed. A caller that renames or takes away identifiers breaks
+    /// the rule on names, which the calls that resolve names keep.
     pub fn environment_mut(&mut self) -> &mut Environment
         ensures* writes { sem 𝓛 (LendsEnvironment W.row self.entry result) }
         ensures value { result.now ≡ self.old.env.now }
@@ -193,9 +195,9 @@ impl<'e, W> Over<'e, W> {
 
 impl<'e, 's, B> Over<'e, Work<UnitTables<'s>, B>> {
     /// A builder of the function whose scope is `function_scope`, in the lowering of the marked function, whose scope is
-    /// `component_scope` and whose index is `identifier_spans`. Its current block is the entry, of a fresh id. `bindings`, `used_names`
-    /// and `context` are those of the function around it; without them they are empty. The entry is a `Block` unless a kind is given.
-    /// On `OutOfMemory` an allocation failed, and nothing is kept.
+    /// `component_scope` and whose index is `identifier_spans`. Its current block is the entry, of a fresh id. `bindings`,
+    /// `used_names` and `context` are those of the function around it; without them they are empty. The entry is a `Block`
+    /// unless a kind is given. On `OutOfMemory` an allocation failed, and nothing is kept.
     #[allow(clippy::too_many_arguments)]
     pub fn new(
         alloc: Global,
@@ -314,6 +316,13 @@ impl<'e, U: ReadsUnit, B> Over<'e, Work<U, B>> {
         ensures { result.now.semantic.now ≡ (state_of U.tables self.now).semantic }
     {
         self.work.unit.resolver()
+    }
+
+    /// A value that shows the tables of the unit, for the builder of an inner function.
+    pub fn unit(&self) -> U
+        ensures { U.tables result ≡ record { semantic = (state_of U.tables self.now).semantic; sites = (state_of U.tables self.now).sites } }
+    {
+        self.work.unit.share()
     }
 
     /// The scope of the function that is built.

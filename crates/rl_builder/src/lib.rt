@@ -4,6 +4,7 @@
 pub mod blocks;
 pub mod builder;
 pub mod closures;
+pub mod copies;
 pub mod graph;
 pub mod jumps;
 pub mod resolve;

@@ -20,6 +20,10 @@ pub trait ReadsUnit: Drop {
     /// The index of the marked function.
     fn identifier_spans(&self) -> &IdentifierLocIndex
         ensures { result.now ≡ (tables self.now).sites };
+
+    /// A second value that shows these tables, for the builder of an inner function.
+    fn share(&self) -> Self
+        ensures { tables result ≡ tables self.now };
 }
 
 /// References to the tables of a unit.
@@ -40,5 +44,12 @@ impl<'s> ReadsUnit for UnitTables<'s> {
 
     fn identifier_spans(&self) -> &IdentifierLocIndex {
         self.identifier_spans
+    }
+
+    fn share(&self) -> UnitTables<'s> {
+        UnitTables {
+            resolver: self.resolver,
+            identifier_spans: self.identifier_spans,
+        }
     }
 }
