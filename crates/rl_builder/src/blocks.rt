@@ -128,7 +128,7 @@ impl<'e, U: ReadsUnit, B> Over<'e, Work<U, B>> {
     }
 
     /// Completes the current block with `terminal`, and makes `next` the current one (`terminateWithContinuation`). On
-    /// `OutOfMemory` an allocation failed: handlers and scopes are kept, and the rest of the state is unspecified.
+    /// `OutOfMemory` an allocation failed: the current block is lost, and `next` is the current one all the same.
     pub fn terminate_with_continuation(
         &mut self,
         terminal: Terminal,
@@ -136,6 +136,7 @@ impl<'e, U: ReadsUnit, B> Over<'e, Work<U, B>> {
     ) -> Result<(), OutOfMemory>
         ensures same_reference { self.new.env.ghost_name ≡ self.old.env.ghost_name }
         ensures state { OnOk result (state_of U.tables self.new ≡ completed_by (state_of U.tables self.old) terminal next) }
+        ensures lost { OnErr result (state_of U.tables self.new ≡ entered (state_of U.tables self.old) next) }
         ensures kept { KeepsStacks self.old result self.new }
     {
         let last = mem::replace(&mut self.work.current, next);
@@ -185,10 +186,11 @@ impl<'e, U: ReadsUnit, B> Over<'e, Work<U, B>> {
     }
 
     /// Completes the current block with `terminal`, and goes on in the block that `enter` set aside. On `OutOfMemory` an
-    /// allocation failed: handlers and scopes are kept, and the rest of the state is unspecified.
+    /// allocation failed: the current block is lost, and the one that was set aside is current all the same.
     pub fn leave(&mut self, outer: Outer, terminal: Terminal) -> Result<(), OutOfMemory>
         ensures same_reference { self.new.env.ghost_name ≡ self.old.env.ghost_name }
         ensures state { OnOk result (state_of U.tables self.new ≡ completed_by (state_of U.tables self.old) terminal outer.block) }
+        ensures lost { OnErr result (state_of U.tables self.new ≡ entered (state_of U.tables self.old) outer.block) }
         ensures kept { KeepsStacks self.old result self.new }
     {
         self.terminate_with_continuation(terminal, outer.block)
@@ -214,8 +216,8 @@ impl<'e, U: ReadsUnit, B> Over<'e, Work<U, B>> {
         let _ = self.work.handlers.pop();
     }
 
-    /// Opens the scope of a loop, a labelled statement or a `switch`, which jumps may go to until `close_scope`. On `OutOfMemory` an
-    /// allocation failed, and nothing changed.
+    /// Opens the scope of a loop, a labelled statement or a `switch`, which jumps may go to until `close_scope`. On
+    /// `OutOfMemory` an allocation failed, and nothing changed.
     pub fn open_scope(&mut self, scope: JumpScope) -> Result<(), OutOfMemory>
         ensures same_reference { self.new.env.ghost_name ≡ self.old.env.ghost_name }
         ensures state { OnOk result (state_of U.tables self.new ≡ with_scope (state_of U.tables self.old) scope) }
@@ -241,8 +243,8 @@ impl<'e, U: ReadsUnit, B> Over<'e, Work<U, B>> {
         lookup_break(self.work.scopes.as_slice(), label)
     }
 
-    /// The block that a `continue` goes to, with this label or without one (`lookupContinue`). On `NotALoop` the innermost scope of
-    /// the label is no loop's; on `NoContinue` no scope takes it.
+    /// The block that a `continue` goes to, with this label or without one (`lookupContinue`). On `NotALoop` the innermost
+    /// scope of the label is no loop's; on `NoContinue` no scope takes it.
     pub fn lookup_continue(&self, label: Option<&str>) -> Result<BlockId, JumpError>
         ensures { result ≡ jumps.lookup_continue (state_of U.tables self.now).scopes (option_map (λ l. l.now) label.entry) }
     {

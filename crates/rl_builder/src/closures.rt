@@ -1,9 +1,10 @@
-//! Moves that run a closure over the builder, between an opening and a closing move. Each is generic over what its closure promises.
+//! Moves that run a closure over the builder, between an opening and a closing move. Each is generic over what its closure
+//! promises.
 
-ghost use Rattle.std.specs.Prelude.{◌≡◌, ◌⊎◌, ◌+◌, ◌<◌, ◌^◌, Err};
+ghost use Rattle.std.specs.Prelude.{◌≡◌, ◌+◌, ◌<◌, ◌^◌};
 ghost use Rattle.std.specs.Fn.{FnOnceTakesAtMut, FnOnceReturnsAtMut};
 ghost use Rattle.rl_builder.specs.Builder.{state_of, entered, new_block, reserved, with_handler, with_scope};
-ghost use Rattle.rl_builder.specs.Closures.{KeepsBlock, KeepsFrom, KeepsStacks, ReturnsWith, RunsInBlock, RunsInFreshBlock, RunsInScope, RunsUnderHandler, TakesBlock, TakesFrom, TakesWith};
+ghost use Rattle.rl_builder.specs.Closures.{KeepsBlock, KeepsFrom, KeepsStacks, Outcome, ReturnsWith, RunsInBlock, RunsInFreshBlock, RunsInScope, RunsUnderHandler, TakesBlock, TakesFrom, TakesWith};
 ghost use Rattle.rl_builder.specs.declared.jumps.JumpScope.TheVariants as scopes;
 
 use crate::blocks::WipBlock;
@@ -34,8 +35,9 @@ fn call_with_value<V, A, T, F: FnOnce(&mut V, A) -> T>(x: &mut V, a: A, f: F) ->
 
 impl<'e, U: ReadsUnit, B> Over<'e, Work<U, B>> {
     /// Runs the closure in the block, which gets the terminal that it answers, and goes on in the block that was current
-    /// (`tryEnterReserved`). On an error of the closure all is as it left it: its block is current. On `OutOfMemory` an allocation
-    /// failed, and the state is unspecified.
+    /// (`tryEnterReserved`). On an error of the closure, of whatever cause, all is as it left it: its block is current. On
+    /// `OutOfMemory` behind a closure that succeeded, no memory was given for its block: that is lost, and the one that was
+    /// current before is current again.
     pub fn try_enter_reserved<F: FnOnce(&mut Self) -> Result<Terminal, Stop>>(
         &mut self,
         block: WipBlock,
@@ -44,7 +46,7 @@ impl<'e, U: ReadsUnit, B> Over<'e, Work<U, B>> {
         requires callable { TakesFrom U.tables F.FnOnce f self.old (entered (state_of U.tables self.old) block) }
         requires keeps { KeepsFrom U.tables F.FnOnce f self.old (entered (state_of U.tables self.old) block) }
         ensures kept { KeepsStacks self.old result self.new }
-        ensures outcome { (result ≡ Err Stop.OutOfMemory) ⊎ RunsInBlock U.tables F.FnOnce f self.old (entered (state_of U.tables self.old) block) result self.new }
+        ensures outcome { RunsInBlock U.tables F.FnOnce f self.old (entered (state_of U.tables self.old) block) result self.new }
     {
         let outer = self.enter(block);
         match call_with(self, f) {
@@ -56,7 +58,8 @@ impl<'e, U: ReadsUnit, B> Over<'e, Work<U, B>> {
         }
     }
 
-    /// As `try_enter_reserved`, in a fresh block of the kind, whose id the closure is given and the call returns (`tryEnter`).
+    /// As `try_enter_reserved`, in a fresh block of the kind `kind`, whose id the closure is given and the call returns
+    /// (`tryEnter`).
     pub fn try_enter<F: FnOnce(&mut Self, BlockId) -> Result<Terminal, Stop>>(
         &mut self,
         kind: BlockKind,
@@ -66,7 +69,7 @@ impl<'e, U: ReadsUnit, B> Over<'e, Work<U, B>> {
         requires callable { TakesBlock U.tables F.FnOnce f self.old (entered (reserved (state_of U.tables self.old)) (new_block self.old.env.now.next_block kind)) (record { 0 = self.old.env.now.next_block }) }
         requires keeps { KeepsBlock U.tables F.FnOnce f self.old (entered (reserved (state_of U.tables self.old)) (new_block self.old.env.now.next_block kind)) (record { 0 = self.old.env.now.next_block }) }
         ensures kept { KeepsStacks self.old result self.new }
-        ensures outcome { (result ≡ Err Stop.OutOfMemory) ⊎ RunsInFreshBlock U.tables F.FnOnce f self.old (entered (reserved (state_of U.tables self.old)) (new_block self.old.env.now.next_block kind)) (record { 0 = self.old.env.now.next_block }) result self.new }
+        ensures outcome { RunsInFreshBlock U.tables F.FnOnce f self.old (entered (reserved (state_of U.tables self.old)) (new_block self.old.env.now.next_block kind)) (record { 0 = self.old.env.now.next_block }) result self.new }
     {
         let block = self.reserve(kind)?;
         let id = block.id;
@@ -80,8 +83,9 @@ impl<'e, U: ReadsUnit, B> Over<'e, Work<U, B>> {
         }
     }
 
-    /// Runs the closure under a handler: instructions that it appends throw to the block (`tryEnterTryCatch`). The handler is closed
-    /// behind it, also on its error. On `OutOfMemory` an allocation failed, and the state is unspecified.
+    /// Runs the closure under a handler: instructions that it appends throw to the block (`tryEnterTryCatch`). The handler is
+    /// closed behind it, also on its error, of whatever cause. The result is that of the closure; or it is `OutOfMemory`,
+    /// where no memory was given for the handler: then the closure was not called, and nothing changed.
     pub fn try_enter_try_catch<F: FnOnce(&mut Self) -> Result<(), Stop>>(
         &mut self,
         handler: BlockId,
@@ -90,7 +94,7 @@ impl<'e, U: ReadsUnit, B> Over<'e, Work<U, B>> {
         requires callable { TakesFrom U.tables F.FnOnce f self.old (with_handler (state_of U.tables self.old) handler) }
         requires keeps { KeepsFrom U.tables F.FnOnce f self.old (with_handler (state_of U.tables self.old) handler) }
         ensures kept { KeepsStacks self.old result self.new }
-        ensures outcome { (result ≡ Err Stop.OutOfMemory) ⊎ RunsUnderHandler U.tables F.FnOnce f self.old handler result self.new }
+        ensures outcome { Outcome U.tables (RunsUnderHandler U.tables F.FnOnce f self.old handler result self.new) self.old result self.new }
     {
         self.open_handler(handler)?;
         let result = call_with(self, f);
@@ -98,7 +102,9 @@ impl<'e, U: ReadsUnit, B> Over<'e, Work<U, B>> {
         result
     }
 
-    /// Runs the closure in the scope, which is closed behind it; on its error the scope stays, with what the closure left above it.
+    /// Runs the closure in the scope, which is closed behind it; on its error, of whatever cause, the scope stays, with what
+    /// the closure left above it. The result is that of the closure; or it is `OutOfMemory`, where no memory was given for
+    /// the scope: then the closure was not called, and nothing changed.
     fn in_scope<T, F: FnOnce(&mut Self) -> Result<T, Stop>>(
         &mut self,
         scope: JumpScope,
@@ -107,7 +113,7 @@ impl<'e, U: ReadsUnit, B> Over<'e, Work<U, B>> {
         requires callable { TakesFrom U.tables F.FnOnce f self.old (with_scope (state_of U.tables self.old) scope) }
         requires keeps { KeepsFrom U.tables F.FnOnce f self.old (with_scope (state_of U.tables self.old) scope) }
         ensures kept { KeepsStacks self.old result self.new }
-        ensures outcome { (result ≡ Err Stop.OutOfMemory) ⊎ RunsInScope U.tables F.FnOnce f self.old scope result self.new }
+        ensures outcome { Outcome U.tables (RunsInScope U.tables F.FnOnce f self.old scope result self.new) self.old result self.new }
     {
         self.open_scope(scope)?;
         match call_with(self, f) {
@@ -119,8 +125,9 @@ impl<'e, U: ReadsUnit, B> Over<'e, Work<U, B>> {
         }
     }
 
-    /// Runs the closure in the scope of a loop (`loop`). The scope is closed behind it; on its error the scope stays, with what the
-    /// closure left above it. On `OutOfMemory` an allocation failed, and the state is unspecified.
+    /// Runs the closure in the scope of a loop (`loop`). The scope is closed behind it; on its error, of whatever cause, the
+    /// scope stays, with what the closure left above it. The result is that of the closure; or it is `OutOfMemory`, where no
+    /// memory was given for the scope: then the closure was not called, and nothing changed.
     pub fn loop_scope<T, F: FnOnce(&mut Self) -> Result<T, Stop>>(
         &mut self,
         label: Option<Text>,
@@ -131,7 +138,7 @@ impl<'e, U: ReadsUnit, B> Over<'e, Work<U, B>> {
         requires callable { TakesFrom U.tables F.FnOnce f self.old (with_scope (state_of U.tables self.old) (scopes.Loop label continue_block break_block)) }
         requires keeps { KeepsFrom U.tables F.FnOnce f self.old (with_scope (state_of U.tables self.old) (scopes.Loop label continue_block break_block)) }
         ensures kept { KeepsStacks self.old result self.new }
-        ensures outcome { (result ≡ Err Stop.OutOfMemory) ⊎ RunsInScope U.tables F.FnOnce f self.old (scopes.Loop label continue_block break_block) result self.new }
+        ensures outcome { Outcome U.tables (RunsInScope U.tables F.FnOnce f self.old (scopes.Loop label continue_block break_block) result self.new) self.old result self.new }
     {
         let scope = JumpScope::Loop {
             label,
@@ -141,8 +148,9 @@ impl<'e, U: ReadsUnit, B> Over<'e, Work<U, B>> {
         self.in_scope(scope, f)
     }
 
-    /// Runs the closure in the scope of a labelled statement that is no loop (`label`). The scope is closed behind it; on its error the
-    /// scope stays, with what the closure left above it. On `OutOfMemory` an allocation failed, and the state is unspecified.
+    /// Runs the closure in the scope of a labelled statement that is no loop (`label`). The scope is closed behind it; on its
+    /// error, of whatever cause, the scope stays, with what the closure left above it. The result is that of the closure; or
+    /// it is `OutOfMemory`, where no memory was given for the scope: then the closure was not called, and nothing changed.
     pub fn label_scope<T, F: FnOnce(&mut Self) -> Result<T, Stop>>(
         &mut self,
         label: Text,
@@ -152,13 +160,14 @@ impl<'e, U: ReadsUnit, B> Over<'e, Work<U, B>> {
         requires callable { TakesFrom U.tables F.FnOnce f self.old (with_scope (state_of U.tables self.old) (scopes.Label label break_block)) }
         requires keeps { KeepsFrom U.tables F.FnOnce f self.old (with_scope (state_of U.tables self.old) (scopes.Label label break_block)) }
         ensures kept { KeepsStacks self.old result self.new }
-        ensures outcome { (result ≡ Err Stop.OutOfMemory) ⊎ RunsInScope U.tables F.FnOnce f self.old (scopes.Label label break_block) result self.new }
+        ensures outcome { Outcome U.tables (RunsInScope U.tables F.FnOnce f self.old (scopes.Label label break_block) result self.new) self.old result self.new }
     {
         self.in_scope(JumpScope::Label { label, break_block }, f)
     }
 
-    /// Runs the closure in the scope of a `switch` (`switch`). The scope is closed behind it; on its error the scope stays, with what
-    /// the closure left above it. On `OutOfMemory` an allocation failed, and the state is unspecified.
+    /// Runs the closure in the scope of a `switch` (`switch`). The scope is closed behind it; on its error, of whatever
+    /// cause, the scope stays, with what the closure left above it. The result is that of the closure; or it is
+    /// `OutOfMemory`, where no memory was given for the scope: then the closure was not called, and nothing changed.
     pub fn switch_scope<T, F: FnOnce(&mut Self) -> Result<T, Stop>>(
         &mut self,
         label: Option<Text>,
@@ -168,7 +177,7 @@ impl<'e, U: ReadsUnit, B> Over<'e, Work<U, B>> {
         requires callable { TakesFrom U.tables F.FnOnce f self.old (with_scope (state_of U.tables self.old) (scopes.Switch label break_block)) }
         requires keeps { KeepsFrom U.tables F.FnOnce f self.old (with_scope (state_of U.tables self.old) (scopes.Switch label break_block)) }
         ensures kept { KeepsStacks self.old result self.new }
-        ensures outcome { (result ≡ Err Stop.OutOfMemory) ⊎ RunsInScope U.tables F.FnOnce f self.old (scopes.Switch label break_block) result self.new }
+        ensures outcome { Outcome U.tables (RunsInScope U.tables F.FnOnce f self.old (scopes.Switch label break_block) result self.new) self.old result self.new }
     {
         self.in_scope(JumpScope::Switch { label, break_block }, f)
     }
