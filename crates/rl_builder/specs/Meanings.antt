@@ -1,10 +1,12 @@
 -- Variables that identifiers stand for, with the identifiers of local variables.
-use Rattle.std.specs.Prelude.{ℕ, Bool, true, false, if◌then◌else◌, Option, Some, None, List}
+use Rattle.std.specs.Prelude.{◌≡◌, ℕ, Bool, true, false, if◌then◌else◌, Option, Some, None, List}
+use Rattle.rl_base.specs.Reserved.{is_reserved}
 use Rattle.rl_base.specs.declared.diagnostic.Diagnostic.{Diagnostic}
 use Rattle.rl_base.specs.declared.ids.SymbolId.{SymbolId}
 use Rattle.rl_base.specs.declared.span.Span.{Span}
 use Rattle.rl_bindings.specs.declared.symbol_kind.BindingKind.{BindingKind as Kind}
 use Rattle.rl_bindings.specs.declared.symbol_kind.BindingKind.TheVariants as kind
+use Rattle.rl_hir.specs.Pairs.{identifier_of}
 use Rattle.rl_hir.specs.Symbols.{has}
 use Rattle.rl_hir.specs.declared.binding.BindingKind.{BindingKind}
 use Rattle.rl_hir.specs.declared.binding.BindingKind.TheVariants as binding_kind
@@ -54,6 +56,11 @@ with_variable s (Outer outer) name span = s
 abbrev pub IsStoppedAt : State → Meaning → (name : List ℕ) → (span : Span) → Diagnostic → Type 0
 IsStoppedAt s (Local symbol) name span d = IsStopped s name symbol.0 (Some span) d
 IsStoppedAt s (Outer outer) name span d = ⊥
+
+-- A name that has a meaning may be resolved: one of a local variable that has no identifier is not reserved.
+abbrev pub IsAllowedAt : State → Meaning → (name : List ℕ) → Type 0
+IsAllowedAt s (Local symbol) name = identifier_of s.bindings symbol.0 ≡ None → is_reserved name ≡ false
+IsAllowedAt s (Outer outer) name = Unit {0}
 
 -- True of a symbol that counts for the program's scope.
 abbrev pub is_of_program : State → SymbolId → Bool

@@ -6,7 +6,7 @@ ghost use Rattle.rl_base.specs.declared.diagnostic.Diagnostic.{Diagnostic};
 ghost use Rattle.rl_builder.specs.Builder.{state_of, names_of, with_context_identifier};
 ghost use Rattle.rl_builder.specs.Closures.{KeepsStacks};
 ghost use Rattle.rl_builder.specs.FunctionNames as spec;
-ghost use Rattle.rl_builder.specs.Meanings.{converted, has_local_binding, is_context, is_of_program, outer_variable, symbol_at, variable_of, with_variable, IsStoppedAt};
+ghost use Rattle.rl_builder.specs.Meanings.{converted, has_local_binding, is_context, is_of_program, outer_variable, symbol_at, variable_of, with_variable, IsAllowedAt, IsStoppedAt};
 ghost use Rattle.rl_builder.specs.Names.{fbt_label, reserved_label, new_span, renamed, renames_among, with_refused, with_binding, NamesAgree, Resolves};
 ghost use Rattle.rl_context.specs.Index.{declaration_span};
 ghost use Rattle.rl_hir.specs.Identifiers.{changed_at, with_span};
@@ -293,6 +293,7 @@ impl<'e, U: ReadsUnit, B> Over<'e, Work<U, B>> {
         ensures state { OnOk result (state_of U.tables self.new ≡ with_variable (state_of U.tables self.old) ((names_of (state_of U.tables self.old)).meaning identifier.now.at.reference.0 identifier.now.name.now) identifier.now.name.now identifier.now.at.span) }
         ensures binding { IfOk result (λ variable. variable ≡ variable_of (state_of U.tables self.old) ((names_of (state_of U.tables self.old)).meaning identifier.now.at.reference.0 identifier.now.name.now)) }
         ensures names { OnOk result (NamesAgree (state_of U.tables self.old) → NamesAgree (state_of U.tables self.new)) }
+        ensures allowed { OnOk result (IsAllowedAt (state_of U.tables self.old) ((names_of (state_of U.tables self.old)).meaning identifier.now.at.reference.0 identifier.now.name.now) identifier.now.name.now) }
         ensures stopped { IfErr result (λ e. (d : Diagnostic) → e ≡ Stop.Diagnostic d → IsStoppedAt (state_of U.tables self.old) ((names_of (state_of U.tables self.old)).meaning identifier.now.at.reference.0 identifier.now.name.now) identifier.now.name.now identifier.now.at.span d) }
         ensures unchanged { IfErr result (λ e. (d : Diagnostic) → e ≡ Stop.Diagnostic d → state_of U.tables self.new ≡ state_of U.tables self.old) }
     {

@@ -1,5 +1,6 @@
-use Rattle.std.proofs.Common.{◌≡◌, ℕ, Some, List, sym, ap, subst, ◌∙◌}
+use Rattle.std.proofs.Common.{◌≡◌, ℕ, Some, None, false, List, sym, ap, subst, ◌∙◌}
 use Rattle.std.proofs.lemmas.Option.{same_Some}
+use Rattle.rl_base.specs.Reserved.{is_reserved}
 use Rattle.rl_hir.specs.Pairs.{identifier_of}
 use Rattle.rl_hir.specs.declared.binding.BindingKind.{BindingKind}
 use Rattle.rl_hir.specs.declared.binding.VariableBinding.TheVariants as variable
@@ -8,7 +9,7 @@ use Rattle.rl_names.specs.declared.names.Meaning.TheVariants.{Local}
 use Rattle.rl_resolver.specs.Lookups as lookups
 use Rattle.rl_builder.proofs.NameLaws.{identifier_of-resolved}
 use Rattle.rl_builder.specs.Builder.{State, state_of, names_of}
-use Rattle.rl_builder.specs.Meanings.{converted, variable_of, IsStoppedAt}
+use Rattle.rl_builder.specs.Meanings.{converted, variable_of, IsAllowedAt, IsStoppedAt}
 use Rattle.rl_builder.specs.Names.{resolved_identifier, IsStopped}
 use Rattle.rl_semantic.specs.declared.semantic.Semantic.{Semantic}
 use Rattle.rl_builder.proofs.resolve.Over+Work+U+B.resolve_identifier.Goals as goal
@@ -26,6 +27,16 @@ returns-in-Ok-clause-binding g c =
     ap (λ (n : ℕ). variable.Identifier (record { 0 = n }) c.convert_binding_kind.result) number
     ∙ ap (λ (k : BindingKind). variable.Identifier (record { 0 = resolved_identifier s symbol.0 }) k) kind
     ∙ ap (variable_of s) (sym meaning)
+
+pub returns-in-Ok-clause-allowed : goal.returns-in-Ok-clause-allowed
+returns-in-Ok-clause-allowed g c =
+    let s = state_of g.U.ReadsUnit.tables c.args.self.now in
+    let at = c.args.identifier.now.at in
+    let name = c.args.identifier.now.name.now in
+    let symbol = c.in-Local.symbol in
+    let meaning : (names_of s).meaning at.reference.0 name ≡ Local symbol = sym c.in_ok-symbol.ensures ∙ c.in-Local.is in
+    subst (λ (m : Meaning). IsAllowedAt s m name) (sym meaning)
+    (subst (λ (n : List ℕ). identifier_of s.bindings symbol.0 ≡ None → is_reserved n ≡ false) c.as_str-name.ensures c.in-Ok.ensures.resolves.allowed)
 
 pub returns-in-Err-clause-stopped : goal.returns-in-Err-clause-stopped
 returns-in-Err-clause-stopped g c d is =
