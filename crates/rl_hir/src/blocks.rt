@@ -8,6 +8,7 @@ ghost use Rattle.rl_hir.specs.Blocks.{HaveOwnIds, block_at, kept, same_id, with_
 ghost use Rattle.rl_hir.specs.declared.function.BasicBlock.{BasicBlock};
 
 use crate::block_sets::{BlockMap, BlockSet, new_map};
+use crate::dense_blocks::DenseBlocks;
 use crate::function::BasicBlock;
 use rl_base::error::OutOfMemory;
 use rl_base::ids::BlockId;
@@ -69,7 +70,7 @@ pub trait Blocks: Drop {
 }
 
 /// The table that the functions of a result hold their blocks in.
-pub type GraphBlocks = MapBlocks;
+pub type GraphBlocks = DenseBlocks;
 
 /// Blocks in a hash map that keeps their order. A look-up by id takes a constant number of steps on average; `remove` moves the pairs
 /// behind it.
