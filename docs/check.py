@@ -1,6 +1,7 @@
 #!/usr/bin/env python3
-"""Checks what the documents cite: that each file stands there, and that each name in backquotes is a word of the crates' files.
-Prints what is missing, and ends with status 1 where something is."""
+"""Checks what the documents cite: that each file stands there, that each name in backquotes is a word of the crates' files, and
+that each snippet stands in the file that a comment `<!-- from FILE -->` in front of it names, white space aside. A line `// ..`
+of a snippet stands for lines that it leaves out. Prints what is missing, and ends with status 1 where something is."""
 import pathlib, re, sys
 
 TOP = pathlib.Path(__file__).resolve().parent.parent
@@ -12,6 +13,7 @@ OUTSIDE = set(
     "antt hyperfine oxc_react_compiler rl_frames crates txt "
     "X_call X_counted X_runs X_sound X_tree X_writable read_X Kinds c in-Variant decreases-NAME".split()
 )
+SNIPPET = re.compile(r"<!-- from ([\w/.]+) -->\n```\w*\n(.*?)^```", re.M | re.S)
 
 
 def missing_files(text):
@@ -34,6 +36,18 @@ def missing_names(text, words):
                 yield name
 
 
+def strayed_snippets(text):
+    """Parts of snippets that do not stand in their file, in this order."""
+    for file, code in SNIPPET.findall(text):
+        source = " ".join((TOP / file).read_text().split()) if (TOP / file).exists() else ""
+        at = 0
+        for part in re.split(r"^\s*// \.\.$", code, flags=re.M):
+            at = source.find(" ".join(part.split()), at)
+            if at < 0:
+                yield f"a snippet does not stand in {file}: {part.strip().splitlines()[0]}"
+                break
+
+
 files = [it for kind in ("rt", "antt") for it in TOP.glob(f"crates/*/*/**/*.{kind}") if "out" not in it.parts]
 words = OUTSIDE | {it.name for it in (TOP / "crates").iterdir()}
 for file in files:
@@ -41,7 +55,7 @@ for file in files:
 found = False
 for page in PAGES:
     text = page.read_text()
-    for what in sorted({*missing_files(text), *missing_names(text, words)}):
+    for what in sorted({*missing_files(text), *missing_names(text, words), *strayed_snippets(text)}):
         found = True
         print(f"{page.relative_to(TOP)}: {what}")
 sys.exit(found)
