@@ -10,7 +10,7 @@ PROVED, README = TOP / "docs/PROVED.md", TOP / "README.md"
 STATEMENTS = {"crates/rl_unit/src/run.rt": ("run", "run_steady"), "crates/rl_unit/src/unit.rt": ("lower_unit",)}
 USE = re.compile(r"^\s*(?:ghost |pub )?use Rattle\.(\w+)\.specs\.([\w.]+?)(?:\.\{([^}]*)\})?(?: as (\w+))?;?$", re.M)
 ROW = re.compile(r"^\| `(\w+)` \| ([A-Z]\w*(?:, [A-Z]\w*)*) \|$", re.M)
-SIZE = re.compile(r"[\d,]+ files of `specs/` with [\d,]+ lines of definitions, and [\d,]+ types of `src/` with [\d,]+ lines")
+SIZE = re.compile(r"N files of `specs/` with N lines of definitions, and N types of `src/` with N lines".replace("N", r"[\d,]+").replace(" ", r"\s+"))
 
 
 def used(text):
@@ -94,6 +94,7 @@ print(table(files))
 print(size)
 for crate, name in sorted(files ^ told):
     print(f"docs/PROVED.md {'lacks' if (crate, name) in files else 'has'} {crate}/specs/{name}.antt")
-if SIZE.findall(readme) != [size]:
-    print(f"README.md has other sizes: {SIZE.findall(readme)}")
-sys.exit(files != told or SIZE.findall(readme) != [size])
+sizes = [" ".join(it.split()) for it in SIZE.findall(readme)]
+if sizes != [size]:
+    print(f"README.md has other sizes: {sizes}")
+sys.exit(files != told or sizes != [size])
