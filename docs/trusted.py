@@ -14,7 +14,7 @@ SIZE = re.compile(r"N files of `specs/` with N lines of definitions, and N types
 
 
 def used(text):
-    """Of each `use` of a definition of this repository: its crate, its path, and the names that it brings in."""
+    """The `use` lines of definitions of this repository: of each its crate, its path, and the names that it brings in."""
     for crate, path, names, alias in USE.findall(text):
         if (TOP / "crates" / crate).is_dir():
             yield crate, path, {name.split(" as ")[-1].strip() for name in names.split(",")} | {alias}
