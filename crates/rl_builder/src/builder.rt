@@ -13,7 +13,7 @@ ghost use Rattle.rl_order.specs.Numbering.{orders_of};
 ghost use Rattle.rl_order.specs.Walk.{IsWhole};
 
 use crate::blocks::{WipBlock, new_block};
-use crate::graph::{Built, order, refuse_dropped, table_of};
+use crate::graph::{Built, refuse_dropped, table_of};
 use crate::jumps::JumpScope;
 use crate::unit_tables::{ReadsUnit, UnitTables};
 use indexmap::IndexMap;
@@ -29,6 +29,7 @@ use rl_hir::environment::Environment;
 use rl_hir::function::{BasicBlock, BlockKind, Hir};
 use rl_hir::instruction::{HirType, Instruction, Place};
 use rl_names::names::FunctionNames;
+use rl_order::order::order_blocks;
 use rl_order::prune::clean;
 use rl_resolver::resolver::ScopeResolver;
 use rl_syntax::numbered::At;
@@ -467,7 +468,7 @@ impl<'e, U: ReadsUnit, B: Blocks> Over<'e, Work<U, B>> {
         } = work;
         let blocks = table_of::<B>(alloc, completed)?;
         let graph = Hir { entry, blocks };
-        let ordered = order(alloc, &graph)?;
+        let ordered = order_blocks(alloc, &graph)?;
         refuse_dropped(alloc, env, &instructions, &graph.blocks, &ordered)?;
         let mut hir = Hir {
             entry,

@@ -3,7 +3,6 @@
 ghost use Rattle.std.specs.Prelude.{◌≡◌, ◌++◌, ◌<◌, None, OnOk, OnErr, IfOk, option_copied, slice_get};
 ghost use Rattle.rl_builder.specs.Build.{table_of};
 ghost use Rattle.rl_builder.specs.Dropped as dropped;
-ghost use Rattle.rl_order.specs.Walk.{IsOrdered, IsWhole};
 
 use rl_base::diagnostic::Diagnostic;
 use rl_base::error::OutOfMemory;
@@ -11,16 +10,12 @@ use rl_base::ids::{BlockId, InstructionId};
 use rl_base::list::List;
 use rl_base::row::Row;
 use rl_base::span::Span;
-use rl_base::steps::Steps;
 use rl_hir::blocks::Blocks;
 use rl_hir::environment::Environment;
 use rl_hir::function::{BasicBlock, Hir};
 use rl_hir::instruction::{Instruction, InstructionValue};
-use rl_order::order::get_reverse_postordered_blocks;
 use rl_used_names::names::{Bindings, UsedNames};
 use std::alloc::Global;
-use std::marker::Brand;
-use std::sync::ledger::{Blank, Ledger};
 
 /// A finished graph, its instruction table, and the names that were given.
 #[derive(Drop)]
@@ -47,30 +42,6 @@ pub(crate) fn table_of<B: Blocks>(
         blocks.put(id, block)?;
     }
     Ok(blocks)
-}
-
-/// As `order`, where the ledger `L` that `blank` becomes counts the steps.
-fn order_counted<B: Blocks, L: Ledger>(
-    alloc: Global,
-    hir: &Hir<B>,
-    blank: Blank,
-) -> Result<B, OutOfMemory>
-    requires name { blank.name ≡ L.name }
-    requires parts { blank.parts ≡ L.parts }
-    requires shared { 0 < blank.parts }
-    requires whole { IsWhole (B.pairs hir.now.blocks) hir.now.entry }
-    ensures ordered { IfOk result (λ blocks. IsOrdered (B.pairs hir.now.blocks) hir.now.entry (B.pairs blocks)) }
-{
-    let mut steps = Steps::<L>::new(blank);
-    get_reverse_postordered_blocks(alloc, hir, &mut steps)
-}
-
-/// The blocks of a graph in their order (`get_reverse_postordered_blocks`). Its steps are counted and forgotten.
-pub(crate) fn order<B: Blocks>(alloc: Global, hir: &Hir<B>) -> Result<B, OutOfMemory>
-    requires whole { IsWhole (B.pairs hir.now.blocks) hir.now.entry }
-    ensures ordered { IfOk result (λ blocks. IsOrdered (B.pairs hir.now.blocks) hir.now.entry (B.pairs blocks)) }
-{
-    order_counted::<B, Brand>(alloc, hir, Blank::new(1))
 }
 
 /// True of an instruction that makes a function. One that makes a method does not.

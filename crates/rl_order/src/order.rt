@@ -1,6 +1,6 @@
 //! The order of the blocks of a graph.
 
-ghost use Rattle.std.specs.Prelude.{◌≡◌, ◌+◌, ◌*◌, ◌≤◌, ◌++◌, [], ◌∷◌, None, IfOk, OnOk, length, reverse};
+ghost use Rattle.std.specs.Prelude.{◌≡◌, ◌+◌, ◌*◌, ◌<◌, ◌≤◌, ◌++◌, [], ◌∷◌, None, IfOk, OnOk, length, reverse};
 ghost use Rattle.rl_hir.specs.Blocks.{block_at};
 ghost use Rattle.rl_order.specs.Forward.{GoesForward};
 ghost use Rattle.rl_order.specs.Own.{AreOwn};
@@ -16,7 +16,8 @@ use rl_base::steps::Steps;
 use rl_hir::blocks::Blocks;
 use rl_hir::function::{BasicBlock, Hir};
 use std::alloc::Global;
-use std::sync::ledger::Ledger;
+use std::marker::Brand;
+use std::sync::ledger::{Blank, Ledger};
 
 /// Walks over the graph of `blocks` from the entry, with a stack of tasks in a vector and without recursion. Counts a step for each
 /// block that is expanded. On `OutOfMemory` an allocation failed.
@@ -111,4 +112,33 @@ pub fn get_reverse_postordered_blocks<B: Blocks, L: Ledger>(
 {
     let walked = walk(alloc, &hir.blocks, hir.entry, steps)?;
     keep_blocks(alloc, &hir.blocks, walked)
+}
+
+/// As `order_blocks`. Opens the ledger from `blank`, in which the steps are counted.
+fn order_counted<B: Blocks, L: Ledger>(
+    alloc: Global,
+    hir: &Hir<B>,
+    blank: Blank,
+) -> Result<B, OutOfMemory>
+    requires name { blank.name ≡ L.name }
+    requires parts { blank.parts ≡ L.parts }
+    requires shared { 0 < blank.parts }
+    requires whole { IsWhole (B.pairs hir.now.blocks) hir.now.entry }
+    ensures ordered { IfOk result (λ ordered. IsOrdered (B.pairs hir.now.blocks) hir.now.entry (B.pairs ordered)) }
+    ensures forward { IfOk result (λ ordered. GoesForward (B.pairs hir.now.blocks) (B.pairs ordered)) }
+    ensures reached { IfOk result (λ ordered. KeepsReached (B.pairs hir.now.blocks) hir.now.entry (B.pairs ordered)) }
+{
+    let mut steps = Steps::<L>::new(blank);
+    get_reverse_postordered_blocks(alloc, hir, &mut steps)
+}
+
+/// The blocks of a graph in their order, as `get_reverse_postordered_blocks` gives them, for a caller that counts no steps. On
+/// `OutOfMemory` an allocation failed, and nothing is left behind.
+pub fn order_blocks<B: Blocks>(alloc: Global, hir: &Hir<B>) -> Result<B, OutOfMemory>
+    requires { IsWhole (B.pairs hir.now.blocks) hir.now.entry }
+    ensures ordered { IfOk result (λ ordered. IsOrdered (B.pairs hir.now.blocks) hir.now.entry (B.pairs ordered)) }
+    ensures forward { IfOk result (λ ordered. GoesForward (B.pairs hir.now.blocks) (B.pairs ordered)) }
+    ensures reached { IfOk result (λ ordered. KeepsReached (B.pairs hir.now.blocks) hir.now.entry (B.pairs ordered)) }
+{
+    order_counted::<B, Brand>(alloc, hir, Blank::new(1))
 }
