@@ -1,9 +1,6 @@
 //! Lowers the marked function of a unit to its graph.
 #![tactic(auto)]
 
-#[cfg(test)]
-mod tests;
-
 use rl_base::streams::{StdIn, StdOut};
 use rl_unit::run::{arguments, run};
 use std::process::ExitCode;

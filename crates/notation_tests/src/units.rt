@@ -1,4 +1,4 @@
-//! The reader and the writer of units: numbers of nodes, units that are read and written back, and texts that are refused.
+//! The reader and the writer of units: ids and spans of nodes, their table, and a unit that is read and written back.
 
 use rl_ast::binding::{BindingPattern, binding_identifier_view, binding_pattern_view};
 use rl_ast::function::{
@@ -7,7 +7,7 @@ use rl_ast::function::{
 };
 use rl_ast::function_node::FunctionNode;
 use rl_ast::program::program_view;
-use rl_ast::read::{TreeError, read_tree};
+use rl_ast::read::read_tree;
 use rl_ast::statement::{Statement, statement_view};
 use rl_ast::unit::Unit;
 use rl_ast::write::write_tree;
@@ -15,14 +15,13 @@ use rl_base::ids::NodeId;
 use rl_grammar::sort::StatementTree;
 use rl_syntax::numbered::At;
 use rl_syntax::word::Word;
-use std::alloc::{AllocError, Global};
 use std::test::Fail;
 
 /// A unit whose function has a parameter, two directives and three statements.
 const BODY: &[u8] =
     b"(unit [] (program [(expr (arrow y y (params [(param (bind \"p\" -) -)] -) (body [\"use strict\" \"use memo\"] [(expr (str \"x\")) (return (call n (id \"f\") [(binary \"<<\" (null) (id \"p\")) (num \"0x1F\")])) (return -)])))]))";
 
-/// Ids, start and end of a node.
+/// A node's id, the id behind its subtree, and the start and end of its span.
 fn numbers(at: At) -> (u32, u32, u32, u32) {
     (at.id.0, at.end.0, at.span.start, at.span.end)
 }
@@ -35,7 +34,7 @@ fn arrow_of(unit: &Unit) -> Option<Arrow<'_>> {
     }
 }
 
-/// The numbers of a unit, its program, its function, the parameter list, the first parameter and its name.
+/// As `numbers`, of a unit, its program, its function, the parameter list, the first parameter and its name.
 fn function_numbers(unit: &Unit) -> Option<[(u32, u32, u32, u32); 6]> {
     let function = arrow_of(unit)?;
     let params = formal_parameters_view(function.params);
@@ -71,7 +70,7 @@ fn reads_a_function(rt: HostRuntime) -> Result<(), Fail> {
     Ok(())
 }
 
-/// The numbers of an expression statement or a `return`.
+/// As `numbers`, of an expression statement or a `return`.
 fn statement_numbers(statement: StatementTree<'_>) -> Option<(u32, u32, u32, u32)> {
     match statement_view(statement) {
         Statement::Expression { at, expression: _ } => Some(numbers(at)),
@@ -80,7 +79,7 @@ fn statement_numbers(statement: StatementTree<'_>) -> Option<(u32, u32, u32, u32
     }
 }
 
-/// The numbers of a body of statements, and of the first two of them.
+/// As `numbers`, of a body of statements and of the first two of them.
 fn body_numbers(unit: &Unit) -> Option<[(u32, u32, u32, u32); 3]> {
     let ArrowBody::Body(body) = arrow_body_view(arrow_of(unit)?.body) else {
         return None;
@@ -125,123 +124,51 @@ fn lists_nodes(rt: HostRuntime) -> Result<(), Fail> {
     Ok(())
 }
 
-/// A unit whose function has these parameters and this body.
-fn unit_with(alloc: Global, params: &str, body: &str) -> Result<String, AllocError> {
-    let mut text = String::from_str(alloc, "(unit [] (program [(expr (arrow y n ")?;
-    text.push_str(params)?;
-    text.push_str(" ")?;
-    text.push_str(body)?;
-    text.push_str("))]))")?;
-    Ok(text)
-}
-
-/// The error of reading a unit whose function has these parameters and this body. `None` if it is read.
-fn error_of(alloc: Global, params: &str, body: &str) -> Result<Option<TreeError>, AllocError> {
-    let text = unit_with(alloc, params, body)?;
-    match read_tree(alloc, text.as_bytes()) {
-        Ok(_) => Ok(None),
-        Err(error) => Ok(Some(error)),
-    }
-}
-
-#[test]
-fn reads_and_writes_bodies(rt: HostRuntime) -> Result<(), Fail> {
-    let bodies = [
-        "(null)",
-        "(bool y)",
-        "(num \"\")",
-        "(str \"\\00\")",
-        "(paren (paren (null)))",
-        "(id \"\")",
-        "(binary \"instanceof\" (binary \">>>\" (null) (null)) (id \"a\"))",
-        "(call n (call n (id \"f\") []) [(id \"a\") (paren (call n (null) [(str \"x\")])) (id \"b\")])",
-        "(body [] [])",
-        "(body [\"a\" \"\"] [(return -) (return (null)) (expr (null))])",
-    ];
-    for body in bodies {
-        let text = unit_with(rt.alloc(), "(params [] -)", body)?;
-        let unit = read_tree(rt.alloc(), text.as_bytes())?;
-        let written = write_tree(rt.alloc(), &unit)?;
-        assert_eq!(rt; written.as_slice(), text.as_bytes());
-    }
-    Ok(())
-}
+/// A text with each of the 118 words of nodes.
+const WORDS: &str =
+    "(unit [(entity \"x\" 38)] (program [(empty) (debugger) (expr (null)) (return -) (throw (null)) \
+     (if (null) (empty) -) (for - - - (empty)) (while (null) (empty)) (dowhile (empty) (null)) \
+     (forin (id \"x\") (null) (empty)) (forof n (id \"x\") (null) (empty)) (try (block []) - -) (break -) \
+     (continue -) (labeled \"x\" (empty)) (with (null) (empty)) (typealias (bind \"x\" -) (type \"other\" [])) \
+     (interface (bind \"x\" -)) (enum (bind \"x\" -)) (namespace (bind \"x\" -)) (import \"x\" []) (export (empty)) \
+     (exportdefault (null)) (exportlist []) (exportfrom \"x\") (switch (null) [(case - [])]) \
+     (try (block []) (catch - (block [])) -) (var \"let\" []) \
+     (classdecl - - [(method (funexpr n n n - (params [] -) (body [] [])))]) (classdecl - - [(field -)]) \
+     (classdecl - - [(static [])]) (import \"x\" [(default (bind \"x\" -))]) \
+     (import \"x\" [(named \"x\" (bind \"x\" -))]) (expr (arrow n n (params [] -) (null))) \
+     (fundecl n n n - (params [(param (bind \"x\" -) -)] -) -) (fundecl n n n - (params [] -) (body [] [])) \
+     (var \"let\" [(declarator (arraypat [] -) -)]) \
+     (var \"let\" [(declarator (arraypat [(defaultpat (bind \"x\" -) (null))] -) -)]) \
+     (var \"let\" [(declarator (objectpat [(keyedpat n (null) (bind \"x\" -))] -) -)]) \
+     (expr (object [(prop n (name \"x\") (null))])) (expr (object [(prop n (private \"x\") (null))])) \
+     (expr (bool n)) (expr (num \"x\")) (expr (bigint \"x\")) (expr (regexp \"x\" \"x\")) \
+     (expr (tagged (null) (template [] []))) (expr (unary \"!\" (null))) (expr (binary \"+\" (null) (null))) \
+     (expr (privatein \"x\" (null))) (expr (logical \"&&\" (null) (null))) (expr (cond (null) (null) (null))) \
+     (expr (assign \"=\" (id \"x\") (null))) (expr (seq [])) (expr (await (null))) (expr (yield n -)) \
+     (expr (importmeta)) (expr (newtarget)) (expr (super)) (expr (importcall (null) -)) (expr (paren (null))) \
+     (expr (satisfies (null) (type \"other\" []))) (expr (assert (type \"other\" []) (null))) \
+     (expr (nonnull (null))) (expr (instantiate (null) [])) (expr (classexpr - - [])) (expr (member n (null) \"x\")) \
+     (expr (index n (null) (null))) (expr (privatemember n (null) \"x\")) (expr (call n (null) [])) \
+     (expr (chain (null))) (expr (template [(quasi \"x\" -)] [])) (expr (array [(hole)])) \
+     (expr (new (null) [(spread (null))])) \
+     (expr (object [(get n (null) (funexpr n n n - (params [] -) (body [] [])))])) \
+     (expr (object [(set n (null) (funexpr n n n - (params [] -) (body [] [])))])) \
+     (expr (update \"++\" n (as (id \"x\") (type \"other\" [])))) \
+     (expr (update \"++\" n (objecttarget [(short (id \"x\") -)] -))) \
+     (expr (update \"++\" n (objecttarget [(keyed n (null) (id \"x\"))] -))) \
+     (expr (update \"++\" n (arraytarget [] (rest (id \"x\"))))) (expr (element (opening (this) []) [] (closing))) \
+     (expr (element (opening (tag \"x\") []) [] -)) (expr (element (opening (tagmember (this) \"x\") []) [] -)) \
+     (expr (element (opening (tagns \"x\" \"x\") []) [] -)) \
+     (expr (element (opening (this) [(attrspread (null))]) [] -)) \
+     (expr (element (opening (this) [(attr (attrns \"x\" \"x\") -)]) [] -)) \
+     (expr (element (opening (this) [(attr (attrname \"x\") (str \"x\"))]) [] -)) (expr (fragment [(text \"x\")])) \
+     (expr (fragment [(container -)])) (expr (fragment [(spreadchild (null))]))]))";
 
 #[test]
-fn refuses_what_is_no_body(rt: HostRuntime) -> Result<(), Fail> {
-    let bodies = [
-        "(num 42)",
-        "(bool -)",
-        "(str)",
-        "(paren (null) (null))",
-        "(expr (null))",
-        "(body [] [(null)])",
-        "(body [] [(return (null) (null))])",
-        "(body [-] [])",
-        "(body [\"a\" (str \"a\")] [])",
-        "(body [])",
-        "(body - [])",
-        "(id -)",
-        "(id \"a\" \"b\")",
-        "(binary \"&&\" (null) (null))",
-        "(binary \"=\" (null) (null))",
-        "(binary \"\" (null) (null))",
-        "(binary \"In\" (null) (null))",
-        "(binary (null) (null) (null))",
-        "(binary \"+\" (null))",
-        "(binary \"+\" (null) (null) (null))",
-        "(binary \"+\" (null) (expr (null)))",
-        "(binary \"+\" [(null) (null)])",
-        "(call (id \"f\") [])",
-        "(call n (id \"f\") (null))",
-        "(call n (expr (null)) [])",
-        "(call n (id \"f\") [(null) (expr (null)) (null)])",
-        "(call n (id \"f\") [] [])",
-        "(number \"42\")",
-    ];
-    for body in bodies {
-        let error = error_of(rt.alloc(), "(params [] -)", body)?;
-        assert_eq!(rt; error, Some(TreeError::Malformed), "{body}");
-    }
-    Ok(())
-}
-
-#[test]
-fn refuses_what_are_no_parameters(rt: HostRuntime) -> Result<(), Fail> {
-    let all = [
-        "(params [])",
-        "(params - -)",
-        "(params [] (bind \"a\" -))",
-        "(params [\"a\"] -)",
-        "(params [(bind \"a\" -)] -)",
-        "(params [(param (id \"a\") -)] -)",
-        "(params [(param (bind \"a\" -))] -)",
-        "(params [(param (bind \"a\" -) -) (null)] -)",
-        "(params [(param (bind \"a\") -)] -)",
-        "(params [(param (bind - -) -)] -)",
-        "(params [(param (bind \"a\" (str \"number\")) -)] -)",
-    ];
-    for params in all {
-        let error = error_of(rt.alloc(), params, "(null)")?;
-        assert_eq!(rt; error, Some(TreeError::Malformed), "{params}");
-    }
-    Ok(())
-}
-
-#[test]
-fn refuses_what_is_no_unit(rt: HostRuntime) -> Result<(), Fail> {
-    let texts: [&[u8]; 4] = [
-        b"(unit [])",
-        b"(unit [\"a\"] (program [(expr (arrow y n (params [] -) (null)))]))",
-        b"(unit [] (program [(null)]))",
-        b"(unit [] (program [(expr (arrow y n (params [] -) (null)))])) ",
-    ];
-    for text in texts {
-        match read_tree(rt.alloc(), text) {
-            Ok(_) => assert!(rt; false, "read {text:?}"),
-            Err(error) => assert_eq!(rt; error, TreeError::Malformed),
-        }
-    }
+fn reads_and_writes_each_word(rt: HostRuntime) -> Result<(), Fail> {
+    let unit = read_tree(rt.alloc(), WORDS.as_bytes())?;
+    let written = write_tree(rt.alloc(), &unit)?;
+    assert_eq!(rt; written.as_slice(), WORDS.as_bytes());
     Ok(())
 }
 

@@ -13,14 +13,22 @@ use rl_base::row::Row;
 use rl_base::span::Span;
 use rl_base::text::Text;
 use std::alloc::Global;
+use std::process::Abort;
 use std::test::Fail;
 
-/// The line of a diagnostic with one label.
-fn line(alloc: Global, row: Row, word: &str) -> Result<Vec<u8>, OutOfMemory> {
+/// Checks the line of a diagnostic with one label.
+fn check_line(
+    rt: &impl Abort,
+    alloc: Global,
+    row: Row,
+    word: &str,
+    wanted: &str,
+) -> Result<(), OutOfMemory> {
     let diagnostic = Diagnostic::at(alloc, row, word, Span { start: 75, end: 90 })?;
     let mut out = Vec::new(alloc);
     diagnostic.write_line(&mut out)?;
-    Ok(out)
+    assert_eq!(rt; out.as_slice(), wanted.as_bytes());
+    Ok(())
 }
 
 #[test]
@@ -62,9 +70,8 @@ fn writes_the_lines_of_rows(rt: HostRuntime) -> Result<(), Fail> {
             "S7 Invariant 75..90 Expected a loop to be in scope for continue\n",
         ),
     ];
-    for (row, word, want) in rows {
-        let written = line(rt.alloc(), row, word)?;
-        assert_eq!(rt; written.as_slice(), want.as_bytes());
+    for (row, word, wanted) in rows {
+        check_line(&rt, rt.alloc(), row, word, wanted)?;
     }
     Ok(())
 }

@@ -1,6 +1,6 @@
 //! Streams whose calls are interrupted by signals.
 
-use super::{UNIT, words};
+use crate::faults::{UNIT, command};
 use rl_base::memory::{MemSink, MemSource};
 use rl_base::streams::{StdIn, StdOut};
 use rl_unit::run::{Status, run};
@@ -45,7 +45,7 @@ fn tries_an_interrupted_read_again(rt: HostRuntime) -> Result<(), Fail> {
         (15, Status::Malformed),
         (16, Status::ReadFault),
     ] {
-        let words = words(alloc, &["lower"])?;
+        let words = command(alloc)?;
         let mut source = StdIn::new(Interrupted { left });
         let mut sink = MemSink::new(alloc, 1000, Vec::new(alloc));
         let status = run(alloc, words.as_slice(), &mut source, &mut sink);
@@ -62,7 +62,7 @@ fn tries_an_interrupted_write_again(rt: HostRuntime) -> Result<(), Fail> {
         (15, Status::Done),
         (16, Status::WriteFault),
     ] {
-        let words = words(alloc, &["lower"])?;
+        let words = command(alloc)?;
         let mut source = MemSource::new(Vec::from_slice(alloc, UNIT)?, 1000, Vec::new(alloc));
         let mut sink = StdOut::new(Interrupted { left });
         let status = run(alloc, words.as_slice(), &mut source, &mut sink);

@@ -1,11 +1,27 @@
 //! The reader, the writer and the measure of the notation.
 
-use super::push_copies;
 use rl_text::measure::measure;
 use rl_text::read::{TextError, read_raw};
 use rl_text::write::write_raw;
 use std::alloc::{AllocError, Global};
+use std::process::Abort;
 use std::test::Fail;
+
+/// Checks that a text is read as a tree, and written back.
+fn check_written_back(rt: &impl Abort, alloc: Global, text: &[u8]) -> Result<(), Fail> {
+    let raw = read_raw(alloc, text)?;
+    let written = write_raw(alloc, &raw)?;
+    assert_eq!(rt; written.as_slice(), text);
+    Ok(())
+}
+
+/// Checks that a text spells no tree.
+fn check_malformed(rt: &impl Abort, alloc: Global, text: &[u8]) {
+    match read_raw(alloc, text) {
+        Err(error) => assert_eq!(rt; error, TextError::Malformed),
+        Ok(_) => assert!(rt; false, "read {text:?}"),
+    }
+}
 
 #[test]
 fn reads_and_writes_trees(rt: HostRuntime) -> Result<(), Fail> {
@@ -24,15 +40,13 @@ fn reads_and_writes_trees(rt: HostRuntime) -> Result<(), Fail> {
         b"[[[] \"\"] (z n)]",
     ];
     for text in texts {
-        let raw = read_raw(rt.alloc(), text)?;
-        let written = write_raw(rt.alloc(), &raw)?;
-        assert_eq!(rt; written.as_slice(), text);
+        check_written_back(&rt, rt.alloc(), text)?;
     }
     Ok(())
 }
 
 #[test]
-fn refuses_what_spells_no_tree(rt: HostRuntime) -> Result<(), Fail> {
+fn refuses_what_spells_no_tree(rt: HostRuntime) {
     let texts: [&[u8]; 20] = [
         b"(a  b)",
         b"[1  2]",
@@ -56,18 +70,16 @@ fn refuses_what_spells_no_tree(rt: HostRuntime) -> Result<(), Fail> {
         b"1y",
     ];
     for text in texts {
-        match read_raw(rt.alloc(), text) {
-            Err(error) => assert_eq!(rt; error, TextError::Malformed),
-            Ok(_) => assert!(rt; false, "read {text:?}"),
-        }
+        check_malformed(&rt, rt.alloc(), text);
     }
-    Ok(())
 }
 
 /// `count` letters, then `piece`, and then a letter, in quotes.
 fn quoted(alloc: Global, count: usize, piece: &str) -> Result<String, AllocError> {
     let mut text = String::from_str(alloc, "\"")?;
-    push_copies(&mut text, "a", count)?;
+    for _ in 0..count {
+        text.push('a')?;
+    }
     text.push_str(piece)?;
     text.push_str("z\"")?;
     Ok(text)
@@ -86,9 +98,7 @@ fn reads_and_writes_runs_and_escapes(rt: HostRuntime) -> Result<(), Fail> {
     for count in 0..50 {
         for piece in pieces {
             let text = quoted(rt.alloc(), count, piece)?;
-            let raw = read_raw(rt.alloc(), text.as_bytes())?;
-            let written = write_raw(rt.alloc(), &raw)?;
-            assert_eq!(rt; written.as_slice(), text.as_bytes());
+            check_written_back(&rt, rt.alloc(), text.as_bytes())?;
         }
     }
     Ok(())
@@ -99,10 +109,7 @@ fn refuses_escapes_cut_short(rt: HostRuntime) -> Result<(), Fail> {
     for count in 0..50 {
         for piece in ["\\", "\\0", "\\0z", "\\61", "\n"] {
             let text = quoted(rt.alloc(), count, piece)?;
-            match read_raw(rt.alloc(), text.as_bytes()) {
-                Err(error) => assert_eq!(rt; error, TextError::Malformed),
-                Ok(_) => assert!(rt; false, "read {text}"),
-            }
+            check_malformed(&rt, rt.alloc(), text.as_bytes());
         }
     }
     Ok(())
