@@ -1,13 +1,13 @@
 #!/usr/bin/env bash
-# Builds the program name_timer, or takes the one at the path given, and prints a table: of units with a block with a `let` for each
+# Builds the program timer, or takes the one at the path given, and prints a table: of units with a block with a `let` for each
 # symbol, of one name or of distinct names, the nanoseconds in which a builder names all symbols, a symbol and in all, and the first
 # over the second. Times are the shortest of all.
 set -eu
 program=${1:+$(realpath "$1")}
 cd "$(dirname "$0")/.."
 if [ -z "$program" ]; then
-    (cd crates/name_timer && rt run < stdin > /dev/null)
-    program=$PWD/crates/name_timer/out/name_timer
+    (cd crates/timer && rt run < stdin > /dev/null)
+    program=$PWD/crates/timer/out/timer
 fi
 python3 - "$program" <<'TABLE'
 import subprocess, sys
@@ -19,8 +19,8 @@ def unit(names):
     return f'(unit [] (program [(expr (arrow y n (params [] -) (body [] [{blocks}])))]))'
 
 def least_time(names):
-    times = str(SYMBOLS_TIMED // len(names))
-    runs = [subprocess.run([program, times], input=unit(names), capture_output=True, text=True, check=True).stdout for _ in range(RUNS)]
+    calls = str(SYMBOLS_TIMED // len(names))
+    runs = [subprocess.run([program, "names", calls], input=unit(names), capture_output=True, text=True, check=True).stdout for _ in range(RUNS)]
     return min(int(run.split()[1]) for run in runs)
 
 print(f"{'symbols':>8}{'one name':>12}{'a symbol':>10}{'distinct':>12}{'a symbol':>10}{'ratio':>8}")

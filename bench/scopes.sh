@@ -1,13 +1,13 @@
 #!/usr/bin/env bash
-# Builds the program scope_timer, or takes the one at the path given, and prints a table: of each shape of unit and each number of
+# Builds the program timer, or takes the one at the path given, and prints a table: of each shape of unit and each number of
 # nodes, the nanoseconds a node that `read_tree` and `Semantic::of` take, the second over the first, and the second over that of
 # the smallest unit of the shape. Times are the shortest of all calls.
 set -eu
 program=${1:+$(realpath "$1")}
 cd "$(dirname "$0")/.."
 if [ -z "$program" ]; then
-    (cd crates/scope_timer && rt run < ../../examples/add.unit > /dev/null)
-    program=$PWD/crates/scope_timer/out/scope_timer
+    (cd crates/timer && rt run < stdin > /dev/null)
+    program=$PWD/crates/timer/out/timer
 fi
 folder=$(mktemp -d)
 trap 'rm -rf "$folder"' EXIT
@@ -22,7 +22,7 @@ def least_times(path):
     runs = []
     for _ in range(RUNS):
         with open(path) as unit:
-            runs.append(subprocess.run([program, str(calls)], stdin=unit, capture_output=True, text=True, check=True).stdout.split())
+            runs.append(subprocess.run([program, "scopes", str(calls)], stdin=unit, capture_output=True, text=True, check=True).stdout.split())
     nodes, *times = zip(*[map(int, run) for run in runs])
     return nodes[0], *(min(it) / nodes[0] for it in times)
 

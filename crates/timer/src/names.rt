@@ -1,21 +1,16 @@
-//! Times the names that a builder gives to the symbols of a unit. The unit stands on standard input. Without an argument, or with 0,
-//! the program writes the numbers of symbols and of renamed references. With a number, it names all symbols so many times, each
-//! time in a fresh builder of the marked function, and writes the number of symbols and the nanoseconds of the shortest time.
-#![tactic(auto)]
+//! The names that a builder gives to the symbols of a unit, timed.
 
 ghost use Rattle.std.specs.Prelude.{◌+◌, ◌<◌, ◌^◌, IsTrue, length};
 ghost use Rattle.rl_builder.specs.Builder.{state_of};
 
-use anyhow::{Context, Result, bail};
+use anyhow::{Result, bail};
 use rl_ast::function_node::FunctionNode;
-use rl_ast::read::{LARGEST_INPUT, read_tree};
+use rl_ast::read::read_tree;
 use rl_ast::unit::Unit;
 use rl_atoms::entity_table::EntityTable;
 use rl_base::error::OutOfMemory;
 use rl_base::ids::ScopeId;
-use rl_base::io::read_up_to;
 use rl_base::stop::Stop;
-use rl_base::streams::StdIn;
 use rl_builder::builder::HirBuilder;
 use rl_builder::unit_tables::{ReadsUnit, UnitTables};
 use rl_context::index::IdentifierLocIndex;
@@ -26,7 +21,6 @@ use rl_resolver::resolver::ScopeResolver;
 use rl_semantic::semantic::Semantic;
 use std::alloc::Global;
 use std::collections::BTreeSet;
-use std::env;
 use std::time::{Duration, Instant};
 
 /// The most identifiers that a builder is asked for.
@@ -37,23 +31,6 @@ fn enough<T>(answer: Result<T, OutOfMemory>) -> Result<T> {
     match answer {
         Ok(value) => Ok(value),
         Err(_) => bail!("an allocation failed"),
-    }
-}
-
-/// Number of times to name the symbols: the argument of the program. 0 without one.
-fn times_wanted(rt: &HostRuntime) -> Result<u32> {
-    for word in env::args(rt)?.skip(1) {
-        return word.as_str().parse::<u32>().context("the number of times");
-    }
-    Ok(0)
-}
-
-/// The bytes of standard input, up to the length of the longest unit.
-fn read_input(rt: &HostRuntime) -> Result<Vec<u8>> {
-    let mut source = StdIn::new(rt.stdin());
-    match read_up_to(rt.alloc(), &mut source, LARGEST_INPUT) {
-        Ok(bytes) => Ok(bytes),
-        Err(_) => bail!("standard input was not read"),
     }
 }
 
@@ -130,7 +107,7 @@ fn fresh_environment(alloc: Global) -> Result<Environment, OutOfMemory> {
     Environment::new(alloc, ReactFunctionType::Other, EntityTable::new(alloc))
 }
 
-/// The shortest of some times in which all symbols are named. The longest duration for no time.
+/// The shortest of `times` durations in which all symbols are named. The longest duration for none.
 fn shortest(
     rt: &HostRuntime,
     resolver: &ScopeResolver<'_>,
@@ -148,17 +125,18 @@ fn shortest(
     Ok(least)
 }
 
-/// Writes what the program is asked for, of the marked function whose index this is.
-fn report(
+/// Writes the number of symbols and the nanoseconds of the shortest of `calls` times, of the marked function that has the index; for
+/// no time the numbers of symbols and of renamed references.
+fn report_names(
     rt: &HostRuntime,
     resolver: &ScopeResolver<'_>,
     index: &IdentifierLocIndex,
     scope: ScopeId,
-    times: u32,
+    calls: u32,
 ) -> Result<()> {
     let symbols = resolver.semantic.bindings.symbols.as_slice().len();
-    if times > 0 {
-        let naming = shortest(rt, resolver, index, scope, times)?.as_nanos();
+    if calls > 0 {
+        let naming = shortest(rt, resolver, index, scope, calls)?.as_nanos();
         println!(rt; "{symbols} {naming}")?;
         return Ok(());
     }
@@ -169,38 +147,37 @@ fn report(
     Ok(())
 }
 
-/// As `report`, of a function.
+/// As `report_names`, of a function.
 fn report_function(
     rt: &HostRuntime,
     resolver: &ScopeResolver<'_>,
     function: FunctionNode<'_>,
-    times: u32,
+    calls: u32,
 ) -> Result<()> {
     let Some(scope) = function.scope_id() else {
         bail!("the function has no scope");
     };
     let index = enough(IdentifierLocIndex::of(rt.alloc(), &function))?;
-    report(rt, resolver, &index, scope, times)
+    report_names(rt, resolver, &index, scope, calls)
 }
 
-/// As `report`, of the marked function of a unit.
-fn report_unit(rt: &HostRuntime, unit: &Unit, semantic: &Semantic<'_>, times: u32) -> Result<()> {
+/// As `report_names`, of the marked function of a unit.
+fn report_unit(rt: &HostRuntime, unit: &Unit, semantic: &Semantic<'_>, calls: u32) -> Result<()> {
     let resolver = enough(ScopeResolver::new(rt.alloc(), semantic))?;
     let Some(function) = unit.marked_function() else {
         bail!("no function is marked");
     };
-    report_function(rt, &resolver, function, times)
+    report_function(rt, &resolver, function, calls)
 }
 
-/// As `report`, of the marked function of a unit that was read.
-fn report_read(rt: &HostRuntime, unit: &Unit, times: u32) -> Result<()> {
+/// As `report_names`, of the marked function of a unit that was read.
+fn report_read(rt: &HostRuntime, unit: &Unit, calls: u32) -> Result<()> {
     let semantic = Semantic::of(rt.alloc(), unit)?;
-    report_unit(rt, unit, &semantic, times)
+    report_unit(rt, unit, &semantic, calls)
 }
 
-fn main(rt: HostRuntime) -> Result<()> {
-    let times = times_wanted(&rt)?;
-    let bytes = read_input(&rt)?;
-    let unit = read_tree(rt.alloc(), &bytes)?;
-    report_read(&rt, &unit, times)
+/// As `report_names`, of the marked function of the unit that the bytes spell.
+pub fn report(rt: &HostRuntime, bytes: &[u8], calls: u32) -> Result<()> {
+    let unit = read_tree(rt.alloc(), bytes)?;
+    report_read(rt, &unit, calls)
 }
