@@ -7,6 +7,7 @@ use crate::listing::check;
 use rl_base::ids::BlockId;
 use rl_base::steps::Steps;
 use rl_hir::blocks::{Blocks, MapBlocks};
+use rl_hir::dense_blocks::DenseBlocks;
 use rl_hir::function::Hir;
 use rl_hir::instruction::Instruction;
 use rl_hir::terminal::{GotoVariant, ReturnVariant};
@@ -215,4 +216,19 @@ fn a_block_that_is_in_map_blocks_keeps_its_place(rt: HostRuntime) -> Result<(), 
 #[test]
 fn many_map_blocks_in_a_row_take_no_stack(rt: HostRuntime) -> Result<(), Fail> {
     check_chain::<MapBlocks>(&rt, rt.alloc())
+}
+
+#[test]
+fn graphs_in_dense_blocks_are_ordered_and_passed_over(rt: HostRuntime) -> Result<(), Fail> {
+    check_sources::<DenseBlocks>(&rt, rt.alloc())
+}
+
+#[test]
+fn a_block_that_is_in_dense_blocks_keeps_its_place(rt: HostRuntime) -> Result<(), Fail> {
+    check_place::<DenseBlocks>(&rt, rt.alloc())
+}
+
+#[test]
+fn many_dense_blocks_in_a_row_take_no_stack(rt: HostRuntime) -> Result<(), Fail> {
+    check_chain::<DenseBlocks>(&rt, rt.alloc())
 }

@@ -7,7 +7,7 @@ use crate::graph::Graph;
 use crate::shapes::{Shape, make};
 use rl_base::error::OutOfMemory;
 use rl_base::steps::Steps;
-use rl_hir::blocks::{Blocks, MapBlocks};
+use rl_hir::blocks::Blocks;
 use rl_hir::function::Hir;
 use rl_order::checks::{has_orders, is_whole};
 use rl_order::numbering::mark_instruction_ids;
@@ -93,9 +93,9 @@ pub struct Counts {
 }
 
 /// Runs the sequence on a graph, with a ledger for its steps.
-fn times_by<L: Ledger>(
+fn times_by<B: Blocks, L: Ledger>(
     rt: &HostRuntime,
-    graph: &mut Graph<MapBlocks>,
+    graph: &mut Graph<B>,
     blank: Blank,
 ) -> Result<Times, SequenceError>
     requires name { blank.name ≡ L.name }
@@ -140,19 +140,19 @@ fn times_by<L: Ledger>(
 }
 
 /// Runs the sequence on a graph, and tells how long it took.
-fn time_once(rt: &HostRuntime, graph: &mut Graph<MapBlocks>) -> Result<Times, SequenceError> {
-    times_by::<Brand>(rt, graph, Blank::new(1))
+fn time_once<B: Blocks>(rt: &HostRuntime, graph: &mut Graph<B>) -> Result<Times, SequenceError> {
+    times_by::<B, Brand>(rt, graph, Blank::new(1))
 }
 
 /// Runs the sequence on a graph of a shape as often as there are calls, and tells how long it took at least. The longest durations
 /// without a call.
-pub fn least_times(
+pub fn least_times<B: Blocks>(
     rt: &HostRuntime,
     shape: Shape,
     size: u32,
     calls: u32,
 ) -> Result<Times, SequenceError> {
-    let mut graph = make::<MapBlocks>(rt.alloc(), shape, size)?;
+    let mut graph = make::<B>(rt.alloc(), shape, size)?;
     let mut least = Times::longest();
     for _call in 0..calls {
         least = least.least(time_once(rt, &mut graph)?);
