@@ -1,4 +1,4 @@
-//! Tests of the order of blocks, and of the passes behind it, on small graphs and on one with many blocks in a row.
+//! Tests of the order of blocks and of the passes behind it, over each table of blocks: on small graphs, and on many blocks in a row.
 #![tactic(auto)]
 
 #[cfg(test)]
