@@ -1,5 +1,5 @@
 #!/usr/bin/env bash
-# Builds the program order_timer, or takes the one at the path given, and prints a row for each shape of graph, each table of blocks
+# Builds the program timer, or takes the one at the path given, and prints a row for each shape of graph, each table of blocks
 # and each number of blocks: the nanoseconds a block that the ordering, the three removals, the numbering and the predecessors take,
 # those of the whole sequence, these over those of the smallest graph of the shape in the table, and the steps of the ordering a block.
 # Times are the shortest of all calls. The program runs with a stack of 8 MiB.
@@ -7,8 +7,8 @@ set -eu
 program=${1:+$(realpath "$1")}
 cd "$(dirname "$0")/.."
 if [ -z "$program" ]; then
-    (cd crates/order_timer && rt run > /dev/null)
-    program=$PWD/crates/order_timer/out/order_timer
+    (cd crates/timer && rt run < stdin > /dev/null)
+    program=$PWD/crates/timer/out/timer
 fi
 ulimit -s 8192
 python3 - "$program" <<'TABLE'
@@ -21,7 +21,7 @@ def least_times(table, shape, size):
     calls = BLOCKS_TIMED // size
     runs = []
     for _ in range(RUNS):
-        run = subprocess.run([program, table, shape, str(size), str(calls)], capture_output=True, text=True, check=True)
+        run = subprocess.run([program, "order", table, shape, str(size), str(calls)], capture_output=True, text=True, check=True)
         runs.append([int(it) for it in run.stdout.split()])
     blocks, steps, *times = zip(*runs)
     return blocks[0], steps[0] / blocks[0], [min(it) / blocks[0] for it in times]

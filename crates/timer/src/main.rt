@@ -1,15 +1,28 @@
-//! Times parts of the front end on the unit that stands on standard input. The arguments are a part and a number of calls:
+//! Times parts of the front end. The first argument is a part, of which two take the unit that stands on standard input:
 //! - `scopes CALLS` writes the number of nodes, and of the shortest call of `read_tree` and of `Semantic::of` the nanoseconds. With 0
 //!   calls it writes the numbers of nodes, scopes, symbols and references.
 //! - `names CALLS` names all symbols so many times, each time in a fresh builder of the marked function, and writes the number of
 //!   symbols and the nanoseconds of the shortest time. With 0 calls it writes the numbers of symbols and of renamed references.
+//! - `order TABLE SHAPE BLOCKS CALLS` makes a graph of about so many blocks in a table, `map` or `dense`, and as many calls of the ordering
+//!   and the passes. It writes the number of blocks and of steps, and of the shortest calls the nanoseconds of the ordering, of the three
+//!   removals, of the numbering, of the predecessors and of the whole sequence.
 //!
-//! Without arguments it writes for each part the numbers that it writes for 0 calls, behind the part's name.
+//! Without arguments it writes of the unit for `scopes` and `names` the part and the numbers that it writes for 0 calls; and for a small
+//! graph of each shape its shape, its blocks, those that the ordering keeps, and the steps that it takes.
 #![tactic(auto)]
 
+mod counted;
+mod graph;
 mod names;
+mod order;
 mod scopes;
+mod sequence;
+mod shapes;
+mod tables;
 
+use crate::order::MadeGraph;
+use crate::shapes::Shape;
+use crate::tables::Table;
 use anyhow::{Context, Result, bail};
 use rl_ast::read::LARGEST_INPUT;
 use rl_base::io::read_up_to;
@@ -21,6 +34,15 @@ use std::env;
 enum Wanted {
     Scopes(u32),
     Names(u32),
+    Order(MadeGraph),
+}
+
+/// The number that an argument spells.
+fn read_number(word: Option<String>) -> Result<u32> {
+    let word = word.context("a number is missing")?;
+    word.as_str()
+        .parse::<u32>()
+        .context("an argument is no number")
 }
 
 /// The arguments of the program. `None` if there are none.
@@ -29,11 +51,21 @@ fn read_arguments(rt: &HostRuntime) -> Result<Option<Wanted>> {
     let Some(part) = words.next() else {
         return Ok(None);
     };
-    let calls = words.next().context("the number of calls")?;
-    let calls = calls
-        .as_str()
-        .parse::<u32>()
-        .context("the number of calls")?;
+    if part.as_str() == "order" {
+        let name = words.next().context("the table")?;
+        let table = Table::from_name(name.as_str()).context("the table")?;
+        let name = words.next().context("the shape")?;
+        let shape = Shape::from_name(name.as_str()).context("the shape")?;
+        let size = read_number(words.next())?;
+        let calls = read_number(words.next())?;
+        return Ok(Some(Wanted::Order(MadeGraph {
+            table,
+            shape,
+            size,
+            calls,
+        })));
+    }
+    let calls = read_number(words.next())?;
     if part.as_str() == "scopes" {
         return Ok(Some(Wanted::Scopes(calls)));
     }
@@ -52,20 +84,33 @@ fn read_input(rt: &HostRuntime) -> Result<Vec<u8>> {
     }
 }
 
+/// Times the tables of names of the unit on standard input.
+fn time_scopes(rt: &HostRuntime, calls: u32) -> Result<()> {
+    let bytes = read_input(rt)?;
+    scopes::report(rt, &bytes, calls)
+}
+
+/// Times the names that a builder gives to the symbols of the unit on standard input.
+fn time_names(rt: &HostRuntime, calls: u32) -> Result<()> {
+    let bytes = read_input(rt)?;
+    names::report(rt, &bytes, calls)
+}
+
 /// Writes the counts of each part.
-fn print_counts(rt: &HostRuntime, bytes: &[u8]) -> Result<()> {
+fn print_counts(rt: &HostRuntime) -> Result<()> {
+    let bytes = read_input(rt)?;
     print!(rt; "scopes ")?;
-    scopes::report(rt, bytes, 0)?;
+    scopes::report(rt, &bytes, 0)?;
     print!(rt; "names ")?;
-    names::report(rt, bytes, 0)
+    names::report(rt, &bytes, 0)?;
+    order::print_steps(rt)
 }
 
 fn main(rt: HostRuntime) -> Result<()> {
-    let wanted = read_arguments(&rt)?;
-    let bytes = read_input(&rt)?;
-    match wanted {
-        Some(Wanted::Scopes(calls)) => scopes::report(&rt, &bytes, calls),
-        Some(Wanted::Names(calls)) => names::report(&rt, &bytes, calls),
-        None => print_counts(&rt, &bytes),
+    match read_arguments(&rt)? {
+        Some(Wanted::Scopes(calls)) => time_scopes(&rt, calls),
+        Some(Wanted::Names(calls)) => time_names(&rt, calls),
+        Some(Wanted::Order(graph)) => order::print_times(&rt, &graph),
+        None => print_counts(&rt),
     }
 }
