@@ -1,3 +1,4 @@
+#!/usr/bin/env python3
 """Checks functions of a crate without a check of the crates below it, which the compiler reads as source.
 
 Usage, at the top: python3 tools/check_only.py CRATE [FUNCTION..]
