@@ -31,7 +31,7 @@ abbrev lowered : (c : After-drop-parameters-inside-2) → HirFunction (List Bloc
 lowered c = record {
   span = Some c.parts_of-parts.result.at.span;
   name = c.in_ok-own_name.field-0;
-  fn_type = c.create_temporary_place.new.env.fn_type;
+  fn_type = c.fn_type.result;
   generator = c.parts_of-parts.result.generator;
   is_async = c.parts_of-parts.result.is_async;
   directives = c.in_ok-directives_of.field-0;
@@ -99,7 +99,8 @@ returns-clause-functions c =
 
 pub returns-clause-fn_type : goal.returns-clause-fn_type
 returns-clause-fn_type c =
-    ap (λ (e : Environment). e.fn_type) c.in_ok-returns.ensures.ok
+    c.fn_type.ensures
+    ∙ ap (λ (e : Environment). e.fn_type) c.in_ok-returns.ensures.ok
     ∙ lower_fn_type _ _ _ _ _ _ _ _ (are_apart _ _ (c.as_slice-2.ensures ∙ c.in_ok-parameters.ensures) c.requires.locals.apart) c.in_ok-graph.ensures.graph
 
 pub returns-clause-pairs : goal.returns-clause-pairs
