@@ -18,7 +18,7 @@ use Rattle.rl_machine.specs.Machine.{Graph}
 use Rattle.rl_names.specs.Names.{Names}
 use Rattle.rl_names.specs.declared.parameters.Parameter.{Parameter}
 use Rattle.rl_names.specs.Functions.{params_in, parameters_of}
-use Rattle.rl_names.specs.Locals.{AreApart, DeclaresAll}
+use Rattle.rl_names.specs.Locals.{AreApart, AreLocals, DeclaresAll}
 use Rattle.rl_machine.specs.declared.trace.Answer.{Answer}
 use Rattle.rl_machine.specs.declared.trace.Assignment.{Assignment}
 use Rattle.rl_machine.specs.declared.trace.Trace.{Trace}
@@ -294,7 +294,7 @@ lower_functions names tables parameters body env new params built distinct g =
 
 -- The pairs behind the graph and one identifier more, that of the returned place.
 pub lower_pairs : (names : Names) (tables : FunctionTables) (parameters : List Parameter) (body : Syntax) (env new last : Environment) (params : List Param)
-    (built : Graph) (span : Option Span) → AreApart parameters → All (λ p. names.name p.symbol.0 ≡ p.name) parameters → env.pairs ≡ []
+    (built : Graph) (span : Option Span) → AreApart parameters → AreLocals names parameters → env.pairs ≡ []
     → IsGraphOf names tables parameters body env new params built → last ≡ one_identifier_more new span → ArePairs names last.identifiers last.pairs
 lower_pairs names tables parameters body env new last params built span distinct own none g more =
     subst (λ (e : Environment). ArePairs names e.identifiers e.pairs) (sym (more ∙ ap (λ (e : Environment). one_identifier_more e span) g.after))

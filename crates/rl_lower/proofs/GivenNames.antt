@@ -18,7 +18,7 @@ use Rattle.rl_used_names.specs.IdentifierNames.{name_of}
 use Rattle.rl_used_names.specs.UsedName.{user_of}
 use Rattle.rl_builder.proofs.NameLaws.{name_of-injective}
 use Rattle.rl_model.specs.Fields.{AreGiven, ArePairs, IsNamedPair, name_at}
-use Rattle.rl_names.specs.Locals.{AreApart, IsApart}
+use Rattle.rl_names.specs.Locals.{AreApart, AreLocals, IsApart}
 use Rattle.rl_names.specs.Names.{Names}
 use Rattle.rl_names.specs.declared.parameters.Parameter.{Parameter}
 use Rattle.rl_lower.specs.Lowering.{HasNamedPairs, KeepsNamed}
@@ -83,25 +83,29 @@ parameters_sound s parameters none apart = record {
 -- Each parameter's identifier has its name, the first candidate.
 named_from : (names : Names) (identifiers : List Identifier) (identifier : ℕ) (parameters : List Parameter)
     → ((place : ℕ) (p : Parameter) → slice_get parameters place ≡ Some p → name_at identifiers (identifier + place) ≡ Some (Named p.name))
-    → All (λ p. names.name p.symbol.0 ≡ p.name) parameters → All (IsNamedPair names identifiers) (pairs_from identifier parameters)
-named_from names identifiers identifier [] given own = All-nil (IsNamedPair names identifiers)
-named_from names identifiers identifier (p ∷ parameters) given own =
+    → All (λ p. names.name p.symbol.0 ≡ p.name) parameters → All (λ p. names.declaration p.symbol.0 ≡ Some p.declaration) parameters
+    → All (IsNamedPair names identifiers) (pairs_from identifier parameters)
+named_from names identifiers identifier [] given own spanned = All-nil (IsNamedPair names identifiers)
+named_from names identifiers identifier (p ∷ parameters) given own spanned =
     All-cons (IsNamedPair names identifiers) (pair p.symbol.0 identifier) (pairs_from (identifier + 1) parameters)
     (record {
+      at = p.declaration;
+      declared = All-head (λ (x : Parameter). names.declaration x.symbol.0 ≡ Some x.declaration) p parameters spanned;
       index = 0;
       named = ap (λ (n : ℕ). name_at identifiers n) (omega arith) ∙ given 0 p refl
           ∙ ap (λ (n : List ℕ). Some (Named n)) (sym (All-head (λ (x : Parameter). names.name x.symbol.0 ≡ x.name) p parameters own));
     })
     (named_from names identifiers (identifier + 1) parameters
     (λ place q there. ap (λ (n : ℕ). name_at identifiers n) (omega arith) ∙ given (suc place) q there)
-    (All-tail (λ (x : Parameter). names.name x.symbol.0 ≡ x.name) p parameters own))
+    (All-tail (λ (x : Parameter). names.name x.symbol.0 ≡ x.name) p parameters own)
+    (All-tail (λ (x : Parameter). names.declaration x.symbol.0 ≡ Some x.declaration) p parameters spanned))
 
-pub parameters_pairs : (s : State) (names : Names) (parameters : List Parameter) → s.env.pairs ≡ [] → All (λ p. names.name p.symbol.0 ≡ p.name) parameters
+pub parameters_pairs : (s : State) (names : Names) (parameters : List Parameter) → s.env.pairs ≡ [] → AreLocals names parameters
     → HasNamedPairs names (state_with s parameters)
 parameters_pairs s names parameters none own =
     subst (λ (l : List Pair). All (IsNamedPair names (s.env.identifiers ++ known_from s s.env.next_type parameters)) (l ++ pairs_from (length s.env.identifiers) parameters)) (sym none)
     (named_from names (s.env.identifiers ++ known_from s s.env.next_type parameters) (length s.env.identifiers) parameters
-    (λ place p there. name_given s parameters place p there) own)
+    (λ place p there. name_given s parameters place p there) own.named own.spanned)
 
 -- Pairs and named identifiers stay, so each parameter has its own in the end.
 pub parameters_kept : (s : State) (parameters : List Parameter) (made : ℕ) (identifiers : List Identifier) (pairs : List Pair) → s.env.pairs ≡ [] → AreApart parameters

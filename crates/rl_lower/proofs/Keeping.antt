@@ -66,7 +66,7 @@ pub named_pairs : (names : Names) (identifiers more : List Identifier) (pairs : 
     → All (IsNamedPair names (identifiers ++ more)) pairs
 named_pairs names identifiers more pairs all place default within =
     let here = all place default within in
-    record { index = here.index; named = name_of-append identifiers more _ _ here.named }
+    record { at = here.at; declared = here.declared; index = here.index; named = name_of-append identifiers more _ _ here.named }
 
 pub keeps_refl : {names : Names} (s : State) → Preserves names s s 0
 keeps_refl s =
@@ -164,18 +164,18 @@ keeps_completed {names} s t next none = record {
 
 -- A symbol is resolved under its own name: it gets an identifier, named by a candidate, unless it has one.
 
-named_last : (names : Names) (s : State) (symbol : ℕ) (given : Option Span) → HasNamedPairs names s
+named_last : (names : Names) (s : State) (symbol : ℕ) (given : Option Span) (at : Span) → names.declaration symbol ≡ Some at → HasNamedPairs names s
     → HasNamedPairs names (resolved_by None s (names.name symbol) symbol given)
 unfolding chosen
-named_last names s symbol given all =
+named_last names s symbol given at declared all =
     All-push (IsNamedPair names (s.env.identifiers ++ made ∷ [])) s.env.pairs (pair symbol (length s.env.identifiers))
     (named_pairs names s.env.identifiers (made ∷ []) s.env.pairs all)
-    (record { index = free_place s.used_names symbol (names.name symbol); named = name_of-last s.env.identifiers made })
+    (record { at = at; declared = declared; index = free_place s.used_names symbol (names.name symbol); named = name_of-last s.env.identifiers made })
   where
     made : Identifier
     made = fresh_identifier (chosen s.used_names symbol (names.name symbol)) (new_span s symbol given) s.env.next_type
 
-module _ (names : Names) (s : State) (symbol : ℕ) (given : Option Span) where
+module _ (names : Names) (s : State) (symbol : ℕ) (given : Option Span) (at : Span) (declared : names.declaration symbol ≡ Some at) where
   named_by : (known : Option ℕ) → IsNamed names s → IsNamed names (resolved_by known s (names.name symbol) symbol given)
   named_by (Some known) n = record {
     texts = n.texts;
@@ -205,7 +205,7 @@ module _ (names : Names) (s : State) (symbol : ℕ) (given : Option Span) where
 
   pairs_by : (known : Option ℕ) → HasNamedPairs names s → HasNamedPairs names (resolved_by known s (names.name symbol) symbol given)
   pairs_by (Some known) all = all
-  pairs_by None all = named_last names s symbol given all
+  pairs_by None all = named_last names s symbol given at declared all
 
   pub keeps_resolved : Preserves names s (resolved s (names.name symbol) symbol given) 1
   keeps_resolved =

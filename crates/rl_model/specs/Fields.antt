@@ -1,7 +1,9 @@
 -- The fields of a result that runs do not read: those of the function, its pairs, and the identifiers of its parameters.
-use Rattle.std.specs.Prelude.{◌≡◌, ℕ, ◌+◌, Option, Some, None, List, [], ◌∷◌, All, length, map, slice_get}
+use Rattle.std.specs.Prelude.{◌≡◌, ℕ, ◌+◌, ◌<◌, Option, Some, None, List, [], ◌∷◌, All, length, map, slice_get}
 use Rattle.std.specs.Option.{option_map_or}
 use Rattle.rl_base.specs.Distinct.{AreDistinct}
+use Rattle.rl_base.specs.declared.span.Span.{Span}
+use Rattle.rl_bindings.specs.Tables.{symbols_in}
 use Rattle.rl_syntax.specs.Syntax.{Syntax, Node, Listed, Said, Pieces, Then, span_of}
 use Rattle.rl_syntax.specs.declared.word.Word.TheVariants as word
 use Rattle.rl_hir.specs.Blocks.{Pair as BlockPair}
@@ -40,18 +42,25 @@ places_from identifier (p ∷ parameters) = params.Place (record { identifier = 
 abbrev pub name_at : List Identifier → (identifier : ℕ) → Option IdentifierName
 name_at identifiers identifier = option_map_or (λ i. i.name) (slice_get identifiers identifier) None
 
--- The identifier of the pair has a name of the source: a candidate of the name of the pair's symbol.
+-- The symbol of the pair has a declaration identifier in the unit, and the identifier of the pair has a name of the source: a
+-- candidate of the symbol's name.
 pub record IsNamedPair (names : Names) (identifiers : List Identifier) (p : Pair) : Type 0 where
+  pub at : Span
+  pub declared : names.declaration p.symbol.0 ≡ Some at
   pub index : ℕ
   pub named : name_at identifiers p.identifier.0 ≡ Some (Named (candidate (names.name p.symbol.0) index))
 
--- The identifiers of the pairs are named for their symbols. Two pairs share neither symbol nor identifier, and their identifiers
--- share no name.
+-- The symbols of the pairs are declared in the unit, and their identifiers are named for them. Two pairs share neither symbol nor
+-- identifier, and their identifiers share no name.
 pub record ArePairs (names : Names) (identifiers : List Identifier) (pairs : List Pair) : Type 0 where
   pub named : All (IsNamedPair names identifiers) pairs
   pub symbols : AreDistinct (map (λ (p : Pair). p.symbol.0) pairs)
   pub given : AreDistinct (map (λ (p : Pair). p.identifier.0) pairs)
   pub apart : AreDistinct (map (λ (p : Pair). name_at identifiers p.identifier.0) pairs)
+
+-- The symbols of the pairs are those of the unit: their ids are indices into its list of symbols.
+abbrev pub HaveSymbolsOf : (unit : Syntax) → List Pair → Type 0
+HaveSymbolsOf unit pairs = All (λ (p : Pair). p.symbol.0 < length (symbols_in unit)) pairs
 
 -- The parameter is paired with the identifier, which has its name and the span of its declaration.
 pub record IsGiven (identifiers : List Identifier) (pairs : List Pair) (identifier type_id : ℕ) (p : Parameter) : Type 0 where

@@ -10,7 +10,7 @@ use Rattle.rl_hir.specs.declared.function.Lowered.{Lowered}
 use Rattle.rl_hir.specs.declared.function.Pair.{Pair}
 use Rattle.rl_text.specs.Notation.{IsWritable}
 use Rattle.rl_machine.specs.Closed.{IsClosed}
-use Rattle.rl_model.specs.Fields.{HasFieldsOf, HasIdentifiersOf}
+use Rattle.rl_model.specs.Fields.{HasFieldsOf, HasIdentifiersOf, HaveSymbolsOf}
 use Rattle.rl_model.specs.Held.{HoldsCalls, calls_in}
 use Rattle.rl_model.specs.Runs.{function_trace, trace_by}
 use Rattle.rl_model.specs.Rows.{IsSupported}
@@ -50,6 +50,7 @@ pub record IsLowered (u : Syntax) (l : Lowered) : Type 0 where
   pub main : IsGraph (names_of u) (marked u) l l.function
   pub inner : l.inner ≡ []
   pub identifiers : HasIdentifiersOf (names_of u) (marked u) l
+  pub symbols : HaveSymbolsOf u l.pairs
   pub apart : AreDistinct (calls_in (marked u))
   pub bounded : lowered_size l ≤ 64 * nodes u
   pub writable : IsWritable (lowered l)

@@ -1,20 +1,30 @@
 -- The result of the marked function is that of its unit.
-use Rattle.std.proofs.Common.{◌≡◌, None, Some, ap, sym, subst, ◌∙◌}
+use Rattle.std.proofs.Common.{◌≡◌, ℕ, ◌<◌, Option, None, Some, List, All, length, slice_get, refl, ap, sym, subst, ◌∙◌}
+use Rattle.std.proofs.lemmas.Option.{none-some, slice_get_within}
+use Rattle.std.specs.Option.{option_map}
 use Rattle.rl_ast.proofs.MarkedFunctions.{marked_fits}
 use Rattle.rl_ast.specs.FunctionNodes.{seen_function_node}
 use Rattle.rl_ast.specs.Marked.{first, marked_functions}
 use Rattle.rl_ast.specs.declared.function_node.FunctionNode.{FunctionNode}
 use Rattle.rl_base.specs.Distinct.{AreDistinct}
+use Rattle.rl_base.specs.declared.span.Span.{Span}
+use Rattle.rl_bindings.specs.Tables.{symbols_in}
+use Rattle.rl_bindings.specs.declared.event.Bound.{Bound}
+use Rattle.rl_hir.specs.declared.function.Identifier.{Identifier}
 use Rattle.rl_hir.specs.declared.function.Lowered.{Lowered}
+use Rattle.rl_hir.specs.declared.function.Pair.{Pair}
 use Rattle.rl_model.proofs.Apart.{calls_apart}
 use Rattle.rl_model.proofs.PlainFunctions.{covered_plain}
 use Rattle.rl_model.specs.Covered.{IsCoveredFunction, uncovered_in}
+use Rattle.rl_model.specs.Fields.{HaveSymbolsOf, IsNamedPair}
 use Rattle.rl_model.specs.Held.{calls_in}
 use Rattle.rl_model.specs.Source.{marked}
 use Rattle.rl_names.proofs.LocalParameters.{locals_are_parameters}
 use Rattle.rl_names.proofs.UnitTexts.{unit_texts}
 use Rattle.rl_names.specs.Locals.{HasTexts, LocalsAreParameters}
 use Rattle.rl_names.specs.Names.{Names, function_names}
+use Rattle.rl_resolver.specs.Lookups.{declaration_ident, identified}
+use Rattle.rl_semantic.specs.Items.{of_item}
 use Rattle.rl_semantic.specs.Rules.{least_broken}
 use Rattle.rl_syntax.specs.Syntax.{Syntax}
 use Rattle.rl_unit.proofs.Answering.{within_bytes}
@@ -42,6 +52,20 @@ may_lower u f names r rules found none same =
       small = unit_small r.bytes u tree r.spells (within_bytes r.bytes r.within) found;
     }
 
+-- A symbol with a declaration identifier is one of the list.
+declared_within : (symbols : List Bound) (symbol : ℕ) (at : Span) → option_map (λ b. b.span) (declaration_ident symbols symbol) ≡ Some at → symbol < length symbols
+declared_within symbols symbol at is = by_symbol (slice_get symbols symbol) refl
+  where
+    by_symbol : (o : Option Bound) → slice_get symbols symbol ≡ o → symbol < length symbols
+    by_symbol None none = absurd (none-some at (sym (ap (λ (o : Option Bound). option_map (λ b. b.span) (of_item None identified o)) none) ∙ is))
+    by_symbol (Some b) there = slice_get_within symbols symbol b there
+
+-- The symbols of pairs that are named in a unit are the unit's.
+pairs_of_unit : (u f : Syntax) (identifiers : List Identifier) (pairs : List Pair) → All (IsNamedPair (function_names u f) identifiers) pairs → HaveSymbolsOf u pairs
+pairs_of_unit u f identifiers pairs named place default within =
+    let here = named place default within in
+    declared_within (symbols_in u) _ here.at here.declared
+
 -- Its result is the unit's.
 pub unit_result : (u f : Syntax) (names : Names) (l : Lowered) → IsRead u → least_broken u ≡ None → first (marked_functions u) ≡ Some f
     → first (uncovered_in f) ≡ None → names ≡ function_names u f → IsResultOf names f l → IsUnitResult u l
@@ -56,13 +80,14 @@ unit_result u f names l r rules found none same result =
         main = whole.main;
         inner = whole.inner;
         identifiers = whole.identifiers;
+        symbols = pairs_of_unit u (marked u) l.identifiers l.pairs whole.identifiers.pairs.named;
         apart = subst (λ (t : Syntax). AreDistinct (calls_in t)) is (calls_apart r.bytes u f r.spells found);
         bounded = alone_bounded u f l.function found result.bounded l.inner result.inner;
         writable = whole.writable;
       };
     }
 
--- And so is the cause of its error.
+-- The cause of its error is the unit's too.
 pub unit_error : (u f : Syntax) (names : Names) (e : LowerError) → least_broken u ≡ None → first (marked_functions u) ≡ Some f
     → first (uncovered_in f) ≡ None → names ≡ function_names u f → IsFunctionError names f e → IsFunctionErrorOf u e
 unit_error u f names e rules found none same cause =

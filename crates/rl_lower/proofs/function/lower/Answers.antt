@@ -1,4 +1,4 @@
-use Rattle.std.proofs.Common.{◌≡◌, All, Some, List, ap, sym, ◌∙◌, refl, subst, length}
+use Rattle.std.proofs.Common.{◌≡◌, Some, List, ap, sym, ◌∙◌, refl, subst, length}
 use Rattle.rl_ast.specs.FunctionNodes.{seen_function_node}
 use Rattle.rl_ast.specs.declared.function_node.FunctionNode.{FunctionNode}
 use Rattle.rl_ast.specs.declared.function_node.FunctionNode.TheVariants as function_node
@@ -17,7 +17,7 @@ use Rattle.rl_lower.proofs.SoundGraphs.{function_identifiers, function_listed, f
 use Rattle.rl_model.specs.Covered.{IsCoveredFunction}
 use Rattle.rl_model.specs.Fields.{AreGiven}
 use Rattle.rl_names.specs.Functions.{body_in}
-use Rattle.rl_names.specs.Locals.{AreApart}
+use Rattle.rl_names.specs.Locals.{AreApart, AreLocals}
 use Rattle.rl_names.specs.Names.{at_of}
 use Rattle.rl_names.specs.Seen.{seen}
 use Rattle.rl_names.specs.declared.parameters.Parameter.{Parameter}
@@ -106,7 +106,7 @@ returns-clause-fn_type c =
 pub returns-clause-pairs : goal.returns-clause-pairs
 returns-clause-pairs c =
     lower_pairs (seen c.args.names.now) _ _ _ _ _ c.create_temporary_place.new.env _ _ _ (are_apart _ _ (c.as_slice-2.ensures ∙ c.in_ok-parameters.ensures) c.requires.locals.apart)
-    (subst (λ (l : List Parameter). All (λ p. (seen c.args.names.now).name p.symbol.0 ≡ p.name) l) (sym (c.as_slice-2.ensures ∙ c.in_ok-parameters.ensures)) c.requires.locals.locals.named)
+    (subst (λ (l : List Parameter). AreLocals (seen c.args.names.now) l) (sym (c.as_slice-2.ensures ∙ c.in_ok-parameters.ensures)) c.requires.locals.locals)
     c.requires.fresh c.in_ok-graph.ensures.graph c.in_ok-returns.ensures.ok
 
 pub returns-clause-given : goal.returns-clause-given
