@@ -1,6 +1,6 @@
 //! Units, from their bytes to their results.
 
-ghost use Rattle.std.specs.Prelude.{◌≡◌, ◌↔◌, [], false, Some, None, List, IfErr, IfOk, IsErrOf};
+ghost use Rattle.std.specs.Prelude.{◌≡◌, ◌↔◌, [], false, Some, None, List, IfErr, IfOk, IsErrOf, IsTrue};
 ghost use Rattle.rl_ast.specs.FunctionNodes.{seen_function_node};
 ghost use Rattle.rl_ast.specs.Marked.{first, marked_functions};
 ghost use Rattle.rl_base.specs.declared.diagnostic.Diagnostic.{Diagnostic};
@@ -115,6 +115,13 @@ fn fresh_environment(alloc: Global) -> Environment
     }
 }
 
+/// True if no diagnostic was recorded.
+fn is_accepted(env: &Environment) -> bool
+    ensures { IsTrue result ↔ (env.now.diagnostics ≡ []) }
+{
+    env.diagnostics().is_empty()
+}
+
 /// Lowers a function under the names of its unit.
 fn lower_function(
     alloc: Global,
@@ -131,7 +138,7 @@ fn lower_function(
         Err(Stop::Diagnostic(diagnostic)) => return Err(LowerError::Stopped(diagnostic)),
         Err(Stop::OutOfMemory) => return Err(LowerError::OutOfMemory),
     };
-    if !env.diagnostics().is_empty() {
+    if !is_accepted(&env) {
         return Err(LowerError::Refused(env.into_diagnostics()));
     }
     Ok(env.into_lowered(lowered))
