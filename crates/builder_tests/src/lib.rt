@@ -2,6 +2,7 @@
 #![tactic(auto)]
 
 pub mod branch;
+pub mod inner;
 #[cfg(test)]
 mod calls;
 #[cfg(test)]
