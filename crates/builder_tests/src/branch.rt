@@ -22,7 +22,7 @@ use std::alloc::Global;
 use std::collections::BTreeSet;
 
 /// A terminal that goes on in the block behind a construct.
-fn goto(block: BlockId) -> Terminal
+pub fn goto(block: BlockId) -> Terminal
     ensures { result ≡ spec.goto block.0 }
 {
     Terminal {
@@ -91,8 +91,8 @@ pub fn build_empty_if<U: ReadsUnit, B>(
     builder.terminate_with_continuation(branch(test, consequent, after), behind)
 }
 
-/// The graph of a function that tests undefined in an `if` with an empty branch, and returns it. It has three blocks. On `OutOfMemory`
-/// an allocation failed.
+/// The graph of a function that tests undefined in an `if` with an empty branch, and returns it. It has three blocks. On
+/// `OutOfMemory` an allocation failed.
 pub fn graph_of_if<U: ReadsUnit, B: Blocks>(
     alloc: Global,
     unit: U,

@@ -1,33 +1,34 @@
-//! Calls of the builder of a small unit's marked function, and what they answer as one text each.
+//! Calls of the builder of a small unit's marked function, and their answers as one text each.
 
-ghost use Rattle.std.specs.Prelude.{◌+◌, ◌<◌, ◌^◌, IsTrue, length};
+ghost use Rattle.std.specs.Prelude.{◌<◌, ◌^◌, length};
 ghost use Rattle.rl_builder.specs.Builder.{state_of};
 
+use crate::environments::{environment, readers, records, table};
+use crate::moves::{blocks, branches, closures, graph, openings, undefined};
+use crate::resolving::{captures, contexts, inner, push_name, spans, uses};
+use crate::texts::{Builder, push_number, push_target, ready};
 use rl_ast::function_node::FunctionNode;
 use rl_ast::read::read_tree;
 use rl_ast::unit::Unit;
 use rl_atoms::entity_table::EntityTable;
 use rl_base::error::OutOfMemory;
-use rl_base::ids::{BlockId, EvaluationOrder, IdentifierId, ScopeId, SymbolId};
+use rl_base::ids::{BlockId, IdentifierId, ScopeId, SymbolId};
 use rl_base::stop::Stop;
 use rl_base::text::Text;
-use rl_builder::builder::{Bindings, HirBuilder, UsedNames};
-use rl_builder::jumps::{JumpError, JumpScope};
+use rl_builder::builder::{Bindings, UsedNames};
+use rl_builder::jumps::JumpScope;
 use rl_builder::unit_tables::{ReadsUnit, UnitTables};
 use rl_context::index::IdentifierLocIndex;
-use rl_hir::blocks::GraphBlocks;
+use rl_hir::blocks::MapBlocks;
+use rl_hir::dense_blocks::DenseBlocks;
 use rl_hir::environment::Environment;
-use rl_hir::function::{IdentifierName, ReactFunctionType};
-use rl_hir::instruction::{Instruction, InstructionValue, Place, PrimitiveValue};
+use rl_hir::function::ReactFunctionType;
 use rl_resolver::resolver::ScopeResolver;
 use rl_semantic::semantic::Semantic;
 use std::alloc::Global;
 use std::collections::BTreeSet;
 use std::process::Abort;
 use std::test::Fail;
-
-/// A builder of tests.
-type Builder<'e, U> = HirBuilder<'e, U, GraphBlocks>;
 
 /// Calls of a builder.
 #[derive(Clone, Copy)]
@@ -36,8 +37,8 @@ pub enum Calls {
     JumpsInSwitch,
     /// Jumps in a statement labelled `L` (break 5) that is no loop.
     JumpsInLabel,
-    /// Jumps behind two scopes, a loop's (continue 0, break 1) and a labelled statement's (`L`, break 5), where a closure stopped in
-    /// the inner one.
+    /// Jumps behind two scopes, a loop's (continue 0, break 1) and a labelled statement's (`L`, break 5), where a closure
+    /// stopped in the inner one.
     JumpsBehindStop,
     /// Jumps behind the same scopes, where the closure succeeded.
     JumpsBehindScopes,
@@ -45,27 +46,45 @@ pub enum Calls {
     Names,
     /// The symbol of the function declaration `f` from each scope, before and after the symbols got their identifiers.
     Functions,
-    /// The names that the first two symbols get, where the names of another builder are merged between them; then the identifiers of
-    /// both, where other ones of both are merged behind the first.
+    /// The names that the first two symbols get, where the names of another builder are merged between them; then the
+    /// identifiers of both, where other ones of both are merged behind the first.
     Merges,
     /// The fresh block ids before and behind an instruction under the handler 7, and that handler.
     Handler,
-}
-
-/// Appends the block that a jump goes to, or the cause for which there is none.
-fn push_target(
-    alloc: Global,
-    text: &mut String,
-    target: Result<BlockId, JumpError>,
-) -> Result<(), OutOfMemory> {
-    match target {
-        Ok(block) => {
-            let number = block.0;
-            text.push_str(format!(in alloc; "{number} ")?.as_str())?;
-        }
-        Err(error) => text.push_str(format!(in alloc; "{error:?} ")?.as_str())?,
-    }
-    Ok(())
+    /// Blocks that single moves build (`blocks`).
+    Blocks,
+    /// Blocks that closures build, and handlers behind them (`closures`).
+    Closures,
+    /// The scope of a `switch`, and what is behind it (`openings`).
+    Openings,
+    /// Two `if` statements (`branches`).
+    Branches,
+    /// The blocks of the graph of an `if`, in a `MapBlocks` (`graph`).
+    Graph,
+    /// As `Graph`, in a `DenseBlocks`.
+    DenseGraph,
+    /// Uses of names (`uses`).
+    Uses,
+    /// Context identifiers and local names (`contexts`).
+    Contexts,
+    /// Spans of a declaration and of its identifier (`spans`).
+    Spans,
+    /// Names of an inner function's builder, merged into this one (`captures`).
+    Captures,
+    /// An inner function's graph (`inner`).
+    Inner,
+    /// The tables that the builder begins with (`readers`).
+    Readers,
+    /// As `Readers`, of a builder that is made of references (`HirBuilder::new`).
+    New,
+    /// Ids that the builder hands out, and diagnostics (`records`).
+    Records,
+    /// Calls of an environment without a builder (`environment`).
+    Environment,
+    /// Calls of a `MapBlocks` without a builder (`table`).
+    Table,
+    /// As `Table`, of a `DenseBlocks`.
+    DenseTable,
 }
 
 /// The targets of `break` without a label and with `label`, and then those of `continue`.
@@ -136,59 +155,6 @@ fn jumps_behind<U: ReadsUnit>(
     }
 }
 
-/// True while a builder may hand out many more ids.
-fn has_room<U: ReadsUnit>(builder: &Builder<'_, U>) -> bool
-    ensures identifiers { IsTrue result → length (state_of U.tables builder.now).env.identifiers < 2 ^ 32 }
-    ensures types { IsTrue result → (state_of U.tables builder.now).env.next_type + 1 < 2 ^ 32 }
-    ensures blocks { IsTrue result → (state_of U.tables builder.now).env.next_block + 1 < 2 ^ 32 }
-{
-    let env = builder.environment();
-    env.identifiers().len() < 1000 && env.next_type() < 1000 && env.next_block() < 1000
-}
-
-/// Gives a symbol its identifier, and appends its name, or the row that refuses it.
-fn push_name<U: ReadsUnit>(
-    alloc: Global,
-    text: &mut String,
-    builder: &mut Builder<'_, U>,
-    name: &str,
-    symbol: SymbolId,
-) -> Result<(), OutOfMemory> {
-    if !has_room(builder) {
-        return Err(OutOfMemory);
-    }
-    match builder.resolve_binding(name, symbol) {
-        Ok(identifier) => push_identifier(alloc, text, builder, identifier),
-        Err(Stop::Diagnostic(diagnostic)) => {
-            let row = diagnostic.row.name();
-            text.push_str(format!(in alloc; "{row} ")?.as_str())?;
-            Ok(())
-        }
-        Err(Stop::OutOfMemory) => Err(OutOfMemory),
-    }
-}
-
-/// Appends the name of an identifier.
-fn push_identifier<U: ReadsUnit>(
-    alloc: Global,
-    text: &mut String,
-    builder: &Builder<'_, U>,
-    identifier: IdentifierId,
-) -> Result<(), OutOfMemory> {
-    let Some(entry) = builder
-        .environment()
-        .identifiers()
-        .get(identifier.0 as usize)
-    else {
-        return Ok(());
-    };
-    if let Some(IdentifierName::Named(name)) = &entry.name {
-        let name = name.as_str();
-        text.push_str(format!(in alloc; "{name} ")?.as_str())?;
-    }
-    Ok(())
-}
-
 /// Gives each symbol an identifier under its own name, and appends the names that they get, or the rows that refuse them.
 fn push_names<U: ReadsUnit>(
     alloc: Global,
@@ -198,15 +164,6 @@ fn push_names<U: ReadsUnit>(
 ) -> Result<(), OutOfMemory> {
     for symbol in resolver.symbols() {
         push_name(alloc, text, builder, resolver.symbol_name(symbol), symbol)?;
-    }
-    Ok(())
-}
-
-/// Appends a number, or `-`.
-fn push_number(alloc: Global, text: &mut String, number: Option<u32>) -> Result<(), OutOfMemory> {
-    match number {
-        Some(number) => text.push_str(format!(in alloc; "{number} ")?.as_str())?,
-        None => text.push_str("- ")?,
     }
     Ok(())
 }
@@ -292,21 +249,8 @@ fn merges<U: ReadsUnit>(alloc: Global, builder: &mut Builder<'_, U>) -> Result<S
     Ok(text)
 }
 
-/// An instruction that puts undefined into the identifier 0.
-fn undefined() -> Instruction {
-    Instruction {
-        order: EvaluationOrder(0),
-        lvalue: Place {
-            identifier: IdentifierId(0),
-            span: None,
-        },
-        value: InstructionValue::Primitive(PrimitiveValue::Undefined),
-        span: None,
-    }
-}
-
 /// The block ids that were handed out between two moments, and the block that throws go to, or `-`.
-fn blocks(
+fn handed_out(
     alloc: Global,
     before: u32,
     after: u32,
@@ -324,14 +268,12 @@ fn blocks(
 fn handler<U: ReadsUnit>(alloc: Global, builder: &mut Builder<'_, U>) -> Result<String, Stop>
     requires { length (state_of U.tables builder.old).table < 2 ^ 32 }
 {
-    if !has_room(builder) {
-        return Err(Stop::OutOfMemory);
-    }
+    ready(builder)?;
     let before = builder.environment().next_block();
     builder.open_handler(BlockId(7))?;
     builder.push(undefined())?;
     let after = builder.environment().next_block();
-    Ok(blocks(alloc, before, after, builder.resolve_throw_handler())?)
+    Ok(handed_out(alloc, before, after, builder.resolve_throw_handler())?)
 }
 
 /// The answers of `calls`, as one text.
@@ -352,6 +294,24 @@ fn answer<U: ReadsUnit>(
         Calls::Functions => functions(alloc, builder, resolver),
         Calls::Merges => merges(alloc, builder),
         Calls::Handler => handler(alloc, builder),
+        Calls::Blocks => blocks(alloc, builder),
+        Calls::Closures => closures(alloc, builder),
+        Calls::Openings => openings(alloc, builder),
+        Calls::Branches => branches(alloc, builder),
+        Calls::Graph => graph::<U, MapBlocks>(alloc, builder.unit(), builder.function_scope()),
+        Calls::DenseGraph => {
+            graph::<U, DenseBlocks>(alloc, builder.unit(), builder.function_scope())
+        }
+        Calls::Uses => uses(alloc, builder),
+        Calls::Contexts => contexts(alloc, builder),
+        Calls::Spans => spans(alloc, builder),
+        Calls::Captures => captures(alloc, builder),
+        Calls::Inner => inner(alloc, builder),
+        Calls::Readers | Calls::New => readers(alloc, builder),
+        Calls::Records => records(alloc, builder),
+        Calls::Environment => environment(alloc),
+        Calls::Table => table::<MapBlocks>(alloc),
+        Calls::DenseTable => table::<DenseBlocks>(alloc),
     }
 }
 
@@ -379,6 +339,30 @@ fn answer_in<U: ReadsUnit>(
     answer(alloc, &mut builder, resolver, calls)
 }
 
+/// The answer of `readers`, in a fresh builder that is made of references to the tables of a unit.
+fn answer_of_new(
+    alloc: Global,
+    resolver: &ScopeResolver<'_>,
+    index: &IdentifierLocIndex,
+    scope: ScopeId,
+) -> Result<String, Stop> {
+    let mut env = Environment::new(alloc, ReactFunctionType::Other, EntityTable::new(alloc))?;
+    let mut builder = Builder::new(
+        alloc,
+        &mut env,
+        resolver,
+        scope,
+        scope,
+        BTreeSet::new(alloc),
+        None,
+        None,
+        None,
+        None,
+        index,
+    )?;
+    readers(alloc, &mut builder)
+}
+
 /// As `answer`, in a fresh builder of `function`.
 fn answer_of(
     alloc: Global,
@@ -387,14 +371,17 @@ fn answer_of(
     calls: Calls,
 ) -> Result<String, Stop> {
     let index = IdentifierLocIndex::of(alloc, function)?;
+    let Some(scope) = function.scope_id() else {
+        return Ok(String::new(alloc));
+    };
+    if matches!(calls, Calls::New) {
+        return answer_of_new(alloc, resolver, &index, scope);
+    }
     let unit = UnitTables {
         resolver,
         identifier_spans: &index,
     };
-    match function.scope_id() {
-        Some(scope) => answer_in(alloc, unit, resolver, scope, calls),
-        None => Ok(String::new(alloc)),
-    }
+    answer_in(alloc, unit, resolver, scope, calls)
 }
 
 /// Checks what calls answer in the builder of the marked function.

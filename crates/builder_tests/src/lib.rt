@@ -2,8 +2,16 @@
 #![tactic(auto)]
 
 pub mod branch;
-pub mod inner;
 #[cfg(test)]
 mod calls;
 #[cfg(test)]
+mod environments;
+pub mod inner;
+#[cfg(test)]
+mod moves;
+#[cfg(test)]
+mod resolving;
+#[cfg(test)]
 mod tests;
+#[cfg(test)]
+mod texts;

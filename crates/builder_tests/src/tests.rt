@@ -69,3 +69,60 @@ fn merges_add_what_is_missing(rt: HostRuntime) -> Result<(), Fail> {
 fn an_instruction_under_a_handler_ends_its_block(rt: HostRuntime) -> Result<(), Fail> {
     check(&rt, rt.alloc(), MARKED, Calls::Handler, "1 2 7 ")
 }
+
+/// A statement with a marked function that binds `x`, and uses `x`, `g`, an import `i` and a parameter `class`.
+const USES: &str =
+    r#"(import "m" [(named "j" (bind "i" -))]) (expr (arrow y n (params [(param (bind "class" -) -)] -) (body [] [(var "let" [(declarator (bind "x" -) -)]) (expr (id "x")) (expr (id "g")) (expr (id "i")) (expr (id "class"))])))"#;
+
+#[test]
+fn moves_build_blocks(rt: HostRuntime) -> Result<(), Fail> {
+    let rows = [
+        (Calls::Blocks, "Value Block 0 Loop Sequence "),
+        (Calls::Closures, "Block 2 yes Loop - yes - "),
+        (Calls::Openings, "2 NoBreak "),
+        (Calls::Branches, "Block Block "),
+        (Calls::Graph, "> 0 0 > 2 2 0 > 1 "),
+        (Calls::DenseGraph, "> 0 0 > 2 2 0 > 1 "),
+    ];
+    for (calls, wanted) in rows {
+        check(&rt, rt.alloc(), MARKED, calls, wanted)?;
+    }
+    Ok(())
+}
+
+#[test]
+fn names_stand_for_variables(rt: HostRuntime) -> Result<(), Fail> {
+    let rows = [
+        (Calls::Uses, "0 Let global j S1 "),
+        (Calls::Contexts, "no yes yes yes no "),
+        (Calls::Spans, "150 150 3 "),
+        (Calls::Captures, "x x_0 1 x_1 "),
+        (Calls::Inner, "0 yes x "),
+    ];
+    for (calls, wanted) in rows {
+        check(&rt, rt.alloc(), USES, calls, wanted)?;
+    }
+    Ok(())
+}
+
+#[test]
+fn tables_keep_what_they_are_given(rt: HostRuntime) -> Result<(), Fail> {
+    let rows = [
+        (Calls::Readers, "1 1 yes yes no no 0 "),
+        (Calls::New, "1 1 yes yes no no 0 "),
+        (Calls::Records, "0 0 1 2 S4 F1 yes "),
+        (Calls::Environment, "0 0 no yes no 6 2 no yes no yes S4 F1 "),
+        (
+            Calls::Table,
+            "5 Block 3 Loop 9 Block 7 Block yes no 5 Block 7 Block ",
+        ),
+        (
+            Calls::DenseTable,
+            "5 Block 3 Loop 9 Block 7 Block yes no 5 Block 7 Block ",
+        ),
+    ];
+    for (calls, wanted) in rows {
+        check(&rt, rt.alloc(), USES, calls, wanted)?;
+    }
+    Ok(())
+}
