@@ -26,7 +26,7 @@ use Rattle.rl_machine.specs.declared.trace.Value.{Value}
 use Rattle.rl_machine.specs.declared.trace.Value.TheVariants as value
 use Rattle.rl_machine.specs.Closed.{IsClosed}
 use Rattle.rl_model.specs.Headline.{NeverStuck, SameRuns}
-use Rattle.rl_model.specs.Runs.{take_arguments, trace_by, start_values}
+use Rattle.rl_model.specs.Runs.{trace_by}
 use Rattle.rl_model.specs.Rows.{refusals, refusals_of}
 use Rattle.rl_model.specs.Size.{function_size}
 use Rattle.rl_model.specs.Source.{source_trace, exec_body, take}
@@ -49,7 +49,7 @@ use Rattle.rl_lower.proofs.Linked.{built_length}
 use Rattle.rl_lower.proofs.Keeping.{keeps_named, keeps_then, named_pairs, room_less}
 use Rattle.rl_lower.proofs.Moves.{extends_temporary, extends_then}
 use Rattle.rl_lower.proofs.Parameters.{known_from, known_length, pair_found, parameters_given, said_from, said_told, state_with}
-use Rattle.rl_lower.proofs.StartStores.{agrees_start, agrees_taken}
+use Rattle.rl_lower.proofs.StartStores.{agrees_start, agrees_taken, start_values, take_arguments}
 use Rattle.rl_lower.proofs.Builds.{closed_table}
 use Rattle.rl_lower.proofs.Building.{closed_listed}
 use Rattle.rl_builder.specs.Build.{graph_of}

@@ -32,7 +32,8 @@ use Rattle.rl_machine.specs.Traces.{Store, ValueCont, returned, threw, alone}
 use Rattle.rl_model.specs.Meanings.{ExprMeaning, StmtMeaning}
 use Rattle.rl_machine.specs.Machine.{Ends, Code}
 use Rattle.rl_machine.specs.Ends.{Notes, no_notes}
-use Rattle.rl_model.specs.Runs.{take_arguments, trace_by, start_values, param_identifier}
+use Rattle.rl_lower.proofs.StartStores.{start_values, take_arguments}
+use Rattle.rl_model.specs.Runs.{param_identifier, trace_by}
 use Rattle.rl_model.specs.Source.{source_trace}
 use Rattle.rl_syntax.specs.Syntax.{Syntax}
 use Rattle.rl_names.specs.Names.{Names}

@@ -1,19 +1,30 @@
 -- The stores in which runs begin agree, whatever symbols get identifiers later.
-use Rattle.std.proofs.Common.{◌≡◌, ℕ, suc, ◌+◌, inl, inr, Bool, cond, true, List, [], ◌∷◌, slice_get, Option, Some, None, refl, sym, ap, ◌∙◌, arith}
+use Rattle.std.proofs.Common.{◌≡◌, ℕ, suc, ◌+◌, inl, inr, Bool, cond, true, List, [], ◌∷◌, map, slice_get, Option, Some, None, refl, sym, ap, ◌∙◌, arith}
 use Rattle.std.proofs.lemmas.Bool.Decides.{eqb_tells}
 use Rattle.std.proofs.lemmas.Option.{none-some, same_Some}
+use Rattle.rl_hir.specs.Pairs.{identifier_of}
+use Rattle.rl_hir.specs.declared.function.Pair.{Pair}
+use Rattle.rl_hir.specs.declared.function.Param.{Param}
 use Rattle.rl_machine.specs.Machine.{set_by, set_where}
-use Rattle.rl_machine.specs.Traces.{Store, set, unset}
+use Rattle.rl_machine.specs.Traces.{Store, set, take_values, unset}
 use Rattle.rl_machine.specs.declared.trace.Assignment.{Assignment}
 use Rattle.rl_machine.specs.declared.trace.Value.{Value}
 use Rattle.rl_machine.specs.declared.trace.Value.TheVariants as value
 use Rattle.rl_model.specs.Fields.{places_from}
 use Rattle.rl_model.specs.Meanings.{set_all}
-use Rattle.rl_model.specs.Runs.{take_arguments}
+use Rattle.rl_model.specs.Runs.{param_identifier}
 use Rattle.rl_model.specs.Source.{take}
 use Rattle.rl_names.specs.declared.parameters.Parameter.{Parameter}
 use Rattle.rl_lower.specs.Simulation.{Agrees}
 use Rattle.rl_lower.proofs.Steps.{set_other, set_same}
+
+-- Each parameter takes the argument at its index, or Undefined.
+abbrev pub take_arguments : List Param → List Value → Store → Store
+take_arguments params arguments store = take_values (map param_identifier params) arguments store
+
+-- The store in which a run begins, before the parameters take their arguments.
+abbrev pub start_values : List Pair → List Assignment → Store
+start_values pairs start = set_by (identifier_of pairs) (λ symbol. true) start unset
 
 -- No two symbols have one identifier.
 abbrev pub AreOne : (ℕ → Option ℕ) → Type 0

@@ -1,15 +1,13 @@
 -- The runs of the graphs of a result.
-use Rattle.std.specs.Prelude.{ℕ, true, List, map}
+use Rattle.std.specs.Prelude.{ℕ, List, map}
 use Rattle.rl_hir.specs.Blocks.{Pair as BlockPair}
 use Rattle.rl_hir.specs.Pairs.{identifier_of}
 use Rattle.rl_hir.specs.declared.function.HirFunction.{HirFunction}
-use Rattle.rl_hir.specs.declared.function.Lowered.{Lowered}
 use Rattle.rl_hir.specs.declared.function.Pair.{Pair}
 use Rattle.rl_hir.specs.declared.function.Param.{Param}
 use Rattle.rl_hir.specs.declared.function.Param.TheVariants as params
 use Rattle.rl_machine.specs.Machine.{Graph, graph_trace}
-use Rattle.rl_machine.specs.Machine.{set_by}
-use Rattle.rl_machine.specs.Traces.{Store, alone, take_values, unset, waiting}
+use Rattle.rl_machine.specs.Traces.{alone, waiting}
 use Rattle.rl_machine.specs.declared.trace.Answer.{Answer}
 use Rattle.rl_machine.specs.declared.trace.Assignment.{Assignment}
 use Rattle.rl_machine.specs.declared.trace.Trace.{Trace}
@@ -18,14 +16,6 @@ use Rattle.rl_machine.specs.declared.trace.Value.{Value}
 abbrev pub param_identifier : Param → ℕ
 param_identifier (params.Place p) = p.identifier.0
 param_identifier (params.Spread p) = p.identifier.0
-
--- Each parameter takes the argument at its index, or Undefined.
-abbrev pub take_arguments : List Param → List Value → Store → Store
-take_arguments params arguments store = take_values (map param_identifier params) arguments store
-
--- The store in which a run begins, before the parameters take their arguments.
-abbrev pub start_values : List Pair → List Assignment → Store
-start_values pairs start = set_by (identifier_of pairs) (λ symbol. true) start unset
 
 -- The blocks of a function, with its instruction table.
 abbrev pub graph_of : HirFunction (List BlockPair) → Graph
@@ -39,7 +29,3 @@ trace_by stuck f pairs start arguments answers = graph_trace stuck (graph_of f) 
 -- The run of a function's graph, which waits where it is stuck.
 abbrev pub function_trace : HirFunction (List BlockPair) → List Pair → List Assignment → List Value → List Answer → Trace
 function_trace f = trace_by waiting f
-
--- The run of the marked function's graph.
-abbrev pub marked_trace : Lowered → List Assignment → List Value → List Answer → Trace
-marked_trace l = function_trace l.function l.pairs
