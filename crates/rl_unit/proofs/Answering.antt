@@ -14,25 +14,25 @@ use Rattle.rl_model.specs.Headline.{LowersTo}
 use Rattle.rl_model.specs.Rows.{refusals_of, stop_of}
 use Rattle.rl_model.specs.Source.{marked}
 use Rattle.rl_model.specs.Units.{names_of}
-use Rattle.rl_unit.specs.Answers.{AnswersSteadily, Explains, IsAnswer, IsOutput, IsComplete, IsMalformed, IsPending, IsRefused, IsReportOf, IsStopped, Writes, WritesKnown, ReadsWhole, Refuses, RefusesKnown, lines, output, pending_line, report_of}
+use Rattle.rl_unit.specs.Answers.{AnswersSteadily, Explains, IsAnswer, IsOutput, IsComplete, IsMalformed, IsPending, IsRefused, IsReportOf, IsStopped, WritesKnown, ReadsWhole, Refuses, RefusesKnown, lines, output, pending_line, report_of}
 use Rattle.rl_unit.specs.declared.run.Status.{Status}
 use Rattle.rl_unit.specs.declared.run.Status.TheVariants.{Done, Reported, Malformed, TooLarge, ReadFault, WriteFault, OutOfMemory, Usage}
 
--- bytes read within the limit are all that were left
+-- Bytes read within the limit are all that were left.
 pub all_read : (left : Option (List ℕ)) (bytes : List ℕ) → IfSome left (λ known. bytes ≡ take most_read known) → length bytes ≤ most_bytes → IfSome left (λ known. bytes ≡ known)
 all_read None bytes first within = tt
 all_read (Some known) bytes first within =
     let count : length bytes ≡ min most_read (length known) = ap length first ∙ length-take most_read known in
     first ∙ take_all most_read known (omega arith)
 
--- a part that is past the limit of bytes is past the limits
+-- A part that is past the limit of bytes is past the limits.
 more_left : (left : Option (List ℕ)) (bytes : List ℕ) → IfSome left (λ known. bytes ≡ take most_read known) → most_bytes < length bytes → RefusesKnown left TooLarge
 more_left None bytes first past = record { no_output = tt; refuses = tt }
 more_left (Some known) bytes first past =
     let count : length bytes ≡ min most_read (length known) = ap length first ∙ length-take most_read known in
     record { no_output = tt; refuses = inl (omega arith) }
 
--- the bytes that were read pass the limits if all that were left do
+-- The bytes that were read pass the limits if all that were left do.
 too_large_known : (left : Option (List ℕ)) (bytes : List ℕ) → IfSome left (λ known. bytes ≡ take most_read known) → IsTooLarge bytes → RefusesKnown left TooLarge
 too_large_known None bytes first large = record { no_output = tt; refuses = tt }
 too_large_known (Some known) bytes first large = elim (cases_lt most_bytes (length bytes)) [
@@ -40,11 +40,17 @@ too_large_known (Some known) bytes first large = elim (cases_lt most_bytes (leng
   | inr within ↦ record { no_output = tt; refuses = subst IsTooLarge (all_read (Some known) bytes first (omega (arith, within))) large }
 ]
 
--- something is not nothing
+-- The text is the output of the status for the unit that the bytes spell.
+pub record Writes (bytes : List ℕ) (status : Status) (text : List ℕ) : Type 0 where
+  pub source : Syntax
+  pub spelled : Spells bytes source
+  pub is_output : IsOutput status source text
+
+-- An option is not both `Some` and `None`.
 never_both : (o : Option Diagnostic) (d : Diagnostic) → o ≡ Some d → o ≡ None → ⊥
 never_both o d some none = absurd (cc)
 
--- a result, a stop, a report and the line of a pending node are outputs
+-- A result, a stop, a report and the line of a pending node are outputs.
 pub writes_result : (bytes : List ℕ) (l : Lowered) (text : List ℕ) → LowersTo bytes l → text ≡ output l → Writes bytes Done text
 writes_result bytes l text lowers written = record { source = lowers.0; spelled = lowers.1.spells; is_output = record { rules = lowers.1.rules; result = l; is_lowered = lowers.2; written = written } }
 
@@ -107,7 +113,7 @@ refuses_left left bytes Reported first r = absurd r.no_output
 refuses_left left bytes Done first r = absurd r.no_output
 refuses_left left bytes WriteFault first r = absurd r.no_output
 
--- a fact about the unit that was read holds of each unit that the bytes spell
+-- A fact about the unit that was read holds of each unit that the bytes spell.
 reported : (u : Syntax) (text : List ℕ) → IsReportOf u text → IsAnswer u Reported
 reported u text (inl waits) = inl waits.uncovered
 reported u text (inr row) = inr row.row
@@ -132,7 +138,7 @@ output_complete left status text w = record {
       subst (λ (s : Syntax). IsAnswer s status) (one_unit bytes w.source u read spells) (output_answers status w.source text w.is_output);
 }
 
--- no unit within the limits is refused
+-- A status without output, of bytes within the limits, is the answer to each unit that they spell.
 no_unit : (left : Option (List ℕ)) (status : Status) (bytes : List ℕ) → RefusesKnown left status → left ≡ Some bytes → Refuses status bytes
 no_unit left status bytes r is = subst (λ o. IfSome o (λ known. Refuses status known)) is r.refuses
 
@@ -154,7 +160,7 @@ reads_whole None new bytes gone first = tt
 reads_whole (Some known) None bytes gone first = absurd gone
 reads_whole (Some known) (Some rest) bytes gone first = gone ∙ ap (λ (b : List ℕ). b ++ rest) first
 
--- if neither source nor sink fails, a status determines the bytes
+-- A status determines the bytes if neither source nor sink fails.
 pub steady_answer : (status : Status) (bytes : List ℕ) (left old new : Option (List ℕ)) → left ≡ Some bytes → Explains status left old new → (status ≢ Usage) → (status ≡ ReadFault → ⊥) → (status ≡ WriteFault → ⊥) → AnswersSteadily bytes status
 steady_answer Done bytes left old new is e command read write = (e.1.source, spelled_known left bytes e.1.source is e.1.spelled, output_answers Done e.1.source e.0 e.1.is_output)
 steady_answer Reported bytes left old new is e command read write = (e.1.source, spelled_known left bytes e.1.source is e.1.spelled, reported e.1.source e.0 e.1.is_output)

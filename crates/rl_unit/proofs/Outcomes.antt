@@ -6,13 +6,13 @@ use Rattle.rl_syntax.specs.Limits.{IsTooLarge, most_read}
 use Rattle.rl_ast.specs.Units.{Spells}
 use Rattle.rl_hir.specs.declared.function.Lowered.{Lowered}
 use Rattle.rl_model.specs.Headline.{LowersTo}
-use Rattle.rl_unit.specs.Answers.{IsComplete, Writes, WritesKnown}
+use Rattle.rl_unit.specs.Answers.{IsComplete, WritesKnown}
 use Rattle.rl_unit.specs.Outcomes.{ComesTo, ComesToKnown, outcome_status, outcome_text}
 use Rattle.rl_unit.specs.declared.run.Outcome.{Outcome}
 use Rattle.rl_unit.specs.declared.run.Outcome.TheVariants as outcomes
 use Rattle.rl_unit.specs.declared.run.Status.{Status}
 use Rattle.rl_unit.specs.declared.run.Status.TheVariants.{Reported}
-use Rattle.rl_unit.proofs.Answering.{all_read, output_complete, within_bytes}
+use Rattle.rl_unit.proofs.Answering.{Writes, all_read, output_complete, within_bytes}
 
 pub comes_result : (bytes : List ℕ) (l : Lowered) → LowersTo bytes l → ComesTo bytes (outcomes.Lowered l)
 comes_result bytes l lowers = record { source = lowers.0; spelled = lowers.1.spells; is_outcome = (lowers.1.rules, lowers.2) }

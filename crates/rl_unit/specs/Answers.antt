@@ -127,13 +127,7 @@ IsOutput Done u text = IsResultOf u text
 IsOutput Reported u text = IsReportOf u text
 IsOutput _ u text = ⊥
 
--- The text is the output of the status for the unit that the bytes spell.
-pub record Writes (bytes : List ℕ) (status : Status) (text : List ℕ) : Type 0 where
-  pub source : Syntax
-  pub spelled : Spells bytes source
-  pub is_output : IsOutput status source text
-
--- As `Writes`, of bytes that may not be known: of some unit, and within the limits where they are known.
+-- The text is the output of the status for a unit. Bytes that are known are within the limits, and spell that unit.
 pub record WritesKnown (bytes : Option (List ℕ)) (status : Status) (text : List ℕ) : Type 0 where
   pub source : Syntax
   pub spelled : IfSome bytes (λ known. Spells known source)
@@ -210,7 +204,7 @@ pub record IsComplete (left : Option (List ℕ)) (status : Status) : Type 0 wher
   pub answers : (bytes : List ℕ) (u : Syntax) → left ≡ Some bytes → (IsTooLarge bytes → ⊥) → Spells bytes u → IsAnswer u status
 
 -- The answer to a unit over a source and a sink that never fail: its result or its report, as the unit has one, and neither where
--- the bytes are malformed or pass a limit. Or memory was wanted and not given.
+-- the bytes are malformed or pass a limit; or `OutOfMemory`, where an allocation failed.
 abbrev pub AnswersSteadily : List ℕ → Status → Type 0
 AnswersSteadily bytes Done = (u : Syntax) × Spells bytes u × IsAnswer u Done
 AnswersSteadily bytes Reported = (u : Syntax) × Spells bytes u × IsAnswer u Reported

@@ -74,7 +74,7 @@ impl From<OutOfMemory> for Status {
 }
 
 /// The arguments of the process, without the program's name. An argument that is not UTF-8 is no command of these programs:
-/// on one the error is `Usage`, and on want of memory `OutOfMemory`.
+/// on one the error is `Usage`, and where an allocation failed `OutOfMemory`.
 pub fn arguments(rt: &HostRuntime) -> Result<Vec<String>, Status>
     ensures { IfErr result (λ status. (status ≡ Status.Usage) ⊎ (status ≡ Status.OutOfMemory)) }
 {
