@@ -14,7 +14,7 @@ use Rattle.rl_syntax.specs.declared.word.Word.TheVariants as word
 use Rattle.rl_base.specs.Distinct.{AreDistinct}
 use Rattle.rl_model.specs.Held.{calls_in, calls_among}
 
--- the ends of the places rise, from above the first number to the last one at most
+-- The ends of the spans rise, from above the first number to the last one at most.
 abbrev Rise : ℕ → List (Option Span) → ℕ → Type 0
 Rise low [] high = low ≤ high
 Rise low (None ∷ places) high = ⊥
@@ -35,7 +35,7 @@ rise_then [] more low between high r s = rise_from more low between high r s
 rise_then (None ∷ places) more low between high r s = absurd r
 rise_then (Some place ∷ places) more low between high r s = (r.0, rise_then places more place.end between high r.1 s)
 
--- parts end with a bracket
+-- Parts end with a bracket.
 bracket_last : (close : ℕ) (parts : Pieces) → (before : ℕ) × (length (spelled_on close (plain_parts parts)) ≡ before + 1)
 bracket_last close End = (0, refl)
 bracket_last close (Then piece pieces) = (
@@ -45,12 +45,12 @@ bracket_last close (Then piece pieces) = (
       omega (arith, rest, both)),
 )
 
--- a node's calls are those of its parts, and itself where it is one
+-- A node's calls are those of its parts, and itself where it is one.
 own_call : (at : At) (w : Word) (parts : Pieces) → (calls_in (Node at w parts) ≡ calls_among parts) ⊎ (calls_in (Node at w parts) ≡ calls_among parts ++ Some at.span ∷ [])
 own_call at word.Call parts = inr refl
 own_call at _ parts = inl refl
 
--- behind the calls of its parts a node ends
+-- A node ends behind the calls of its parts.
 node_rise : (at : At) (w : Word) (parts : Pieces) (low high : ℕ) → Rise low (calls_among parts) high → high < at.span.end → Rise low (calls_in (Node at w parts)) at.span.end
 node_rise at w parts low high r last = elim (own_call at w parts) [
   | inl same ↦ subst (λ (l : List (Option Span)). Rise low l at.span.end) (sym same) (rise_to (calls_among parts) low high at.span.end (omega (arith, last)) r)
@@ -58,7 +58,7 @@ node_rise at w parts low high r last = elim (own_call at w parts) [
 ]
 
 mutual
-  -- the calls of a tree that stands at a byte end behind it, one after the other
+  -- The calls of a tree that stands at a byte end behind it, one after the other.
   calls_rise : (s : Syntax) (from : Position) → IsPlaced from s → Rise from.byte (calls_in s) (from.byte + width s)
   calls_rise (Node at w parts) from placed = (
       let last = bracket_last 41 parts in
@@ -79,7 +79,7 @@ mutual
   calls_rise (Flag flag) from placed = omega arith
   calls_rise Absent from placed = omega arith
 
-  -- the same for parts and the bracket behind them
+  -- As `calls_rise`, for parts and the bracket behind them.
   calls_among_rise : (close : ℕ) (parts : Pieces) (from : Position) (high : ℕ) → ArePlaced from parts → from.byte + length (spelled_on close (plain_parts parts)) ≡ high + 1 → Rise from.byte (calls_among parts) high
   calls_among_rise close End from high placed long = omega (arith, long)
   calls_among_rise close (Then piece pieces) from high placed long = (
@@ -89,7 +89,7 @@ mutual
       (calls_among_rise close pieces (behind (next_byte from) piece) high placed.1 (omega (arith, both, long)))
       )
 
--- a tree that ends above a given id
+-- The end of a span in a row that rises is above the number at which the row begins.
 above : (places : List (Option Span)) (low high i : ℕ) (place : Option Span) → Rise low places high → slice_get places i ≡ Some place → (span : Span) × (place ≡ Some span) × (low < span.end)
 above [] low high i place r at = absurd (cc)
 above (None ∷ places) low high i place r at = absurd r
@@ -98,7 +98,7 @@ above (Some span ∷ places) low high (suc i) place r at =
     let later = above places span.end high i place r.1 at in
     (later.0, later.1, (let first : low < span.end = r.0 in let second : span.end < later.0.end = later.2 in omega (arith, first, second)))
 
--- no place stands before a later one's end and after it
+-- No span stands before a later one's end and after it.
 never_before : (places : List (Option Span)) (span : Span) (high i : ℕ) (place : Option Span) → Rise span.end places high → slice_get places i ≡ Some place → Some span ≡ place → ⊥
 never_before places span high i place r at same =
     let later = above places span.end high i place r at in
@@ -107,7 +107,7 @@ never_before places span high i place r at same =
     let ends : span.end ≡ later.0.end = ap (λ (s : Span). s.end) one in
     omega (arith, behind, ends)
 
--- places whose ends rise are apart
+-- Spans whose ends rise are apart.
 rise_apart : (places : List (Option Span)) (low high : ℕ) → Rise low places high → AreDistinct places
 rise_apart [] low high r i j place at there = absurd (cc)
 rise_apart (None ∷ places) low high r i j place at there = absurd r
@@ -116,10 +116,10 @@ rise_apart (Some span ∷ places) low high r zero (suc j) place at there = absur
 rise_apart (Some span ∷ places) low high r (suc i) zero place at there = absurd (never_before places span high i place r.1 at (cc))
 rise_apart (Some span ∷ places) low high r (suc i) (suc j) place at there = ap suc (rise_apart places span.end high r.1 i j place at there)
 
--- the calls of a placed tree are apart
+-- The calls of a placed tree are apart.
 placed_apart : (s : Syntax) (from : Position) → IsPlaced from s → AreDistinct (calls_in s)
 placed_apart s from placed = rise_apart (calls_in s) from.byte (from.byte + width s) (calls_rise s from placed)
 
--- the calls of a unit's marked function are apart
+-- The calls of a unit's marked function are apart.
 pub calls_apart : (bytes : List ℕ) (u f : Syntax) → Spells bytes u → first (marked_functions u) ≡ Some f → AreDistinct (calls_in f)
 calls_apart bytes u f spells found = let stands = inside_placed u f outset spells.numbers (first_found u f found).0 in placed_apart f stands.from stands.placed

@@ -9,7 +9,7 @@ use Rattle.rl_ast.specs.Marked.{first}
 use Rattle.rl_model.specs.Covered.{covers, uncovered, uncovered_among, uncovered_in}
 use Rattle.rl_syntax.specs.declared.word.Word.TheVariants as word
 
--- the numbers ascend, from `low` to before `high`
+-- The numbers ascend, from `low` to before `high`.
 abbrev Ascends : (low : ℕ) → List ℕ → (high : ℕ) → Type 0
 Ascends low [] high = low ≤ high
 Ascends low (x ∷ xs) high = (low ≤ x) × Ascends (x + 1) xs high
