@@ -1,5 +1,5 @@
 -- Statuses of the program, by what was read and written.
-use Rattle.std.specs.Prelude.{◌≡◌, ℕ, List, [], ◌∷◌, ◌++◌, Option, None, IfSome}
+use Rattle.std.specs.Prelude.{◌≡◌, ◌⊎◌, ℕ, List, [], ◌∷◌, ◌++◌, Option, None, IfSome}
 use Rattle.std.specs.Io.KnownBytes.{Keeps, Appends}
 use Rattle.rl_syntax.specs.Limits.{IsTooLarge}
 use Rattle.rl_syntax.specs.Syntax.{Syntax}
@@ -25,11 +25,16 @@ pub record HasResult (bytes : Option (List ℕ)) : Type 0 where
 abbrev pub IsWhole : List ℕ → Type 0
 IsWhole text = (body : List ℕ) × (text ≡ body ++ 125 ∷ 10 ∷ [])
 
+-- The bytes have a result, and the text is a whole drawing.
+pub record IsDrawing (bytes : Option (List ℕ)) (text : List ℕ) : Type 0 where
+  pub has_result : HasResult bytes
+  pub whole : IsWhole text
+
 -- The fact that a status states of the bytes that the source had left, and of what the sink held before and holds now.
 abbrev pub Explains : Status → Option (List ℕ) → Option (List ℕ) → Option (List ℕ) → Type 0
-Explains Done left old new = (text : List ℕ) × HasResult left × IsWhole text × Appends old new text
+Explains Done left old new = (text : List ℕ) × IsDrawing left text × Appends old new text
 Explains Reported left old new = (text : List ℕ) × WritesKnown left Reported text × Appends old new text
-Explains WriteFault left old new = (text : List ℕ) × AppendsPrefix old new text
+Explains WriteFault left old new = (text : List ℕ) × (IsDrawing left text ⊎ WritesKnown left Reported text) × AppendsPrefix old new text
 Explains Malformed left old new = RefusesKnown left Malformed × Keeps old new
 Explains TooLarge left old new = RefusesKnown left TooLarge × Keeps old new
 Explains ReadFault left old new = Keeps old new
