@@ -3,19 +3,17 @@
 ghost use Rattle.std.specs.Prelude.{◌<◌, ◌^◌, length};
 ghost use Rattle.rl_builder.specs.Builder.{state_of};
 
-use crate::environments::{environment, readers, records, table};
 use crate::moves::{blocks, branches, closures, graph, openings, undefined};
-use crate::resolving::{captures, contexts, inner, push_name, spans, uses};
-use crate::texts::{Builder, push_number, push_target, ready};
+use crate::nested::inner;
+use crate::texts::{Builder, push_target, ready};
 use rl_ast::function_node::FunctionNode;
 use rl_ast::read::read_tree;
 use rl_ast::unit::Unit;
 use rl_atoms::entity_table::EntityTable;
 use rl_base::error::OutOfMemory;
-use rl_base::ids::{BlockId, IdentifierId, ScopeId, SymbolId};
+use rl_base::ids::{BlockId, ScopeId};
 use rl_base::stop::Stop;
 use rl_base::text::Text;
-use rl_builder::builder::{Bindings, UsedNames};
 use rl_builder::jumps::JumpScope;
 use rl_builder::unit_tables::{ReadsUnit, UnitTables};
 use rl_context::index::IdentifierLocIndex;
@@ -42,13 +40,6 @@ pub enum Calls {
     JumpsBehindStop,
     /// Jumps behind the same scopes, where the closure succeeded.
     JumpsBehindScopes,
-    /// The name that each symbol gets, or the row that refuses it; then the diagnostics and the renames.
-    Names,
-    /// The symbol of the function declaration `f` from each scope, before and after the symbols got their identifiers.
-    Functions,
-    /// The names that the first two symbols get, where the names of another builder are merged between them; then the
-    /// identifiers of both, where other ones of both are merged behind the first.
-    Merges,
     /// The fresh block ids before and behind an instruction under the handler 7, and that handler.
     Handler,
     /// Blocks that single moves build (`blocks`).
@@ -63,28 +54,8 @@ pub enum Calls {
     Graph,
     /// As `Graph`, in a `DenseBlocks`.
     DenseGraph,
-    /// Uses of names (`uses`).
-    Uses,
-    /// Context identifiers and local names (`contexts`).
-    Contexts,
-    /// Spans of a declaration and of its identifier (`spans`).
-    Spans,
-    /// Names of an inner function's builder, merged into this one (`captures`).
-    Captures,
     /// An inner function's graph (`inner`).
     Inner,
-    /// The tables that the builder begins with (`readers`).
-    Readers,
-    /// As `Readers`, of a builder that is made of references (`HirBuilder::new`).
-    New,
-    /// Ids that the builder hands out, and diagnostics (`records`).
-    Records,
-    /// Calls of an environment without a builder (`environment`).
-    Environment,
-    /// Calls of a `MapBlocks` without a builder (`table`).
-    Table,
-    /// As `Table`, of a `DenseBlocks`.
-    DenseTable,
 }
 
 /// The targets of `break` without a label and with `label`, and then those of `continue`.
@@ -155,100 +126,6 @@ fn jumps_behind<U: ReadsUnit>(
     }
 }
 
-/// Gives each symbol an identifier under its own name, and appends the names that they get, or the rows that refuse them.
-fn push_names<U: ReadsUnit>(
-    alloc: Global,
-    text: &mut String,
-    builder: &mut Builder<'_, U>,
-    resolver: &ScopeResolver<'_>,
-) -> Result<(), OutOfMemory> {
-    for symbol in resolver.symbols() {
-        push_name(alloc, text, builder, resolver.symbol_name(symbol), symbol)?;
-    }
-    Ok(())
-}
-
-/// Appends the diagnostics and the renames.
-fn push_records(alloc: Global, text: &mut String, env: &Environment) -> Result<(), OutOfMemory> {
-    for diagnostic in env.diagnostics() {
-        let row = diagnostic.row.name();
-        text.push_str(format!(in alloc; "{row}! ")?.as_str())?;
-    }
-    for rename in env.renames() {
-        let reference = rename.reference.0;
-        let name = rename.name.as_str();
-        text.push_str(format!(in alloc; "{reference}:{name} ")?.as_str())?;
-    }
-    Ok(())
-}
-
-fn names<U: ReadsUnit>(
-    alloc: Global,
-    builder: &mut Builder<'_, U>,
-    resolver: &ScopeResolver<'_>,
-) -> Result<String, Stop> {
-    let mut text = String::new(alloc);
-    push_names(alloc, &mut text, builder, resolver)?;
-    push_records(alloc, &mut text, builder.environment())?;
-    Ok(text)
-}
-
-/// Appends the symbol of the function declaration `f` from each scope, or `-`.
-fn push_functions<U: ReadsUnit>(
-    alloc: Global,
-    text: &mut String,
-    builder: &Builder<'_, U>,
-    resolver: &ScopeResolver<'_>,
-) -> Result<(), OutOfMemory> {
-    let mut scope = 0;
-    for _ in resolver.semantic.bindings.scopes.as_slice() {
-        let symbol = builder.get_function_declaration_binding(ScopeId(scope), "f");
-        push_number(alloc, text, symbol.map(|symbol| symbol.0))?;
-        scope = scope.saturating_add(1);
-    }
-    Ok(())
-}
-
-fn functions<U: ReadsUnit>(
-    alloc: Global,
-    builder: &mut Builder<'_, U>,
-    resolver: &ScopeResolver<'_>,
-) -> Result<String, Stop> {
-    let mut text = String::new(alloc);
-    push_functions(alloc, &mut text, builder, resolver)?;
-    push_names(alloc, &mut text, builder, resolver)?;
-    push_functions(alloc, &mut text, builder, resolver)?;
-    Ok(text)
-}
-
-/// Appends the identifier of a symbol, or `-`.
-fn push_binding<U: ReadsUnit>(
-    alloc: Global,
-    text: &mut String,
-    builder: &Builder<'_, U>,
-    symbol: SymbolId,
-) -> Result<(), OutOfMemory> {
-    let identifier = builder.bindings().get(symbol);
-    push_number(alloc, text, identifier.map(|identifier| identifier.0))
-}
-
-fn merges<U: ReadsUnit>(alloc: Global, builder: &mut Builder<'_, U>) -> Result<String, Stop> {
-    let mut text = String::new(alloc);
-    push_name(alloc, &mut text, builder, "x", SymbolId(0))?;
-    let mut child = UsedNames::new(alloc);
-    child.claim(alloc, "x", SymbolId(7))?;
-    child.claim(alloc, "x_0", SymbolId(8))?;
-    builder.merge_used_names(child)?;
-    push_name(alloc, &mut text, builder, "x", SymbolId(1))?;
-    let mut child = Bindings::new(alloc);
-    child.insert(SymbolId(0), IdentifierId(5))?;
-    child.insert(SymbolId(2), IdentifierId(6))?;
-    builder.merge_bindings(child)?;
-    push_binding(alloc, &mut text, builder, SymbolId(0))?;
-    push_binding(alloc, &mut text, builder, SymbolId(2))?;
-    Ok(text)
-}
-
 /// The block ids that were handed out between two moments, and the block that throws go to, or `-`.
 fn handed_out(
     alloc: Global,
@@ -280,7 +157,6 @@ fn handler<U: ReadsUnit>(alloc: Global, builder: &mut Builder<'_, U>) -> Result<
 fn answer<U: ReadsUnit>(
     alloc: Global,
     builder: &mut Builder<'_, U>,
-    resolver: &ScopeResolver<'_>,
     calls: Calls,
 ) -> Result<String, Stop>
     requires { length (state_of U.tables builder.old).table < 2 ^ 32 }
@@ -290,9 +166,6 @@ fn answer<U: ReadsUnit>(
         Calls::JumpsInLabel => jumps_in_label(alloc, builder),
         Calls::JumpsBehindStop => jumps_behind(alloc, builder, true),
         Calls::JumpsBehindScopes => jumps_behind(alloc, builder, false),
-        Calls::Names => names(alloc, builder, resolver),
-        Calls::Functions => functions(alloc, builder, resolver),
-        Calls::Merges => merges(alloc, builder),
         Calls::Handler => handler(alloc, builder),
         Calls::Blocks => blocks(alloc, builder),
         Calls::Closures => closures(alloc, builder),
@@ -302,16 +175,7 @@ fn answer<U: ReadsUnit>(
         Calls::DenseGraph => {
             graph::<U, DenseBlocks>(alloc, builder.unit(), builder.function_scope())
         }
-        Calls::Uses => uses(alloc, builder),
-        Calls::Contexts => contexts(alloc, builder),
-        Calls::Spans => spans(alloc, builder),
-        Calls::Captures => captures(alloc, builder),
         Calls::Inner => inner(alloc, builder),
-        Calls::Readers | Calls::New => readers(alloc, builder),
-        Calls::Records => records(alloc, builder),
-        Calls::Environment => environment(alloc),
-        Calls::Table => table::<MapBlocks>(alloc),
-        Calls::DenseTable => table::<DenseBlocks>(alloc),
     }
 }
 
@@ -319,7 +183,6 @@ fn answer<U: ReadsUnit>(
 fn answer_in<U: ReadsUnit>(
     alloc: Global,
     unit: U,
-    resolver: &ScopeResolver<'_>,
     scope: ScopeId,
     calls: Calls,
 ) -> Result<String, Stop> {
@@ -336,31 +199,7 @@ fn answer_in<U: ReadsUnit>(
         None,
         None,
     )?;
-    answer(alloc, &mut builder, resolver, calls)
-}
-
-/// The answer of `readers`, in a fresh builder that is made of references to the tables of a unit.
-fn answer_of_new(
-    alloc: Global,
-    resolver: &ScopeResolver<'_>,
-    index: &IdentifierLocIndex,
-    scope: ScopeId,
-) -> Result<String, Stop> {
-    let mut env = Environment::new(alloc, ReactFunctionType::Other, EntityTable::new(alloc))?;
-    let mut builder = Builder::new(
-        alloc,
-        &mut env,
-        resolver,
-        scope,
-        scope,
-        BTreeSet::new(alloc),
-        None,
-        None,
-        None,
-        None,
-        index,
-    )?;
-    readers(alloc, &mut builder)
+    answer(alloc, &mut builder, calls)
 }
 
 /// As `answer`, in a fresh builder of `function`.
@@ -374,14 +213,11 @@ fn answer_of(
     let Some(scope) = function.scope_id() else {
         return Ok(String::new(alloc));
     };
-    if matches!(calls, Calls::New) {
-        return answer_of_new(alloc, resolver, &index, scope);
-    }
     let unit = UnitTables {
         resolver,
         identifier_spans: &index,
     };
-    answer_in(alloc, unit, resolver, scope, calls)
+    answer_in(alloc, unit, scope, calls)
 }
 
 /// Checks what calls answer in the builder of the marked function.

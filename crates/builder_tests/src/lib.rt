@@ -1,16 +1,15 @@
-//! Constructs that are built by the calls of the builder, and tests of these calls.
+//! Constructs that are built by the calls of the builder, and tests of the calls that build blocks, scopes, handlers and inner
+//! functions.
 #![tactic(auto)]
 
 pub mod branch;
 #[cfg(test)]
 mod calls;
-#[cfg(test)]
-mod environments;
 pub mod inner;
 #[cfg(test)]
 mod moves;
 #[cfg(test)]
-mod resolving;
+mod nested;
 #[cfg(test)]
 mod tests;
 #[cfg(test)]

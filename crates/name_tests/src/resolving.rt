@@ -1,6 +1,5 @@
 //! Calls of a builder that resolve names, as one text each.
 
-use crate::inner::{lower_inner, nest};
 use crate::texts::{Builder, push_number, push_truth, push_word, ready};
 use rl_ast::binding::IdentifierReference;
 use rl_base::error::OutOfMemory;
@@ -236,23 +235,5 @@ pub fn captures<U: ReadsUnit>(alloc: Global, builder: &mut Builder<'_, U>) -> Re
     let symbol = builder.bindings().get(SymbolId(1));
     push_number(alloc, &mut text, symbol.map(|identifier| identifier.0))?;
     push_name(alloc, &mut text, builder, "x", SymbolId(0))?;
-    Ok(text)
-}
-
-/// The id of an inner function, true if the environment has it alone, and the name of `x` behind it and behind builders in
-/// one another.
-pub fn inner<U: ReadsUnit>(alloc: Global, builder: &mut Builder<'_, U>) -> Result<String, Stop> {
-    let mut text = String::new(alloc);
-    builder.add_context_identifier(X)?;
-    ready(builder)?;
-    let id = lower_inner(alloc, builder, NodeId(1), ScopeId(1))?;
-    push_number(alloc, &mut text, Some(id.0))?;
-    push_truth(
-        alloc,
-        &mut text,
-        builder.environment().functions().len() == 1,
-    )?;
-    nest(alloc, builder, ScopeId(1), 3)?;
-    push_name(alloc, &mut text, builder, "x", X)?;
     Ok(text)
 }
