@@ -49,7 +49,7 @@ pub fn blocks<U: ReadsUnit>(alloc: Global, builder: &mut Builder<'_, U>) -> Resu
     Ok(text)
 }
 
-/// The kind of the current block behind closures that succeed and that stop in a block of the kind `Loop`.
+/// The kind of the current block behind a closure that succeeds in a block, and the id of the block of another one.
 fn push_entered<U: ReadsUnit>(
     alloc: Global,
     text: &mut String,
@@ -62,6 +62,15 @@ fn push_entered<U: ReadsUnit>(
     ready(builder)?;
     let entered = builder.try_enter(BlockKind::Loop, |_builder, id| Ok(goto(id)))?;
     push_number(alloc, text, Some(entered.0))?;
+    Ok(())
+}
+
+/// True, and the kind of the current block, behind a closure that stops in a block of the kind `Loop`.
+fn push_stopped<U: ReadsUnit>(
+    alloc: Global,
+    text: &mut String,
+    builder: &mut Builder<'_, U>,
+) -> Result<(), Stop> {
     ready(builder)?;
     let stopped = builder.try_enter(BlockKind::Loop, |_builder, _id| Err(Stop::OutOfMemory));
     push_truth(alloc, text, stopped.is_err())?;
@@ -87,6 +96,7 @@ fn push_caught<U: ReadsUnit>(
 pub fn closures<U: ReadsUnit>(alloc: Global, builder: &mut Builder<'_, U>) -> Result<String, Stop> {
     let mut text = String::new(alloc);
     push_entered(alloc, &mut text, builder)?;
+    push_stopped(alloc, &mut text, builder)?;
     push_caught(alloc, &mut text, builder)?;
     Ok(text)
 }

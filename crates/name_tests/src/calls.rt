@@ -44,8 +44,6 @@ pub enum Calls {
     Captures,
     /// The tables that the builder begins with (`readers`).
     Readers,
-    /// As `Readers`, of a builder that is made of references (`HirBuilder::new`).
-    New,
     /// Ids that the builder hands out, and diagnostics (`records`).
     Records,
     /// Calls of an environment without a builder (`environment`).
@@ -165,7 +163,7 @@ fn answer<U: ReadsUnit>(
         Calls::Contexts => contexts(alloc, builder),
         Calls::Spans => spans(alloc, builder),
         Calls::Captures => captures(alloc, builder),
-        Calls::Readers | Calls::New => readers(alloc, builder),
+        Calls::Readers => readers(alloc, builder),
         Calls::Records => records(alloc, builder),
         Calls::Environment => environment(alloc),
         Calls::Table => table::<MapBlocks>(alloc),
@@ -197,30 +195,6 @@ fn answer_in<U: ReadsUnit>(
     answer(alloc, &mut builder, resolver, calls)
 }
 
-/// The answer of `readers`, in a fresh builder that is made of references to the tables of a unit.
-fn answer_of_new(
-    alloc: Global,
-    resolver: &ScopeResolver<'_>,
-    index: &IdentifierLocIndex,
-    scope: ScopeId,
-) -> Result<String, Stop> {
-    let mut env = Environment::new(alloc, ReactFunctionType::Other, EntityTable::new(alloc))?;
-    let mut builder = Builder::new(
-        alloc,
-        &mut env,
-        resolver,
-        scope,
-        scope,
-        BTreeSet::new(alloc),
-        None,
-        None,
-        None,
-        None,
-        index,
-    )?;
-    readers(alloc, &mut builder)
-}
-
 /// As `answer`, in a fresh builder of `function`.
 fn answer_of(
     alloc: Global,
@@ -232,9 +206,6 @@ fn answer_of(
     let Some(scope) = function.scope_id() else {
         return Ok(String::new(alloc));
     };
-    if matches!(calls, Calls::New) {
-        return answer_of_new(alloc, resolver, &index, scope);
-    }
     let unit = UnitTables {
         resolver,
         identifier_spans: &index,

@@ -70,7 +70,6 @@ fn names_stand_for_variables(rt: HostRuntime) -> Result<(), Fail> {
 fn tables_keep_what_they_are_given(rt: HostRuntime) -> Result<(), Fail> {
     let rows = [
         (Calls::Readers, "1 1 yes yes no no 0 "),
-        (Calls::New, "1 1 yes yes no no 0 "),
         (Calls::Records, "0 0 1 2 S4 F1 yes "),
         (Calls::Environment, "0 0 no yes no 6 2 no yes no yes S4 F1 "),
         (
