@@ -11,7 +11,9 @@ use Rattle.rl_machine.specs.declared.trace.Value.{Value}
 use Rattle.rl_machine.specs.declared.trace.Value.TheVariants as value
 use Rattle.rl_model.specs.Events.{call, global}
 use Rattle.rl_model.specs.Rows.{refusals_of, stop_of}
-use Rattle.rl_model.specs.Source.{marked, source_trace}
+use Rattle.rl_model.specs.Functions.{run_function}
+use Rattle.rl_model.specs.Marked.{marked}
+use Rattle.rl_model.specs.Scenes.{written_scene}
 use Rattle.rl_model.specs.Units.{names_of}
 use Rattle.rl_syntax.specs.Syntax.{Syntax, Node, Listed, Said, Flag, Absent, Pieces, End, Then, is_reference, nodes, nodes_of, one_if, pieces_of, references, scopes}
 use Rattle.rl_syntax.specs.Words.{makes_scope}
@@ -69,7 +71,7 @@ unit_of f = unit (node 2 word.Expr (f ∷ []) ∷ [])
 -- The trace, the refusals and the stop of the marked function of a unit.
 
 abbrev pub trace_of : Syntax → List Assignment → List Value → List Answer → Trace
-trace_of u start arguments answers = source_trace (names_of u) (marked u) start arguments answers
+trace_of u start arguments answers = run_function (written_scene u (marked u)) (marked u) start arguments answers
 
 abbrev pub refusals_in : Syntax → List Diagnostic
 refusals_in u = refusals_of (names_of u) (marked u)

@@ -20,7 +20,7 @@ use Rattle.rl_hir.specs.declared.instruction.PlaceOrSpread.TheVariants as argume
 use Rattle.rl_hir.specs.declared.terminal.ReturnVariant.TheVariants as returns
 use Rattle.rl_hir.specs.declared.terminal.TerminalKind.TheVariants as ends
 use Rattle.rl_machine.specs.Machine.{code_of, trace_in}
-use Rattle.rl_machine.specs.Traces.{alone, waiting}
+use Rattle.rl_machine.specs.Traces.{World, waiting}
 use Rattle.rl_machine.specs.declared.trace.Answer.{Answer}
 use Rattle.rl_machine.specs.declared.trace.AnswerKind.TheVariants.{Yes, Throw}
 use Rattle.rl_machine.specs.declared.trace.Ending.TheVariants as ending
@@ -30,7 +30,7 @@ use Rattle.rl_model.specs.Fields.{HasFieldsOf, HaveSymbolsOf, IsGiven, IsNamedPa
 use Rattle.rl_model.specs.Held.{calls_in, calls_of, graph_calls, live_calls_in}
 use Rattle.rl_model.specs.Runs.{function_trace, graph_of, trace_by}
 use Rattle.rl_model.specs.Size.{function_size}
-use Rattle.rl_model.specs.Source.{marked}
+use Rattle.rl_model.specs.Marked.{marked}
 use Rattle.rl_model.specs.Units.{names_of}
 use Rattle.rl_names.specs.declared.parameters.Parameter.{Parameter}
 use Rattle.rl_syntax.specs.Syntax.{Syntax}
@@ -80,10 +80,14 @@ graph = record {
       instruction 3 (values.CallExpression (place 1) (arguments.Place (place 2) ∷ [])) ∷ [];
 }
 
+-- No other function shares a variable with this one.
+abbrev no_world : World
+no_world = record { opens = λ symbol. false; keeps = [] }
+
 -- The runs of both with the argument 1 come to this trace.
 record Both (answers : List Answer) (trace : Trace) : Type 0 where
   of_source : trace_of unit [] (given 1 ∷ []) answers ≡ trace
-  of_graph : function_trace graph [] [] (given 1 ∷ []) answers ≡ trace
+  of_graph : function_trace no_world graph [] [] (given 1 ∷ []) answers ≡ trace
 
 -- With no answer they wait, and an event that is not answered is not recorded.
 unanswered : Both [] (record { events = []; ending = ending.Waiting })
@@ -104,10 +108,10 @@ call_throws = record { of_source = refl; of_graph = refl }
 
 -- The run of the graph in which at most `most` silent steps follow one another.
 abbrev limited : (most : ℕ) → List Answer → Trace
-limited most answers = trace_in waiting (code_of (graph_of graph) (λ symbol. None) alone) most (record { 0 = 0 }) (0 ∷ []) [] (given 1 ∷ []) answers
+limited most answers = trace_in waiting (code_of (graph_of graph) (λ symbol. None) no_world) most (record { 0 = 0 }) (0 ∷ []) [] (given 1 ∷ []) answers
 
 -- A run that may take two silent steps in a row and no more is at its end: the load of `x` is followed by an event.
-two_in_a_row : limited 2 (answer Yes 2 ∷ answer Yes 3 ∷ []) ≡ function_trace graph [] [] (given 1 ∷ []) (answer Yes 2 ∷ answer Yes 3 ∷ [])
+two_in_a_row : limited 2 (answer Yes 2 ∷ answer Yes 3 ∷ []) ≡ function_trace no_world graph [] [] (given 1 ∷ []) (answer Yes 2 ∷ answer Yes 3 ∷ [])
 two_in_a_row = refl
 
 -- The load of `x` is the last step if none may follow another.
@@ -115,7 +119,7 @@ none_in_a_row : limited 0 (answer Yes 2 ∷ answer Yes 3 ∷ []) ≡ record { ev
 none_in_a_row = refl
 
 -- A run that finds no answer is not stuck.
-waits_for_an_answer : (stuck : Trace) → trace_by stuck graph [] [] (given 1 ∷ []) [] ≡ record { events = []; ending = ending.Waiting }
+waits_for_an_answer : (stuck : Trace) → trace_by stuck no_world graph [] [] (given 1 ∷ []) [] ≡ record { events = []; ending = ending.Waiting }
 waits_for_an_answer stuck = refl
 
 -- The call is held by the table and by the block.

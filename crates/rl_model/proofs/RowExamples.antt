@@ -6,7 +6,7 @@ use Rattle.rl_model.proofs.ExampleUnits.{arrow, body, called, function, name, no
 use Rattle.rl_model.specs.Fields.{directives_in, places_from}
 use Rattle.rl_model.specs.Held.{calls_in, live_calls_in}
 use Rattle.rl_model.specs.Rows.{refusal}
-use Rattle.rl_model.specs.Source.{marked}
+use Rattle.rl_model.specs.Marked.{marked}
 use Rattle.rl_model.specs.Units.{names_of, pending}
 use Rattle.rl_hir.specs.declared.function.Param.TheVariants as hir
 use Rattle.rl_names.specs.Functions.{async_in, body_in, generator_in, name_in, parameters_of}

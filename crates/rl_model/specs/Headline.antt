@@ -2,10 +2,8 @@
 use Rattle.std.specs.Prelude.{◌≡◌, ℕ, ◌*◌, ◌≤◌, None, List, [], length}
 use Rattle.rl_syntax.specs.Syntax.{Syntax, nodes}
 use Rattle.rl_base.specs.Distinct.{AreDistinct}
-use Rattle.rl_hir.specs.Blocks.{Pair as BlockPair}
 use Rattle.rl_hir.specs.Listing.{lowered}
 use Rattle.rl_hir.specs.Numbered.{IsNumbered}
-use Rattle.rl_hir.specs.declared.function.HirFunction.{HirFunction}
 use Rattle.rl_hir.specs.declared.function.Lowered.{Lowered}
 use Rattle.rl_hir.specs.declared.function.Pair.{Pair}
 use Rattle.rl_text.specs.Notation.{IsWritable}
@@ -15,9 +13,13 @@ use Rattle.rl_model.specs.Held.{HoldsCalls, calls_in}
 use Rattle.rl_model.specs.Runs.{function_trace, trace_by}
 use Rattle.rl_model.specs.Rows.{IsSupported}
 use Rattle.rl_model.specs.Size.{lowered_size}
-use Rattle.rl_model.specs.Source.{marked, source_trace}
+use Rattle.rl_model.specs.Functions.{run_function}
+use Rattle.rl_model.specs.Marked.{marked}
+use Rattle.rl_model.specs.Scene.{Scene}
+use Rattle.rl_model.specs.Scenes.{written_scene}
+use Rattle.rl_model.specs.Worlds.{Function, graphs, world_in}
+use Rattle.rl_machine.specs.Traces.{World}
 use Rattle.rl_model.specs.Units.{IsUnit, names_of, pending}
-use Rattle.rl_names.specs.Names.{Names}
 use Rattle.rl_model.specs.WellFormed.{IsWellFormed}
 use Rattle.rl_machine.specs.declared.trace.Answer.{Answer}
 use Rattle.rl_machine.specs.declared.trace.Assignment.{Assignment}
@@ -25,21 +27,23 @@ use Rattle.rl_machine.specs.declared.trace.Trace.{Trace}
 use Rattle.rl_machine.specs.declared.trace.Value.{Value}
 
 -- The graph has the trace of its function, for every start store, arguments and answers.
-abbrev pub SameRuns : Names → Syntax → HirFunction (List BlockPair) → List Pair → Type 0
-SameRuns names function f pairs = (start : List Assignment) (arguments : List Value) (answers : List Answer) → function_trace f pairs start arguments answers ≡ source_trace names function start arguments answers
+abbrev pub SameRuns : Scene → (function : Syntax) → World → Function → List Pair → Type 0
+SameRuns scene function world f pairs = (start : List Assignment) (arguments : List Value) (answers : List Answer)
+    → function_trace world f pairs start arguments answers ≡ run_function scene function start arguments answers
 
 -- A run ends because it returns, throws, or finds no answer left: whatever trace a run had that ends for another cause, the
 -- runs are the same.
-abbrev pub NeverStuck : HirFunction (List BlockPair) → List Pair → Type 0
-NeverStuck f pairs = (stuck : Trace) (start : List Assignment) (arguments : List Value) (answers : List Answer) → trace_by stuck f pairs start arguments answers ≡ function_trace f pairs start arguments answers
+abbrev pub NeverStuck : World → Function → List Pair → Type 0
+NeverStuck world f pairs = (stuck : Trace) (start : List Assignment) (arguments : List Value) (answers : List Answer)
+    → trace_by stuck world f pairs start arguments answers ≡ function_trace world f pairs start arguments answers
 
--- The graph of one function of a result.
-pub record IsGraph (names : Names) (function : Syntax) (l : Lowered) (f : HirFunction (List BlockPair)) : Type 0 where
+-- The graph of one function of a result, `others` being the other functions of the result.
+pub record IsGraph (scene : Scene) (function : Syntax) (l : Lowered) (others : List Function) (f : Function) : Type 0 where
   pub closed : IsClosed f.body
-  pub same_runs : SameRuns names function f l.pairs
-  pub never_stuck : NeverStuck f l.pairs
+  pub same_runs : SameRuns scene function (world_in l f others) f l.pairs
+  pub never_stuck : NeverStuck (world_in l f others) f l.pairs
   pub held : HoldsCalls function f
-  pub fields : HasFieldsOf names function f
+  pub fields : HasFieldsOf scene.names function f
   pub numbered : IsNumbered f.instructions f.body.blocks
   pub well_formed : IsWellFormed (length l.identifiers) f
 
@@ -47,7 +51,7 @@ pub record IsGraph (names : Names) (function : Syntax) (l : Lowered) (f : HirFun
 pub record IsLowered (u : Syntax) (l : Lowered) : Type 0 where
   pub covered : pending u ≡ None
   pub supported : IsSupported (names_of u) (marked u)
-  pub main : IsGraph (names_of u) (marked u) l l.function
+  pub main : IsGraph (written_scene u (marked u)) (marked u) l (graphs l.inner) l.function
   pub inner : l.inner ≡ []
   pub identifiers : HasIdentifiersOf (names_of u) (marked u) l
   pub symbols : HaveSymbolsOf u l.pairs

@@ -7,7 +7,7 @@ use Rattle.rl_hir.specs.declared.function.Pair.{Pair}
 use Rattle.rl_hir.specs.declared.function.Param.{Param}
 use Rattle.rl_hir.specs.declared.function.Param.TheVariants as params
 use Rattle.rl_machine.specs.Machine.{Graph, graph_trace}
-use Rattle.rl_machine.specs.Traces.{alone, waiting}
+use Rattle.rl_machine.specs.Traces.{World, waiting}
 use Rattle.rl_machine.specs.declared.trace.Answer.{Answer}
 use Rattle.rl_machine.specs.declared.trace.Assignment.{Assignment}
 use Rattle.rl_machine.specs.declared.trace.Trace.{Trace}
@@ -21,11 +21,13 @@ param_identifier (params.Spread p) = p.identifier.0
 abbrev pub graph_of : HirFunction (List BlockPair) → Graph
 graph_of f = record { blocks = f.body.blocks; table = f.instructions; entry = f.body.entry }
 
--- The run of a function's graph. It stands alone: no function beside the marked one is lowered yet. A run that ends for another cause than
--- that it returns, throws, or finds no answer left has the trace `stuck`.
-abbrev pub trace_by : (stuck : Trace) → HirFunction (List BlockPair) → List Pair → List Assignment → List Value → List Answer → Trace
-trace_by stuck f pairs start arguments answers = graph_trace stuck (graph_of f) (identifier_of pairs) alone (map param_identifier f.params) start arguments answers
+-- The run of a function's graph in a world. A run that ends for another cause than that it returns, throws, or finds no answer left has
+-- the trace `stuck`.
+abbrev pub trace_by : (stuck : Trace) → World → HirFunction (List BlockPair) → List Pair → List Assignment → List Value → List Answer
+    → Trace
+trace_by stuck world f pairs start arguments answers =
+    graph_trace stuck (graph_of f) (identifier_of pairs) world (map param_identifier f.params) start arguments answers
 
 -- The run of a function's graph, which waits where it is stuck.
-abbrev pub function_trace : HirFunction (List BlockPair) → List Pair → List Assignment → List Value → List Answer → Trace
-function_trace f = trace_by waiting f
+abbrev pub function_trace : World → HirFunction (List BlockPair) → List Pair → List Assignment → List Value → List Answer → Trace
+function_trace world f = trace_by waiting world f

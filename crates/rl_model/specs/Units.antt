@@ -4,7 +4,7 @@ use Rattle.rl_ast.specs.Marked.{first}
 use Rattle.rl_ast.specs.Units.{Spells}
 use Rattle.rl_model.specs.Covered.{uncovered_in}
 use Rattle.rl_names.specs.Names.{Names, function_names}
-use Rattle.rl_model.specs.Source.{marked}
+use Rattle.rl_model.specs.Marked.{marked}
 use Rattle.rl_semantic.specs.Rules.{least_broken}
 use Rattle.rl_syntax.specs.Syntax.{Syntax}
 
