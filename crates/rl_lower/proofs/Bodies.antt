@@ -16,13 +16,14 @@ use Rattle.rl_grammar.specs.declared.kind.Kind.TheVariants as sort
 use Rattle.rl_grammar.proofs.Viewing.{rest_fit}
 use Rattle.rl_machine.specs.declared.trace.Answer.{Answer}
 use Rattle.rl_names.specs.Names.{Names}
-use Rattle.rl_model.specs.Held.{calls_in, calls_among, calls_of, live_in_body}
+use Rattle.rl_model.specs.Calls.{calls_in, calls_among, calls_of, live_in_body}
 use Rattle.rl_lower.specs.Reachable.{can_body_complete}
 use Rattle.rl_lower.proofs.Reachable.{adds_same, adds_value_returned}
 use Rattle.rl_model.specs.Rows.{refusals, refusals_in}
-use Rattle.rl_machine.specs.Traces.{Store, returned}
-use Rattle.rl_model.specs.Meanings.{Exits}
-use Rattle.rl_model.specs.Source.{eval_expr}
+use Rattle.rl_machine.specs.Traces.{Cont, Store}
+use Rattle.rl_model.specs.Actions.{Ways, return_with}
+use Rattle.rl_model.specs.Expressions.{eval}
+use Rattle.rl_model.specs.Scene.{Scene}
 use Rattle.rl_lower.specs.Lowering.{LowersExpression, LowersStatements, LowersBody, exec_before_end}
 use Rattle.rl_lower.proofs.Blocks.{blocks_value_returned}
 use Rattle.rl_lower.proofs.Keeping.{keeps_then, keeps_more, keeps_reserved, keeps_completed}
@@ -32,15 +33,15 @@ use Rattle.rl_lower.proofs.Parts.{means_same}
 
 -- A body that is an expression returns its value: all its calls are reachable, and its end is not.
 pub record ReturnsValue (e : Syntax) : Type 0 where
-  pub means : (names : Names) (source : Store) (answers : List Answer) (exits : Exits)
-      → eval_expr names e source answers
-      (λ v after rest. returned [] returns.Implicit v) exits.throws ≡ exec_before_end names e source answers exits
+  pub means : (scene : Scene) (ways : Ways) (normal : Cont) (source : Store) (answers : List Answer)
+      → eval scene e ways (λ v. return_with scene returns.Implicit v ways (λ (end : Unit {0}). normal)) source answers
+      ≡ exec_before_end scene e ways (λ end. normal) source answers
   pub reached : calls_in e ≡ live_in_body e
   pub ends : false ≡ can_body_complete e
 
 pub returns_value : (e : Syntax) → fits (field.One sort.Expression) e ≡ true → ReturnsValue e
 returns_value (Node at word.Body parts) fit = absurd (cc)
-returns_value _ fit = record { means = λ names source answers exits. refl; reached = refl; ends = refl }
+returns_value _ fit = record { means = λ scene ways normal source answers. refl; reached = refl; ends = refl }
 
 pub expression_body_call : (names : Names) (tree e : Syntax) (s later mid new : State) (place : Place)
     (next : WipBlock) (kind : BlockKind) (span : Option Span) → tree ≡ e → fits (field.One sort.Expression) e ≡ true → later ≡ reserved s
@@ -55,7 +56,7 @@ expression_body_call names tree e s later mid new place next kind span is fit op
       refused = l2.refused;
       calls = l2.calls;
       reachable = adds_same (calls_in e) _ false _ s _ (returns_value e fit).reached (returns_value e fit).ends (adds_value_returned s mid (calls_in e) (return_of span returns.Implicit place) kind refl l2.blocks l2.reachable);
-      runs = λ supported. means_same s _ ((returns_value e fit).means names) (value_returned s mid (eval_expr names e) place.identifier.0 span place kind refl (l2.runs supported));
+      runs = λ supported scene same. means_same scene s _ ((returns_value e fit).means scene) (value_returned scene s mid (eval scene e) place.identifier.0 span place kind refl (l2.runs supported scene same));
     }))
 
 -- Directives are texts, which have no refusals and no calls.
@@ -74,7 +75,7 @@ statements_body_call names tree at directives statements s new texts is l = subs
   refused = l.refused ∙ ap (λ (ds : List Diagnostic). s.env.diagnostics ++ ds) (sym same);
   calls = l.calls ∙ ap (λ (cs : List (Option Span)). calls_of s.table ++ cs) (sym same_calls);
   reachable = l.reachable;
-  runs = λ supported. means_same s new (λ source answers exits. refl) (l.runs (sym same ∙ supported));
+  runs = λ supported scene alike. l.runs (sym same ∙ supported) scene alike;
 })
   where
     same : refusals names (Node at word.Body (Then (Listed directives) (Then (Listed statements) End))) ≡ refusals_in names statements

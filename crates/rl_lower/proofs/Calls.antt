@@ -2,7 +2,7 @@
 use Rattle.std.proofs.Common.{◌≡◌, ◌++◌, List, [], ◌∷◌, Option, append-nil, append_assoc, refl, sym, ap, ◌∙◌}
 use Rattle.rl_base.specs.declared.span.Span.{Span}
 use Rattle.rl_hir.specs.declared.instruction.Instruction.{Instruction}
-use Rattle.rl_model.specs.Held.{call_at, calls_of}
+use Rattle.rl_model.specs.Calls.{call_at, calls_of}
 
 pub calls_append : (table more : List Instruction) → calls_of (table ++ more) ≡ calls_of table ++ calls_of more
 calls_append [] more = refl

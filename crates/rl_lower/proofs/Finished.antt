@@ -18,7 +18,7 @@ use Rattle.rl_machine.specs.Ends.{catcher_of}
 use Rattle.rl_machine.specs.Machine.{Code, Item, Runs, Ends, block_of, catcher_at, code_in, item_at, item_by, item_in}
 use Rattle.rl_machine.specs.Prunes.{Each}
 use Rattle.rl_machine.specs.Silence.{AlwaysSettles, Settles}
-use Rattle.rl_machine.specs.Traces.{alone}
+use Rattle.rl_machine.specs.Traces.{World}
 use Rattle.rl_machine.proofs.Silence.{settles_nothing}
 use Rattle.rl_order.proofs.Ordering.{or_left, or_right, same_self}
 use Rattle.rl_order.specs.Walk.{IsWhole, has_block, leads_to}
@@ -122,9 +122,9 @@ finished_may_order s fin unlinked = record {
     plain : (id : BlockId) (kind : TerminalKind) → EndsAs (completed_graph s) id kind → is_plain kind ≡ true
     plain id kind e = ap is_plain (sym e.ends) ∙ found_plain s fin id e.block e.there
 
-module _ (s : State) (fin : IsFinished s) (ident : ℕ → Option ℕ) where
+module _ (s : State) (fin : IsFinished s) (ident : ℕ → Option ℕ) (world : World) where
   abbrev pub finished_code : Code
-  finished_code = code_in s.completed s.table ident alone
+  finished_code = code_in s.completed s.table ident world
 
   uncaught : (block : ℕ) → finished_code.catcher block ≡ None
   uncaught block = by_block (block_of s.completed block) refl
@@ -135,7 +135,7 @@ module _ (s : State) (fin : IsFinished s) (ident : ℕ → Option ℕ) where
 
   -- The graph has all items of the builder, and its names if they are final.
   pub finished_contained : CoversNames s.env.pairs (length s.env.identifiers) ident → IsContainedIn s finished_code
-  finished_contained covers = record { has = has; uncaught = uncaught; stands = refl; names = covers }
+  finished_contained covers = record { has = has; uncaught = uncaught; names = covers }
     where
       of_block : (f : Fact) (d : InCompleted s f) → finished_code.item f.block f.place ≡ Some f.item
       of_block f d =

@@ -15,7 +15,7 @@ use Rattle.rl_hir.specs.declared.instruction.PrimitiveValue.TheVariants as primi
 use Rattle.rl_hir.specs.declared.terminal.ReturnVariant.TheVariants as returns
 use Rattle.rl_builder.specs.Builder.{State, placeholder}
 use Rattle.rl_machine.specs.Machine.{Graph}
-use Rattle.rl_model.specs.Held.{HoldsCalls, call_at, calls_in, calls_of, graph_calls, live_in_body}
+use Rattle.rl_model.specs.Calls.{HoldsCalls, call_at, calls_in, calls_of, graph_calls, live_in_body}
 use Rattle.rl_names.specs.Names.{Names}
 use Rattle.rl_names.specs.Locals.{AreApart}
 use Rattle.rl_names.specs.declared.parameters.Parameter.{Parameter}

@@ -1,5 +1,5 @@
 -- The graph of a function (`IsGraphOf`): its traces, size, identifiers and fields, from the lowering of its body.
-use Rattle.std.proofs.Common.{◌≡◌, ℕ, ◌+◌, ◌*◌, ◌<◌, ◌≤◌, ◌^◌, ◌++◌, List, [], ◌∷◌, All, length, length-append, slice_get, Option, Some, refl, sym, ap, ◌∙◌, subst, arith, append_assoc}
+use Rattle.std.proofs.Common.{◌≡◌, ℕ, ◌+◌, ◌*◌, ◌<◌, ◌≤◌, ◌^◌, ◌++◌, false, List, [], ◌∷◌, All, length, length-append, slice_get, Option, Some, refl, sym, ap, ◌∙◌, subst, arith, append_assoc}
 use Rattle.rl_base.specs.declared.diagnostic.Diagnostic.{Diagnostic}
 use Rattle.rl_base.specs.declared.span.Span.{Span}
 use Rattle.rl_syntax.specs.declared.word.Word.TheVariants as word
@@ -15,9 +15,9 @@ use Rattle.rl_hir.specs.declared.instruction.Instruction.{Instruction}
 use Rattle.rl_builder.specs.Builder.{State, one_identifier_more, with_temporary}
 use Rattle.rl_order.proofs.Pruning.{pruned_size}
 use Rattle.rl_machine.specs.Machine.{Graph}
-use Rattle.rl_names.specs.Names.{Names}
+use Rattle.rl_names.specs.Names.{Names, parameters_in}
 use Rattle.rl_names.specs.declared.parameters.Parameter.{Parameter}
-use Rattle.rl_names.specs.Functions.{params_in, parameters_of}
+use Rattle.rl_names.specs.Functions.{body_in, params_in, parameters_of}
 use Rattle.rl_names.specs.Locals.{AreApart, AreLocals, DeclaresAll}
 use Rattle.rl_machine.specs.declared.trace.Answer.{Answer}
 use Rattle.rl_machine.specs.declared.trace.Assignment.{Assignment}
@@ -29,27 +29,30 @@ use Rattle.rl_model.specs.Headline.{NeverStuck, SameRuns}
 use Rattle.rl_model.specs.Runs.{trace_by}
 use Rattle.rl_model.specs.Rows.{refusals, refusals_of}
 use Rattle.rl_model.specs.Size.{function_size}
-use Rattle.rl_model.specs.Source.{source_trace, exec_body, take}
-use Rattle.rl_machine.specs.Traces.{Store, ValueCont, returned, threw, unset, waiting}
-use Rattle.rl_model.specs.Meanings.{set_all}
+use Rattle.rl_model.proofs.CoveredMeanings.{params_taken}
+use Rattle.rl_model.specs.Actions.{Ways}
+use Rattle.rl_model.specs.Functions.{outside, run_body, run_function, set_all, take_params}
+use Rattle.rl_model.specs.Scene.{Scene}
+use Rattle.rl_machine.specs.Traces.{Cont, Store, World, unset, waiting}
 use Rattle.rl_hir.specs.declared.function.Hir.{Hir}
 use Rattle.rl_lower.specs.Begun.{FunctionTables, begun_by}
 use Rattle.rl_lower.specs.Endings.{closed_off, IsGraphOf, hir_of}
 use Rattle.rl_lower.specs.Named.{AreDeclaredAt}
+use Rattle.rl_lower.specs.Scenes.{IsSceneOf}
 use Rattle.rl_lower.specs.Lowering.{HasRoom, Preserves, LowersBody, exec_before_end}
 use Rattle.rl_model.specs.Fields.{AreGiven, ArePairs}
-use Rattle.rl_lower.specs.Simulation.{Agrees, CoversNames, Extends, HasSoundNames}
+use Rattle.rl_lower.specs.Simulation.{Agrees, CoversNames, Extends, HasSoundNames, SharesVariables}
 use Rattle.rl_lower.specs.Parameters.{said_of_parameters, with_parameters}
 use Rattle.rl_lower.proofs.Building.{IsFresh, keeps_closed}
 use Rattle.rl_lower.proofs.FunctionTrees.{IsFunction, function_nodes, function_refusals}
 use Rattle.rl_lower.proofs.FinalNames.{sound_covers}
-use Rattle.rl_lower.proofs.Functions.{extends_closed, function_finished, function_runs_by}
+use Rattle.rl_lower.proofs.Functions.{body_trace, extends_closed, function_finished, function_runs_by}
 use Rattle.rl_lower.proofs.GivenNames.{pairs_told, parameters_kept, parameters_pairs, parameters_sound}
 use Rattle.rl_lower.proofs.Linked.{built_length}
 use Rattle.rl_lower.proofs.Keeping.{keeps_named, keeps_then, named_pairs, room_less}
 use Rattle.rl_lower.proofs.Moves.{extends_temporary, extends_then}
 use Rattle.rl_lower.proofs.Parameters.{known_from, known_length, pair_found, parameters_given, said_from, said_told, state_with}
-use Rattle.rl_lower.proofs.StartStores.{agrees_start, agrees_taken, start_values, take_arguments}
+use Rattle.rl_lower.proofs.StartStores.{agrees_start, agrees_taken, start_values, take, take_arguments}
 use Rattle.rl_lower.proofs.Builds.{closed_table}
 use Rattle.rl_lower.proofs.Building.{closed_listed}
 use Rattle.rl_builder.specs.Build.{graph_of}
@@ -156,20 +159,23 @@ graph_closed names tables parameters body env new params built g distinct =
     (finished_may_order last (function_finished (state_with (begun_by env tables) parameters) g.state (begun_fresh env tables parameters) (lowered_from names tables parameters body env new params built g distinct).blocks)
     (graph_unlinked names tables parameters body env new params built g distinct)))
 
--- `exec_body` is the meaning of the body before its end, continued by a return of Undefined.
-body_means : (names : Names) (b : Syntax) (store : Store) (answers : List Answer) (throws : ValueCont)
-    → exec_body names b store answers
-    (λ v after rest. returned [] returns.Implicit v) throws ≡ exec_before_end names b store answers
-    (record { normal = λ after rest. returned [] returns.Void value.Undefined; throws = throws })
-body_means names (Node at word.Body (Then directives (Then (Listed statements) End))) store answers throws = refl
-body_means names _ store answers throws = refl
+-- The meaning of a body is that before its end, and then of a return of Undefined.
+body_means : (scene : Scene) (b : Syntax) (ways : Ways) (onward : Unit {0} → Cont) (source : Store) (answers : List Answer)
+    → run_body scene b ways onward source answers ≡ body_trace scene (exec_before_end scene b) ways source answers
+body_means scene (Node at word.Body (Then directives (Then (Listed statements) End))) ways onward source answers = refl
+body_means scene _ ways onward source answers = refl
 
-function_runs : (names : Names) (f body : Syntax) → IsFunction f body → (start : List Assignment) (arguments : List Value) (answers : List Answer)
-    → source_trace names f start arguments answers ≡ exec_body names body
-    (take (parameters_of names f) arguments (set_all start unset)) answers
-    (λ v store rest. returned [] returns.Implicit v) (λ v store rest. threw v)
-function_runs names f body w start arguments answers =
-    ap (λ (b : Syntax). exec_body names b (take (parameters_of names f) arguments (set_all start unset)) answers (λ v store rest. returned [] returns.Implicit v) (λ v store rest. threw v)) w.is_body
+-- The parameters take their arguments, and then the body runs.
+function_means : (scene : Scene) (f body : Syntax) → IsFunction f body → scene.ported ≡ false → DeclaresAll scene.names (params_in f)
+    → (start : List Assignment) (arguments : List Value) (answers : List Answer)
+    → run_function scene f start arguments answers
+    ≡ body_trace scene (exec_before_end scene body) outside (take (parameters_of scene.names f) arguments (set_all start unset)) answers
+function_means scene f body w written declared start arguments answers =
+    ap (λ (p : Syntax). take_params scene p arguments outside (λ end. run_body scene (body_in f) outside (λ (e : Unit {0}) store rest. waiting)) (set_all start unset) answers) w.is_params
+    ∙ params_taken scene written w.params (subst (DeclaresAll scene.names) w.is_params declared) w.list outside (λ end. run_body scene (body_in f) outside (λ (e : Unit {0}) store rest. waiting)) arguments (set_all start unset) answers
+    ∙ ap (λ (p : Syntax). run_body scene (body_in f) outside (λ (e : Unit {0}) store rest. waiting) (take (parameters_in scene.names p) arguments (set_all start unset)) answers) (sym w.is_params)
+    ∙ ap (λ (b : Syntax). run_body scene b outside (λ (e : Unit {0}) store rest. waiting) (take (parameters_of scene.names f) arguments (set_all start unset)) answers) w.is_body
+    ∙ body_means scene body outside (λ (e : Unit {0}) store rest. waiting) (take (parameters_of scene.names f) arguments (set_all start unset)) answers
 
 -- Its size.
 
@@ -216,18 +222,19 @@ lower_runs_by : (f body : Syntax) (names : Names) (tables : FunctionTables) (par
     → IsFunction f body → DeclaresAll names (params_in f) → parameters ≡ parameters_of names f → AreApart parameters → env.pairs ≡ []
     → IsGraphOf names tables parameters body env new params built → refusals_of names f ≡ []
     → (h : HirFunction (List BlockPair)) (pairs : List Pair) → pairs ≡ new.pairs → h.body ≡ hir_of built → h.instructions ≡ built.table → h.params ≡ params
+    → (scene : Scene) (world : World) → IsSceneOf names pairs scene world
     → (stuck : Trace) (start : List Assignment) (arguments : List Value) (answers : List Answer)
-    → trace_by stuck h pairs start arguments answers ≡ source_trace names f start arguments answers
-lower_runs_by f body names tables given env new params built w declared is distinct none g supported h pairs final body_is instructions_is params_is =
-    function_runs_by begun graph.state (exec_before_end names body) (begun_fresh env tables parameters) sound
-    lowered.blocks (lowered.runs (body_supported names f body w declared supported)) h pairs covers names f
+    → trace_by stuck world h pairs start arguments answers ≡ run_function scene f start arguments answers
+lower_runs_by f body names tables given env new params built w declared is distinct none g supported h pairs final body_is instructions_is params_is scene world stands =
+    function_runs_by scene world begun graph.state (exec_before_end scene body) (begun_fresh env tables parameters) sound
+    lowered.blocks (lowered.runs (body_supported names f body w declared supported) scene stands.named) h pairs covers stands.shares f
     built new graph.graph (graph_table names tables parameters body env new params built graph apart) (graph_unlinked names tables parameters body env new params built graph apart) body_is instructions_is
     (λ start arguments. take parameters arguments (set_all start unset))
     (λ start arguments. subst (λ (ps : List Param). Agrees ident (take parameters arguments (set_all start unset))
     (take_arguments ps arguments (start_values pairs start))) (sym (params_is ∙ graph.places))
     (agrees_taken ident covers.one (length env.identifiers) parameters arguments (set_all start unset) (start_values pairs start) given_so (agrees_start ident covers.one start)))
-    (λ start arguments answers. function_runs names f body w start arguments answers
-    ∙ body_means names body (take parameters arguments (set_all start unset)) answers (λ v after rest. threw v))
+    (λ start arguments answers. function_means scene f body w stands.written (subst (λ (n : Names). DeclaresAll n (params_in f)) (sym stands.named) declared) start arguments answers
+    ∙ ap (λ (n : Names). body_trace scene (exec_before_end scene body) outside (take (parameters_of n f) arguments (set_all start unset)) answers) stands.named)
   where
     parameters : List Parameter
     parameters = parameters_of names f
@@ -267,18 +274,18 @@ pub lower_same_runs : (f body : Syntax) (names : Names) (tables : FunctionTables
     → IsFunction f body → DeclaresAll names (params_in f) → parameters ≡ parameters_of names f → AreApart parameters → env.pairs ≡ []
     → IsGraphOf names tables parameters body env new params built → refusals_of names f ≡ []
     → (h : HirFunction (List BlockPair)) (pairs : List Pair) → pairs ≡ new.pairs → h.body ≡ hir_of built → h.instructions ≡ built.table → h.params ≡ params
-    → SameRuns names f h pairs
-lower_same_runs f body names tables parameters env new params built w declared is distinct none g supported h pairs final body_is instructions_is params_is start arguments answers =
-    lower_runs_by f body names tables parameters env new params built w declared is distinct none g supported h pairs final body_is instructions_is params_is waiting start arguments answers
+    → (scene : Scene) (world : World) → IsSceneOf names pairs scene world → SameRuns scene f world h pairs
+lower_same_runs f body names tables parameters env new params built w declared is distinct none g supported h pairs final body_is instructions_is params_is scene world stands start arguments answers =
+    lower_runs_by f body names tables parameters env new params built w declared is distinct none g supported h pairs final body_is instructions_is params_is scene world stands waiting start arguments answers
 
 pub lower_never_stuck : (f body : Syntax) (names : Names) (tables : FunctionTables) (parameters : List Parameter) (env new : Environment) (params : List Param) (built : Graph)
     → IsFunction f body → DeclaresAll names (params_in f) → parameters ≡ parameters_of names f → AreApart parameters → env.pairs ≡ []
     → IsGraphOf names tables parameters body env new params built → refusals_of names f ≡ []
     → (h : HirFunction (List BlockPair)) (pairs : List Pair) → pairs ≡ new.pairs → h.body ≡ hir_of built → h.instructions ≡ built.table → h.params ≡ params
-    → NeverStuck h pairs
-lower_never_stuck f body names tables parameters env new params built w declared is distinct none g supported h pairs final body_is instructions_is params_is stuck start arguments answers =
-    lower_runs_by f body names tables parameters env new params built w declared is distinct none g supported h pairs final body_is instructions_is params_is stuck start arguments answers
-    ∙ sym (lower_same_runs f body names tables parameters env new params built w declared is distinct none g supported h pairs final body_is instructions_is params_is start arguments answers)
+    → (scene : Scene) (world : World) → IsSceneOf names pairs scene world → NeverStuck world h pairs
+lower_never_stuck f body names tables parameters env new params built w declared is distinct none g supported h pairs final body_is instructions_is params_is scene world stands stuck start arguments answers =
+    lower_runs_by f body names tables parameters env new params built w declared is distinct none g supported h pairs final body_is instructions_is params_is scene world stands stuck start arguments answers
+    ∙ sym (lower_same_runs f body names tables parameters env new params built w declared is distinct none g supported h pairs final body_is instructions_is params_is scene world stands start arguments answers)
 
 pub lower_bounded : (f body : Syntax) (names : Names) (tables : FunctionTables) (parameters : List Parameter) (env new : Environment) (params : List Param) (built : Graph)
     → IsFunction f body → AreApart parameters → IsGraphOf names tables parameters body env new params built

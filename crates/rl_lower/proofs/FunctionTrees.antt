@@ -28,7 +28,7 @@ use Rattle.rl_names.specs.Names.{Names, parameters_among}
 use Rattle.rl_names.specs.declared.parameters.Parameter.{Parameter}
 use Rattle.rl_base.specs.declared.ids.SymbolId.{SymbolId}
 use Rattle.rl_model.specs.Covered.{AreCovered, IsCovered, IsCoveredFunction}
-use Rattle.rl_model.specs.Held.{calls_in, calls_among}
+use Rattle.rl_model.specs.Calls.{calls_in, calls_among}
 use Rattle.rl_model.specs.Rows.{label_of, refusals, refusals_in, refusals_of, said_of_local}
 use Rattle.rl_semantic.specs.Items.{of_item}
 use Rattle.rl_lower.specs.Parameters.{said_of_parameters}

@@ -28,18 +28,18 @@ use Rattle.rl_machine.specs.declared.trace.Value.TheVariants as value
 use Rattle.rl_machine.specs.declared.trace.Answer.{Answer}
 use Rattle.rl_machine.specs.declared.trace.Assignment.{Assignment}
 use Rattle.rl_machine.specs.declared.trace.Trace.{Trace}
-use Rattle.rl_machine.specs.Traces.{Store, ValueCont, returned, threw, alone}
-use Rattle.rl_model.specs.Meanings.{ExprMeaning, StmtMeaning}
+use Rattle.rl_machine.specs.Traces.{Store, World, returned, threw}
+use Rattle.rl_model.specs.Actions.{Action, Ways, give, return_with}
+use Rattle.rl_model.specs.Functions.{outside, run_function}
+use Rattle.rl_model.specs.Scene.{Scene, kept_values}
 use Rattle.rl_machine.specs.Machine.{Ends, Code}
 use Rattle.rl_machine.specs.Ends.{Notes, no_notes}
 use Rattle.rl_lower.proofs.StartStores.{start_values, take_arguments}
 use Rattle.rl_model.specs.Runs.{param_identifier, trace_by}
-use Rattle.rl_model.specs.Source.{source_trace}
 use Rattle.rl_syntax.specs.Syntax.{Syntax}
-use Rattle.rl_names.specs.Names.{Names}
 use Rattle.rl_hir.specs.declared.function.Hir.{Hir}
 use Rattle.rl_hir.specs.declared.instruction.Instruction.{Instruction}
-use Rattle.rl_lower.specs.Simulation.{Agrees, CoversNames, IsCompleted, IsCurrentOrCompleted, Extends, HasSoundNames, IsContainedIn, IsNamed, PointsSettle, UniqueIds, AreEnded, PreservesBlocks, TracesAt, TracesFrom, Throws, RunsExpression, RunsStatement}
+use Rattle.rl_lower.specs.Simulation.{Agrees, CoversNames, IsCompleted, IsCurrentOrCompleted, Extends, HasSoundNames, IsContainedIn, IsNamed, PointsSettle, UniqueIds, AreEnded, PreservesBlocks, SharesVariables, StandsIn, TracesAt, TracesFrom, RunsExpression, RunsStatement}
 use Rattle.rl_lower.specs.Reachable.{KnowsBlocks}
 use Rattle.rl_lower.specs.Endings.{return_of, with_undefined, closed_off, hir_of}
 use Rattle.rl_lower.proofs.Building.{IsFresh}
@@ -49,7 +49,7 @@ use Rattle.rl_base.specs.Distinct.{AreDistinct}
 use Rattle.rl_base.proofs.DistinctLists.{distinct_none}
 use Rattle.rl_lower.proofs.BlockIds.{apart_ended, ids_of, ended_more}
 use Rattle.rl_lower.proofs.Parts.{value_runs}
-use Rattle.rl_lower.proofs.Asking.{none_kept}
+use Rattle.rl_lower.proofs.Asking.{kept_same}
 use Rattle.rl_lower.proofs.BlockNames.{named_before}
 use Rattle.rl_lower.proofs.Finished.{IsFinished, completed_graph, finished_code, finished_contained, finished_may_order, finished_settles}
 use Rattle.rl_lower.proofs.Points.{settle_returned, settle_value}
@@ -57,34 +57,32 @@ use Rattle.rl_machine.proofs.Silence.{settled_walks, settles_passes_once}
 use Rattle.rl_machine.specs.Silence.{AlwaysSettles}
 
 -- A block that ends by a return ends the run with the value.
-pub block_returns : (s : State) (span : Option Span) (variant : ReturnVariant) (place : Place) (next : WipBlock) (c : Code)
-    → IsContainedIn (completed_by s (return_of span variant place) next) c
-    → (v : Value) (store : Store) (notes : Notes) (answers : List Answer) → store place.identifier.0 ≡ v
-    → TracesFrom c s store notes answers (returned [] variant v)
-block_returns s span variant place next c cover v store notes answers is =
-    steps_on c s.current.id.0 (length s.current.instructions) store notes answers (Ends (return_of span variant place)) (returned [] variant v)
+pub block_returns : (scene : Scene) (ways : Ways) (s : State) (span : Option Span) (variant : ReturnVariant) (place : Place) (next : WipBlock) (c : Code)
+    → IsContainedIn (completed_by s (return_of span variant place) next) c → StandsIn c scene ways
+    → (v : Value) (source store : Store) (notes : Notes) (answers : List Answer) → Agrees c.ident source store → store place.identifier.0 ≡ v
+    → TracesFrom c s store notes answers (returned (kept_values scene source) variant v)
+block_returns scene ways s span variant place next c cover stands v source store notes answers a is =
+    steps_on c s.current.id.0 (length s.current.instructions) store notes answers (Ends (return_of span variant place)) (returned (kept_values scene source) variant v)
     (terminal_met s (return_of span variant place) next c cover)
-    (comes_at_once c _ _ (λ stuck onward. ap (λ (kept : List Assignment). returned kept variant (store place.identifier.0)) (none_kept c cover.stands store) ∙ ap (λ w. returned [] variant w) is))
+    (comes_at_once c _ _ (λ stuck onward. ap (λ (kept : List Assignment). returned kept variant (store place.identifier.0)) (kept_same c scene source store a stands.shares) ∙ ap (λ w. returned (kept_values scene source) variant w) is))
 
 -- A body that is an expression: its value is returned, and a block that was reserved before goes on.
-pub value_returned : (s new : State) (d : ExprMeaning) (identifier : ℕ) (span : Option Span) (place : Place) (kind : BlockKind)
-    → place.identifier.0 ≡ identifier → RunsExpression d (reserved s) new identifier
-    → RunsStatement (λ source answers exits. d source answers (λ v after rest. returned [] returns.Implicit v) exits.throws) s
+pub value_returned : (scene : Scene) (s new : State) (d : Action Value) (identifier : ℕ) (span : Option Span) (place : Place) (kind : BlockKind)
+    → place.identifier.0 ≡ identifier → RunsExpression scene d (reserved s) new identifier
+    → RunsStatement scene (λ ways onward. d ways (λ v. return_with scene returns.Implicit v ways onward)) s
     (completed_by new (return_of span returns.Implicit place) (new_block s.env.next_block kind))
-value_returned s new d identifier span place kind named r = record {
-  runs = λ c cover m exits source store notes answers a throws onward.
-      r.runs c (contained_before new _ c ended cover) m (λ v after rest. returned [] returns.Implicit v) exits.throws source store notes answers a throws
-      (record { goes = λ v after later notes1 answers1 a1 l is. block_returns new span returns.Implicit place (new_block s.env.next_block kind) c cover v later notes1 answers1 (ap later named ∙ is) });
+value_returned scene s new d identifier span place kind named r = record {
+  runs = λ c cover m ways normal source store notes answers a stands onward.
+      r.runs c (contained_before new _ c ended cover) m ways (λ v. return_with scene returns.Implicit v ways (λ (end : Unit {0}). normal)) source store notes answers a stands
+      (record { goes = λ v after later notes1 answers1 a1 l is. block_returns scene ways new span returns.Implicit place (new_block s.env.next_block kind) c cover stands v after later notes1 answers1 a1 (ap later named ∙ is) });
 }
   where
     ended : Extends new (completed_by new (return_of span returns.Implicit place) (new_block s.env.next_block kind))
     ended = extends_completed new (return_of span returns.Implicit place) (new_block s.env.next_block kind)
 
-undefined_runs : (s : State)
-    → RunsExpression (λ source answers onward throws. onward value.Undefined source answers) s (with_undefined s)
-    (length s.env.identifiers)
-undefined_runs s =
-    value_runs s (λ source answers onward throws. onward value.Undefined source answers) primitives.Undefined None (λ source answers onward throws. refl)
+undefined_runs : (scene : Scene) (s : State) → RunsExpression scene (give value.Undefined) s (with_undefined s) (length s.env.identifiers)
+undefined_runs scene s =
+    value_runs scene s (give value.Undefined) primitives.Undefined None (λ source answers ways k. refl)
 
 extends_undefined : (s : State) → Extends s (with_undefined s)
 extends_undefined s = extends_value s (values.Primitive primitives.Undefined) None
@@ -93,13 +91,13 @@ pub extends_closed : (s : State) → Extends s (closed_off s)
 extends_closed s = extends_then s (with_undefined s) (closed_off s) (extends_undefined s) (extends_completed (with_undefined s) _ placeholder)
 
 -- At the end of a body the function returns Undefined.
-falls_off : (s : State) (c : Code) → IsContainedIn (closed_off s) c → HasSoundNames s
-    → (throws : ValueCont) (source store : Store) (notes : Notes) (answers : List Answer) → Agrees c.ident source store
-    → Throws throws → TracesFrom c s store notes answers (returned [] returns.Void value.Undefined)
-falls_off s c cover m throws source store notes answers a none =
-    (undefined_runs s).runs c (contained_before (with_undefined s) (closed_off s) c (extends_completed (with_undefined s) _ placeholder) cover) m
-    (λ v after rest. returned [] returns.Void v) throws source store notes answers a none
-    (record { goes = λ v after later notes1 answers1 a1 l is. block_returns (with_undefined s) None returns.Void (temporary s None) placeholder c cover v later notes1 answers1 is })
+falls_off : (scene : Scene) (s : State) (c : Code) → IsContainedIn (closed_off s) c → HasSoundNames s
+    → (ways : Ways) (source store : Store) (notes : Notes) (answers : List Answer) → Agrees c.ident source store
+    → StandsIn c scene ways → TracesFrom c s store notes answers (returned (kept_values scene source) returns.Void value.Undefined)
+falls_off scene s c cover m ways source store notes answers a stands =
+    (undefined_runs scene s).runs c (contained_before (with_undefined s) (closed_off s) c (extends_completed (with_undefined s) _ placeholder) cover) m
+    ways (λ v after rest. returned (kept_values scene after) returns.Void v) source store notes answers a stands
+    (record { goes = λ v after later notes1 answers1 a1 l is. block_returns scene ways (with_undefined s) None returns.Void (temporary s None) placeholder c cover stands v after later notes1 answers1 a1 is })
 
 nothing_completed : (completed : List BlockPair) → completed ≡ [] → (id : ℕ) → IsCompleted completed id → ⊥
 nothing_completed completed none id k =
@@ -160,41 +158,45 @@ function_finished begun s fresh b = record {
       (b.settle c (contained_before s (closed_off s) c (extends_closed s) cover) (nothing_settles begun fresh c))) id place (inl d);
 }
 
+-- The meaning of a body and of its end.
+abbrev pub body_trace : Scene → Action (Unit {0}) → Ways → Store → List Answer → Trace
+body_trace scene m ways source answers = m ways (λ end after rest. returned (kept_values scene after) returns.Void value.Undefined) source answers
+
 -- The finished blocks have the traces of the body.
-pub function_runs : (begun s : State) (m : StmtMeaning) (ident : ℕ → Option ℕ) (fresh : IsFresh begun) → HasSoundNames begun → (b : PreservesBlocks begun s)
-    → CoversNames (closed_off s).env.pairs (length (closed_off s).env.identifiers) ident → RunsStatement m begun s → (throws : ValueCont) (source store : Store) (notes : Notes) (answers : List Answer)
-    → Agrees ident source store → Throws throws
-    → TracesAt (finished_code (closed_off s) (function_finished begun s fresh b) ident) (closed_off s).entry.0 0 store notes answers
-    (m source answers (record { normal = λ after rest. returned [] returns.Void value.Undefined; throws = throws }))
-function_runs begun s m ident fresh sound b covers r throws source store notes answers agrees none =
-    let c : Code = finished_code (closed_off s) (function_finished begun s fresh b) ident in
-    let trace : Trace = m source answers (record { normal = λ after rest. returned [] returns.Void value.Undefined; throws = throws }) in
-    let cover : IsContainedIn (closed_off s) c = finished_contained (closed_off s) (function_finished begun s fresh b) ident covers in
+pub function_runs : (scene : Scene) (begun s : State) (m : Action (Unit {0})) (ident : ℕ → Option ℕ) (world : World) (fresh : IsFresh begun) → HasSoundNames begun → (b : PreservesBlocks begun s)
+    → CoversNames (closed_off s).env.pairs (length (closed_off s).env.identifiers) ident → RunsStatement scene m begun s → (ways : Ways) (source store : Store) (notes : Notes) (answers : List Answer)
+    → Agrees ident source store → StandsIn (finished_code (closed_off s) (function_finished begun s fresh b) ident world) scene ways
+    → TracesAt (finished_code (closed_off s) (function_finished begun s fresh b) ident world) (closed_off s).entry.0 0 store notes answers (body_trace scene m ways source answers)
+function_runs scene begun s m ident world fresh sound b covers r ways source store notes answers agrees stands =
+    let c : Code = finished_code (closed_off s) (function_finished begun s fresh b) ident world in
+    let trace : Trace = body_trace scene m ways source answers in
+    let cover : IsContainedIn (closed_off s) c = finished_contained (closed_off s) (function_finished begun s fresh b) ident world covers in
     let goes : TracesFrom c begun store notes answers trace =
     r.runs c (contained_before s (closed_off s) c (extends_closed s) cover) sound
-    (record { normal = λ after rest. returned [] returns.Void value.Undefined; throws = throws }) source store notes answers agrees none
-    (record { goes = λ after later notes1 answers1 a1 l. falls_off s c cover (b.extends.sound sound) throws after later notes1 answers1 a1 none }) in
+    ways (λ after rest. returned (kept_values scene after) returns.Void value.Undefined) source store notes answers agrees stands
+    (record { goes = λ after later notes1 answers1 a1 l. falls_off scene s c cover (b.extends.sound sound) ways after later notes1 answers1 a1 stands }) in
     subst (λ (id : ℕ). TracesAt c id 0 store notes answers trace) (sym (ap (λ (id : BlockId). id.0) b.extends.entry ∙ fresh.entry))
     (subst (λ (listed : List InstructionId). TracesAt c begun.current.id.0 (length listed) store notes answers trace) fresh.instructions goes)
 
 -- The function that is built has the traces of its source, whatever trace a stuck run has: `build` keeps the runs of the completed blocks.
-pub function_runs_by : (begun s : State) (m : StmtMeaning) → IsFresh begun → HasSoundNames begun → PreservesBlocks begun s
-    → RunsStatement m begun s → (f : HirFunction (List BlockPair)) (pairs : List Pair)
+pub function_runs_by : (scene : Scene) (world : World) (begun s : State) (m : Action (Unit {0})) → IsFresh begun → HasSoundNames begun → PreservesBlocks begun s
+    → RunsStatement scene m begun s → (f : HirFunction (List BlockPair)) (pairs : List Pair)
     → CoversNames (closed_off s).env.pairs (length (closed_off s).env.identifiers) (λ symbol. identifier_of pairs symbol)
-    → (names : Names) (function : Syntax)
+    → SharesVariables (λ symbol. identifier_of pairs symbol) scene.world world
+    → (function : Syntax)
     → (built : Graph) (env : Environment) → IsBuilt (closed_off s) built env → graph_of (closed_off s) ≡ (closed_off s).completed → All (λ p. p.1.preds ≡ []) (closed_off s).completed
     → f.body ≡ hir_of built → f.instructions ≡ built.table
     → (source : List Assignment → List Value → Store) →
     ((start : List Assignment) (arguments : List Value) → Agrees (λ symbol. identifier_of pairs symbol) (source start arguments) (take_arguments f.params arguments (start_values pairs start)))
-    → ((start : List Assignment) (arguments : List Value) (answers : List Answer) → source_trace names function start arguments answers ≡ m (source start arguments) answers (record { normal = λ after rest. returned [] returns.Void value.Undefined; throws = λ v after rest. threw v }))
+    → ((start : List Assignment) (arguments : List Value) (answers : List Answer) → run_function scene function start arguments answers ≡ body_trace scene m outside (source start arguments) answers)
     → (stuck : Trace) (start : List Assignment) (arguments : List Value) (answers : List Answer)
-    → trace_by stuck f pairs start arguments answers ≡ source_trace names function start arguments answers
-function_runs_by begun s m fresh sound b r f pairs covers names function built env is_built table_is unlinked body_is instructions_is source agrees means stuck start arguments answers =
-    ap (λ (h : Hir (List BlockPair)). graph_trace stuck (record { blocks = h.blocks; table = f.instructions; entry = h.entry }) ident alone params start arguments answers) body_is
-    ∙ ap (λ (l : List Instruction). graph_trace stuck (record { blocks = built.blocks; table = l; entry = built.entry }) ident alone params start arguments answers) instructions_is
-    ∙ is_built.runs may stuck ident alone params once start arguments answers
-    ∙ ap (λ (blocks : List BlockPair). graph_trace stuck (record { blocks = blocks; table = last.table; entry = last.entry }) ident alone params start arguments answers) table_is
-    ∙ settled_walks (completed_graph last) ordered ident alone params settles stuck start arguments answers enough (omega arith)
+    → trace_by stuck world f pairs start arguments answers ≡ run_function scene function start arguments answers
+function_runs_by scene world begun s m fresh sound b r f pairs covers shares function built env is_built table_is unlinked body_is instructions_is source agrees means stuck start arguments answers =
+    ap (λ (h : Hir (List BlockPair)). graph_trace stuck (record { blocks = h.blocks; table = f.instructions; entry = h.entry }) ident world params start arguments answers) body_is
+    ∙ ap (λ (l : List Instruction). graph_trace stuck (record { blocks = built.blocks; table = l; entry = built.entry }) ident world params start arguments answers) instructions_is
+    ∙ is_built.runs may stuck ident world params once start arguments answers
+    ∙ ap (λ (blocks : List BlockPair). graph_trace stuck (record { blocks = blocks; table = last.table; entry = last.entry }) ident world params start arguments answers) table_is
+    ∙ settled_walks (completed_graph last) ordered ident world params settles stuck start arguments answers enough (omega arith)
     ∙ goes.by.1 stuck enough (omega arith)
     ∙ sym (means start arguments answers)
   where
@@ -211,7 +213,7 @@ function_runs_by begun s m fresh sound b r f pairs covers names function built e
     store = take_arguments f.params arguments (start_values pairs start)
 
     trace : Trace
-    trace = m (source start arguments) answers (record { normal = λ after rest. returned [] returns.Void value.Undefined; throws = λ v after rest. threw v })
+    trace = body_trace scene m outside (source start arguments) answers
 
     finished : IsFinished last
     finished = function_finished begun s fresh b
@@ -222,15 +224,15 @@ function_runs_by begun s m fresh sound b r f pairs covers names function built e
     may : MayOrder (unordered_graph last)
     may = subst (λ (blocks : List BlockPair). MayOrder (record { blocks = blocks; table = last.table; entry = last.entry })) (sym table_is) ordered
 
-    settles : AlwaysSettles (finished_code last finished ident)
-    settles = finished_settles last finished ident covers
+    settles : AlwaysSettles (finished_code last finished ident world)
+    settles = finished_settles last finished ident world covers
 
-    once : PassesOnce (code_of (unordered_graph last) ident alone) last.entry params
-    once = subst (λ (blocks : List BlockPair). PassesOnce (code_of (record { blocks = blocks; table = last.table; entry = last.entry }) ident alone) last.entry params) (sym table_is)
-        (settles_passes_once (finished_code last finished ident) settles last.entry params)
+    once : PassesOnce (code_of (unordered_graph last) ident world) last.entry params
+    once = subst (λ (blocks : List BlockPair). PassesOnce (code_of (record { blocks = blocks; table = last.table; entry = last.entry }) ident world) last.entry params) (sym table_is)
+        (settles_passes_once (finished_code last finished ident world) settles last.entry params)
 
-    goes : TracesAt (finished_code last finished ident) last.entry.0 0 store no_notes answers trace
-    goes = function_runs begun s m ident fresh sound b covers r (λ v after rest. threw v) (source start arguments) store no_notes answers (agrees start arguments) (record { ends = λ v after rest. refl })
+    goes : TracesAt (finished_code last finished ident world) last.entry.0 0 store no_notes answers trace
+    goes = function_runs scene begun s m ident world fresh sound b covers r outside (source start arguments) store no_notes answers (agrees start arguments) (record { throws = λ v after rest. refl; shares = shares })
 
     enough : ℕ
     enough = goes.by.0 + steps_for answers (positions last.completed)

@@ -15,7 +15,7 @@ use Rattle.rl_hir.specs.declared.function.BasicBlock.{BasicBlock}
 use Rattle.rl_hir.specs.declared.instruction.Instruction.{Instruction}
 use Rattle.rl_machine.proofs.Cleaned.{cleaned_lists, lists}
 use Rattle.rl_machine.proofs.KeptRuns.{no_preds_ordered}
-use Rattle.rl_model.specs.Held.{graph_calls, listed_calls}
+use Rattle.rl_model.specs.Calls.{graph_calls, listed_calls}
 use Rattle.rl_order.proofs.Ordering.{or_right, walked_good}
 use Rattle.rl_order.proofs.IsUsed.{used_reached}
 use Rattle.rl_order.proofs.KeepsReached.{used_done}

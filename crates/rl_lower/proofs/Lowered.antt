@@ -29,23 +29,30 @@ use Rattle.rl_names.specs.declared.names.Meaning.{Meaning}
 use Rattle.rl_names.specs.declared.names.Meaning.TheVariants.{Local, Outer}
 use Rattle.rl_machine.specs.declared.trace.Answer.{Answer}
 use Rattle.rl_machine.specs.declared.trace.Value.TheVariants as value
-use Rattle.rl_model.specs.Held.{call_at, calls_in, calls_among, calls_of, can_complete, live_calls}
+use Rattle.rl_model.specs.Calls.{call_at, calls_in, calls_among, calls_of, can_complete, live_calls}
 use Rattle.rl_model.specs.Rows.{label_of, refusals, refusals_in, refusal, said_of_local, said_of_name, said_of_outer}
-use Rattle.rl_machine.specs.Traces.{returned, Store, ValueCont, waiting}
-use Rattle.rl_model.specs.Meanings.{Exits}
-use Rattle.rl_model.specs.Source.{eval_expr, eval_exprs, reads, shape_of, exec_stmt, exec_stmts}
+use Rattle.rl_machine.specs.Traces.{Cont, Store, ValueCont, waiting}
+use Rattle.rl_machine.specs.declared.trace.Value.{Value}
+use Rattle.rl_model.proofs.CoveredMeanings.{no_receiver, plain_value}
+use Rattle.rl_model.specs.Actions.{Action, Ways, ◌>>=◌, ◌>>◌, ask, give, no_meaning, return_with}
+use Rattle.rl_model.specs.Covered.{IsCovered}
+use Rattle.rl_model.specs.Events.{event}
+use Rattle.rl_model.specs.Expressions.{call_kind, callee as callee_of, called, eval, one_value, read, unless_nullish, values as values_in, values_of}
+use Rattle.rl_model.specs.Scene.{Scene}
+use Rattle.rl_model.specs.Shapes.{lends_receiver, shapes}
+use Rattle.rl_model.specs.Statements.{exec, exec_all}
 use Rattle.rl_hir.specs.Instructions.{argument_place, argument_shape}
 use Rattle.rl_machine.specs.Acts.{value_of}
 use Rattle.rl_lower.specs.Endings.{return_of, returned_from}
 use Rattle.rl_lower.specs.Lowering.{Preserves, LowersExpression, LowersExpressions, LowersStatement, LowersStatements}
-use Rattle.rl_lower.specs.Simulation.{RunsExpression}
+use Rattle.rl_lower.specs.Simulation.{RunsAll, RunsExpression}
 use Rattle.rl_lower.proofs.Blocks.{blocks_refl, blocks_then, blocks_value, blocks_recorded, blocks_returned}
 use Rattle.rl_lower.proofs.Calls.{added_then, calls_more, calls_same, nothing_added}
 use Rattle.rl_lower.proofs.Keeping.{keeps_refl, keeps_then, keeps_more, keeps_value, keeps_reserved, keeps_recorded, keeps_completed, listed_recorded}
 use Rattle.rl_lower.proofs.Listed.{listed_value}
 use Rattle.rl_lower.specs.Reachable.{can_all_complete}
 use Rattle.rl_lower.proofs.Reachable.{adds_value, adds_refl, adds_recorded, adds_then, adds_same, adds_returned}
-use Rattle.rl_lower.proofs.Parts.{value_runs, local_runs, outer_runs, binary_runs, call_runs, none_run, next_runs, same_runs, means_same, evaluated_runs, return_runs, nothing_runs, sequence_runs}
+use Rattle.rl_lower.proofs.Parts.{value_runs, local_runs, outer_runs, binary_runs, call_runs, none_run, next_runs, means_same, evaluated_runs, return_runs, nothing_runs, sequence_runs}
 
 append_none : (xs ys : List Diagnostic) → xs ++ ys ≡ [] → (xs ≡ []) × (ys ≡ [])
 append_none [] ys e = (refl, e)
@@ -56,7 +63,7 @@ append_none (x ∷ xs) ys e = absurd (cc)
 -- An expression without parts and without refusals.
 leaf_lowered : (names : Names) (e : Syntax) (s : State) (v : InstructionValue) (span : Option Span) → 1 ≤ nodes e
     → is_function_expression v ≡ false → calls_in e ≡ [] → call_at (unordered (temporary s span) v span) ≡ [] → refusals names e ≡ []
-    → RunsExpression (eval_expr names e) s (with_value s v span) (length s.env.identifiers)
+    → ((scene : Scene) → scene.names ≡ names → RunsExpression scene (eval scene e) s (with_value s v span) (length s.env.identifiers))
     → LowersExpression names e s (with_value s v span) (length s.env.identifiers)
 leaf_lowered names e s v span one plain silent no_call none run = record {
   keeps = keeps_more s _ 1 (4 * nodes e) (omega (arith, one)) (keeps_value s v span plain);
@@ -64,7 +71,7 @@ leaf_lowered names e s v span one plain silent no_call none run = record {
   refused = nothing_added s.env.diagnostics (refusals names e) none;
   calls = calls_same s.table (unordered (temporary s span) v span) no_call ∙ nothing_added (calls_of s.table) (calls_in e) silent;
   reachable = adds_same _ _ true true s _ (no_call ∙ sym silent) refl (adds_value s v span);
-  runs = λ supported. run;
+  runs = λ supported scene same. run scene same;
 }
 
 -- As `leaf_lowered`, with a refusal, so that no run is owed.
@@ -77,7 +84,7 @@ refused_lowered names e d s v span one plain silent no_call says = record {
   refused = ap (λ (l : List Diagnostic). s.env.diagnostics ++ l) (sym says);
   calls = calls_same s.table (unordered (temporary s span) v span) no_call ∙ nothing_added (calls_of s.table) (calls_in e) silent;
   reachable = adds_same _ _ true true s _ (no_call ∙ sym silent) refl (adds_then [] _ true true s (recorded s d) _ (blocks_recorded s d) (blocks_value (recorded s d) v span) (adds_recorded s d) (adds_value (recorded s d) v span) (listed_recorded s d));
-  runs = λ supported. absurd (never (sym says ∙ supported));
+  runs = λ supported scene same. absurd (never (sym says ∙ supported));
 }
   where
     never : d ∷ [] ≡ [] → ⊥
@@ -96,30 +103,30 @@ expression_call names tree e s new known place other is moved placed l =
 literal_call : (names : Names) (tree e : Syntax) (s new : State) (p : PrimitiveValue) (span : Option Span)
     (place : Place) → tree ≡ e → new ≡ with_value s (values.Primitive p) span → place ≡ temporary s span → 1 ≤ nodes e
     → calls_in e ≡ [] → refusals names e ≡ []
-    → ((source : Store) (answers : List Answer) (onward throws : ValueCont) → eval_expr names e source answers onward throws ≡ onward (value_of p) source answers)
+    → ((scene : Scene) (source : Store) (answers : List Answer) (ways : Ways) (k : ValueCont) → eval scene e ways k source answers ≡ k (value_of p) source answers)
     → LowersExpression names tree s new place.identifier.0
 literal_call names tree e s new p span place is moved placed one no_calls none silent =
-    expression_call names tree e s new _ place _ is moved placed (leaf_lowered names e s (values.Primitive p) span one refl no_calls refl none (value_runs s (eval_expr names e) p span silent))
+    expression_call names tree e s new _ place _ is moved placed (leaf_lowered names e s (values.Primitive p) span one refl no_calls refl none (λ scene same. value_runs scene s (eval scene e) p span (silent scene)))
 
 pub null_call : (names : Names) (tree : Syntax) (at : At) (s new : State) (span : Option Span) (place : Place)
     → tree ≡ Node at word.Null End → new ≡ with_value s (values.Primitive primitives.Null) span → place ≡ temporary s span
     → LowersExpression names tree s new place.identifier.0
 null_call names tree at s new span place is moved placed =
-    literal_call names tree (Node at word.Null End) s new primitives.Null span place is moved placed (omega arith) refl refl (λ source answers onward throws. refl)
+    literal_call names tree (Node at word.Null End) s new primitives.Null span place is moved placed (omega arith) refl refl (λ scene source answers ways k. refl)
 
 pub boolean_call : (names : Names) (tree : Syntax) (at : At) (flag : Bool) (s new : State) (span : Option Span)
     (place : Place) → tree ≡ Node at word.Bool (Then (Flag flag) End)
     → new ≡ with_value s (values.Primitive (primitives.Boolean flag)) span → place ≡ temporary s span
     → LowersExpression names tree s new place.identifier.0
 boolean_call names tree at flag s new span place is moved placed =
-    literal_call names tree (Node at word.Bool (Then (Flag flag) End)) s new (primitives.Boolean flag) span place is moved placed (omega arith) refl refl (λ source answers onward throws. refl)
+    literal_call names tree (Node at word.Bool (Then (Flag flag) End)) s new (primitives.Boolean flag) span place is moved placed (omega arith) refl refl (λ scene source answers ways k. refl)
 
 pub string_call : (names : Names) (tree : Syntax) (at : At) (text copy : List ℕ) (s new : State) (span : Option Span)
     (place : Place) → tree ≡ Node at word.Str (Then (Said text) End) → copy ≡ text
     → new ≡ with_value s (values.Primitive (primitives.String copy)) span → place ≡ temporary s span
     → LowersExpression names tree s new place.identifier.0
 string_call names tree at text copy s new span place is same moved placed =
-    literal_call names tree (Node at word.Str (Then (Said text) End)) s new (primitives.String copy) span place is moved placed (omega arith) refl refl (λ source answers onward throws. ap (λ (t : List ℕ). onward (value.Text t) source answers) (sym same))
+    literal_call names tree (Node at word.Str (Then (Said text) End)) s new (primitives.String copy) span place is moved placed (omega arith) refl refl (λ scene source answers ways k. ap (λ (t : List ℕ). k (value.Text t) source answers) (sym same))
 
 pub number_call : (names : Names) (tree : Syntax) (at : At) (text : List ℕ) (number : ℕ) (s new : State)
     (span : Option Span) (place : Place) → tree ≡ Node at word.Num (Then (Said text) End) → is_numeral text ≡ true
@@ -128,7 +135,7 @@ pub number_call : (names : Names) (tree : Syntax) (at : At) (text : List ℕ) (n
 number_call names tree at text number s new span place is numeral same moved placed =
     literal_call names tree (Node at word.Num (Then (Said text) End)) s new (primitives.Number number) span place is moved placed (omega arith) refl
     (ap (λ (b : Bool). (if b then [] else refusal row.F43 at.span ∷ []) ++ []) numeral)
-    (λ source answers onward throws. ap (λ (b : Bool). if b then onward (value.Number (number_of text)) source answers else waiting) numeral ∙ ap (λ (n : ℕ). onward (value.Number n) source answers) (sym same))
+    (λ scene source answers ways k. ap (λ (b : Bool). (if b then give (value.Number (number_of text)) else no_meaning) ways k source answers) numeral ∙ ap (λ (n : ℕ). k (value.Number n) source answers) (sym same))
 
 pub refused_call : (names : Names) (tree : Syntax) (at : At) (text : List ℕ) (d : Diagnostic) (s mid new : State)
     (span : Option Span) (place : Place) → tree ≡ Node at word.Num (Then (Said text) End) → is_numeral text ≡ false
@@ -146,6 +153,12 @@ name_says : (names : Names) (at : At) (name : List ℕ) (m : Meaning) → names.
 name_says names at name m is =
     append-nil (said_of_name names (names.meaning at.reference.0 name) at.span) ∙ ap (λ (m : Meaning). said_of_name names m at.span) is
 
+-- A name is read by its meaning.
+read_as : (names : Names) (scene : Scene) → scene.names ≡ names → (at : At) (name : List ℕ) (m : Meaning) → names.meaning at.reference.0 name ≡ m
+    → read scene (scene.names.meaning at.reference.0 name) ≡ read scene m
+read_as names scene same at name m is =
+    ap (λ (n : Names). read scene (n.meaning at.reference.0 name)) same ∙ ap (read scene) is
+
 -- A name that is no local, without a refusal, and with one.
 pub outer_call : (names : Names) (at : At) (name : List ℕ) (binding : NonLocalBinding) (s new : State) (span : Option Span)
     (place : Place) → names.meaning at.reference.0 name ≡ Outer binding → said_of_outer binding at.span ≡ []
@@ -154,7 +167,7 @@ pub outer_call : (names : Names) (at : At) (name : List ℕ) (binding : NonLocal
 outer_call names at name binding s new span place is nothing moved placed =
     expression_call names (Node at word.Id (Then (Said name) End)) (Node at word.Id (Then (Said name) End)) s new _ place _ refl moved placed
     (leaf_lowered names (Node at word.Id (Then (Said name) End)) s (values.LoadGlobal binding) span (omega arith) refl refl refl (name_says names at name (Outer binding) is ∙ nothing)
-    (same_runs s _ _ _ _ (λ source answers onward throws. ap (λ (m : Meaning). reads m source answers onward throws) is) (outer_runs s binding span)))
+    (λ scene same. subst (λ (d : Action Value). RunsExpression scene d s (with_value s (values.LoadGlobal binding) span) (length s.env.identifiers)) (sym (read_as names scene same at name (Outer binding) is)) (outer_runs scene s binding span)))
 
 pub refused_outer_call : (names : Names) (at : At) (name : List ℕ) (binding : NonLocalBinding) (d : Diagnostic) (s mid new : State)
     (span : Option Span) (place : Place) → names.meaning at.reference.0 name ≡ Outer binding → said_of_outer binding at.span ≡ d ∷ []
@@ -175,7 +188,7 @@ pub local_call : (names : Names) (at : At) (name : List ℕ) (symbol : SymbolId)
 local_call names at name symbol p s new span place is nothing bound moved placed =
     expression_call names (Node at word.Id (Then (Said name) End)) (Node at word.Id (Then (Said name) End)) s new _ place _ refl moved placed
     (leaf_lowered names (Node at word.Id (Then (Said name) End)) s (values.LoadLocal p) span (omega arith) refl refl refl (name_says names at name (Local symbol) is ∙ nothing)
-    (same_runs s _ _ _ _ (λ source answers onward throws. ap (λ (m : Meaning). reads m source answers onward throws) is) (local_runs s symbol.0 p span bound)))
+    (λ scene same. subst (λ (d : Action Value). RunsExpression scene d s (with_value s (values.LoadLocal p) span) (length s.env.identifiers)) (sym (read_as names scene same at name (Local symbol) is)) (local_runs scene s symbol.0 p span bound)))
 
 pub refused_local_call : (names : Names) (at : At) (name : List ℕ) (symbol : SymbolId)
     (d : Diagnostic) (p : Place) (s mid new : State) (span : Option Span) (place : Place)
@@ -197,7 +210,7 @@ parenthesized_call names tree e at s new identifier is l = subst (λ (t : Syntax
   refused = l.refused ∙ ap (λ (ds : List Diagnostic). s.env.diagnostics ++ ds) (sym (append-nil (refusals names e)));
   calls = l.calls ∙ ap (λ (cs : List (Option Span)). calls_of s.table ++ cs) (sym (append-nil (calls_in e)));
   reachable = adds_same (calls_in e) _ true true s new (sym (append-nil (calls_in e))) refl l.reachable;
-  runs = λ supported. same_runs s new (eval_expr names (Node at word.Paren (Then e End))) (eval_expr names e) identifier (λ source answers onward throws. refl) (l.runs (sym (append-nil (refusals names e)) ∙ supported));
+  runs = λ supported scene same. l.runs (sym (append-nil (refusals names e)) ∙ supported) scene same;
 })
 
 -- Two operands from left to right, and the operator.
@@ -216,9 +229,8 @@ binary_call names tree left right at operator l r s mid last new span place is l
           ∙ added_then (calls_in left) (calls_in right ++ []) _ _ _ ll.calls (lr.calls ∙ ap (λ (cs : List (Option Span)). calls_of mid.table ++ cs) (sym (append-nil (calls_in right))));
       reachable = adds_same _ _ true true s _ (append_assoc (calls_in left) (calls_in right) []) refl
           (adds_then (calls_in left ++ calls_in right) _ true true s last _ (blocks_then s mid last ll.blocks lr.blocks) (blocks_value last (values.BinaryExpression operator l r) span) (adds_then (calls_in left) (calls_in right) true true s mid last ll.blocks lr.blocks ll.reachable lr.reachable ll.keeps.listed) (adds_value last (values.BinaryExpression operator l r) span) (λ listed. lr.keeps.listed (ll.keeps.listed listed)));
-      runs = λ supported. (let none = append_none (refusals names left) (refusals names right ++ []) supported in
-          same_runs s _ (eval_expr names whole) _ (length last.env.identifiers) (λ source answers onward throws. refl)
-          (binary_runs s mid last (eval_expr names left) (eval_expr names right) operator l r span ll.blocks.extends lr.blocks.extends (ll.runs none.0) (lr.runs (sym (append-nil (refusals names right)) ∙ none.1))));
+      runs = λ supported scene same. (let none = append_none (refusals names left) (refusals names right ++ []) supported in
+          binary_runs scene s mid last (eval scene left) (eval scene right) operator l r span ll.blocks.extends lr.blocks.extends (ll.runs none.0 scene same) (lr.runs (sym (append-nil (refusals names right)) ∙ none.1) scene same));
     })
   where
     whole : Syntax
@@ -232,32 +244,39 @@ none_given names s = record {
   refused = sym (append-nil s.env.diagnostics);
   calls = sym (append-nil (calls_of s.table));
   reachable = adds_refl s;
-  runs = λ supported. none_run s;
+  runs = λ supported scene same. none_run scene s;
 }
 
 pub next_given : (names : Names) (e : Syntax) (es : Pieces) (s mid last : State) (identifier : ℕ)
-    (identifiers : List ℕ) → LowersExpression names e s mid identifier → LowersExpressions names es mid last identifiers
+    (identifiers : List ℕ) → IsCovered e → LowersExpression names e s mid identifier → LowersExpressions names es mid last identifiers
     → LowersExpressions names (Then e es) s last (identifier ∷ identifiers)
-next_given names e es s mid last identifier identifiers l m = record {
+next_given names e es s mid last identifier identifiers covered l m = record {
   keeps = keeps_more s last (4 * nodes e + 4 * nodes_of es) _ (omega arith) (keeps_then s mid last (4 * nodes e) (4 * nodes_of es) l.keeps m.keeps);
   blocks = blocks_then s mid last l.blocks m.blocks;
   refused = added_then (refusals names e) (refusals_in names es) _ _ _ l.refused m.refused;
   calls = added_then (calls_in e) (calls_among es) _ _ _ l.calls m.calls;
   reachable = adds_then (calls_in e) (calls_among es) true true s mid last l.blocks m.blocks l.reachable m.reachable l.keeps.listed;
-  runs = λ supported. (let none = append_none (refusals names e) (refusals_in names es) supported in
-      next_runs s mid last (eval_expr names e) (eval_exprs names es) identifier identifiers l.blocks.extends m.blocks.extends (l.runs none.0) (m.runs none.1));
+  runs = λ supported scene same. (let none = append_none (refusals names e) (refusals_in names es) supported in
+      subst (λ (d : Action (List Value)). RunsAll scene (first_of scene d) s last (identifier ∷ identifiers)) (sym (plain_value scene e (eval scene e) covered))
+      (next_runs scene s mid last (eval scene e) (values_in scene es) identifier identifiers l.blocks.extends m.blocks.extends (l.runs none.0 scene same) (m.runs none.1 scene same)));
 }
+  where
+    first_of : Scene → Action (List Value) → Action (List Value)
+    first_of scene d = do
+      vs ← d
+      ws ← values_in scene es
+      give (vs ++ ws)
 
 -- A callee, its arguments, and the call.
 pub call_call : (names : Names) (tree callee : Syntax) (arguments : Pieces) (at : At) (f : Place)
     (given : List PlaceOrSpread) (identifiers : List ℕ) (s mid last new : State) (place : Place)
-    → tree ≡ Node at word.Call (Then (Flag false) (Then callee (Then (Listed arguments) End)))
+    → tree ≡ Node at word.Call (Then (Flag false) (Then callee (Then (Listed arguments) End))) → IsCovered callee
     → LowersExpression names callee s mid f.identifier.0 → LowersExpressions names arguments mid last identifiers
-    → map argument_shape given ≡ shape_of arguments →
+    → map argument_shape given ≡ shapes arguments →
     ((store : Store) → map (λ a. store (argument_place a).identifier.0) given ≡ map store identifiers)
     → new ≡ with_value last (values.CallExpression f given) (Some at.span) → place ≡ temporary last (Some at.span)
     → LowersExpression names tree s new place.identifier.0
-call_call names tree callee arguments at f given identifiers s mid last new place is lf la shaped values_given moved placed =
+call_call names tree callee arguments at f given identifiers s mid last new place is covered lf la shaped values_given moved placed =
     expression_call names tree whole s new _ place _ is moved placed (record {
       keeps = keeps_more s _ (4 * nodes callee + (4 * nodes_of arguments + 1)) _ (omega arith) (keeps_then s mid _ (4 * nodes callee) (4 * nodes_of arguments + 1) lf.keeps (keeps_then mid last _ (4 * nodes_of arguments) 1 la.keeps (keeps_value last (values.CallExpression f given) (Some at.span) refl)));
       blocks = blocks_then s last _ (blocks_then s mid last lf.blocks la.blocks) (blocks_value last (values.CallExpression f given) (Some at.span));
@@ -267,13 +286,21 @@ call_call names tree callee arguments at f given identifiers s mid last new plac
           ∙ append_assoc (calls_of s.table) (calls_in callee ++ (calls_among arguments ++ [])) (Some at.span ∷ []);
       reachable = adds_same _ _ true true s _ (ap (λ (cs : List (Option Span)). (calls_in callee ++ cs) ++ Some at.span ∷ []) (sym (append-nil (calls_among arguments)))) refl
           (adds_then (calls_in callee ++ calls_among arguments) _ true true s last _ (blocks_then s mid last lf.blocks la.blocks) (blocks_value last (values.CallExpression f given) (Some at.span)) (adds_then (calls_in callee) (calls_among arguments) true true s mid last lf.blocks la.blocks lf.reachable la.reachable lf.keeps.listed) (adds_value last (values.CallExpression f given) (Some at.span)) (λ listed. la.keeps.listed (lf.keeps.listed listed)));
-      runs = λ supported. (let none = append_none (refusals names callee) (refusals_in names arguments ++ []) supported in
-          same_runs s _ (eval_expr names whole) _ (length last.env.identifiers) (λ source answers onward throws. refl)
-          (call_runs s mid last (eval_expr names callee) (eval_exprs names arguments) f given identifiers (shape_of arguments) (Some at.span) lf.blocks.extends la.blocks.extends (lf.runs none.0) (la.runs (sym (append-nil (refusals_in names arguments)) ∙ none.1)) shaped values_given));
+      runs = λ supported scene same. (let none = append_none (refusals names callee) (refusals_in names arguments ++ []) supported in
+          subst (λ (lends : Bool). RunsExpression scene (call_where scene lends) s (with_value last (values.CallExpression f given) (Some at.span)) (length last.env.identifiers)) (sym (no_receiver scene callee covered))
+          (call_runs scene s mid last (eval scene callee) (values_in scene arguments) f given identifiers (shapes arguments) (Some at.span) lf.blocks.extends la.blocks.extends (lf.runs none.0 scene same) (la.runs (sym (append-nil (refusals_in names arguments)) ∙ none.1) scene same) shaped values_given));
     })
   where
     whole : Syntax
     whole = Node at word.Call (Then (Flag false) (Then callee (Then (Listed arguments) End)))
+
+    -- The meaning of the call, by whether its callee lends a receiver.
+    call_where : Scene → (lends : Bool) → Action Value
+    call_where scene lends = do
+      head ← (if lends then callee_of scene callee else one_value (eval scene callee))
+      unless_nullish scene false (called head)
+      vs ← values_in scene arguments
+      ask scene (event (call_kind head) (shapes arguments) (head ++ vs))
 
 -- Statements
 
@@ -285,7 +312,7 @@ expression_statement_call names tree e at s new identifier is l = subst (λ (t :
   refused = l.refused ∙ ap (λ (ds : List Diagnostic). s.env.diagnostics ++ ds) (sym (append-nil (refusals names e)));
   calls = l.calls ∙ ap (λ (cs : List (Option Span)). calls_of s.table ++ cs) (sym (append-nil (calls_in e)));
   reachable = adds_same (calls_in e) _ true true s new (sym (append-nil (calls_in e))) refl l.reachable;
-  runs = λ supported. evaluated_runs s new (eval_expr names e) identifier (l.runs (sym (append-nil (refusals names e)) ∙ supported));
+  runs = λ supported scene same. evaluated_runs scene s new (eval scene e) identifier (l.runs (sym (append-nil (refusals names e)) ∙ supported) scene same);
 })
 
 keeps_returned : {names : Names} (s : State) (span : Option Span) (place : Place) (kind : BlockKind)
@@ -294,16 +321,16 @@ keeps_returned s span place kind =
     keeps_then s (reserved s) _ 1 1 (keeps_reserved s) (keeps_completed (reserved s) (return_of span returns.Explicit place) (new_block s.env.next_block kind) refl)
 
 -- An argument of a return is evaluated and returned.
-returns_argument : (names : Names) (e : Syntax) (at : At) → (e ≡ Absent → ⊥)
-    → (source : Store) (answers : List Answer) (exits : Exits)
-    → eval_expr names e source answers (λ v after rest. returned [] returns.Explicit v) exits.throws ≡ exec_stmt names
-    (Node at word.Return (Then e End)) source answers exits
-returns_argument names (Node own said parts) at some source answers exits = refl
-returns_argument names (Listed parts) at some source answers exits = refl
-returns_argument names (Said text) at some source answers exits = refl
-returns_argument names (Count number) at some source answers exits = refl
-returns_argument names (Flag flag) at some source answers exits = refl
-returns_argument names Absent at some source answers exits = absurd (some refl)
+returns_argument : (scene : Scene) (e : Syntax) (at : At) → (e ≡ Absent → ⊥)
+    → (ways : Ways) (normal : Cont) (source : Store) (answers : List Answer)
+    → eval scene e ways (λ v. return_with scene returns.Explicit v ways (λ (end : Unit {0}). normal)) source answers
+    ≡ exec scene None (Node at word.Return (Then e End)) ways (λ end. normal) source answers
+returns_argument scene (Node own said parts) at some ways normal source answers = refl
+returns_argument scene (Listed parts) at some ways normal source answers = refl
+returns_argument scene (Said text) at some ways normal source answers = refl
+returns_argument scene (Count number) at some ways normal source answers = refl
+returns_argument scene (Flag flag) at some ways normal source answers = refl
+returns_argument scene Absent at some ways normal source answers = absurd (some refl)
 
 pub return_call : (names : Names) (tree e : Syntax) (at : At) (s mid new : State) (place : Place) (kind : BlockKind)
     (span : Option Span) → tree ≡ Node at word.Return (Then e End) → (e ≡ Absent → ⊥)
@@ -317,7 +344,7 @@ return_call names tree e at s mid new place kind span is some l moved =
       refused = l.refused ∙ ap (λ (ds : List Diagnostic). s.env.diagnostics ++ ds) (sym (append-nil (refusals names e)));
       calls = l.calls ∙ ap (λ (cs : List (Option Span)). calls_of s.table ++ cs) (sym (append-nil (calls_in e)));
       reachable = adds_then (calls_in e) [] true false s mid _ l.blocks (blocks_returned mid span returns.Explicit place kind) l.reachable (adds_returned mid span returns.Explicit place kind) l.keeps.listed;
-      runs = λ supported. means_same s _ (returns_argument names e at some) (return_runs s mid (eval_expr names e) place.identifier.0 span returns.Explicit place kind refl (l.runs (sym (append-nil (refusals names e)) ∙ supported)));
+      runs = λ supported scene same. means_same scene s _ (returns_argument scene e at some) (return_runs scene s mid (eval scene e) place.identifier.0 span returns.Explicit place kind refl (l.runs (sym (append-nil (refusals names e)) ∙ supported) scene same));
     }))
 
 pub return_nothing_call : (names : Names) (tree : Syntax) (at : At) (s mid new : State) (place : Place)
@@ -335,7 +362,7 @@ return_nothing_call names tree at s mid new place kind span is given placed move
       refused = sym (append-nil s.env.diagnostics);
       calls = calls_same s.table (unordered (temporary s None) (values.Primitive primitives.Undefined) None) refl ∙ sym (append-nil (calls_of s.table));
       reachable = adds_then [] [] true false s mid2 end (blocks_value s (values.Primitive primitives.Undefined) None) (blocks_returned mid2 span returns.Explicit (temporary s None) kind) (adds_value s (values.Primitive primitives.Undefined) None) (adds_returned mid2 span returns.Explicit (temporary s None) kind) (listed_value s (values.Primitive primitives.Undefined) None refl);
-      runs = λ supported. return_runs s mid2 (λ source answers onward throws. onward value.Undefined source answers) (length s.env.identifiers) span returns.Explicit (temporary s None) kind refl (value_runs s (λ source answers onward throws. onward value.Undefined source answers) primitives.Undefined None (λ source answers onward throws. refl));
+      runs = λ supported scene same. return_runs scene s mid2 (give value.Undefined) (length s.env.identifiers) span returns.Explicit (temporary s None) kind refl (value_runs scene s (give value.Undefined) primitives.Undefined None (λ source answers ways k. refl));
     }))
 
 -- Statements in order.
@@ -347,7 +374,7 @@ none_lowered names s = record {
   refused = sym (append-nil s.env.diagnostics);
   calls = sym (append-nil (calls_of s.table));
   reachable = adds_refl s;
-  runs = λ supported. nothing_runs s (exec_stmts names End) (λ source answers exits. refl);
+  runs = λ supported scene same. nothing_runs scene s;
 }
 
 pub next_lowered : (names : Names) (statement : Syntax) (statements : Pieces) (s mid new : State)
@@ -359,6 +386,6 @@ next_lowered names statement statements s mid new l m = record {
   refused = added_then (refusals names statement) (refusals_in names statements) _ _ _ l.refused m.refused;
   calls = added_then (calls_in statement) (calls_among statements) _ _ _ l.calls m.calls;
   reachable = adds_then (calls_in statement) (live_calls statements) (can_complete statement) (can_all_complete statements) s mid new l.blocks m.blocks l.reachable m.reachable l.keeps.listed;
-  runs = λ supported. (let none = append_none (refusals names statement) (refusals_in names statements) supported in
-      sequence_runs s mid new (exec_stmt names statement) (exec_stmts names statements) (exec_stmts names (Then statement statements)) (λ source answers exits. refl) l.blocks.extends m.blocks.extends (l.runs none.0) (m.runs none.1));
+  runs = λ supported scene same. (let none = append_none (refusals names statement) (refusals_in names statements) supported in
+      sequence_runs scene s mid new (exec scene None statement) (exec_all scene statements) l.blocks.extends m.blocks.extends (l.runs none.0 scene same) (m.runs none.1 scene same));
 }

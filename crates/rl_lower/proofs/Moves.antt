@@ -154,7 +154,7 @@ value_free s value span c cover q =
 
 pub contained_before : (old new : State) (c : Code) → Extends old new → IsContainedIn new c → IsContainedIn old c
 contained_before old new c g cover =
-    record { has = λ f h. elim h [ inl d ↦ cover.has f (inl (g.done f d)) | inr w ↦ cover.has f (g.wip f w) ]; uncaught = cover.uncaught; stands = cover.stands; names = covers_before old.env.pairs new.env.pairs (length old.env.identifiers) (length new.env.identifiers) c.ident g.identifiers g.names cover.names }
+    record { has = λ f h. elim h [ inl d ↦ cover.has f (inl (g.done f d)) | inr w ↦ cover.has f (g.wip f w) ]; uncaught = cover.uncaught; names = covers_before old.env.pairs new.env.pairs (length old.env.identifiers) (length new.env.identifiers) c.ident g.identifiers g.names cover.names }
 
 pub terminal_met : (s : State) (t : Terminal) (next : WipBlock) (c : Code) → IsContainedIn (completed_by s t next) c
     → c.item s.current.id.0 (length s.current.instructions) ≡ Some (Ends t)

@@ -16,7 +16,7 @@ use Rattle.rl_builder.specs.Builder.{State, completed_by, ended_by, new_block, r
 use Rattle.rl_order.specs.Numbering.{order_after, ordered_blocks}
 use Rattle.rl_lower.specs.Values.{temporary, unordered, with_value}
 use Rattle.rl_builder.specs.declared.blocks.WipBlock.{WipBlock}
-use Rattle.rl_model.specs.Held.{call_at, graph_calls, listed_calls}
+use Rattle.rl_model.specs.Calls.{call_at, graph_calls, listed_calls}
 use Rattle.rl_lower.specs.Listed.{AreBelow, IsListed}
 use Rattle.rl_lower.specs.Reachable.{AddsCalls, GoesOn, KnowsBlocks, TellsReached, is_reachable, reached_among, reached_calls, where_reachable}
 use Rattle.rl_lower.specs.Simulation.{IsCurrentOrCompleted, IsNamed, NamesOwn, PreservesBlocks, UniqueIds}

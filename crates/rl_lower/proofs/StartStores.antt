@@ -11,9 +11,8 @@ use Rattle.rl_machine.specs.declared.trace.Assignment.{Assignment}
 use Rattle.rl_machine.specs.declared.trace.Value.{Value}
 use Rattle.rl_machine.specs.declared.trace.Value.TheVariants as value
 use Rattle.rl_model.specs.Fields.{places_from}
-use Rattle.rl_model.specs.Meanings.{set_all}
+use Rattle.rl_model.specs.Functions.{set_all}
 use Rattle.rl_model.specs.Runs.{param_identifier}
-use Rattle.rl_model.specs.Source.{take}
 use Rattle.rl_names.specs.declared.parameters.Parameter.{Parameter}
 use Rattle.rl_lower.specs.Simulation.{Agrees}
 use Rattle.rl_lower.proofs.Steps.{set_other, set_same}
@@ -21,6 +20,10 @@ use Rattle.rl_lower.proofs.Steps.{set_other, set_same}
 -- Each parameter takes the argument at its index, or Undefined.
 abbrev pub take_arguments : List Param → List Value → Store → Store
 take_arguments params arguments store = take_values (map param_identifier params) arguments store
+
+-- The parameters take the arguments, by symbol.
+abbrev pub take : List Parameter → List Value → Store → Store
+take parameters arguments store = take_values (map (λ (p : Parameter). p.symbol.0) parameters) arguments store
 
 -- The store in which a run begins, before the parameters take their arguments.
 abbrev pub start_values : List Pair → List Assignment → Store
@@ -46,7 +49,7 @@ module _ (ident : ℕ → Option ℕ) (one : AreOne ident) where
   }
 
   -- A symbol without an identifier has a value in the source alone.
-  agrees_where : (source store : Store) (symbol : ℕ) (v : Value) (o : Option ℕ) → ident symbol ≡ o → Agrees ident source store
+  pub agrees_where : (source store : Store) (symbol : ℕ) (v : Value) (o : Option ℕ) → ident symbol ≡ o → Agrees ident source store
       → Agrees ident (set source symbol v) (set_where o store v)
   agrees_where source store symbol v None none a = record {
     at = λ other found is.

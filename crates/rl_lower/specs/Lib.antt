@@ -5,6 +5,7 @@ pub mod Lowering
 pub mod Named
 pub mod Parameters
 pub mod Reachable
+pub mod Scenes
 pub mod Simulation
 pub mod Sound
 pub mod Values

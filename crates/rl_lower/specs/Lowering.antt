@@ -9,13 +9,15 @@ use Rattle.rl_syntax.specs.declared.word.Word.TheVariants as word
 use Rattle.rl_syntax.specs.Syntax.{Syntax, Node, Listed, Pieces, End, Then, nodes, nodes_of}
 use Rattle.rl_names.specs.Names.{Names}
 use Rattle.rl_model.specs.Fields.{IsNamedPair}
-use Rattle.rl_model.specs.Held.{can_complete, calls_in, calls_among, calls_of, live_calls, live_in_body}
+use Rattle.rl_model.specs.Calls.{can_complete, calls_in, calls_among, calls_of, live_calls, live_in_body}
 use Rattle.rl_hir.specs.declared.instruction.PlaceOrSpread.{PlaceOrSpread}
 use Rattle.rl_hir.specs.Instructions.{argument_place, argument_shape}
-use Rattle.rl_model.specs.Source.{eval_expr, eval_exprs, shape_of, exec_stmt, exec_stmts}
+use Rattle.rl_model.specs.Actions.{Action, ◌>>=◌, return_with}
+use Rattle.rl_model.specs.Expressions.{eval, values}
+use Rattle.rl_model.specs.Scene.{Scene}
+use Rattle.rl_model.specs.Shapes.{shapes}
+use Rattle.rl_model.specs.Statements.{exec, exec_all}
 use Rattle.rl_model.specs.Rows.{refusals, refusals_in}
-use Rattle.rl_machine.specs.Traces.{returned}
-use Rattle.rl_model.specs.Meanings.{StmtMeaning}
 use Rattle.rl_lower.specs.Listed.{IsListed}
 use Rattle.rl_lower.specs.Reachable.{AddsCalls, can_all_complete, can_body_complete}
 use Rattle.rl_lower.specs.Named.{IsNamed}
@@ -64,7 +66,7 @@ pub record LowersExpression (names : Names) (e : Syntax) (old new : State) (iden
   pub refused : new.env.diagnostics ≡ old.env.diagnostics ++ refusals names e
   pub calls : calls_of new.table ≡ calls_of old.table ++ calls_in e
   pub reachable : AddsCalls (calls_in e) true old new
-  pub runs : refusals names e ≡ [] → RunsExpression (eval_expr names e) old new identifier
+  pub runs : refusals names e ≡ [] → (scene : Scene) → scene.names ≡ names → RunsExpression scene (eval scene e) old new identifier
 
 -- As `LowersExpression`, for expressions from left to right.
 pub record LowersExpressions (names : Names) (es : Pieces) (old new : State) (identifiers : List ℕ) : Type 0 where
@@ -73,40 +75,40 @@ pub record LowersExpressions (names : Names) (es : Pieces) (old new : State) (id
   pub refused : new.env.diagnostics ≡ old.env.diagnostics ++ refusals_in names es
   pub calls : calls_of new.table ≡ calls_of old.table ++ calls_among es
   pub reachable : AddsCalls (calls_among es) true old new
-  pub runs : refusals_in names es ≡ [] → RunsAll (eval_exprs names es) old new identifiers
+  pub runs : refusals_in names es ≡ [] → (scene : Scene) → scene.names ≡ names → RunsAll scene (values scene es) old new identifiers
 
 -- Arguments were lowered: each is a place, none a spread, and its value goes to the identifier of that place.
 pub record LowersArguments (names : Names) (es : Pieces) (old new : State) (given : List PlaceOrSpread) : Type 0 where
   pub identifiers : List ℕ
   pub lowers : LowersExpressions names es old new identifiers
-  pub shape : map argument_shape given ≡ shape_of es
+  pub shape : map argument_shape given ≡ shapes es
   pub places : map (λ a. (argument_place a).identifier.0) given ≡ identifiers
 
 -- As `LowersExpression`, for a part of `count` nodes and meaning `d` that has no value. Its refusals are `diagnostics`, its
 -- calls `called`, those of them that are reachable `reached`, and it completes normally where `completes`.
-pub record Lowers (names : Names) (count : ℕ) (diagnostics : List Diagnostic) (called reached : List (Option Span)) (completes : Bool) (d : StmtMeaning) (old new : State) : Type 0 where
+pub record Lowers (names : Names) (count : ℕ) (diagnostics : List Diagnostic) (called reached : List (Option Span)) (completes : Bool) (d : Scene → Action (Unit {0})) (old new : State) : Type 0 where
   pub keeps : Preserves names old new (4 * count)
   pub blocks : PreservesBlocks old new
   pub refused : new.env.diagnostics ≡ old.env.diagnostics ++ diagnostics
   pub calls : calls_of new.table ≡ calls_of old.table ++ called
   pub reachable : AddsCalls reached completes old new
-  pub runs : diagnostics ≡ [] → RunsStatement d old new
+  pub runs : diagnostics ≡ [] → (scene : Scene) → scene.names ≡ names → RunsStatement scene (d scene) old new
 
 abbrev pub LowersStatement : Names → Syntax → State → State → Type 0
 LowersStatement names s old new =
-    Lowers names (nodes s) (refusals names s) (calls_in s) (calls_in s) (can_complete s) (exec_stmt names s) old new
+    Lowers names (nodes s) (refusals names s) (calls_in s) (calls_in s) (can_complete s) (λ scene. exec scene None s) old new
 
 abbrev pub LowersStatements : Names → Pieces → State → State → Type 0
 LowersStatements names ss old new =
-    Lowers names (nodes_of ss) (refusals_in names ss) (calls_among ss) (live_calls ss) (can_all_complete ss) (exec_stmts names ss) old new
+    Lowers names (nodes_of ss) (refusals_in names ss) (calls_among ss) (live_calls ss) (can_all_complete ss) (λ scene. exec_all scene ss) old new
 
 -- The meaning of a body before its end, where the function returns undefined: an expression returns its value.
-abbrev pub exec_before_end : Names → Syntax → StmtMeaning
-exec_before_end names (Node at word.Body (Then directives (Then (Listed statements) End))) store answers exits =
-    exec_stmts names statements store answers exits
-exec_before_end names body store answers exits =
-    eval_expr names body store answers (λ v after rest. returned [] returns.Implicit v) exits.throws
+abbrev pub exec_before_end : Scene → Syntax → Action (Unit {0})
+exec_before_end scene (Node at word.Body (Then directives (Then (Listed statements) End))) = exec_all scene statements
+exec_before_end scene body = do
+  v ← eval scene body
+  return_with scene returns.Implicit v
 
 abbrev pub LowersBody : Names → Syntax → State → State → Type 0
 LowersBody names b old new =
-    Lowers names (nodes b + 1) (refusals names b) (calls_in b) (live_in_body b) (can_body_complete b) (exec_before_end names b) old new
+    Lowers names (nodes b + 1) (refusals names b) (calls_in b) (live_in_body b) (can_body_complete b) (λ scene. exec_before_end scene b) old new

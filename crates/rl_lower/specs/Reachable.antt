@@ -5,7 +5,7 @@ use Rattle.rl_syntax.specs.declared.word.Word.TheVariants as word
 use Rattle.rl_syntax.specs.Syntax.{Syntax, Node, Listed, Pieces, End, Then}
 use Rattle.rl_hir.specs.Blocks.{Pair as BlockPair}
 use Rattle.rl_builder.specs.Builder.{State}
-use Rattle.rl_model.specs.Held.{can_complete, graph_calls, listed_calls}
+use Rattle.rl_model.specs.Calls.{can_complete, graph_calls, listed_calls}
 use Rattle.rl_order.specs.Reached.{IsReached}
 use Rattle.rl_lower.specs.Listed.{IsListed}
 use Rattle.rl_lower.specs.Simulation.{IsNamed, UniqueIds}

@@ -15,8 +15,9 @@ use Rattle.rl_used_names.specs.UsedName.{UsedName}
 use Rattle.rl_machine.specs.declared.trace.Value.{Value}
 use Rattle.rl_machine.specs.declared.trace.Answer.{Answer}
 use Rattle.rl_machine.specs.declared.trace.Trace.{Trace}
-use Rattle.rl_machine.specs.Traces.{Store, ValueCont, ValuesCont, Cont, threw, alone}
-use Rattle.rl_model.specs.Meanings.{ExprMeaning, ExprsMeaning, StmtMeaning, Exits}
+use Rattle.rl_machine.specs.Traces.{Store, ValueCont, ValuesCont, Cont, World, threw}
+use Rattle.rl_model.specs.Actions.{Action, Ways}
+use Rattle.rl_model.specs.Scene.{Scene}
 use Rattle.rl_hir.specs.Terminals.{named_ids}
 use Rattle.rl_hir.specs.declared.terminal.TerminalKind.{TerminalKind}
 use Rattle.rl_hir.specs.declared.terminal.TerminalKind.TheVariants as kinds
@@ -114,11 +115,10 @@ pub record Extends (old new : State) : Type 0 where
   pub names : GrowsNames old.env.pairs (length old.env.identifiers) new.env.pairs
   pub sound : HasSoundNames old → HasSoundNames new
 
--- The graph `c` has every item of the state and, in the end, its names. Its blocks have no handlers, and it stands alone.
+-- The graph `c` has every item of the state and, in the end, its names. Its blocks have no handlers.
 pub record IsContainedIn (s : State) (c : Code) : Type 0 where
   pub has : (f : Fact) → HasItem s f → c.item f.block f.place ≡ Some f.item
   pub uncaught : (block : ℕ) → c.catcher block ≡ None
-  pub stands : c.world ≡ alone
   pub names : CoversNames s.env.pairs (length s.env.identifiers) c.ident
 
 -- The ids of blocks, the current one included, are distinct and below the counter `next`.
@@ -237,31 +237,38 @@ pub record ContinuesAll (c : Code) (s new : State) (store : Store) (identifiers 
   pub goes : (vs : List Value) (source later : Store) (notes : Notes) (answers : List Answer) → Agrees c.ident source later
       → Later c s store later → map later identifiers ≡ vs → TracesFrom c new later notes answers (k vs source answers)
 
--- The throw continuation ends the run: no handler encloses the part.
-pub record Throws (k : ValueCont) : Type 0 where
-  pub ends : (v : Value) (source : Store) (answers : List Answer) → k v source answers ≡ threw v
+-- Source and graph share the same variables with other functions, and each whose value others see has an identifier.
+pub record SharesVariables (ident : ℕ → Option ℕ) (source graph : World) : Type 0 where
+  pub opens : (symbol : ℕ) → source.opens symbol ≡ graph.opens symbol
+  pub keeps : source.keeps ≡ graph.keeps
+  pub known : All (λ symbol. (identifier : ℕ) × (ident symbol ≡ Some identifier)) graph.keeps
+
+-- The part stands in the scene, and no handler encloses it: a throw ends the run.
+pub record StandsIn (c : Code) (scene : Scene) (ways : Ways) : Type 0 where
+  pub throws : (v : Value) (source : Store) (answers : List Answer) → ways.throws v source answers ≡ threw v
+  pub shares : SharesVariables c.ident scene.world c.world
 
 -- The graph that is built from `old` to `new` has the traces of an expression of meaning `d`, and leaves the value in
 -- `identifier`, which is no symbol's.
-pub record RunsExpression (d : ExprMeaning) (old new : State) (identifier : ℕ) : Type 0 where
+pub record RunsExpression (scene : Scene) (d : Action Value) (old new : State) (identifier : ℕ) : Type 0 where
   pub made : identifier < length new.env.identifiers
   pub free : (c : Code) → IsContainedIn new c → HasSoundNames old → Nobody c.ident identifier
   pub runs : (c : Code) → IsContainedIn new c → HasSoundNames old
-      → (k h : ValueCont) (source store : Store) (notes : Notes) (answers : List Answer) → Agrees c.ident source store
-      → Throws h → Continues c old new store identifier k → TracesFrom c old store notes answers (d source answers k h)
+      → (ways : Ways) (k : ValueCont) (source store : Store) (notes : Notes) (answers : List Answer) → Agrees c.ident source store
+      → StandsIn c scene ways → Continues c old new store identifier k → TracesFrom c old store notes answers (d ways k source answers)
 
 -- As `RunsExpression`, for expressions from left to right.
-pub record RunsAll (d : ExprsMeaning) (old new : State) (identifiers : List ℕ) : Type 0 where
+pub record RunsAll (scene : Scene) (d : Action (List Value)) (old new : State) (identifiers : List ℕ) : Type 0 where
   pub made : All (λ identifier. identifier < length new.env.identifiers) identifiers
   pub free : (c : Code) → IsContainedIn new c → HasSoundNames old → All (Nobody c.ident) identifiers
   pub runs : (c : Code) → IsContainedIn new c → HasSoundNames old
-      → (k : ValuesCont) (h : ValueCont) (source store : Store) (notes : Notes) (answers : List Answer)
-      → Agrees c.ident source store → Throws h → ContinuesAll c old new store identifiers k
-      → TracesFrom c old store notes answers (d source answers k h)
+      → (ways : Ways) (k : ValuesCont) (source store : Store) (notes : Notes) (answers : List Answer)
+      → Agrees c.ident source store → StandsIn c scene ways → ContinuesAll c old new store identifiers k
+      → TracesFrom c old store notes answers (d ways k source answers)
 
 -- The graph that is built from `old` to `new` has the traces of a statement of meaning `d`.
-pub record RunsStatement (d : StmtMeaning) (old new : State) : Type 0 where
+pub record RunsStatement (scene : Scene) (d : Action (Unit {0})) (old new : State) : Type 0 where
   pub runs : (c : Code) → IsContainedIn new c → HasSoundNames old
-      → (exits : Exits) (source store : Store) (notes : Notes) (answers : List Answer) → Agrees c.ident source store
-      → Throws exits.throws → Follows c old new store exits.normal
-      → TracesFrom c old store notes answers (d source answers exits)
+      → (ways : Ways) (normal : Cont) (source store : Store) (notes : Notes) (answers : List Answer) → Agrees c.ident source store
+      → StandsIn c scene ways → Follows c old new store normal
+      → TracesFrom c old store notes answers (d ways (λ end. normal) source answers)

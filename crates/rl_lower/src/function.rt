@@ -21,8 +21,11 @@ ghost use Rattle.rl_lower.specs.Sound.{AreWritableIdentifiers, AreWritablePairs,
 ghost use Rattle.rl_machine.specs.Closed.{IsClosed};
 ghost use Rattle.rl_model.specs.Covered.{IsCovered, IsCoveredFunction};
 ghost use Rattle.rl_model.specs.Fields.{AreGiven, ArePairs, directives_in, places_from, texts_in};
+ghost use Rattle.rl_machine.specs.Traces.{World};
 ghost use Rattle.rl_model.specs.Headline.{NeverStuck, SameRuns};
-ghost use Rattle.rl_model.specs.Held.{HoldsCalls};
+ghost use Rattle.rl_model.specs.Scene.{Scene};
+ghost use Rattle.rl_lower.specs.Scenes.{IsSceneOf};
+ghost use Rattle.rl_model.specs.Calls.{HoldsCalls};
 ghost use Rattle.rl_model.specs.Rows.{first_named, is_text, refusals_of, stop_at, stop_of};
 ghost use Rattle.rl_model.specs.Size.{function_size};
 ghost use Rattle.rl_model.specs.WellFormed.{HasKnownPlaces, IsLinked};
@@ -321,8 +324,8 @@ pub fn lower(
     ensures stopped { IfErr result (λ e. (d : Said) → e ≡ Stop.Diagnostic d → stop_of (seen names.now) (seen_function_node function.entry) ≡ Some d) }
     ensures refused { OnOk result (env.new.diagnostics ≡ env.old.diagnostics ++ refusals_of (seen names.now) (seen_function_node function.entry)) }
     ensures closed { IfOk result (λ f. IsClosed f.body) }
-    ensures same_runs { IfOk result (λ f. refusals_of (seen names.now) (seen_function_node function.entry) ≡ [] → SameRuns (seen names.now) (seen_function_node function.entry) f env.new.pairs) }
-    ensures never_stuck { IfOk result (λ f. refusals_of (seen names.now) (seen_function_node function.entry) ≡ [] → NeverStuck f env.new.pairs) }
+    ensures same_runs { IfOk result (λ f. refusals_of (seen names.now) (seen_function_node function.entry) ≡ [] → (scene : Scene) (world : World) → IsSceneOf (seen names.now) env.new.pairs scene world → SameRuns scene (seen_function_node function.entry) world f env.new.pairs) }
+    ensures never_stuck { IfOk result (λ f. refusals_of (seen names.now) (seen_function_node function.entry) ≡ [] → (scene : Scene) (world : World) → IsSceneOf (seen names.now) env.new.pairs scene world → NeverStuck world f env.new.pairs) }
     ensures held { IfOk result (λ f. HoldsCalls (seen_function_node function.entry) f) }
     ensures numbered { IfOk result (λ f. IsNumbered f.instructions f.body.blocks) }
     ensures linked { IfOk result (λ f. IsLinked f) }

@@ -12,7 +12,7 @@ use Rattle.rl_syntax.specs.declared.numbered.Position.{Position}
 use Rattle.rl_syntax.specs.declared.word.Word.{Word}
 use Rattle.rl_syntax.specs.declared.word.Word.TheVariants as word
 use Rattle.rl_base.specs.Distinct.{AreDistinct}
-use Rattle.rl_model.specs.Held.{calls_in, calls_among}
+use Rattle.rl_model.specs.Calls.{calls_in, calls_among}
 
 -- The ends of the spans rise, from above the first number to the last one at most.
 abbrev Rise : ℕ → List (Option Span) → ℕ → Type 0
@@ -46,7 +46,7 @@ bracket_last close (Then piece pieces) = (
 )
 
 -- A node's calls are those of its parts, and itself where it is one.
-own_call : (at : At) (w : Word) (parts : Pieces) → (calls_in (Node at w parts) ≡ calls_among parts) ⊎ (calls_in (Node at w parts) ≡ calls_among parts ++ Some at.span ∷ [])
+pub own_call : (at : At) (w : Word) (parts : Pieces) → (calls_in (Node at w parts) ≡ calls_among parts) ⊎ (calls_in (Node at w parts) ≡ calls_among parts ++ Some at.span ∷ [])
 own_call at word.Call parts = inr refl
 own_call at _ parts = inl refl
 

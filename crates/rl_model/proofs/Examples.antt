@@ -27,7 +27,7 @@ use Rattle.rl_machine.specs.declared.trace.Ending.TheVariants as ending
 use Rattle.rl_machine.specs.declared.trace.Trace.{Trace}
 use Rattle.rl_model.proofs.ExampleUnits.{answer, calls, called, function, given, loads, name, node, span, trace_of, unit_of}
 use Rattle.rl_model.specs.Fields.{HasFieldsOf, HaveSymbolsOf, IsGiven, IsNamedPair, name_at}
-use Rattle.rl_model.specs.Held.{calls_in, calls_of, graph_calls, live_calls_in}
+use Rattle.rl_model.specs.Calls.{calls_in, calls_of, graph_calls, live_calls_in}
 use Rattle.rl_model.specs.Runs.{function_trace, graph_of, trace_by}
 use Rattle.rl_model.specs.Size.{function_size}
 use Rattle.rl_model.specs.Marked.{marked}

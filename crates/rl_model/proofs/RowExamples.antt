@@ -4,7 +4,7 @@ use Rattle.std.specs.Fmt.{digits}
 use Rattle.rl_base.specs.declared.row.Row.TheVariants as row
 use Rattle.rl_model.proofs.ExampleUnits.{arrow, body, called, function, name, node, params, refusals_in, span, stop_in, unit, unit_of}
 use Rattle.rl_model.specs.Fields.{directives_in, places_from}
-use Rattle.rl_model.specs.Held.{calls_in, live_calls_in}
+use Rattle.rl_model.specs.Calls.{calls_in, live_calls_in}
 use Rattle.rl_model.specs.Rows.{refusal}
 use Rattle.rl_model.specs.Marked.{marked}
 use Rattle.rl_model.specs.Units.{names_of, pending}

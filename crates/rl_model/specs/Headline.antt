@@ -1,7 +1,6 @@
 -- The promises of a result: of each graph, and of the result as a whole.
 use Rattle.std.specs.Prelude.{◌≡◌, ℕ, ◌*◌, ◌≤◌, None, List, [], length}
 use Rattle.rl_syntax.specs.Syntax.{Syntax, nodes}
-use Rattle.rl_base.specs.Distinct.{AreDistinct}
 use Rattle.rl_hir.specs.Listing.{lowered}
 use Rattle.rl_hir.specs.Numbered.{IsNumbered}
 use Rattle.rl_hir.specs.declared.function.Lowered.{Lowered}
@@ -9,7 +8,7 @@ use Rattle.rl_hir.specs.declared.function.Pair.{Pair}
 use Rattle.rl_text.specs.Notation.{IsWritable}
 use Rattle.rl_machine.specs.Closed.{IsClosed}
 use Rattle.rl_model.specs.Fields.{HasFieldsOf, HasIdentifiersOf, HaveSymbolsOf}
-use Rattle.rl_model.specs.Held.{HoldsCalls, calls_in}
+use Rattle.rl_model.specs.Held.{HoldsOnce}
 use Rattle.rl_model.specs.Runs.{function_trace, trace_by}
 use Rattle.rl_model.specs.Rows.{IsSupported}
 use Rattle.rl_model.specs.Size.{lowered_size}
@@ -42,7 +41,7 @@ pub record IsGraph (scene : Scene) (function : Syntax) (l : Lowered) (others : L
   pub closed : IsClosed f.body
   pub same_runs : SameRuns scene function (world_in l f others) f l.pairs
   pub never_stuck : NeverStuck (world_in l f others) f l.pairs
-  pub held : HoldsCalls function f
+  pub held : HoldsOnce function f
   pub fields : HasFieldsOf scene.names function f
   pub numbered : IsNumbered f.instructions f.body.blocks
   pub well_formed : IsWellFormed (length l.identifiers) f
@@ -55,7 +54,6 @@ pub record IsLowered (u : Syntax) (l : Lowered) : Type 0 where
   pub inner : l.inner ≡ []
   pub identifiers : HasIdentifiersOf (names_of u) (marked u) l
   pub symbols : HaveSymbolsOf u l.pairs
-  pub apart : AreDistinct (calls_in (marked u))
   pub bounded : lowered_size l ≤ 64 * nodes u
   pub writable : IsWritable (lowered l)
 

@@ -1,68 +1,53 @@
--- Each call of a function is held once in its graph.
-use Rattle.std.specs.Prelude.{◌≡◌, Bool, true, false, Option, Some, None, IsPermutation, List, [], ◌∷◌, ◌++◌, slice_get, if◌then◌else◌}
-use Rattle.rl_base.specs.declared.span.Span.{Span}
+-- Each counted node of a function is held once in its graph.
+use Rattle.std.specs.Prelude.{◌≡◌, ◌⊎◌, ℕ, ◌+◌, nat_eq, Bool, false, ◌&&◌, if◌then◌else◌, Option, Some, None, List, [], ◌∷◌, ◌++◌, All, Contains, slice_get}
+use Rattle.std.specs.List.{list_any}
+use Rattle.std.specs.Str.{bytes_eq}
 use Rattle.rl_base.specs.declared.ids.InstructionId.{InstructionId}
-use Rattle.rl_syntax.specs.declared.word.Word.TheVariants as word
-use Rattle.rl_syntax.specs.Syntax.{Syntax, Node, Listed, Pieces, End, Then}
-use Rattle.rl_names.specs.Functions.{body_in}
+use Rattle.rl_base.specs.declared.span.Span.{Span}
 use Rattle.rl_hir.specs.Blocks.{Pair as BlockPair}
+use Rattle.rl_hir.specs.Written.{value_word}
 use Rattle.rl_hir.specs.declared.function.HirFunction.{HirFunction}
 use Rattle.rl_hir.specs.declared.instruction.Instruction.{Instruction}
-use Rattle.rl_hir.specs.declared.instruction.InstructionValue.TheVariants as values
+use Rattle.rl_hir.specs.declared.instruction.InstructionValue.{InstructionValue}
+use Rattle.rl_model.specs.Code.{code, code_of, flat}
+use Rattle.rl_model.specs.Counted.{Counted, counted_at, counted_in, method_at}
+use Rattle.rl_model.specs.Dead.{dead_parts}
+use Rattle.rl_names.specs.Functions.{body_in}
+use Rattle.rl_syntax.specs.Syntax.{Syntax}
 
-abbrev mutual
-  -- The spans of the calls in a part, each after those of its parts.
-  pub calls_in : Syntax → List (Option Span)
-  calls_in (Node at word.Call parts) = calls_among parts ++ Some at.span ∷ []
-  calls_in (Node at word parts) = calls_among parts
-  calls_in (Listed parts) = calls_among parts
-  calls_in _ = []
+-- True of a value of one of the kinds.
+abbrev pub is_of : (kinds : List (List ℕ)) → InstructionValue → Bool
+is_of kinds v = list_any (bytes_eq (value_word v)) kinds
 
-  pub calls_among : Pieces → List (Option Span)
-  calls_among End = []
-  calls_among (Then piece pieces) = calls_in piece ++ calls_among pieces
+abbrev pub is_span : Span → Option Span → Bool
+is_span span None = false
+is_span span (Some at) = nat_eq at.start span.start && nat_eq at.end span.end
 
--- True if a statement can complete normally, and then the statements behind it in its list are reachable.
-abbrev pub can_complete : Syntax → Bool
-can_complete (Node at word.Return parts) = false
-can_complete _ = true
+-- The instructions that hold a counted node, counted: those of one of its kinds that have its span.
+abbrev pub times : Counted → List Instruction → ℕ
+times key [] = 0
+times key (i ∷ table) = (if is_of key.kinds i.value && is_span key.span i.span then 1 else 0) + times key table
 
--- The calls of reachable statements: those up to the first statement that cannot complete normally.
-abbrev pub live_calls : Pieces → List (Option Span)
-live_calls End = []
-live_calls (Then statement statements) = calls_in statement ++ (if can_complete statement then live_calls statements else [])
+-- The instruction that was found, if there is one.
+abbrev pub found_one : Option Instruction → List Instruction
+found_one None = []
+found_one (Some i) = i ∷ []
 
--- The reachable calls of a body.
-abbrev pub live_in_body : Syntax → List (Option Span)
-live_in_body (Node at word.Body (Then directives (Then (Listed statements) End))) = live_calls statements
-live_in_body body = calls_in body
+-- The instructions at a list of indices into the table.
+abbrev pub listed_at : List Instruction → List InstructionId → List Instruction
+listed_at table [] = []
+listed_at table (id ∷ ids) = found_one (slice_get table id.0) ++ listed_at table ids
 
--- The reachable calls of a function.
-abbrev pub live_calls_in : Syntax → List (Option Span)
-live_calls_in function = live_in_body (body_in function)
+-- The instructions that the blocks list.
+abbrev pub listed : List Instruction → List BlockPair → List Instruction
+listed table [] = []
+listed table (b ∷ blocks) = listed_at table b.1.instructions ++ listed table blocks
 
--- The span of an instruction that is a call.
-abbrev pub call_at : Instruction → List (Option Span)
-call_at i = elim i.value [
-  | values.CallExpression callee arguments ↦ i.span ∷ []
-  | _ ↦ []
-]
+-- The counted nodes of the dead parts of a function.
+abbrev pub dead_nodes : (function : Syntax) → List Counted
+dead_nodes function = flat (counted_at (flat method_at (code_of function))) (flat code (dead_parts (body_in function)))
 
-abbrev pub calls_of : List Instruction → List (Option Span)
-calls_of [] = []
-calls_of (i ∷ table) = call_at i ++ calls_of table
-
--- The calls among the instructions at a list of indices into the table.
-abbrev pub listed_calls : List Instruction → List InstructionId → List (Option Span)
-listed_calls table [] = []
-listed_calls table (id ∷ ids) = (elim (slice_get table id.0) [ Some i ↦ call_at i | None ↦ [] ]) ++ listed_calls table ids
-
-abbrev pub graph_calls : List Instruction → List BlockPair → List (Option Span)
-graph_calls table [] = []
-graph_calls table (b ∷ blocks) = listed_calls table b.1.instructions ++ graph_calls table blocks
-
--- The table has one instruction for each call, in the order of the calls, and no other call; the blocks list those that are
--- reachable, each once.
-pub record HoldsCalls (function : Syntax) (f : HirFunction (List BlockPair)) : Type 0 where
-  pub table : calls_of f.instructions ≡ calls_in function
-  pub blocks : IsPermutation (live_calls_in function) (graph_calls f.instructions f.body.blocks)
+-- The table holds each counted node of the function once; a node that is not dead is listed by the blocks once.
+pub record HoldsOnce (function : Syntax) (f : HirFunction (List BlockPair)) : Type 0 where
+  pub table : All (λ key. times key f.instructions ≡ 1) (counted_in function)
+  pub blocks : All (λ key. Contains (dead_nodes function) key ⊎ (times key (listed f.instructions f.body.blocks) ≡ 1)) (counted_in function)

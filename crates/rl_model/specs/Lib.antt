@@ -1,5 +1,6 @@
 pub mod Actions
 pub mod Applied
+pub mod Calls
 pub mod Code
 pub mod Counted
 pub mod Covered

@@ -12,7 +12,7 @@ use Rattle.rl_ast.proofs.Units.{one_unit}
 use Rattle.rl_hir.specs.declared.function.Lowered.{Lowered}
 use Rattle.rl_model.specs.Headline.{LowersTo}
 use Rattle.rl_model.specs.Rows.{refusals_of, stop_of}
-use Rattle.rl_model.specs.Source.{marked}
+use Rattle.rl_model.specs.Marked.{marked}
 use Rattle.rl_model.specs.Units.{names_of}
 use Rattle.rl_unit.specs.Answers.{AnswersSteadily, Explains, IsAnswer, IsOutput, IsComplete, IsMalformed, IsPending, IsRefused, IsReportOf, IsStopped, WritesKnown, ReadsWhole, Refuses, RefusesKnown, lines, output, pending_line, report_of}
 use Rattle.rl_unit.specs.declared.run.Status.{Status}

@@ -14,7 +14,7 @@ use Rattle.rl_grammar.specs.declared.kind.Field.TheVariants as field
 use Rattle.rl_grammar.specs.declared.kind.Kind.TheVariants as kind
 use Rattle.rl_model.proofs.Covering.{function_covered}
 use Rattle.rl_model.specs.Covered.{IsCoveredFunction, uncovered_in}
-use Rattle.rl_model.specs.Source.{marked}
+use Rattle.rl_model.specs.Marked.{marked}
 use Rattle.rl_names.proofs.Marks.{HasBody, keeps_marked, one_marked}
 use Rattle.rl_names.specs.Functions.{body_in}
 use Rattle.rl_semantic.specs.Rules.{least_broken}

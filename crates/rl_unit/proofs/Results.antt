@@ -1,12 +1,11 @@
 -- The result of the marked function is that of its unit.
-use Rattle.std.proofs.Common.{◌≡◌, ℕ, ◌<◌, Option, None, Some, List, All, length, slice_get, refl, ap, sym, subst, ◌∙◌}
+use Rattle.std.proofs.Common.{◌≡◌, ℕ, ◌<◌, Option, None, Some, List, [], All, length, slice_get, refl, ap, sym, subst, ◌∙◌}
 use Rattle.std.proofs.lemmas.Option.{none-some, slice_get_within}
 use Rattle.std.specs.Option.{option_map}
 use Rattle.rl_ast.proofs.MarkedFunctions.{marked_fits}
 use Rattle.rl_ast.specs.FunctionNodes.{seen_function_node}
 use Rattle.rl_ast.specs.Marked.{first, marked_functions}
 use Rattle.rl_ast.specs.declared.function_node.FunctionNode.{FunctionNode}
-use Rattle.rl_base.specs.Distinct.{AreDistinct}
 use Rattle.rl_base.specs.declared.span.Span.{Span}
 use Rattle.rl_bindings.specs.Tables.{symbols_in}
 use Rattle.rl_bindings.specs.declared.event.Bound.{Bound}
@@ -17,8 +16,16 @@ use Rattle.rl_model.proofs.Apart.{calls_apart}
 use Rattle.rl_model.proofs.PlainFunctions.{covered_plain}
 use Rattle.rl_model.specs.Covered.{IsCoveredFunction, uncovered_in}
 use Rattle.rl_model.specs.Fields.{HaveSymbolsOf, IsNamedPair}
-use Rattle.rl_model.specs.Held.{calls_in}
-use Rattle.rl_model.specs.Source.{marked}
+use Rattle.rl_model.specs.Scenes.{written_scene}
+use Rattle.rl_model.specs.Units.{names_of}
+use Rattle.rl_model.specs.Worlds.{graphs, world_in}
+use Rattle.rl_model.specs.Code.{world_of}
+use Rattle.rl_model.proofs.CoveredWorlds.{SharesNothing, graph_alone, source_alone}
+use Rattle.rl_hir.specs.Pairs.{identifier_of}
+use Rattle.rl_hir.specs.declared.function.InnerFunction.{InnerFunction}
+use Rattle.rl_lower.specs.Simulation.{SharesVariables}
+use Rattle.std.proofs.lemmas.List.Elements.{All-nil}
+use Rattle.rl_model.specs.Marked.{marked}
 use Rattle.rl_names.proofs.LocalParameters.{locals_are_parameters}
 use Rattle.rl_names.proofs.UnitTexts.{unit_texts}
 use Rattle.rl_names.specs.Locals.{HasTexts, LocalsAreParameters}
@@ -49,6 +56,8 @@ may_lower u f names r rules found none same =
           (locals_are_parameters u tree r.spells.grammar r.spells.numbers found plain rules (unit_nodes r.bytes u r.spells r.within));
       texts = subst HasTexts (sym same) (unit_texts u tree r.spells.spelled.writable);
       few = few_nodes r.bytes u tree r.spells r.within found;
+      apart = calls_apart r.bytes u tree r.spells found;
+      fits = marked_fits u tree found r.spells.grammar;
       small = unit_small r.bytes u tree r.spells (within_bytes r.bytes r.within) found;
     }
 
@@ -66,6 +75,25 @@ pairs_of_unit u f identifiers pairs named place default within =
     let here = named place default within in
     declared_within (symbols_in u) _ here.at here.declared
 
+-- Neither the source nor the graph of a covered function shares a variable.
+shares_nothing : (u : Syntax) (f : Syntax) (l : Lowered) → IsCoveredFunction f → marked u ≡ f → l.inner ≡ []
+    → SharesVariables (identifier_of l.pairs) (written_scene u f).world (world_in l l.function (graphs l.inner))
+shares_nothing u f l covered is none = record {
+  opens = λ symbol. source.opens symbol ∙ sym (graph.opens symbol);
+  keeps = source.keeps ∙ sym graph.keeps;
+  known = subst (λ (symbols : List ℕ). All IsKnown symbols) (sym graph.keeps) (All-nil IsKnown);
+}
+  where
+    IsKnown : ℕ → Type 0
+    IsKnown symbol = (identifier : ℕ) × (identifier_of l.pairs symbol ≡ Some identifier)
+
+    source : SharesNothing (written_scene u f).world
+    source = subst (λ (m : Syntax). SharesNothing (world_of (names_of u) (length (symbols_in u)) (names_of u).declared m f)) (sym is)
+        (source_alone (names_of u) (length (symbols_in u)) (names_of u).declared f covered)
+
+    graph : SharesNothing (world_in l l.function (graphs l.inner))
+    graph = subst (λ (functions : List InnerFunction). SharesNothing (world_in l l.function (graphs functions))) (sym none) (graph_alone l l.function)
+
 -- Its result is the unit's.
 pub unit_result : (u f : Syntax) (names : Names) (l : Lowered) → IsRead u → least_broken u ≡ None → first (marked_functions u) ≡ Some f
     → first (uncovered_in f) ≡ None → names ≡ function_names u f → IsResultOf names f l → IsUnitResult u l
@@ -77,11 +105,14 @@ unit_result u f names l r rules found none same result =
       lowers = record {
         covered = ap (λ (t : Syntax). first (uncovered_in t)) (sym is) ∙ none;
         supported = whole.supported;
-        main = whole.main;
+        main = whole.main (written_scene u (marked u)) (record {
+          named = refl;
+          written = refl;
+          shares = shares_nothing u (marked u) l (subst IsCoveredFunction is (is_covered u f found none)) refl whole.inner;
+        });
         inner = whole.inner;
         identifiers = whole.identifiers;
         symbols = pairs_of_unit u (marked u) l.identifiers l.pairs whole.identifiers.pairs.named;
-        apart = subst (λ (t : Syntax). AreDistinct (calls_in t)) is (calls_apart r.bytes u f r.spells found);
         bounded = alone_bounded u f l.function found result.bounded l.inner result.inner;
         writable = whole.writable;
       };

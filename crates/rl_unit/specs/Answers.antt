@@ -12,7 +12,7 @@ use Rattle.rl_ast.specs.Units.{Spells}
 use Rattle.rl_base.specs.Diagnostics.{line_of}
 use Rattle.rl_base.specs.declared.diagnostic.Diagnostic.{Diagnostic}
 use Rattle.rl_model.specs.Rows.{IsSupported, refusals_of, stop_of}
-use Rattle.rl_model.specs.Source.{marked}
+use Rattle.rl_model.specs.Marked.{marked}
 use Rattle.rl_model.specs.Headline.{IsLowered}
 use Rattle.rl_model.specs.Units.{IsUnit, names_of, pending}
 use Rattle.rl_semantic.specs.Rules.{least_broken}

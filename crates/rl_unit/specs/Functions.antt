@@ -1,16 +1,22 @@
 -- The results of lowering the marked function of a unit that was read, and the causes of its errors.
-use Rattle.std.specs.Prelude.{◌≡◌, ◌≢◌, ℕ, ◌*◌, ◌≤◌, Some, None, List, []}
+use Rattle.std.specs.Prelude.{◌≡◌, ◌≢◌, ℕ, ◌*◌, ◌≤◌, true, Some, None, List, []}
+use Rattle.rl_ast.specs.FunctionTrees.{is_function}
 use Rattle.rl_ast.specs.Units.{Spells}
+use Rattle.rl_base.specs.Distinct.{AreDistinct}
 use Rattle.rl_hir.specs.Listing.{lowered}
 use Rattle.rl_hir.specs.declared.function.Lowered.{Lowered}
+use Rattle.rl_lower.specs.Scenes.{IsSceneOf}
 use Rattle.rl_lower.specs.Sound.{IsSmallTree}
+use Rattle.rl_model.specs.Calls.{calls_in}
 use Rattle.rl_model.specs.Covered.{IsCoveredFunction}
 use Rattle.rl_model.specs.Fields.{HasIdentifiersOf}
 use Rattle.rl_model.specs.Headline.{IsGraph, IsLowered}
 use Rattle.rl_model.specs.Rows.{IsSupported, refusals_of, stop_of}
 use Rattle.rl_model.specs.Size.{function_size}
-use Rattle.rl_model.specs.Source.{marked}
+use Rattle.rl_model.specs.Marked.{marked}
+use Rattle.rl_model.specs.Scene.{Scene}
 use Rattle.rl_model.specs.Units.{names_of, pending}
+use Rattle.rl_model.specs.Worlds.{graphs, world_in}
 use Rattle.rl_names.specs.Functions.{body_in}
 use Rattle.rl_names.specs.Locals.{HasTexts, LocalsAreParameters}
 use Rattle.rl_names.specs.Names.{Names}
@@ -27,20 +33,23 @@ pub record IsRead (u : Syntax) : Type 0 where
   pub spells : Spells bytes u
   pub within : IsTooLarge bytes → ⊥
 
--- The function may be lowered under these names: it is covered and has a body, its local variables are its parameters, and it is
--- not too large.
+-- The function may be lowered under these names: it is covered and has a body, its local variables are its parameters, it is not too
+-- large, and it has no two calls in one place.
 pub record MayLower (names : Names) (f : Syntax) : Type 0 where
   pub covered : IsCoveredFunction f
   pub body : body_in f ≢ Absent
   pub locals : LocalsAreParameters names f
   pub texts : HasTexts names
   pub few : nodes f ≤ 65536
+  pub apart : AreDistinct (calls_in f)
+  pub fits : is_function f ≡ true
   pub small : IsSmallTree f
 
 -- The result of lowering a function to which no row applies.
 pub record IsResultOf (names : Names) (f : Syntax) (l : Lowered) : Type 0 where
   pub supported : IsSupported names f
-  pub main : IsGraph names f l l.function
+  pub main : (scene : Scene) → IsSceneOf names l.pairs scene (world_in l l.function (graphs l.inner))
+      → IsGraph scene f l (graphs l.inner) l.function
   pub inner : l.inner ≡ []
   pub identifiers : HasIdentifiersOf names f l
   pub bounded : function_size l.function ≤ 64 * nodes f

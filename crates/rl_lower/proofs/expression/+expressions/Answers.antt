@@ -1,15 +1,16 @@
-use Rattle.std.proofs.Common.{◌≡◌, ◌+◌, ◌++◌, [], ◌∷◌, map, append-nil, refl, ap, sym, ◌∙◌, subst, arith}
+use Rattle.std.proofs.Common.{◌≡◌, ℕ, ◌+◌, ◌++◌, List, [], ◌∷◌, map, append-nil, refl, ap, sym, ◌∙◌, subst, arith}
 use Rattle.std.specs.Str.{IsUtf8}
 use Rattle.rl_syntax.specs.Syntax.{Syntax, Pieces, End, Then, nodes, nodes_of, pieces_of, syntax}
 use Rattle.rl_hir.specs.Instructions.{argument_shape}
 use Rattle.rl_builder.specs.Builder.{State, state_of}
-use Rattle.rl_model.specs.Covered.{AreCovered}
-use Rattle.rl_model.specs.Source.{shape_of}
+use Rattle.rl_model.specs.Covered.{AreCovered, IsCovered}
+use Rattle.rl_model.proofs.CoveredMeanings.{plain_shape}
+use Rattle.rl_model.specs.Shapes.{shapes}
 use Rattle.rl_names.specs.Seen.{seen}
 use Rattle.rl_lower.specs.Lowering.{LowersExpressions}
 use Rattle.rl_lower.proofs.Answering.{ok_given, ok_so, parsed_some, parsed_none}
 use Rattle.rl_lower.proofs.Arguments.{identifier_in, identifiers_more, shape_more, values_in}
-use Rattle.rl_lower.proofs.Covered.{call_plain, form_is}
+use Rattle.rl_lower.proofs.Covered.{call_plain, form_covered, form_is}
 use Rattle.rl_lower.proofs.Keeping.{room_behind}
 use Rattle.rl_lower.proofs.Lowered.{binary_call, boolean_call, call_call, next_given, none_given, null_call, number_call, parenthesized_call, refused_call, string_call}
 use Rattle.rl_lower.proofs.SoundKinds.{arguments_more, binary_sound, call_sound, leaf_sound, noted_sound, parenthesized_sound}
@@ -128,7 +129,8 @@ lower_expression-returns-in_ok-arguments-in-Call-clause-lowered g t c =
     ok_given c.lower_value_to_temporary-in-Call.result c.lower_value_to_temporary-in-Call.ensures.state
     c.lower_value_to_temporary-in-Call.ensures.place
     (λ place. call_call _ _ _ _ c.in-Call.at c.in_ok-callee-in-Call.callee _ _ _ _ _ _ place
-    (call_plain _ _ _ _ _ (form_is c.expression_view.ensures c.in-Call.is) c.requires.covered) c.in_ok-callee-in-Call.ensures.lowered given.lowers
+    (call_plain _ _ _ _ _ (form_is c.expression_view.ensures c.in-Call.is) c.requires.covered)
+    (form_covered c.expression_view.ensures c.in-Call.is c.requires.covered).1.1.0 c.in_ok-callee-in-Call.ensures.lowered given.lowers
     given.shape (λ store. values_in _ _ store given.places))
 
 pub lower_expression-returns-in_ok-arguments-in-Call-clause-sound :
@@ -151,21 +153,23 @@ lower_arguments-arguments-preserved g t c =
     let first : Syntax = syntax c.expression_of.result.tree.now in
     let split : left ≡ Then first rest = c.in-Some.ensures ∙ ap (λ t. Then t rest) (sym c.expression_of.ensures) in
     let counted : nodes_of left ≡ nodes first + nodes_of rest = ap nodes_of split in
+    let covered : AreCovered (Then first rest) = subst AreCovered split loop.covered in
     let now : State = state_of g.U.ReadsUnit.tables c.arguments.builder in
     record {
       same_reference = c.in_ok-place.ensures.same_reference ∙ loop.same_reference;
       names = lowered.keeps.named loop.names;
-      covered = (subst AreCovered split loop.covered).1;
+      covered = covered.1;
       room = room_behind _ _ _ _ _ (omega (arith, counted)) lowered.keeps.uses loop.room;
       fewer = omega (arith, counted, loop.fewer);
       small = λ small. (first_small _ _ _ split (loop.small small)).1;
       shape = shape_more c.arguments.given _ place _ _ c.in_ok-push.ensures.ok
-          (ap (λ (es : Pieces). map argument_shape c.arguments.given ++ shape_of es) (sym split) ∙ loop.shape);
+          (ap (λ (shape : List (List ℕ)). map argument_shape c.arguments.given ++ (shape ++ shapes rest)) (sym (plain_shape first covered.0))
+          ∙ ap (λ (es : Pieces). map argument_shape c.arguments.given ++ shapes es) (sym split) ∙ loop.shape);
       lowers = λ new more l.
           subst (LowersExpressions _ _ _ new) (identifiers_more c.arguments.given _ place more c.in_ok-push.ensures.ok)
           (loop.lowers new (place.identifier.0 ∷ more)
           (subst (λ (es : Pieces). LowersExpressions (seen c.args.names.now) es now new (place.identifier.0 ∷ more))
-          (sym split) (next_given _ _ rest _ _ new _ more lowered l)));
+          (sym split) (next_given _ _ rest _ _ new _ more covered.0 lowered l)));
       sound = arguments_more _ _ _ _ _ c.arguments.given _ place (λ small. (first_small _ _ _ split (loop.small small)).0)
           c.in_ok-push.ensures.ok loop.sound c.in_ok-place.ensures.sound;
     }
@@ -182,6 +186,6 @@ lower_arguments-returns-clause-lowered g t c =
           (loop.lowers now []
           (subst (λ (es : Pieces). LowersExpressions (seen c.args.names.now) es now now []) (sym done) (none_given _ now)));
       shape = sym (append-nil (map argument_shape given))
-          ∙ ap (λ (es : Pieces). map argument_shape given ++ shape_of es) (sym done) ∙ loop.shape;
+          ∙ ap (λ (es : Pieces). map argument_shape given ++ shapes es) (sym done) ∙ loop.shape;
       places = refl;
     }

@@ -5,7 +5,7 @@ use Rattle.rl_syntax.specs.declared.numbered.Numbered.{Numbered}
 use Rattle.rl_hir.specs.Instructions.{argument_shape}
 use Rattle.rl_builder.specs.Builder.{State, state_of}
 use Rattle.rl_model.specs.Covered.{AreCovered}
-use Rattle.rl_model.specs.Source.{shape_of}
+use Rattle.rl_model.specs.Shapes.{shapes}
 use Rattle.rl_names.specs.Seen.{seen}
 use Rattle.rl_lower.specs.Lowering.{HasRoom, LowersExpressions}
 use Rattle.rl_lower.specs.Named.{IsNamed}
@@ -36,7 +36,7 @@ invariant-lower_arguments-arguments g l = record {
   room : HasRoom (state_of g.U.ReadsUnit.tables l.builder) (4 * nodes_of (shown l.left.trees.now));
   fewer : nodes_of (shown l.left.trees.now) ≤ nodes_of (shown l.arguments.trees.now);
   small : AreSmallTrees (shown l.arguments.trees.now) → AreSmallTrees (shown l.left.trees.now);
-  shape : map argument_shape l.given ++ shape_of (shown l.left.trees.now) ≡ shape_of (shown l.arguments.trees.now);
+  shape : map argument_shape l.given ++ shapes (shown l.left.trees.now) ≡ shapes (shown l.arguments.trees.now);
   lowers : (new : State) (more : List ℕ)
       → LowersExpressions (seen l.names) (shown l.left.trees.now) (state_of g.U.ReadsUnit.tables l.builder) new more
       → LowersExpressions (seen l.names) (shown l.arguments.trees.now)

@@ -5,7 +5,8 @@ use Rattle.rl_hir.specs.Listing.{identifier, pair}
 use Rattle.rl_hir.specs.declared.environment.Environment.{Environment}
 use Rattle.rl_hir.specs.declared.function.Lowered.{Lowered}
 use Rattle.rl_lower.specs.Sound.{HasSmallSymbol}
-use Rattle.rl_model.specs.Fields.{AreGiven, places_from}
+use Rattle.rl_model.specs.Fields.{AreGiven, HasFieldsOf, places_from}
+use Rattle.rl_model.proofs.HeldOnce.{held_once}
 use Rattle.rl_model.specs.Rows.{refusals_of}
 use Rattle.rl_names.proofs.SymbolRange.{IsInRange, declared_in_range, parameters_in_range}
 use Rattle.rl_names.specs.Functions.{parameters_of}
@@ -46,12 +47,12 @@ returns-clause-lowered c =
     let l : Lowered = record { function = c.in-Ok.lowered; inner = env.functions; identifiers = env.identifiers; pairs = env.pairs } in
     subst (λ (r : Lowered). IsResultOf names tree r) (sym c.into_lowered.ensures) (record {
       supported = record { goes_on = graph.goes_on; accepted = none };
-      main = record {
+      main = λ scene stands. record {
         closed = graph.closed;
-        same_runs = graph.same_runs none;
-        never_stuck = graph.never_stuck none;
-        held = graph.held;
-        fields = record {
+        same_runs = graph.same_runs none scene _ stands;
+        never_stuck = graph.never_stuck none scene _ stands;
+        held = held_once tree c.in-Ok.lowered may.covered may.fits may.apart graph.held;
+        fields = subst (λ (n : Names). HasFieldsOf n tree c.in-Ok.lowered) (sym stands.named) (record {
           span = graph.span;
           name = graph.name;
           fn_type = graph.fn_type ∙ ap (λ (e : Environment). e.fn_type) c.fresh_environment-env.ensures;
@@ -60,7 +61,7 @@ returns-clause-lowered c =
           directives = graph.directives;
           params = params;
           context = graph.context;
-        };
+        });
         numbered = graph.numbered;
         well_formed = record { linked = graph.linked; places = graph.places };
       };
