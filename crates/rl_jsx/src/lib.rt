@@ -1,0 +1,4 @@
+//! Texts of JSX: their lines, the trim of text between tags, and the entities in texts and attributes.
+#![tactic(auto)]
+
+pub mod lines;
