@@ -1,12 +1,19 @@
 pub mod Apart
-pub mod Covering
+mod ChoiceExamples
 pub mod CoveredForms
 pub mod CoveredMeanings
 pub mod CoveredWorlds
+pub mod Covering
+mod ExampleTrees
 mod ExampleUnits
 pub mod Examples
 pub mod HeldOnce
+mod KindExamples
 pub mod Least
 mod MeaningExamples
+mod MoreExamples
 pub mod PlainFunctions
 mod RowExamples
+mod SupportedExamples
+mod WholeExamples
+mod WordExamples

@@ -3,11 +3,9 @@
 use Rattle.std.specs.Prelude.{ℕ, zero, suc, Bool, true, false, if◌then◌else◌, Option, Some, None, List, length}
 use Rattle.std.specs.Str.{bytes_eq}
 use Rattle.rl_hir.specs.declared.terminal.ReturnVariant.{ReturnVariant}
-use Rattle.rl_machine.specs.Traces.{Store, Cont, ValueCont, fired, returned, set, set_open, stepped, tested, waiting}
+use Rattle.rl_machine.specs.Traces.{Cont, ValueCont, fired, returned, set, set_open, stepped, tested, waiting}
 use Rattle.rl_machine.specs.declared.trace.Answer.{Answer}
-use Rattle.rl_machine.specs.declared.trace.Assignment.{Assignment}
 use Rattle.rl_machine.specs.declared.trace.Event.{Event}
-use Rattle.rl_machine.specs.declared.trace.Trace.{Trace}
 use Rattle.rl_machine.specs.declared.trace.Value.{Value}
 use Rattle.rl_model.specs.Scene.{Scene, kept_values}
 
@@ -15,7 +13,7 @@ use Rattle.rl_model.specs.Scene.{Scene, kept_values}
 abbrev pub Label : Type 0
 Label = Option (List ℕ)
 
--- Where a part goes that does not complete normally. A `return` ends the run.
+-- The ways to leave a part that does not complete normally: a continuation for each. A `return` ends the run.
 pub record Ways : Type 0 where
   pub breaks : Label → Cont
   pub continues : Label → Cont
@@ -30,7 +28,7 @@ Action A = Ways → (onward : A → Cont) → Cont
 infixl 20 ◌>>=◌
 infixl 20 ◌>>◌
 
--- One action, and then another one, which sees what the first one gave.
+-- Two actions in a row; the second sees the value of the first. `do` blocks are made of these.
 abbrev pub ◌>>=◌ : {A B : Type 0} → Action A → (A → Action B) → Action B
 ◌>>=◌ action next ways onward = action ways (λ a. next a ways onward)
 
@@ -70,7 +68,8 @@ test scene event ways onward store answers = tested (set_open scene.world.opens)
 
 -- Asks for the next value of a loop. None at the end.
 abbrev pub next : Scene → Event → Action (Option Value)
-next scene event ways onward store answers = stepped (set_open scene.world.opens) event store answers (λ v. onward (Some v)) (onward None) ways.throws
+next scene event ways onward store answers =
+    stepped (set_open scene.world.opens) event store answers (λ v. onward (Some v)) (onward None) ways.throws
 
 abbrev pub raise : {A : Type 0} → Value → Action A
 raise v ways onward = ways.throws v
@@ -125,7 +124,8 @@ is_own (Some own) (Some label) = bytes_eq own label
 
 -- The body of a loop under the label: it completes normally where it continues the loop.
 abbrev pub body_of_loop : (own : Label) → Action (Unit {0}) → Action (Unit {0})
-body_of_loop own action ways onward = action (record ways { continues = λ jump. if is_own own jump then onward (tt {0}) else ways.continues jump }) onward
+body_of_loop own action ways onward =
+    action (record ways { continues = λ jump. if is_own own jump then onward (tt {0}) else ways.continues jump }) onward
 
 -- Makes turns, at most as many as given, until one gives false.
 abbrev pub turns : ℕ → (turn : Action Bool) → Action (Unit {0})

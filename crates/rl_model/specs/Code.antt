@@ -1,5 +1,6 @@
 -- The code of a function, the functions that are lowered, and the variables that they name, assign and share.
-use Rattle.std.specs.Prelude.{ℕ, zero, suc, nat_eq, Bool, true, false, ◌&&◌, ◌||◌, not, if◌then◌else◌, Option, Some, None, List, [], ◌∷◌, ◌++◌, filter, length, map}
+use Rattle.std.specs.Prelude.{ℕ, zero, suc, nat_eq, Bool, true, false, ◌&&◌, ◌||◌, not, if◌then◌else◌, Option, Some, None, List, [], ◌∷◌}
+use Rattle.std.specs.Prelude.{◌++◌, filter}
 use Rattle.std.specs.List.{list_any}
 use Rattle.rl_base.specs.declared.ids.SymbolId.{SymbolId}
 use Rattle.rl_machine.specs.Traces.{World}
@@ -7,12 +8,12 @@ use Rattle.rl_names.specs.Functions.{body_in, params_in}
 use Rattle.rl_names.specs.Names.{Names, at_of}
 use Rattle.rl_names.specs.declared.names.Meaning.{Meaning}
 use Rattle.rl_names.specs.declared.names.Meaning.TheVariants.{Local, Outer}
-use Rattle.rl_model.specs.Shapes.{is_absent, is_capital}
-use Rattle.rl_syntax.specs.Syntax.{Syntax, Node, Listed, Said, Flag, Absent, Pieces, End, Then}
+use Rattle.rl_model.specs.Shapes.{is_capital}
+use Rattle.rl_syntax.specs.Syntax.{Syntax, Node, Listed, Said, Absent, Pieces, End, Then}
 use Rattle.rl_syntax.specs.declared.word.Word.{Word}
 use Rattle.rl_syntax.specs.declared.word.Word.TheVariants as word
 
--- What is no code: types, classes, and function declarations without a body.
+-- Nodes that are no code: types, classes, and function declarations without a body.
 abbrev pub is_no_code : Word → Pieces → Bool
 is_no_code word.Type parts = true
 is_no_code word.Classdecl parts = true
@@ -34,7 +35,9 @@ is_instantiate _ = false
 abbrev mutual
   -- The nodes of a part of a function that are its code, in order.
   pub code : Syntax → List Syntax
-  code (Node at w parts) = if is_no_code w parts then [] else Node at w parts ∷ (if is_function w then name_code w parts else if is_instantiate w then first_code parts else code_among parts)
+  code (Node at w parts) =
+      if is_no_code w parts then []
+      else Node at w parts ∷ (if is_function w then name_code w parts else if is_instantiate w then first_code parts else code_among parts)
   code (Listed parts) = code_among parts
   code _ = []
 
@@ -58,7 +61,9 @@ code_of function = code (params_in function) ++ code (body_in function)
 abbrev mutual
   -- The functions in a part that are lowered, in the order of their nodes.
   pub lowered_in : Syntax → List Syntax
-  lowered_in (Node at w parts) = if is_no_code w parts then [] else (if is_function w then Node at w parts ∷ [] else []) ++ (if is_instantiate w then first_lowered parts else lowered_among parts)
+  lowered_in (Node at w parts) =
+      if is_no_code w parts then []
+      else (if is_function w then Node at w parts ∷ [] else []) ++ (if is_instantiate w then first_lowered parts else lowered_among parts)
   lowered_in (Listed parts) = lowered_among parts
   lowered_in _ = []
 
@@ -92,7 +97,8 @@ abbrev mutual
   pub assigned_by : Names → Syntax → List ℕ
   assigned_by names (Node at word.Id (Then (Said name) End)) = local_of (names.meaning at.reference.0 name)
   assigned_by names (Node at word.Arraytarget (Then (Listed items) (Then rest End))) = assigned_among names items ++ assigned_by names rest
-  assigned_by names (Node at word.Objecttarget (Then (Listed properties) (Then rest End))) = assigned_among names properties ++ assigned_by names rest
+  assigned_by names (Node at word.Objecttarget (Then (Listed properties) (Then rest End))) =
+      assigned_among names properties ++ assigned_by names rest
   assigned_by names (Node at word.Default (Then target parts)) = assigned_by names target
   assigned_by names (Node at word.Short (Then name parts)) = assigned_by names name
   assigned_by names (Node at word.Keyed (Then computed (Then key (Then target End)))) = assigned_by names target
@@ -149,7 +155,8 @@ contains xs n = list_any (nat_eq n) xs
 -- The symbols that a node names, but for the name of a function declaration: a name that is used, or what a parameter, a declarator or a
 -- `catch` declares.
 abbrev pub named_at : Names → (tags : List ℕ) → Syntax → List ℕ
-named_at names tags (Node at word.Id (Then (Said name) End)) = if contains tags at.id.0 then [] else local_of (names.meaning at.reference.0 name)
+named_at names tags (Node at word.Id (Then (Said name) End)) =
+    if contains tags at.id.0 then [] else local_of (names.meaning at.reference.0 name)
 named_at names tags (Node at word.Param (Then pattern parts)) = bound_by names pattern
 named_at names tags (Node at word.Params (Then params (Then rest End))) = bound_by names rest
 named_at names tags (Node at word.Declarator (Then pattern parts)) = bound_by names pattern
@@ -161,7 +168,8 @@ named_in names function = flat (named_at names (flat builtin_tag_at (code_of fun
 
 -- The symbols of the function declarations of a function, by the symbols that they store to.
 abbrev pub function_names_at : (stored : ℕ → Option SymbolId) → Syntax → List ℕ
-function_names_at stored (Node at word.Fundecl (Then marked (Then is_async (Then generator (Then name parts))))) = declared_by (stored (at_of name).id.0)
+function_names_at stored (Node at word.Fundecl (Then marked (Then is_async (Then generator (Then name parts))))) =
+    declared_by (stored (at_of name).id.0)
 function_names_at stored _ = []
 
 -- The other lowered functions.
@@ -173,7 +181,8 @@ abbrev pub is_open : Names → (marked function : Syntax) → (symbol : ℕ) →
 is_open names marked function symbol = list_any (λ other. contains (assigned_in names other) symbol) (others marked function)
 
 abbrev pub names_symbol : Names → (stored : ℕ → Option SymbolId) → (function : Syntax) → (symbol : ℕ) → Bool
-names_symbol names stored function symbol = contains (named_in names function) symbol || contains (flat (function_names_at stored) (code_of function)) symbol
+names_symbol names stored function symbol =
+    contains (named_in names function) symbol || contains (flat (function_names_at stored) (code_of function)) symbol
 
 -- The variables that the function names, and that another one names otherwise than as its function declaration.
 abbrev pub is_kept : Names → (stored : ℕ → Option SymbolId) → (marked function : Syntax) → (symbol : ℕ) → Bool

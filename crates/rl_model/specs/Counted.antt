@@ -1,13 +1,13 @@
 -- The nodes of a function that its graph holds once each.
-use Rattle.std.specs.Prelude.{ℕ, Bool, true, false, if◌then◌else◌, List, [], ◌∷◌, ◌++◌, codes}
+use Rattle.std.specs.Prelude.{ℕ, if◌then◌else◌, List, [], ◌∷◌, codes}
 use Rattle.std.specs.Str.{bytes_eq}
 use Rattle.rl_base.specs.declared.span.Span.{Span}
 use Rattle.rl_names.specs.Names.{at_of}
 use Rattle.rl_model.specs.Code.{code_of, contains, flat}
-use Rattle.rl_syntax.specs.Syntax.{Syntax, Node, Listed, Said, Absent, Pieces, End, Then, span_of}
+use Rattle.rl_syntax.specs.Syntax.{Syntax, Node, Said, End, Then}
 use Rattle.rl_syntax.specs.declared.word.Word.TheVariants as word
 
--- What is counted: the kinds that the instruction may have, and its span.
+-- A node that is counted: the kinds that its instruction may have, and the span.
 pub record Counted : Type 0 where
   pub node : ℕ
   pub kinds : List (List ℕ)
@@ -32,12 +32,17 @@ counted_at methods (Node at word.Element parts) = counted_as at.id.0 (codes "jsx
 counted_at methods (Node at word.Fragment parts) = counted_as at.id.0 (codes "jsxfragment" ∷ []) at.span
 counted_at methods (Node at word.Arrow parts) = counted_as at.id.0 (codes "function" ∷ []) at.span
 counted_at methods (Node at word.Fundecl parts) = counted_as at.id.0 (codes "function" ∷ []) at.span
-counted_at methods (Node at word.Method (Then computed (Then key (Then function End)))) = counted_as (at_of function).id.0 (codes "objectmethod" ∷ []) at.span
-counted_at methods (Node at word.Get (Then computed (Then key (Then function End)))) = counted_as (at_of function).id.0 (codes "objectmethod" ∷ []) at.span
-counted_at methods (Node at word.Set (Then computed (Then key (Then function End)))) = counted_as (at_of function).id.0 (codes "objectmethod" ∷ []) at.span
+counted_at methods (Node at word.Method (Then computed (Then key (Then function End)))) =
+    counted_as (at_of function).id.0 (codes "objectmethod" ∷ []) at.span
+counted_at methods (Node at word.Get (Then computed (Then key (Then function End)))) =
+    counted_as (at_of function).id.0 (codes "objectmethod" ∷ []) at.span
+counted_at methods (Node at word.Set (Then computed (Then key (Then function End)))) =
+    counted_as (at_of function).id.0 (codes "objectmethod" ∷ []) at.span
 counted_at methods (Node at word.Assign (Then (Said operator) (Then (Node there word.Id parts) rest))) =
-    counted_as at.id.0 (codes "storeglobal" ∷ codes "storelocal" ∷ codes "storecontext" ∷ []) (if bytes_eq operator (codes "=") then there.span else at.span)
-counted_at methods (Node at word.Funexpr parts) = if contains methods at.id.0 then [] else counted_as at.id.0 (codes "function" ∷ []) at.span
+    counted_as at.id.0 (codes "storeglobal" ∷ codes "storelocal" ∷ codes "storecontext" ∷ [])
+        (if bytes_eq operator (codes "=") then there.span else at.span)
+counted_at methods (Node at word.Funexpr parts) =
+    if contains methods at.id.0 then [] else counted_as at.id.0 (codes "function" ∷ []) at.span
 counted_at methods _ = []
 
 abbrev pub counted_in : (function : Syntax) → List Counted

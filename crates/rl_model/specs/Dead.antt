@@ -1,5 +1,5 @@
 -- The parts of a function that are never run, whatever its tests come to.
-use Rattle.std.specs.Prelude.{ℕ, Bool, true, false, ◌&&◌, ◌||◌, not, if◌then◌else◌, Option, Some, None, List, [], ◌∷◌, ◌++◌, filter}
+use Rattle.std.specs.Prelude.{ℕ, Bool, true, false, ◌&&◌, ◌||◌, not, if◌then◌else◌, Some, None, List, [], ◌∷◌, ◌++◌, filter}
 use Rattle.std.specs.List.{list_any}
 use Rattle.std.specs.Str.{bytes_eq}
 use Rattle.rl_model.specs.Actions.{Label, is_own}
@@ -7,7 +7,7 @@ use Rattle.rl_model.specs.Shapes.{is_absent}
 use Rattle.rl_syntax.specs.Syntax.{Syntax, Node, Listed, Said, Flag, Absent, Pieces, End, Then}
 use Rattle.rl_syntax.specs.declared.word.Word.TheVariants as word
 
--- How a statement may be left: by its end, or by jumps.
+-- The exits of a statement, whatever tests come to: its end, and jumps.
 pub record Outs : Type 0 where
   pub falls : Bool
   pub breaks : List Label
@@ -22,7 +22,7 @@ leaving = record { falls = false; breaks = []; continues = [] }
 abbrev pub either : Outs → Outs → Outs
 either a b = record { falls = a.falls || b.falls; breaks = a.breaks ++ b.breaks; continues = a.continues ++ b.continues }
 
--- One statement and then another one, which is dead if the first cannot fall.
+-- Two statements in a row; the second is dead if the first cannot fall.
 abbrev pub in_row : Outs → Outs → Outs
 in_row a b = if a.falls then record (either a b) { falls = b.falls } else a
 
@@ -43,14 +43,26 @@ is_broken body = list_any is_unlabeled body.breaks
 
 -- A loop, from its body; `falls` tells whether it can fall.
 abbrev pub loop_outs : (own : Label) → (falls : Bool) → Outs → Outs
-loop_outs own falls body = record { falls = falls; breaks = filter (λ l. not (is_unlabeled l)) body.breaks; continues = filter (λ l. not (is_own own l)) body.continues }
+loop_outs own falls body = record {
+  falls = falls;
+  breaks = filter (λ l. not (is_unlabeled l)) body.breaks;
+  continues = filter (λ l. not (is_own own l)) body.continues;
+}
 
 abbrev pub labeled_outs : List ℕ → Outs → Outs
-labeled_outs label body = record { falls = body.falls || list_any (is_labeled label) body.breaks; breaks = filter (λ l. not (is_labeled label l)) body.breaks; continues = filter (λ l. not (is_labeled label l)) body.continues }
+labeled_outs label body = record {
+  falls = body.falls || list_any (is_labeled label) body.breaks;
+  breaks = filter (λ l. not (is_labeled label l)) body.breaks;
+  continues = filter (λ l. not (is_labeled label l)) body.continues;
+}
 
 -- A `switch`, from its cases in a row.
 abbrev pub switch_outs : (has_default : Bool) → Outs → Outs
-switch_outs has_default cases = record { falls = cases.falls || not has_default || is_broken cases; breaks = filter (λ l. not (is_unlabeled l)) cases.breaks; continues = cases.continues }
+switch_outs has_default cases = record {
+  falls = cases.falls || not has_default || is_broken cases;
+  breaks = filter (λ l. not (is_unlabeled l)) cases.breaks;
+  continues = cases.continues;
+}
 
 abbrev pub has_default : Pieces → Bool
 has_default (Then (Node at word.Case (Then Absent parts)) cases) = true
@@ -77,10 +89,11 @@ abbrev pub lives_in_cases : Lives → Lives → Lives
 lives_in_cases a b = record { outs = record (either a.outs b.outs) { falls = b.outs.falls }; acts = a.acts || b.acts }
 
 abbrev pub lives_in_try : Lives → Lives → Lives
-lives_in_try block handler = if block.acts then record { outs = either block.outs handler.outs; acts = handler.acts } else record { outs = block.outs; acts = false }
+lives_in_try block handler =
+    if block.acts then record { outs = either block.outs handler.outs; acts = handler.acts } else record { outs = block.outs; acts = false }
 
 abbrev mutual
-  -- How a statement may be left, and whether something in it acts.
+  -- The exits of a statement, and whether something in it acts.
   pub lives : (own : Label) → Syntax → Lives
   lives own Absent = quiet falling
   lives own (Node at word.Return parts) = acting leaving
@@ -90,18 +103,32 @@ abbrev mutual
   lives own (Node at word.Continue (Then Absent End)) = quiet (record leaving { continues = None ∷ [] })
   lives own (Node at word.Continue (Then (Said label) End)) = quiet (record leaving { continues = Some label ∷ [] })
   lives own (Node at word.Block (Then (Listed statements) End)) = lives_all statements
-  lives own (Node at word.If (Then condition (Then consequent (Then alternate End)))) = acting (either (lives None consequent).outs (lives None alternate).outs)
+  lives own (Node at word.If (Then condition (Then consequent (Then alternate End)))) =
+      acting (either (lives None consequent).outs (lives None alternate).outs)
   lives own (Node at word.While (Then condition (Then body End))) = acting (loop_outs own true (lives None body).outs)
   lives own (Node at word.For (Then init (Then condition (Then update (Then body End))))) =
-      record { outs = loop_outs own true (lives None body).outs; acts = not (is_absent init) || not (is_absent condition) || (lives None body).acts || (not (is_absent update) && goes_on own (lives None body).outs) }
+      record {
+        outs = loop_outs own true (lives None body).outs;
+        acts =
+            not (is_absent init) || not (is_absent condition) || (lives None body).acts
+            || (not (is_absent update) && goes_on own (lives None body).outs);
+      }
   lives own (Node at word.Forin (Then head (Then right (Then body End)))) = acting (loop_outs own true (lives None body).outs)
-  lives own (Node at word.Forof (Then (Flag false) (Then head (Then right (Then body End))))) = acting (loop_outs own true (lives None body).outs)
+  lives own (Node at word.Forof (Then (Flag false) (Then head (Then right (Then body End))))) =
+      acting (loop_outs own true (lives None body).outs)
   lives own (Node at word.Dowhile (Then body (Then condition End))) =
-      record { outs = loop_outs own (goes_on own (lives None body).outs || is_broken (lives None body).outs) (lives None body).outs; acts = (lives None body).acts || goes_on own (lives None body).outs }
-  lives own (Node at word.Switch (Then discriminant (Then (Listed cases) End))) = acting (switch_outs (has_default cases) (lives_cases cases).outs)
-  lives own (Node at word.Labeled (Then (Said label) (Then body End))) = record { outs = labeled_outs label (lives (Some label) body).outs; acts = (lives (Some label) body).acts }
-  lives own (Node at word.Try (Then block (Then (Node there word.Catch (Then param (Then body End))) (Then finalizer End)))) = lives_in_try (lives None block) (lives None body)
-  lives own (Node at word.Fundecl (Then marked (Then is_async (Then generator (Then name (Then params (Then Absent End))))))) = quiet falling
+      record {
+        outs = loop_outs own (goes_on own (lives None body).outs || is_broken (lives None body).outs) (lives None body).outs;
+        acts = (lives None body).acts || goes_on own (lives None body).outs;
+      }
+  lives own (Node at word.Switch (Then discriminant (Then (Listed cases) End))) =
+      acting (switch_outs (has_default cases) (lives_cases cases).outs)
+  lives own (Node at word.Labeled (Then (Said label) (Then body End))) =
+      record { outs = labeled_outs label (lives (Some label) body).outs; acts = (lives (Some label) body).acts }
+  lives own (Node at word.Try (Then block (Then (Node there word.Catch (Then param (Then body End))) (Then finalizer End)))) =
+      lives_in_try (lives None block) (lives None body)
+  lives own (Node at word.Fundecl (Then marked (Then is_async (Then generator (Then name (Then params (Then Absent End))))))) =
+      quiet falling
   lives own (Node at word.Fundecl parts) = acting falling
   lives own (Node at word.Expr parts) = acting falling
   lives own (Node at word.Var parts) = acting falling
@@ -113,7 +140,8 @@ abbrev mutual
   lives_all (Then statement statements) = lives_in_row (lives None statement) (lives_all statements)
 
   pub lives_cases : Pieces → Lives
-  lives_cases (Then (Node at word.Case (Then condition (Then (Listed statements) End))) cases) = lives_in_cases (lives_all statements) (lives_cases cases)
+  lives_cases (Then (Node at word.Case (Then condition (Then (Listed statements) End))) cases) =
+      lives_in_cases (lives_all statements) (lives_cases cases)
   lives_cases _ = quiet falling
 
 abbrev pub parts_if : Bool → Syntax → List Syntax
@@ -125,10 +153,12 @@ abbrev mutual
   dead_in own (Node at word.Block (Then (Listed statements) End)) = dead_among true statements
   dead_in own (Node at word.If (Then condition (Then consequent (Then alternate End)))) = dead_in None consequent ++ dead_in None alternate
   dead_in own (Node at word.While (Then condition (Then body End))) = dead_in None body
-  dead_in own (Node at word.For (Then init (Then condition (Then update (Then body End))))) = parts_if (not (goes_on own (lives None body).outs)) update ++ dead_in None body
+  dead_in own (Node at word.For (Then init (Then condition (Then update (Then body End))))) =
+      parts_if (not (goes_on own (lives None body).outs)) update ++ dead_in None body
   dead_in own (Node at word.Forin (Then head (Then right (Then body End)))) = dead_in None body
   dead_in own (Node at word.Forof (Then (Flag false) (Then head (Then right (Then body End))))) = dead_in None body
-  dead_in own (Node at word.Dowhile (Then body (Then condition End))) = dead_in None body ++ parts_if (not (goes_on own (lives None body).outs)) condition
+  dead_in own (Node at word.Dowhile (Then body (Then condition End))) =
+      dead_in None body ++ parts_if (not (goes_on own (lives None body).outs)) condition
   dead_in own (Node at word.Switch (Then discriminant (Then (Listed cases) End))) = dead_in_cases cases
   dead_in own (Node at word.Labeled (Then (Said label) (Then body End))) = dead_in (Some label) body
   dead_in own (Node at word.Try (Then block (Then (Node there word.Catch (Then param (Then body End))) (Then finalizer End)))) =
@@ -142,7 +172,8 @@ abbrev mutual
   dead_among false (Then statement statements) = statement ∷ dead_among false statements
 
   pub dead_in_cases : Pieces → List Syntax
-  dead_in_cases (Then (Node at word.Case (Then condition (Then (Listed statements) End))) cases) = dead_among true statements ++ dead_in_cases cases
+  dead_in_cases (Then (Node at word.Case (Then condition (Then (Listed statements) End))) cases) =
+      dead_among true statements ++ dead_in_cases cases
   dead_in_cases _ = []
 
 -- The dead parts of a function's body.

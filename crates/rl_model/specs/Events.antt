@@ -3,7 +3,6 @@ use Rattle.std.specs.Prelude.{ℕ, Bool, true, false, if◌then◌else◌, List,
 use Rattle.std.specs.Fmt.{decimal}
 use Rattle.rl_machine.specs.declared.trace.Event.{Event}
 use Rattle.rl_machine.specs.declared.trace.Value.{Value}
-use Rattle.rl_machine.specs.declared.trace.Value.TheVariants as value
 
 abbrev pub event : (kind : List ℕ) → (texts : List (List ℕ)) → (operands : List Value) → Event
 event kind texts operands = record { kind = kind; texts = texts; operands = operands }

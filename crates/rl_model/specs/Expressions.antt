@@ -1,6 +1,5 @@
 -- The meaning of expressions, and of the targets that they assign to (ECMA-262, 13).
 use Rattle.std.specs.Prelude.{ℕ, Bool, true, false, ◌&&◌, not, if◌then◌else◌, Option, Some, None, is_some, List, [], ◌∷◌, ◌++◌, codes}
-use Rattle.std.specs.Option.{option_map_or}
 use Rattle.std.specs.Str.{bytes_eq}
 use Rattle.rl_text.specs.Numeral.{is_numeral, number_of}
 use Rattle.rl_hir.specs.Instructions.{binding_texts}
@@ -9,8 +8,9 @@ use Rattle.rl_machine.specs.declared.trace.Value.{Value}
 use Rattle.rl_machine.specs.declared.trace.Value.TheVariants as value
 use Rattle.rl_names.specs.declared.names.Meaning.{Meaning}
 use Rattle.rl_names.specs.declared.names.Meaning.TheVariants.{Local, Outer}
-use Rattle.rl_model.specs.Actions.{Action, ◌>>=◌, ◌>>◌, answer_to, ask, assign, chained, done, end_short, give, no_meaning, test, variable}
-use Rattle.rl_model.specs.Events.{Key, binary, computed_key, delete, destructure, event, fixed_key, function, global, load, method, store_global, store_in, unary, update}
+use Rattle.rl_model.specs.Actions.{◌>>=◌, ◌>>◌, Action, answer_to, ask, assign, chained, done, end_short, give, no_meaning, test, variable}
+use Rattle.rl_model.specs.Events.{Key, binary, computed_key, delete, destructure, event, fixed_key, function, global, load, method}
+use Rattle.rl_model.specs.Events.{store_global, store_in, unary, update}
 use Rattle.rl_model.specs.Scene.{Scene}
 use Rattle.rl_model.specs.Shapes as shapes
 use Rattle.rl_syntax.specs.Syntax.{Syntax, Node, Listed, Said, Flag, Absent, Pieces, End, Then}
@@ -53,7 +53,7 @@ update_property scene prefix operator object key = do
   write_property scene object key new
   give (if prefix then new else old)
 
--- Whether the right part of a logical operation is evaluated, by the value of the left one.
+-- Asks by the value of the left part of a logical operation if the right one is needed.
 abbrev pub needs_right : Scene → (operator : List ℕ) → Value → Action Bool
 needs_right scene operator v =
     if bytes_eq operator (codes "&&") then test scene (truthy v)
@@ -134,13 +134,15 @@ assignment_in scene place right =
 
 -- The key in brackets: a number is fixed.
 abbrev pub key_in : Syntax → (computed : Action Value) → Action Key
-key_in (Node at word.Num (Then (Said text) End)) computed = if is_numeral text then give (fixed_key (value.Number (number_of text))) else no_meaning
+key_in (Node at word.Num (Then (Said text) End)) computed =
+    if is_numeral text then give (fixed_key (value.Number (number_of text))) else no_meaning
 key_in property computed = do
   v ← computed
   give (computed_key v)
 
 -- `=`: to a name and to a pattern the value comes first.
-abbrev pub assignment : Scene → (target : Syntax) → (place : Action (Value × Key)) → (take : Value → Action (Unit {0})) → (right : Action Value) → Action Value
+abbrev pub assignment : Scene → (target : Syntax) → (place : Action (Value × Key)) → (take : Value → Action (Unit {0})) →
+    (right : Action Value) → Action Value
 assignment scene (Node at word.Id (Then (Said name) End)) place take right = do
   v ← right
   write scene (scene.names.meaning at.reference.0 name) name v
@@ -153,7 +155,8 @@ assignment scene pattern place take right = do
   give v
 
 -- A compound assignment: the old value is read before the right part is evaluated.
-abbrev pub compound : Scene → (operator : List ℕ) → (target : Syntax) → (place : Action (Value × Key)) → (right : Action Value) → Action Value
+abbrev pub compound : Scene → (operator : List ℕ) → (target : Syntax) → (place : Action (Value × Key)) → (right : Action Value) →
+    Action Value
 compound scene operator (Node at word.Id (Then (Said name) End)) place right = do
   old ← read scene (scene.names.meaning at.reference.0 name)
   w ← right
@@ -174,7 +177,8 @@ abbrev mutual
   eval scene (Node at word.Bool (Then (Flag flag) End)) = give (value.Bool flag)
   eval scene (Node at word.Num (Then (Said text) End)) = if is_numeral text then give (value.Number (number_of text)) else no_meaning
   eval scene (Node at word.Str (Then (Said text) End)) = give (value.Text text)
-  eval scene (Node at word.Regexp (Then (Said pattern) (Then (Said flags) End))) = ask scene (event (codes "regexp") (pattern ∷ flags ∷ []) [])
+  eval scene (Node at word.Regexp (Then (Said pattern) (Then (Said flags) End))) =
+      ask scene (event (codes "regexp") (pattern ∷ flags ∷ []) [])
   eval scene (Node at word.Id (Then (Said name) End)) = read scene (scene.names.meaning at.reference.0 name)
   eval scene (Node at word.Importmeta End) = ask scene (event (codes "metaproperty") [] [])
   -- wrappers
@@ -256,11 +260,14 @@ abbrev mutual
   eval scene (Node at word.Arrow parts) = ask scene (function at.id.0)
   eval scene (Node at word.Funexpr parts) = ask scene (function at.id.0)
   -- JSX
-  eval scene (Node at word.Element (Then (Node there word.Opening (Then tag (Then (Listed attributes) End))) (Then (Listed children) (Then closing End)))) = do
+  eval scene
+      (Node at word.Element
+        (Then (Node there word.Opening (Then tag (Then (Listed attributes) End))) (Then (Listed children) (Then closing End)))) = do
     head ← tag_values tag (tag_value scene tag)
     vs ← values scene attributes
     ws ← values scene children
-    ask scene (event (codes "jsx") (shapes.tag_shape tag ++ shapes.attribute_shapes attributes ++ shapes.child_shapes scene children) (head ++ vs ++ ws))
+    ask scene (event (codes "jsx") (shapes.tag_shape tag ++ shapes.attribute_shapes attributes ++ shapes.child_shapes scene children)
+        (head ++ vs ++ ws))
   eval scene (Node at word.Fragment (Then (Listed children) End)) = do
     vs ← values scene children
     ask scene (event (codes "jsxfragment") (shapes.child_shapes scene children) vs)
@@ -291,9 +298,11 @@ abbrev mutual
   values_of scene (Node at word.Get parts) plain = no_meaning
   values_of scene (Node at word.Set parts) plain = no_meaning
   values_of scene (Node at word.Attr (Then name (Then Absent End))) plain = give (value.Bool true ∷ [])
-  values_of scene (Node at word.Attr (Then name (Then (Node there word.Str (Then (Said text) End)) End))) plain = give (value.Text (scene.attribute_text text) ∷ [])
+  values_of scene (Node at word.Attr (Then name (Then (Node there word.Str (Then (Said text) End)) End))) plain =
+      give (value.Text (scene.attribute_text text) ∷ [])
   values_of scene (Node at word.Attr (Then name (Then (Node there word.Container (Then Absent End)) End))) plain = give []
-  values_of scene (Node at word.Attr (Then name (Then (Node there word.Container (Then expression End)) End))) plain = one_value (eval scene expression)
+  values_of scene (Node at word.Attr (Then name (Then (Node there word.Container (Then expression End)) End))) plain =
+      one_value (eval scene expression)
   values_of scene (Node at word.Attr (Then name (Then expression End))) plain = one_value (eval scene expression)
   values_of scene (Node at word.Text (Then (Said text) End)) plain = give (text_values (scene.child_text at.id.0 text))
   values_of scene (Node at word.Container (Then Absent End)) plain = give []

@@ -1,5 +1,5 @@
 -- The run of a function (ECMA-262, 10.2).
-use Rattle.std.specs.Prelude.{ℕ, Bool, true, false, ◌&&◌, not, if◌then◌else◌, Option, Some, None, List, [], ◌∷◌}
+use Rattle.std.specs.Prelude.{Bool, true, false, not, if◌then◌else◌, List, [], ◌∷◌}
 use Rattle.rl_hir.specs.declared.terminal.ReturnVariant.TheVariants as returns
 use Rattle.rl_machine.specs.Traces.{Store, set, threw, unset, waiting}
 use Rattle.rl_machine.specs.declared.trace.Answer.{Answer}
@@ -8,7 +8,7 @@ use Rattle.rl_machine.specs.declared.trace.Trace.{Trace}
 use Rattle.rl_machine.specs.declared.trace.Value.{Value}
 use Rattle.rl_machine.specs.declared.trace.Value.TheVariants as value
 use Rattle.rl_names.specs.Functions.{body_in, params_in}
-use Rattle.rl_model.specs.Actions.{Action, Ways, ◌>>=◌, ◌>>◌, done, give, return_with}
+use Rattle.rl_model.specs.Actions.{◌>>=◌, ◌>>◌, Action, Ways, done, give, return_with}
 use Rattle.rl_model.specs.Expressions.{eval, first_piece, later_pieces, or_default}
 use Rattle.rl_model.specs.Patterns.{bind}
 use Rattle.rl_model.specs.Scene.{Scene}

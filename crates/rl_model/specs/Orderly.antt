@@ -1,14 +1,21 @@
--- Orderly functions: those that the port runs as their source does.
-use Rattle.std.specs.Prelude.{ℕ, nat_eq, nat_le, Bool, true, false, ◌&&◌, ◌||◌, not, if◌then◌else◌, Option, Some, None, List, [], ◌∷◌, ◌++◌, codes, length, filter, map}
-use Rattle.std.specs.List.{list_any, list_all}
+-- Orderly functions: those whose run by the port (`Scene`) is the run of their source. In an orderly function
+-- (a) of each assignment to a property the value is steady, or object and key are: it may be evaluated at another time;
+-- (b) each test of a `switch` is steady;
+-- (c) no callee is a chain, or a property or a chain in parentheses or under a type; no tag is a property or a chain, in these or not;
+-- (d) each name right of a default or a nested part of its pattern or parameter list stands there once, no default there names it, no
+--     other function assigns it, and the pattern stands in no `try` block;
+-- (e) the name of each function declaration, also less an ending `_` and digits, names no other symbol of its scope or of one around it.
+use Rattle.std.specs.Prelude.{ℕ, nat_eq, nat_le, Bool, true, false, ◌&&◌, ◌||◌, not, if◌then◌else◌, List, [], ◌∷◌, ◌++◌}
+use Rattle.std.specs.Prelude.{codes, length, filter, map}
+use Rattle.std.specs.List.{list_all}
 use Rattle.std.specs.Str.{bytes_eq}
 use Rattle.rl_names.specs.Functions.{body_in, params_in}
 use Rattle.rl_names.specs.Names.{Names}
 use Rattle.rl_names.specs.declared.names.Meaning.{Meaning}
 use Rattle.rl_names.specs.declared.names.Meaning.TheVariants.{Local, Outer}
-use Rattle.rl_model.specs.Code.{assigned_in, bound_by, code, code_of, contains, flat, is_open, local_of, lowered_functions}
-use Rattle.rl_model.specs.Shapes.{is_absent, is_link, lends}
-use Rattle.rl_syntax.specs.Syntax.{Syntax, Node, Listed, Said, Flag, Absent, Pieces, End, Then}
+use Rattle.rl_model.specs.Code.{assigned_in, bound_by, builtin_tag_at, code, code_of, contains, flat, is_open, local_of, lowered_functions}
+use Rattle.rl_model.specs.Shapes.{is_absent, is_link}
+use Rattle.rl_syntax.specs.Syntax.{Syntax, Node, Listed, Said, Absent, Pieces, End, Then}
 use Rattle.rl_syntax.specs.declared.word.Word.TheVariants as word
 
 -- A local variable that no lowered function assigns.
@@ -34,7 +41,8 @@ is_steady names assigned _ = false
 -- In an assignment to a property, the value is steady, or object and key are.
 abbrev pub is_steady_target : Names → (assigned : List ℕ) → Syntax → Bool
 is_steady_target names assigned (Node at word.Member (Then optional (Then object parts))) = is_steady names assigned object
-is_steady_target names assigned (Node at word.Index (Then optional (Then object (Then property End)))) = is_steady names assigned object && is_steady names assigned property
+is_steady_target names assigned (Node at word.Index (Then optional (Then object (Then property End)))) =
+    is_steady names assigned object && is_steady names assigned property
 is_steady_target names assigned (Node at word.Privatemember (Then optional (Then object parts))) = is_steady names assigned object
 is_steady_target names assigned _ = true
 
@@ -62,7 +70,7 @@ is_orderly_node names assigned (Node at word.Call (Then optional (Then callee pa
 is_orderly_node names assigned (Node at word.Tagged (Then tag parts)) = not (is_link_inside tag)
 is_orderly_node names assigned _ = true
 
--- What stands in a binding pattern or a parameter list, from left to right: a name, or the end of a default or of a nested part.
+-- An item of a binding pattern or a parameter list, from left to right: a name, or the end of a default or of a nested part.
 pub data Item : Type 0 where
   Binds : (symbol : ℕ) → Item
   Passes : Item
@@ -70,7 +78,8 @@ pub data Item : Type 0 where
 abbrev mutual
   pub items_of : Names → Syntax → List Item
   items_of names (Node at word.Arraypat (Then (Listed items) (Then rest End))) = items_among names items ++ items_of_part names rest
-  items_of names (Node at word.Objectpat (Then (Listed properties) (Then rest End))) = items_among names properties ++ items_of_part names rest
+  items_of names (Node at word.Objectpat (Then (Listed properties) (Then rest End))) =
+      items_among names properties ++ items_of_part names rest
   items_of names (Node at word.Params (Then (Listed params) (Then rest End))) = items_among names params ++ items_of_part names rest
   items_of names _ = []
 
@@ -82,8 +91,10 @@ abbrev mutual
   items_of_part names (Node at word.Rest (Then pattern End)) = items_of_part names pattern
   items_of_part names (Node at word.Param (Then pattern (Then Absent End))) = items_of_part names pattern
   items_of_part names (Node at word.Param (Then pattern (Then default End))) = items_of_part names pattern ++ Passes ∷ []
-  items_of_part names (Node at word.Arraypat (Then (Listed items) (Then rest End))) = items_among names items ++ items_of_part names rest ++ Passes ∷ []
-  items_of_part names (Node at word.Objectpat (Then (Listed properties) (Then rest End))) = items_among names properties ++ items_of_part names rest ++ Passes ∷ []
+  items_of_part names (Node at word.Arraypat (Then (Listed items) (Then rest End))) =
+      items_among names items ++ items_of_part names rest ++ Passes ∷ []
+  items_of_part names (Node at word.Objectpat (Then (Listed properties) (Then rest End))) =
+      items_among names properties ++ items_of_part names rest ++ Passes ∷ []
   items_of_part names _ = []
 
   pub items_among : Names → Pieces → List Item
@@ -118,12 +129,13 @@ abbrev mutual
   defaults_among (Then part parts) = defaults_in part ++ defaults_among parts
 
 -- The variables that an expression names, outside its inner functions.
-abbrev pub used_at : Names → Syntax → List ℕ
-used_at names (Node at word.Id (Then (Said name) End)) = local_of (names.meaning at.reference.0 name)
-used_at names _ = []
+abbrev pub used_at : Names → (tags : List ℕ) → Syntax → List ℕ
+used_at names tags (Node at word.Id (Then (Said name) End)) =
+    if contains tags at.id.0 then [] else local_of (names.meaning at.reference.0 name)
+used_at names tags _ = []
 
 abbrev pub used_in : Names → Syntax → List ℕ
-used_in names expression = flat (used_at names) (code expression)
+used_in names expression = flat (used_at names (flat builtin_tag_at (code expression))) (code expression)
 
 -- (d), of one pattern or parameter list; `tried` is true of one that stands in a `try` block.
 abbrev pub is_orderly_pattern : Names → (opens : ℕ → Bool) → (tried : Bool) → Syntax → Bool
@@ -156,9 +168,10 @@ abbrev pub is_orderly_name : (shadowed : Syntax → Bool) → Syntax → Bool
 is_orderly_name shadowed (Node at word.Fundecl parts) = not (shadowed (Node at word.Fundecl parts))
 is_orderly_name shadowed _ = true
 
--- An orderly function of a unit.
-abbrev pub is_orderly : Names → (shadowed : Syntax → Bool) → (marked function : Syntax) → Bool
-is_orderly names shadowed marked function =
+-- An orderly function, in a unit with the names and the marked function.
+abbrev pub is_orderly_by : Names → (shadowed : Syntax → Bool) → (marked function : Syntax) → Bool
+is_orderly_by names shadowed marked function =
     list_all (is_orderly_node names (flat (assigned_in names) (lowered_functions marked))) (code_of function)
     && list_all (is_orderly_name shadowed) (code_of function)
-    && list_all (λ p. is_orderly_pattern names (is_open names marked function) p.0 p.1) ((false, params_in function) ∷ patterns_in false (body_in function))
+    && list_all (λ p. is_orderly_pattern names (is_open names marked function) p.0 p.1)
+        ((false, params_in function) ∷ patterns_in false (body_in function))

@@ -1,12 +1,12 @@
 -- The meaning of binding patterns (ECMA-262, 8.6.2 and 14.3.3).
-use Rattle.std.specs.Prelude.{ℕ, Bool, true, false, ◌&&◌, not, if◌then◌else◌, Option, Some, None, List, [], ◌∷◌, ◌++◌, codes}
+use Rattle.std.specs.Prelude.{Bool, true, false, ◌&&◌, not, if◌then◌else◌, Option, Some, None, List, ◌∷◌, ◌++◌, codes}
 use Rattle.rl_base.specs.declared.ids.SymbolId.{SymbolId}
 use Rattle.rl_machine.specs.declared.trace.Value.{Value}
-use Rattle.rl_model.specs.Actions.{Action, ◌>>=◌, ◌>>◌, assign, done, give, no_meaning}
+use Rattle.rl_model.specs.Actions.{◌>>=◌, ◌>>◌, Action, assign, done, give, no_meaning}
 use Rattle.rl_model.specs.Expressions.{eval, first_piece, later_pieces, or_default, take_apart}
 use Rattle.rl_model.specs.Scene.{Scene}
 use Rattle.rl_model.specs.Shapes as shapes
-use Rattle.rl_syntax.specs.Syntax.{Syntax, Node, Listed, Said, Flag, Absent, Pieces, End, Then}
+use Rattle.rl_syntax.specs.Syntax.{Syntax, Node, Listed, Absent, Pieces, End, Then}
 use Rattle.rl_syntax.specs.declared.word.Word.TheVariants as word
 
 -- Gives a declared variable its value.

@@ -1,7 +1,8 @@
--- The scenes of the functions of a unit.
-use Rattle.std.specs.Prelude.{false, Some, length}
+-- The scenes of the functions of a unit, as they are written.
+use Rattle.std.specs.Prelude.{false, length}
 use Rattle.rl_bindings.specs.Tables.{symbols_in}
 use Rattle.rl_model.specs.Code.{world_of}
+use Rattle.rl_model.specs.JsxText.{attribute_text, child_text}
 use Rattle.rl_model.specs.Marked.{marked}
 use Rattle.rl_model.specs.Scene.{Scene}
 use Rattle.rl_model.specs.Units.{names_of}
@@ -15,6 +16,6 @@ written_scene u function = record {
   stored = (names_of u).declared;
   ported = false;
   takes_early = λ everywhere bind. false;
-  child_text = λ node text. Some text;
-  attribute_text = λ text. text;
+  child_text = child_text u function;
+  attribute_text = attribute_text u;
 }

@@ -1,11 +1,10 @@
--- What the syntax alone says of an event: its shape, keys and names.
-use Rattle.std.specs.Prelude.{ℕ, Bool, true, false, ◌&&◌, ◌||◌, not, nat_le, if◌then◌else◌, Option, Some, None, is_some, List, [], ◌∷◌, ◌++◌, codes, unwrap_or}
+-- Shapes, keys and names of events, as far as the syntax alone says them.
+use Rattle.std.specs.Prelude.{ℕ, Bool, true, false, ◌&&◌, ◌||◌, not, nat_le, if◌then◌else◌, Option, Some, None, is_some, List, [], ◌∷◌}
+use Rattle.std.specs.Prelude.{◌++◌, codes, unwrap_or}
 use Rattle.std.specs.Str.{bytes_eq}
-use Rattle.rl_text.specs.Numeral.{is_numeral, number_of}
-use Rattle.rl_machine.specs.declared.trace.Value.{Value}
-use Rattle.rl_machine.specs.declared.trace.Value.TheVariants as value
+use Rattle.rl_text.specs.Numeral.{is_numeral}
 use Rattle.rl_model.specs.Scene.{Scene}
-use Rattle.rl_syntax.specs.Syntax.{Syntax, Node, Listed, Said, Flag, Absent, Pieces, End, Then}
+use Rattle.rl_syntax.specs.Syntax.{Syntax, Node, Said, Flag, Absent, Pieces, End, Then}
 use Rattle.rl_syntax.specs.declared.word.Word.TheVariants as word
 
 abbrev pub is_absent : Syntax → Bool
@@ -36,8 +35,10 @@ is_computed computed key = computed
 abbrev pub shape_of : Syntax → List (List ℕ)
 shape_of (Node at word.Spread parts) = codes "spread" ∷ []
 shape_of (Node at word.Hole parts) = codes "hole" ∷ []
-shape_of (Node at word.Prop (Then (Flag computed) (Then key parts))) = unwrap_or (key_text computed key) (codes "place") ∷ codes "place" ∷ []
-shape_of (Node at word.Method (Then (Flag computed) (Then key parts))) = unwrap_or (key_text computed key) (codes "place") ∷ codes "place" ∷ []
+shape_of (Node at word.Prop (Then (Flag computed) (Then key parts))) =
+    unwrap_or (key_text computed key) (codes "place") ∷ codes "place" ∷ []
+shape_of (Node at word.Method (Then (Flag computed) (Then key parts))) =
+    unwrap_or (key_text computed key) (codes "place") ∷ codes "place" ∷ []
 shape_of _ = codes "place" ∷ []
 
 abbrev pub shapes : Pieces → List (List ℕ)

@@ -1,11 +1,12 @@
 -- The meaning of statements (ECMA-262, 14).
-use Rattle.std.specs.Prelude.{ℕ, Bool, true, false, ◌&&◌, ◌||◌, not, if◌then◌else◌, Option, Some, None, List, [], ◌∷◌, ◌++◌, codes}
+use Rattle.std.specs.Prelude.{ℕ, Bool, true, false, ◌||◌, if◌then◌else◌, Option, Some, None, List, [], ◌∷◌, codes}
 use Rattle.std.specs.Str.{bytes_eq}
 use Rattle.rl_hir.specs.declared.terminal.ReturnVariant.TheVariants as returns
 use Rattle.rl_machine.specs.Traces.{matches, truthy}
 use Rattle.rl_machine.specs.declared.trace.Value.{Value}
 use Rattle.rl_machine.specs.declared.trace.Value.TheVariants as value
-use Rattle.rl_model.specs.Actions.{Action, Label, ◌>>=◌, ◌>>◌, answer_to, ask, body_of_loop, break_to, breakable, catching, continue_to, done, give, labeled, loop, next, no_meaning, raise, return_with, test}
+use Rattle.rl_model.specs.Actions.{◌>>=◌, ◌>>◌, Action, Label, ask, body_of_loop, break_to, breakable, catching, continue_to}
+use Rattle.rl_model.specs.Actions.{done, give, labeled, loop, next, no_meaning, raise, return_with, test}
 use Rattle.rl_model.specs.Events.{event, function, get_iterator, next_key, next_of}
 use Rattle.rl_model.specs.Expressions.{assign_to, eval}
 use Rattle.rl_model.specs.Patterns.{bind, declare}
@@ -44,7 +45,8 @@ declare_all scene (Then declarator declarators) = do
   declare_one scene declarator
   declare_all scene declarators
 
--- The head of a `for`-`in` or `for`-`of` loop takes a value. A target that is wrapped has no meaning there (row F45), as `assign_to` has it.
+-- The head of a `for`-`in` or `for`-`of` loop takes a value. A target under a wrapper has no meaning there (row F45): `assign_to` has no
+-- clause for it.
 abbrev pub take_head : Scene → Syntax → Value → Action (Unit {0})
 take_head scene (Node at word.Var (Then (Said kind) (Then (Listed (Then (Node there word.Declarator (Then pattern parts)) End)) End))) v =
     if is_using kind then no_meaning else bind scene true pattern v
@@ -57,13 +59,13 @@ has_meaning Absent condition = true
 has_meaning (Node at word.Var parts) condition = true
 has_meaning init condition = false
 
--- One turn of a loop with its test in front.
+-- A turn of a loop with its test in front.
 abbrev pub turn_while : (condition : Action Bool) → (body : Action (Unit {0})) → Action Bool
 turn_while condition body = do
   met ← condition
   if met then (do body ; give true) else give false
 
--- One turn of a `for`-`in` or `for`-`of` loop: its next value, or the end.
+-- A turn of a `for`-`in` or `for`-`of` loop: its next value, or the end.
 abbrev pub turn_with : Option Value → (body : Value → Action (Unit {0})) → Action Bool
 turn_with None body = give false
 turn_with (Some v) body = do
@@ -94,7 +96,6 @@ abbrev pub known_or : Option Value → (now : Action Value) → Action Value
 known_or (Some v) now = give v
 known_or None now = now
 
--- What a `switch` comes to: the cases behind its discriminant are tried in order.
 abbrev mutual
   -- The meaning of a statement, with the label right in front of it.
   pub exec : Scene → Label → Syntax → Action (Unit {0})
@@ -109,9 +110,12 @@ abbrev mutual
   exec scene own (Node at word.Expr (Then expression End)) = do
     eval scene expression
     done
-  exec scene own (Node at word.Var (Then (Said kind) (Then (Listed declarators) End))) = if is_using kind then no_meaning else declare_all scene declarators
+  exec scene own (Node at word.Var (Then (Said kind) (Then (Listed declarators) End))) =
+      if is_using kind then no_meaning else declare_all scene declarators
   exec scene own (Node at word.Fundecl (Then marked (Then is_async (Then generator (Then name (Then params (Then Absent End))))))) = done
-  exec scene own (Node at word.Fundecl (Then marked (Then is_async (Then generator (Then (Node there word.Bind parts) (Then params (Then body End))))))) = do
+  exec scene own
+      (Node at word.Fundecl
+        (Then marked (Then is_async (Then generator (Then (Node there word.Bind parts) (Then params (Then body End))))))) = do
     v ← ask scene (function at.id.0)
     declare (scene.stored there.id.0) v
   exec scene own (Node at word.Return (Then Absent End)) = return_with scene returns.Explicit value.Undefined
@@ -125,7 +129,8 @@ abbrev mutual
   exec scene own (Node at word.If (Then condition (Then consequent (Then alternate End)))) = do
     met ← holds scene condition
     if met then exec scene None consequent else exec scene None alternate
-  exec scene own (Node at word.While (Then condition (Then body End))) = breakable (loop (turn_while (holds scene condition) (body_of_loop own (exec scene None body))))
+  exec scene own (Node at word.While (Then condition (Then body End))) =
+      breakable (loop (turn_while (holds scene condition) (body_of_loop own (exec scene None body))))
   exec scene own (Node at word.Dowhile (Then body (Then condition End))) = breakable (loop (do
     body_of_loop own (exec scene None body)
     holds scene condition))
@@ -169,7 +174,7 @@ abbrev mutual
   exec scene own (Node at word.Continue (Then Absent End)) = continue_to None
   exec scene own (Node at word.Continue (Then (Said label) End)) = continue_to (Some label)
   exec scene own (Node at word.Labeled (Then (Said label) (Then body End))) = labeled label (exec scene (Some label) body)
-  -- the others have no meaning (rows F33 to F38 and K1)
+  -- the others have no meaning (rows F33 to F38, and an `enum`)
   exec scene own _ = no_meaning
 
   -- Statements in a row.
@@ -194,8 +199,8 @@ abbrev mutual
   exec_default scene (Then part cases) = exec_default scene cases
   exec_default scene End = done
 
-  -- Compares a value with the tests of the cases in order, and goes on from the first that matches; `other` if none does. `known` are the values
-  -- of tests that were evaluated beforehand.
+  -- Compares a value with the tests of the cases in order, and goes on from the first that matches; `other` if none does. `known` are
+  -- the values of tests that were evaluated beforehand.
   pub try_cases : Scene → Pieces → Value → (known : List (Option Value)) → (other : Action (Unit {0})) → Action (Unit {0})
   try_cases scene (Then (Node at word.Case (Then Absent parts)) cases) v known other = try_cases scene cases v (later_tests known) other
   try_cases scene (Then (Node at word.Case (Then condition (Then (Listed statements) End))) cases) v known other = do

@@ -1,13 +1,16 @@
 -- Supported functions: no row applies in them.
-use Rattle.std.specs.Prelude.{ℕ, nat_eq, nat_le, Bool, true, false, ◌&&◌, ◌||◌, not, if◌then◌else◌, Option, Some, None, List, [], ◌∷◌, ◌++◌, codes, length, filter, map}
+use Rattle.std.specs.Prelude.{ℕ, nat_le, Bool, true, false, ◌&&◌, ◌||◌, not, is_some, List, []}
+use Rattle.std.specs.Prelude.{◌∷◌, ◌++◌}
+use Rattle.std.specs.Prelude.{codes}
 use Rattle.std.specs.List.{list_all, list_any}
 use Rattle.std.specs.Str.{bytes_eq}
 use Rattle.rl_names.specs.Functions.{body_in, params_in}
-use Rattle.rl_names.specs.Names.{Names, at_of}
-use Rattle.rl_model.specs.Code.{code_of, contains, flat, inner_functions, lowered_functions}
+use Rattle.rl_model.specs.Code.{code_of, lowered_functions}
+use Rattle.rl_context.specs.Sites.{sites_in}
+use Rattle.rl_context.specs.Wrapped.{first_wrapped}
 use Rattle.rl_model.specs.Dead.{dead_parts}
+use Rattle.rl_model.specs.Fbt.{keeps_fbt}
 use Rattle.rl_model.specs.Applied.{Facts, Which, rows_in, top}
-use Rattle.rl_model.specs.Shapes.{is_link}
 use Rattle.rl_syntax.specs.Syntax.{Syntax, Node, Listed, Said, Flag, Absent, Pieces, End, Then}
 use Rattle.rl_syntax.specs.declared.word.Word.TheVariants as word
 
@@ -24,8 +27,10 @@ abbrev mutual
   is_reorderable f locals (Node at word.Id parts) = f.is_module at.reference.0 || locals
   is_reorderable f locals (Node at word.Unary (Then (Said operator) (Then argument End))) =
       (bytes_eq operator (codes "!") || bytes_eq operator (codes "+") || bytes_eq operator (codes "-")) && is_reorderable f locals argument
-  is_reorderable f locals (Node at word.Logical (Then operator (Then left (Then right End)))) = is_reorderable f locals left && is_reorderable f locals right
-  is_reorderable f locals (Node at word.Cond (Then condition (Then consequent (Then alternate End)))) = is_reorderable f locals condition && is_reorderable f locals consequent && is_reorderable f locals alternate
+  is_reorderable f locals (Node at word.Logical (Then operator (Then left (Then right End)))) =
+      is_reorderable f locals left && is_reorderable f locals right
+  is_reorderable f locals (Node at word.Cond (Then condition (Then consequent (Then alternate End)))) =
+      is_reorderable f locals condition && is_reorderable f locals consequent && is_reorderable f locals alternate
   is_reorderable f locals (Node at word.Paren (Then expression End)) = is_reorderable f locals expression
   is_reorderable f locals (Node at word.As (Then expression parts)) = is_reorderable f locals expression
   is_reorderable f locals (Node at word.Satisfies (Then expression parts)) = is_reorderable f locals expression
@@ -34,15 +39,20 @@ abbrev mutual
   is_reorderable f locals (Node at word.Instantiate (Then expression parts)) = is_reorderable f locals expression
   is_reorderable f locals (Node at word.Array (Then (Listed items) End)) = are_reorderable f locals items
   is_reorderable f locals (Node at word.Object (Then (Listed properties) End)) = are_reorderable f locals properties
-  is_reorderable f locals (Node at word.Prop (Then (Flag computed) (Then key (Then expression End)))) = not computed && is_reorderable f locals expression
+  is_reorderable f locals (Node at word.Prop (Then (Flag computed) (Then key (Then expression End)))) =
+      not computed && is_reorderable f locals expression
   is_reorderable f locals (Node at word.Member (Then optional (Then object parts))) = is_module_path f object
   is_reorderable f locals (Node at word.Index (Then optional (Then object parts))) = is_module_path f object
   is_reorderable f locals (Node at word.Privatemember (Then optional (Then object parts))) = is_module_path f object
-  is_reorderable f locals (Node at word.Arrow (Then marked (Then is_async (Then params (Then (Node there word.Body (Then directives (Then (Listed End) End))) End))))) = true
+  is_reorderable f locals
+      (Node at word.Arrow
+        (Then marked (Then is_async (Then params (Then (Node there word.Body (Then directives (Then (Listed End) End))) End))))) = true
   is_reorderable f locals (Node at word.Arrow (Then marked (Then is_async (Then params (Then (Node there word.Body parts) End))))) = false
   is_reorderable f locals (Node at word.Arrow (Then marked (Then is_async (Then params (Then body End))))) = is_reorderable f false body
-  is_reorderable f locals (Node at word.Call (Then optional (Then callee (Then (Listed arguments) End)))) = is_reorderable f locals callee && are_reorderable f locals arguments
-  is_reorderable f locals (Node at word.New (Then callee (Then (Listed arguments) End))) = is_reorderable f locals callee && are_reorderable f locals arguments
+  is_reorderable f locals (Node at word.Call (Then optional (Then callee (Then (Listed arguments) End)))) =
+      is_reorderable f locals callee && are_reorderable f locals arguments
+  is_reorderable f locals (Node at word.New (Then callee (Then (Listed arguments) End))) =
+      is_reorderable f locals callee && are_reorderable f locals arguments
   is_reorderable f locals _ = false
 
   pub are_reorderable : Facts → (locals : Bool) → Pieces → Bool
@@ -92,11 +102,16 @@ abbrev pub is_none : List Which → Bool
 is_none [] = true
 is_none (row ∷ rows) = false
 
--- A function to which no row applies, nor in its inner functions. `keeps_fbt` is true of an element to which row F26 does not apply.
-abbrev pub is_supported : Facts → (keeps_fbt : Syntax → Bool) → (marked : Syntax) → Bool
-is_supported f keeps_fbt marked =
-    is_none (rows_in f top (params_in marked) ++ rows_in f top (body_in marked))
-    && list_all (λ function. list_all (λ node. stays f node && is_whole_chain node && keeps_fbt node) (code_of function)) (lowered_functions marked)
+-- True of a function with a wrapped target in a target of an assignment (row S3), classes aside.
+abbrev pub has_wrapped_target : (marked : Syntax) → Bool
+has_wrapped_target marked = is_some (first_wrapped (sites_in marked))
+
+-- True of a marked function to which no row applies, nor in its inner functions.
+abbrev pub is_supported_by : Facts → (marked : Syntax) → Bool
+is_supported_by f marked =
+    is_none (rows_in f top (params_in marked) ++ rows_in f top (body_in marked)) && not (has_wrapped_target marked)
+    && list_all (λ function. list_all (λ node. stays f node && is_whole_chain node && keeps_fbt node) (code_of function))
+        (lowered_functions marked)
 
 abbrev pub is_among : ℕ → Syntax → Bool
 is_among id (Node at w parts) = nat_le at.id.0 id && not (nat_le at.end.0 id)
