@@ -1,5 +1,5 @@
 -- Events and returns: the variables that a function shares with others, in the source and in its graph.
-use Rattle.std.proofs.Common.{◌≡◌, ℕ, ◌<◌, ◌≤◌, Bool, true, false, if◌then◌else◌, Option, Some, None, List, [], ◌∷◌, All, length, map, refl, sym, ap, ◌∙◌, subst}
+use Rattle.std.proofs.Common.{◌≡◌, ℕ, Bool, true, false, if◌then◌else◌, Option, Some, None, List, [], ◌∷◌, All, map, refl, sym, ap, ◌∙◌, subst}
 use Rattle.std.proofs.lemmas.List.Elements.{All-head, All-tail}
 use Rattle.rl_builder.specs.Builder.{State}
 use Rattle.rl_machine.specs.declared.trace.Assignment.{Assignment}
@@ -23,11 +23,13 @@ module _ (ident : ℕ → Option ℕ) (one : AreOne ident) (source graph : World
   agrees_changed [] before after a = a
   agrees_changed (x ∷ assignments) before after a =
       agrees_changed assignments _ _
-      (subst (λ (b : Bool). Agrees ident (if b then set before x.symbol.0 x.value else before) (if graph.opens x.symbol.0 then set_where (ident x.symbol.0) after x.value else after))
+      (subst (λ (b : Bool). Agrees ident (if b then set before x.symbol.0 x.value else before)
+          (if graph.opens x.symbol.0 then set_where (ident x.symbol.0) after x.value else after))
       (sym (shares.opens x.symbol.0)) (agrees_opened before after x.symbol.0 x.value a (graph.opens x.symbol.0)))
 
 -- An answer leaves identifiers that are nobody's.
-unchanged : (ident : ℕ → Option ℕ) (opens : ℕ → Bool) (identifier : ℕ) → Nobody ident identifier → (assignments : List Assignment) (store : Store)
+unchanged : (ident : ℕ → Option ℕ) (opens : ℕ → Bool) (identifier : ℕ) → Nobody ident identifier
+    → (assignments : List Assignment) (store : Store)
     → set_by ident opens assignments store identifier ≡ store identifier
 unchanged ident opens identifier free [] store = refl
 unchanged ident opens identifier free (x ∷ assignments) store =
@@ -46,7 +48,8 @@ later_changed c s assignments store =
     record { temporaries = λ identifier free below. unchanged c.ident c.world.opens identifier free assignments store }
 
 -- A return gives others the same values.
-pub kept_same : (c : Code) (scene : Scene) (source store : Store) → Agrees c.ident source store → SharesVariables c.ident scene.world c.world
+pub kept_same : (c : Code) (scene : Scene) (source store : Store) → Agrees c.ident source store
+    → SharesVariables c.ident scene.world c.world
     → kept_by c store ≡ kept_values scene source
 kept_same c scene source store a shares =
     along c.world.keeps shares.known
@@ -62,8 +65,10 @@ kept_same c scene source store a shares =
     same symbol known = ap (λ (o : Option ℕ). value_where o store) known.1 ∙ a.at symbol known.0 known.1
 
     along : (symbols : List ℕ) → All IsKnown symbols
-        → map (λ (symbol : ℕ). kept symbol (value_where (c.ident symbol) store)) symbols ≡ map (λ (symbol : ℕ). kept symbol (source symbol)) symbols
+        → map (λ (symbol : ℕ). kept symbol (value_where (c.ident symbol) store)) symbols
+            ≡ map (λ (symbol : ℕ). kept symbol (source symbol)) symbols
     along [] known = refl
     along (symbol ∷ symbols) known =
-        ap (λ (v : Value). kept symbol v ∷ map (λ (other : ℕ). kept other (value_where (c.ident other) store)) symbols) (same symbol (All-head IsKnown symbol symbols known))
+        ap (λ (v : Value). kept symbol v ∷ map (λ (other : ℕ). kept other (value_where (c.ident other) store)) symbols)
+            (same symbol (All-head IsKnown symbol symbols known))
         ∙ ap (λ (l : List Assignment). kept symbol (source symbol) ∷ l) (along symbols (All-tail IsKnown symbol symbols known))

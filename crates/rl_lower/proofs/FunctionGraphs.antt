@@ -10,7 +10,6 @@ use Rattle.rl_hir.specs.Pairs.{identifier_of}
 use Rattle.rl_hir.specs.Blocks.{Pair as BlockPair}
 use Rattle.rl_hir.specs.declared.function.Pair.{Pair}
 use Rattle.rl_hir.specs.declared.function.Param.{Param}
-use Rattle.rl_hir.specs.declared.terminal.ReturnVariant.TheVariants as returns
 use Rattle.rl_hir.specs.declared.instruction.Instruction.{Instruction}
 use Rattle.rl_builder.specs.Builder.{State, one_identifier_more, with_temporary}
 use Rattle.rl_order.proofs.Pruning.{pruned_size}
@@ -23,7 +22,6 @@ use Rattle.rl_machine.specs.declared.trace.Answer.{Answer}
 use Rattle.rl_machine.specs.declared.trace.Assignment.{Assignment}
 use Rattle.rl_machine.specs.declared.trace.Trace.{Trace}
 use Rattle.rl_machine.specs.declared.trace.Value.{Value}
-use Rattle.rl_machine.specs.declared.trace.Value.TheVariants as value
 use Rattle.rl_machine.specs.Closed.{IsClosed}
 use Rattle.rl_model.specs.Headline.{NeverStuck, SameRuns}
 use Rattle.rl_model.specs.Runs.{trace_by}
@@ -41,7 +39,7 @@ use Rattle.rl_lower.specs.Named.{AreDeclaredAt}
 use Rattle.rl_lower.specs.Scenes.{IsSceneOf}
 use Rattle.rl_lower.specs.Lowering.{HasRoom, Preserves, LowersBody, exec_before_end}
 use Rattle.rl_model.specs.Fields.{AreGiven, ArePairs}
-use Rattle.rl_lower.specs.Simulation.{Agrees, CoversNames, Extends, HasSoundNames, SharesVariables}
+use Rattle.rl_lower.specs.Simulation.{Agrees, CoversNames, Extends, HasSoundNames}
 use Rattle.rl_lower.specs.Parameters.{said_of_parameters, with_parameters}
 use Rattle.rl_lower.proofs.Building.{IsFresh, keeps_closed}
 use Rattle.rl_lower.proofs.FunctionTrees.{IsFunction, function_nodes, function_refusals}

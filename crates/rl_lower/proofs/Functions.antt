@@ -28,7 +28,7 @@ use Rattle.rl_machine.specs.declared.trace.Value.TheVariants as value
 use Rattle.rl_machine.specs.declared.trace.Answer.{Answer}
 use Rattle.rl_machine.specs.declared.trace.Assignment.{Assignment}
 use Rattle.rl_machine.specs.declared.trace.Trace.{Trace}
-use Rattle.rl_machine.specs.Traces.{Store, World, returned, threw}
+use Rattle.rl_machine.specs.Traces.{Store, World, returned}
 use Rattle.rl_model.specs.Actions.{Action, Ways, give, return_with}
 use Rattle.rl_model.specs.Functions.{outside, run_function}
 use Rattle.rl_model.specs.Scene.{Scene, kept_values}

@@ -31,15 +31,15 @@ use Rattle.rl_machine.specs.declared.trace.Answer.{Answer}
 use Rattle.rl_machine.specs.declared.trace.Value.TheVariants as value
 use Rattle.rl_model.specs.Calls.{call_at, calls_in, calls_among, calls_of, can_complete, live_calls}
 use Rattle.rl_model.specs.Rows.{label_of, refusals, refusals_in, refusal, said_of_local, said_of_name, said_of_outer}
-use Rattle.rl_machine.specs.Traces.{Cont, Store, ValueCont, waiting}
+use Rattle.rl_machine.specs.Traces.{Cont, Store, ValueCont}
 use Rattle.rl_machine.specs.declared.trace.Value.{Value}
 use Rattle.rl_model.proofs.CoveredMeanings.{no_receiver, plain_value}
 use Rattle.rl_model.specs.Actions.{Action, Ways, ◌>>=◌, ◌>>◌, ask, give, no_meaning, return_with}
 use Rattle.rl_model.specs.Covered.{IsCovered}
 use Rattle.rl_model.specs.Events.{event}
-use Rattle.rl_model.specs.Expressions.{call_kind, callee as callee_of, called, eval, one_value, read, unless_nullish, values as values_in, values_of}
+use Rattle.rl_model.specs.Expressions.{call_kind, callee as callee_of, called, eval, one_value, read, unless_nullish, values as values_in}
 use Rattle.rl_model.specs.Scene.{Scene}
-use Rattle.rl_model.specs.Shapes.{lends_receiver, shapes}
+use Rattle.rl_model.specs.Shapes.{shapes}
 use Rattle.rl_model.specs.Statements.{exec, exec_all}
 use Rattle.rl_hir.specs.Instructions.{argument_place, argument_shape}
 use Rattle.rl_machine.specs.Acts.{value_of}

@@ -42,7 +42,8 @@ pub record CountersGrowBy (old new : State) (more : ℕ) : Type 0 where
 -- An identifier that has a name stays as it is.
 abbrev pub KeepsNamed : (old new : List Identifier) → Type 0
 KeepsNamed old new =
-    (identifier : ℕ) (known : Identifier) → slice_get old identifier ≡ Some known → known.name ≢ None → slice_get new identifier ≡ Some known
+    (identifier : ℕ) (known : Identifier) → slice_get old identifier ≡ Some known → known.name ≢ None
+        → slice_get new identifier ≡ Some known
 
 -- The identifiers of the pairs are named for their symbols.
 abbrev pub HasNamedPairs : Names → State → Type 0
@@ -86,7 +87,8 @@ pub record LowersArguments (names : Names) (es : Pieces) (old new : State) (give
 
 -- As `LowersExpression`, for a part of `count` nodes and meaning `d` that has no value. Its refusals are `diagnostics`, its
 -- calls `called`, those of them that are reachable `reached`, and it completes normally where `completes`.
-pub record Lowers (names : Names) (count : ℕ) (diagnostics : List Diagnostic) (called reached : List (Option Span)) (completes : Bool) (d : Scene → Action (Unit {0})) (old new : State) : Type 0 where
+pub record Lowers (names : Names) (count : ℕ) (diagnostics : List Diagnostic) (called reached : List (Option Span)) (completes : Bool)
+    (d : Scene → Action (Unit {0})) (old new : State) : Type 0 where
   pub keeps : Preserves names old new (4 * count)
   pub blocks : PreservesBlocks old new
   pub refused : new.env.diagnostics ≡ old.env.diagnostics ++ diagnostics
@@ -100,7 +102,8 @@ LowersStatement names s old new =
 
 abbrev pub LowersStatements : Names → Pieces → State → State → Type 0
 LowersStatements names ss old new =
-    Lowers names (nodes_of ss) (refusals_in names ss) (calls_among ss) (live_calls ss) (can_all_complete ss) (λ scene. exec_all scene ss) old new
+    Lowers names (nodes_of ss) (refusals_in names ss) (calls_among ss) (live_calls ss) (can_all_complete ss)
+        (λ scene. exec_all scene ss) old new
 
 -- The meaning of a body before its end, where the function returns undefined: an expression returns its value.
 abbrev pub exec_before_end : Scene → Syntax → Action (Unit {0})
@@ -111,4 +114,5 @@ exec_before_end scene body = do
 
 abbrev pub LowersBody : Names → Syntax → State → State → Type 0
 LowersBody names b old new =
-    Lowers names (nodes b + 1) (refusals names b) (calls_in b) (live_in_body b) (can_body_complete b) (λ scene. exec_before_end scene b) old new
+    Lowers names (nodes b + 1) (refusals names b) (calls_in b) (live_in_body b) (can_body_complete b)
+        (λ scene. exec_before_end scene b) old new

@@ -133,7 +133,8 @@ abbrev pub IsOwn : ℕ → ℕ → ℕ → Type 0
 IsOwn current next id = (id ≡ current) ⊎ (next ≤ id)
 
 -- From the old to the new state only the current block and newly numbered blocks were completed, and ids stay distinct.
-pub record PreservesUniqueIds (completed0 : List BlockPair) (current0 next0 : ℕ) (completed : List BlockPair) (current next : ℕ) : Type 0 where
+pub record PreservesUniqueIds (completed0 : List BlockPair) (current0 next0 : ℕ) (completed : List BlockPair)
+    (current next : ℕ) : Type 0 where
   pub added : (id : ℕ) → IsCompleted completed id → IsCompleted completed0 id ⊎ IsOwn current0 next0 id
   pub own : IsOwn current0 next0 current
   pub distinct : UniqueIds completed0 current0 next0 → UniqueIds completed current next

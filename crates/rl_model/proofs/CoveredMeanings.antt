@@ -6,7 +6,7 @@ use Rattle.rl_machine.specs.Traces.{Cont, Store, set, take_values}
 use Rattle.rl_machine.specs.declared.trace.Answer.{Answer}
 use Rattle.rl_machine.specs.declared.trace.Value.{Value}
 use Rattle.rl_machine.specs.declared.trace.Value.TheVariants as value
-use Rattle.rl_model.proofs.CoveredForms.{ParamNode, list_of, param_of, params_of}
+use Rattle.rl_model.proofs.CoveredForms.{ParamNode, list_of, params_of}
 use Rattle.rl_model.specs.Actions.{Action, Ways, ◌>>=◌, ◌>>◌}
 use Rattle.rl_model.specs.Covered.{IsCovered}
 use Rattle.rl_model.specs.Expressions.{first_piece, later_pieces, one_value, values_of}
@@ -15,7 +15,7 @@ use Rattle.rl_model.specs.Patterns.{bind, declare}
 use Rattle.rl_model.specs.Scene.{Scene}
 use Rattle.rl_model.specs.Shapes.{is_link, lends, lends_receiver, shape_of}
 use Rattle.rl_names.specs.Locals.{AreDeclared}
-use Rattle.rl_names.specs.Names.{Names, parameters_among, parameters_in}
+use Rattle.rl_names.specs.Names.{parameters_among, parameters_in}
 use Rattle.rl_names.specs.declared.parameters.Parameter.{Parameter}
 use Rattle.rl_semantic.specs.Items.{of_item}
 use Rattle.rl_syntax.specs.Syntax.{Syntax, Node, Absent, End, Then}
@@ -87,7 +87,8 @@ module _ (scene : Scene) (ways : Ways) (onward : List Value → Cont) (answers :
       → take_arguments scene (λ param. true) (params_of ps) arguments ways onward store answers
       ≡ onward (left_of ps arguments) (take_values (symbols_of (parameters_among scene.names (params_of ps))) arguments store) answers
   arguments_taken [] declared arguments store = refl
-  arguments_taken (p ∷ ps) declared arguments store = by_symbol (arguments_taken ps declared.1) (scene.names.declared p.bind.id.0) declared.0 arguments
+  arguments_taken (p ∷ ps) declared arguments store = by_symbol (arguments_taken ps declared.1)
+      (scene.names.declared p.bind.id.0) declared.0 arguments
     where
       found : SymbolId → List Parameter
       found symbol = record { symbol = symbol; name = p.name; declaration = p.bind.span } ∷ []
@@ -97,8 +98,10 @@ module _ (scene : Scene) (ways : Ways) (onward : List Value → Cont) (answers :
           ≡ onward (left_of ps given) (take_values (symbols_of (parameters_among scene.names (params_of ps))) given later) answers
 
       by_symbol : Behind → (o : Option SymbolId) → is_some o ≡ true → (given : List Value)
-          → declare o (first_piece given) ways (λ (end : Unit {0}). take_arguments scene (λ param. true) (params_of ps) (later_pieces given) ways onward) store answers
-          ≡ onward (left_of ps (later_pieces given)) (take_values (symbols_of (of_item [] found o ++ parameters_among scene.names (params_of ps))) given store) answers
+          → declare o (first_piece given) ways (λ (end : Unit {0}). take_arguments scene (λ param. true) (params_of ps)
+              (later_pieces given) ways onward) store answers
+          ≡ onward (left_of ps (later_pieces given)) (take_values
+              (symbols_of (of_item [] found o ++ parameters_among scene.names (params_of ps))) given store) answers
       by_symbol behind None none given = absurd (true≢false (sym none))
       by_symbol behind (Some symbol) there [] = behind [] (set store symbol.0 value.Undefined)
       by_symbol behind (Some symbol) there (v ∷ given) = behind given (set store symbol.0 v)

@@ -13,7 +13,6 @@ use Rattle.rl_model.specs.Worlds.{Function, marked_identifiers, stands_for, symb
 use Rattle.rl_names.specs.Functions.{body_in, params_in}
 use Rattle.rl_names.specs.Names.{Names, at_of}
 use Rattle.rl_syntax.specs.Syntax.{Syntax, Node, Listed, Said, Count, Flag, Absent, Pieces, End, Then}
-use Rattle.rl_syntax.specs.declared.numbered.At.{At}
 use Rattle.rl_syntax.specs.declared.word.Word.{Word}
 use Rattle.rl_syntax.specs.declared.word.Word.TheVariants as word
 
@@ -39,7 +38,8 @@ pub no_instantiate : (w : Word) (parts : Pieces) → covers w parts ≡ true →
 no_instantiate word.Instantiate parts covered = absurd (true≢false (sym covered))
 no_instantiate _ parts covered = refl
 
-by_tests : (node : Syntax) (no_code function instantiate : Bool) (first among : List Syntax) → function ≡ false → instantiate ≡ false → among ≡ []
+by_tests : (node : Syntax) (no_code function instantiate : Bool) (first among : List Syntax) → function ≡ false → instantiate ≡ false
+    → among ≡ []
     → (if no_code then [] else (if function then node ∷ [] else []) ++ (if instantiate then first else among)) ≡ []
 by_tests node true function instantiate first among plain whole none = refl
 by_tests node false true instantiate first among plain whole none = absurd (true≢false plain)
@@ -67,14 +67,16 @@ mutual
 pub params_covered : (f : Syntax) → IsCoveredFunction f → IsCovered (params_in f)
 params_covered (Node at word.Arrow (Then marked (Then is_async (Then params (Then body End))))) covered = covered.1.1.0
 params_covered (Node at word.Arrow _) covered = tt
-params_covered (Node at word.Fundecl (Then marked (Then is_async (Then generator (Then name (Then params (Then body End))))))) covered = covered.1.1.1.1.0
+params_covered (Node at word.Fundecl (Then marked (Then is_async (Then generator (Then name (Then params (Then body End))))))) covered =
+    covered.1.1.1.1.0
 params_covered (Node at word.Fundecl _) covered = tt
 params_covered _ covered = absurd covered
 
 pub body_covered : (f : Syntax) → IsCoveredFunction f → IsCovered (body_in f)
 body_covered (Node at word.Arrow (Then marked (Then is_async (Then params (Then body End))))) covered = covered.1.1.1.0
 body_covered (Node at word.Arrow _) covered = tt
-body_covered (Node at word.Fundecl (Then marked (Then is_async (Then generator (Then name (Then params (Then body End))))))) covered = covered.1.1.1.1.1.0
+body_covered (Node at word.Fundecl (Then marked (Then is_async (Then generator (Then name (Then params (Then body End))))))) covered =
+    covered.1.1.1.1.1.0
 body_covered (Node at word.Fundecl _) covered = tt
 body_covered _ covered = absurd covered
 
@@ -101,7 +103,8 @@ pub source_alone : (names : Names) (count : ℕ) (stored : ℕ → Option Symbol
 source_alone names count stored f covered = record {
   opens = λ symbol. ap (λ (l : List Syntax). list_any (assigns symbol) l) (others_none f covered);
   keeps = filter_none (is_kept names stored f f) (below count) (λ symbol.
-      ap (λ (l : List Syntax). names_symbol names stored f symbol && list_any (sees symbol) l) (others_none f covered) ∙ and_false (names_symbol names stored f symbol));
+      ap (λ (l : List Syntax). names_symbol names stored f symbol && list_any (sees symbol) l) (others_none f covered)
+          ∙ and_false (names_symbol names stored f symbol));
 }
   where
     assigns : ℕ → Syntax → Bool
@@ -123,6 +126,7 @@ pub graph_alone : (l : Lowered) (f : Function) → SharesNothing (world_in l f [
 graph_alone l f = record {
   opens = stands_for_none l.pairs;
   keeps =
-      ap (λ (identifiers : List ℕ). filter (stands_for l.pairs identifiers) (below (symbol_bound l.pairs))) (filter_none (contains []) (marked_identifiers f) (λ identifier. refl))
+      ap (λ (identifiers : List ℕ). filter (stands_for l.pairs identifiers) (below (symbol_bound l.pairs)))
+          (filter_none (contains []) (marked_identifiers f) (λ identifier. refl))
       ∙ filter_none (stands_for l.pairs []) (below (symbol_bound l.pairs)) (stands_for_none l.pairs);
 }

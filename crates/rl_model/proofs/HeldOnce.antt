@@ -1,5 +1,5 @@
 -- Each counted node of a covered function is held once: its counted nodes are its calls, no two of which stand in one place.
-use Rattle.std.proofs.Common.{◌≡◌, ◌⊎◌, inl, inr, ℕ, suc, ◌+◌, ◌≤◌, nat_eq, Bool, true, false, true≢false, ◌&&◌, if◌then◌else◌, Option, Some, None, List, [], ◌∷◌, ◌++◌, All, Contains, slice_get, codes, refl, sym, ap, ◌∙◌, subst, arith, append-nil, append_assoc}
+use Rattle.std.proofs.Common.{◌≡◌, ◌⊎◌, inl, inr, ℕ, suc, ◌+◌, ◌≤◌, nat_eq, Bool, true, false, true≢false, ◌&&◌, if◌then◌else◌, Option, Some, None, List, [], ◌∷◌, ◌++◌, Contains, slice_get, codes, refl, sym, ap, ◌∙◌, subst, arith, append-nil, append_assoc}
 use Rattle.std.specs.Prelude.{IsPermutation}
 use Rattle.std.specs.List.{AllByRecursion, sum_by}
 use Rattle.std.proofs.lemmas.Bool.Decides.{eqb_tells}
@@ -11,7 +11,6 @@ use Rattle.rl_base.specs.declared.ids.InstructionId.{InstructionId}
 use Rattle.rl_base.specs.declared.span.Span.{Span}
 use Rattle.rl_ast.specs.FunctionTrees.{is_function as fits_function}
 use Rattle.rl_grammar.specs.Grammar.{every, fits}
-use Rattle.rl_grammar.specs.declared.kind.Field.{Field}
 use Rattle.rl_grammar.specs.declared.kind.Field.TheVariants as field
 use Rattle.rl_grammar.specs.declared.kind.Kind.TheVariants as kind
 use Rattle.rl_grammar.proofs.Viewing.{four_fit, rest_fit, six_fit, two_fit}
@@ -22,7 +21,7 @@ use Rattle.rl_hir.specs.declared.instruction.InstructionValue.{InstructionValue}
 use Rattle.rl_hir.specs.declared.instruction.InstructionValue.TheVariants as values
 use Rattle.rl_model.proofs.Apart.{own_call}
 use Rattle.rl_model.proofs.CoveredForms.{ParamNode, params_form, params_of}
-use Rattle.rl_model.proofs.CoveredWorlds.{body_covered, no_instantiate, params_covered, plain_word}
+use Rattle.rl_model.proofs.CoveredWorlds.{body_covered, no_instantiate, plain_word}
 use Rattle.rl_model.specs.Calls.{HoldsCalls, call_at, call_span, calls_among, calls_in, calls_of, can_complete, graph_calls, listed_calls, live_calls, live_in_body}
 use Rattle.rl_model.specs.Code.{code, code_among, code_of, flat, is_function, is_instantiate, is_no_code}
 use Rattle.rl_model.specs.Counted.{Counted, counted_at, counted_in, method_at}
@@ -65,7 +64,8 @@ abbrev call_kinds : List (List ℕ)
 call_kinds = codes "call" ∷ codes "methodcall" ∷ []
 
 -- An instruction is counted where its span is one of a call.
-value_counted : (span : Span) (v : InstructionValue) (at : Option Span) → one_if (is_of call_kinds v && is_span span at) ≡ count span (call_span v at)
+value_counted : (span : Span) (v : InstructionValue) (at : Option Span) → one_if (is_of call_kinds v && is_span span at)
+    ≡ count span (call_span v at)
 value_counted span (values.CallExpression callee arguments) at = omega arith
 value_counted span (values.MethodCall call) at = omega arith
 value_counted span _ at = refl
@@ -76,21 +76,25 @@ table_counted key kinds (i ∷ table) =
     let here : one_if (is_of key.kinds i.value && is_span key.span i.span) ≡ count key.span (call_at i) =
     ap (λ (k : List (List ℕ)). one_if (is_of k i.value && is_span key.span i.span)) kinds ∙ value_counted key.span i.value i.span in
     let rest : times key table ≡ count key.span (calls_of table) = table_counted key kinds table in
-    let both : count key.span (call_at i ++ calls_of table) ≡ count key.span (call_at i) + count key.span (calls_of table) = count_append key.span (call_at i) (calls_of table) in
+    let both : count key.span (call_at i ++ calls_of table) ≡ count key.span (call_at i) + count key.span
+        (calls_of table) = count_append key.span (call_at i) (calls_of table) in
     omega (arith, here, rest, both)
 
 -- The calls that blocks list are those of the instructions that they list.
 
 calls_append : (xs ys : List Instruction) → calls_of (xs ++ ys) ≡ calls_of xs ++ calls_of ys
 calls_append [] ys = refl
-calls_append (x ∷ xs) ys = ap (λ (l : Calls). call_at x ++ l) (calls_append xs ys) ∙ sym (append_assoc (call_at x) (calls_of xs) (calls_of ys))
+calls_append (x ∷ xs) ys = ap (λ (l : Calls). call_at x ++ l) (calls_append xs ys)
+    ∙ sym (append_assoc (call_at x) (calls_of xs) (calls_of ys))
 
 calls_listed_at : (table : List Instruction) (ids : List InstructionId) → calls_of (listed_at table ids) ≡ listed_calls table ids
 calls_listed_at table [] = refl
 calls_listed_at table (id ∷ ids) =
-    by_instruction (slice_get table id.0) ∙ ap (λ (l : Calls). (elim (slice_get table id.0) [ Some i ↦ call_at i | None ↦ [] ]) ++ l) (calls_listed_at table ids)
+    by_instruction (slice_get table id.0) ∙ ap (λ (l : Calls). (elim (slice_get table id.0) [ Some i ↦ call_at i | None ↦ [] ]) ++ l)
+        (calls_listed_at table ids)
   where
-    by_instruction : (o : Option Instruction) → calls_of (found_one o ++ listed_at table ids) ≡ (elim o [ Some i ↦ call_at i | None ↦ [] ]) ++ calls_of (listed_at table ids)
+    by_instruction : (o : Option Instruction) → calls_of (found_one o ++ listed_at table ids)
+        ≡ (elim o [ Some i ↦ call_at i | None ↦ [] ]) ++ calls_of (listed_at table ids)
     by_instruction None = refl
     by_instruction (Some i) = refl
 
@@ -156,22 +160,26 @@ count_none (x ∷ xs) span none = elim (tells span x) [
 count_one : (xs : Calls) (span : Span) → AreDistinct xs → IsAmong xs span → count span xs ≡ 1
 count_one [] span d h = absurd h
 count_one (x ∷ xs) span d h = elim (tells span x) [
-  | inl here ↦ (let rest : count span xs ≡ 0 = count_none xs span (λ later. (let found = among_found xs span later in let same : 0 ≡ suc found.0 = d 0 (suc found.0) (Some span) (ap (λ (y : Option Span). Some y) here.1) found.1 in omega arith)) in
+  | inl here ↦ (let rest : count span xs ≡ 0 = count_none xs span (λ later. (let found = among_found xs span later in let same : 0
+      ≡ suc found.0 = d 0 (suc found.0) (Some span) (ap (λ (y : Option Span). Some y) here.1) found.1 in omega arith)) in
       let same : count span (x ∷ xs) ≡ 1 + count span xs = ap (λ (b : Bool). one_if b + count span xs) here.0 in omega (arith, rest, same))
   | inr other ↦ elim h [
     | inl here ↦ absurd (other.1 here)
     | inr later ↦ (let rest : count span xs ≡ 1 = count_one xs span (distinct_rest x xs d) later in
-        let same : count span (x ∷ xs) ≡ 0 + count span xs = ap (λ (b : Bool). one_if b + count span xs) other.0 in omega (arith, rest, same))
+        let same : count span (x ∷ xs) ≡ 0 + count span xs = ap (λ (b : Bool). one_if b + count span xs) other.0 in omega
+            (arith, rest, same))
   ]
 ]
 
 count_some : (xs : Calls) (span : Span) → IsAmong xs span → 1 ≤ count span xs
 count_some [] span h = absurd h
 count_some (x ∷ xs) span h = elim (tells span x) [
-  | inl here ↦ (let same : count span (x ∷ xs) ≡ 1 + count span xs = ap (λ (b : Bool). one_if b + count span xs) here.0 in omega (arith, same))
+  | inl here ↦ (let same : count span (x ∷ xs) ≡ 1 + count span xs = ap (λ (b : Bool). one_if b + count span xs) here.0 in omega
+      (arith, same))
   | inr other ↦ elim h [
     | inl here ↦ absurd (other.1 here)
-    | inr later ↦ (let rest : 1 ≤ count span xs = count_some xs span later in let same : count span (x ∷ xs) ≡ 0 + count span xs = ap (λ (b : Bool). one_if b + count span xs) other.0 in omega (arith, rest, same))
+    | inr later ↦ (let rest : 1 ≤ count span xs = count_some xs span later in let same : count span (x ∷ xs)
+        ≡ 0 + count span xs = ap (λ (b : Bool). one_if b + count span xs) other.0 in omega (arith, rest, same))
   ]
 ]
 
@@ -181,7 +189,8 @@ count_some (x ∷ xs) span h = elim (tells span x) [
 abbrev IsCall : Calls → Counted → Type 0
 IsCall calls key = (key.kinds ≡ call_kinds) × IsAmong calls key.span
 
-each_weaker : (P Q : Counted → Type 0) → ((key : Counted) → P key → Q key) → (keys : List Counted) → AllByRecursion P keys → AllByRecursion Q keys
+each_weaker : (P Q : Counted → Type 0) → ((key : Counted) → P key → Q key) → (keys : List Counted) → AllByRecursion P keys
+    → AllByRecursion Q keys
 each_weaker P Q f [] h = tt
 each_weaker P Q f (key ∷ keys) h = (f key h.0, each_weaker P Q f keys h.1)
 
@@ -227,26 +236,31 @@ module _ (methods : List ℕ) where
   own_counted at word.Funexpr parts covered = absurd (true≢false (sym covered))
   own_counted at _ parts covered = tt
 
-  among_node : (at : At) (w : Word) (parts : Pieces) (span : Span) → IsAmong (calls_among parts) span → IsAmong (calls_in (Node at w parts)) span
+  among_node : (at : At) (w : Word) (parts : Pieces) (span : Span) → IsAmong (calls_among parts) span
+      → IsAmong (calls_in (Node at w parts)) span
   among_node at w parts span h = elim (own_call at w parts) [
     | inl same ↦ subst (λ (l : Calls). IsAmong l span) (sym same) h
     | inr more ↦ subst (λ (l : Calls). IsAmong l span) (sym more) (among_left (calls_among parts) (Some at.span ∷ []) span h)
   ]
 
-  by_tests : (P : Counted → Type 0) (node : Syntax) (no_code function instantiate : Bool) (names first among : List Syntax) → function ≡ false → instantiate ≡ false
+  by_tests : (P : Counted → Type 0) (node : Syntax) (no_code function instantiate : Bool) (names first among : List Syntax) → function
+      ≡ false → instantiate ≡ false
       → AllByRecursion P (counted_at methods node) → AllByRecursion P (keys_of among)
       → AllByRecursion P (keys_of (if no_code then [] else node ∷ (if function then names else if instantiate then first else among)))
   by_tests P node true function instantiate names first among plain whole own rest = tt
   by_tests P node false true instantiate names first among plain whole own rest = absurd (true≢false plain)
   by_tests P node false false true names first among plain whole own rest = absurd (true≢false whole)
-  by_tests P node false false false names first among plain whole own rest = each_append P (counted_at methods node) (keys_of among) own rest
+  by_tests P node false false false names first among plain whole own rest = each_append P (counted_at methods node)
+      (keys_of among) own rest
 
   mutual
     all_counted : (s : Syntax) → IsCovered s → AllByRecursion (IsCall (calls_in s)) (keys_of (code s))
     all_counted (Node at w parts) covered =
-        by_tests (IsCall (calls_in (Node at w parts))) (Node at w parts) (is_no_code w parts) (is_function w) (is_instantiate w) _ _ (code_among parts)
+        by_tests (IsCall (calls_in (Node at w parts))) (Node at w parts) (is_no_code w parts) (is_function w) (is_instantiate w) _ _
+            (code_among parts)
         (plain_word w parts covered.0) (no_instantiate w parts covered.0) (own_counted at w parts covered.0)
-        (each_weaker _ _ (λ key h. (h.0, among_node at w parts key.span h.1)) (keys_of (code_among parts)) (all_counted_among parts covered.1))
+        (each_weaker _ _ (λ key h. (h.0, among_node at w parts key.span h.1)) (keys_of (code_among parts))
+            (all_counted_among parts covered.1))
     all_counted (Listed parts) covered = all_counted_among parts covered
     all_counted (Said text) covered = tt
     all_counted (Count number) covered = tt
@@ -256,10 +270,13 @@ module _ (methods : List ℕ) where
     all_counted_among : (parts : Pieces) → AreCovered parts → AllByRecursion (IsCall (calls_among parts)) (keys_of (code_among parts))
     all_counted_among End covered = tt
     all_counted_among (Then part parts) covered =
-        subst (AllByRecursion (IsCall (calls_in part ++ calls_among parts))) (sym (flat_append (counted_at methods) (code part) (code_among parts)))
+        subst (AllByRecursion (IsCall (calls_in part ++ calls_among parts)))
+            (sym (flat_append (counted_at methods) (code part) (code_among parts)))
         (each_append _ (keys_of (code part)) (keys_of (code_among parts))
-        (each_weaker _ _ (λ key h. (h.0, among_left (calls_in part) (calls_among parts) key.span h.1)) (keys_of (code part)) (all_counted part covered.0))
-        (each_weaker _ _ (λ key h. (h.0, among_right (calls_in part) (calls_among parts) key.span h.1)) (keys_of (code_among parts)) (all_counted_among parts covered.1)))
+        (each_weaker _ _ (λ key h. (h.0, among_left (calls_in part) (calls_among parts) key.span h.1)) (keys_of (code part))
+            (all_counted part covered.0))
+        (each_weaker _ _ (λ key h. (h.0, among_right (calls_in part) (calls_among parts) key.span h.1)) (keys_of (code_among parts))
+            (all_counted_among parts covered.1)))
 
   -- A covered statement is left by its end unless it returns, and none of its parts is dead.
 
@@ -297,38 +314,50 @@ module _ (methods : List ℕ) where
   dead_code End = refl
   dead_code (Then s statements) = ap (λ (l : List Syntax). code s ++ l) (dead_code statements)
 
-  statements_counted : (D : Counted → Type 0) (statements : Pieces) → AreCovered statements → AllByRecursion D (keys_of (flat code (dead_among true statements)))
+  statements_counted : (D : Counted → Type 0) (statements : Pieces) → AreCovered statements
+      → AllByRecursion D (keys_of (flat code (dead_among true statements)))
       → AllByRecursion (IsEither D (live_calls statements)) (keys_of (code_among statements))
   statements_counted D End covered dead = tt
   statements_counted D (Then s statements) covered dead =
-      subst (AllByRecursion (IsEither D (live_calls (Then s statements)))) (sym (flat_append (counted_at methods) (code s) (code_among statements)))
+      subst (AllByRecursion (IsEither D (live_calls (Then s statements))))
+          (sym (flat_append (counted_at methods) (code s) (code_among statements)))
       (each_append _ (keys_of (code s)) (keys_of (code_among statements))
-      (each_weaker _ _ (λ key h. (h.0, inr (among_left (calls_in s) (behind_live (can_complete s)) key.span h.1))) (keys_of (code s)) (all_counted s covered.0))
-      (each_weaker _ _ (λ key h. (h.0, elim h.1 [ inl d ↦ inl d | inr live ↦ inr (among_right (calls_in s) (behind_live (can_complete s)) key.span live) ])) (keys_of (code_among statements))
-      (by_end (statements_counted D statements covered.1) (all_counted_among statements covered.1) (can_complete s) (subst (λ (l : List Syntax). AllByRecursion D (keys_of (flat code l))) (ap (λ (l : List Syntax). l ++ dead_among (lives None s).outs.falls statements) (none_dead s covered.0) ∙ ap (λ (b : Bool). dead_among b statements) (falls_same s covered.0)) dead))))
+      (each_weaker _ _ (λ key h. (h.0, inr (among_left (calls_in s) (behind_live (can_complete s)) key.span h.1))) (keys_of (code s))
+          (all_counted s covered.0))
+      (each_weaker _ _ (λ key h. (h.0, elim h.1 [ inl d ↦ inl d | inr live ↦ inr
+          (among_right (calls_in s) (behind_live (can_complete s)) key.span live) ])) (keys_of (code_among statements))
+      (by_end (statements_counted D statements covered.1) (all_counted_among statements covered.1) (can_complete s)
+          (subst (λ (l : List Syntax). AllByRecursion D (keys_of (flat code l)))
+          (ap (λ (l : List Syntax). l ++ dead_among (lives None s).outs.falls statements) (none_dead s covered.0)
+          ∙ ap (λ (b : Bool). dead_among b statements) (falls_same s covered.0)) dead))))
     where
       behind_live : Bool → Calls
       behind_live completes = if completes then live_calls statements else []
 
-      by_end : (AllByRecursion D (keys_of (flat code (dead_among true statements))) → AllByRecursion (IsEither D (live_calls statements)) (keys_of (code_among statements)))
+      by_end : (AllByRecursion D (keys_of (flat code (dead_among true statements)))
+          → AllByRecursion (IsEither D (live_calls statements)) (keys_of (code_among statements)))
           → AllByRecursion (IsCall (calls_among statements)) (keys_of (code_among statements))
           → (completes : Bool) → AllByRecursion D (keys_of (flat code (dead_among completes statements)))
           → AllByRecursion (IsEither D (behind_live completes)) (keys_of (code_among statements))
       by_end live calls true dead = live dead
-      by_end live calls false dead = both (keys_of (code_among statements)) calls (subst (λ (l : List Syntax). AllByRecursion D (keys_of l)) (dead_code statements) dead)
+      by_end live calls false dead = both (keys_of (code_among statements)) calls
+          (subst (λ (l : List Syntax). AllByRecursion D (keys_of l)) (dead_code statements) dead)
         where
-          both : (keys : List Counted) → AllByRecursion (IsCall (calls_among statements)) keys → AllByRecursion D keys → AllByRecursion (IsEither D []) keys
+          both : (keys : List Counted) → AllByRecursion (IsCall (calls_among statements)) keys → AllByRecursion D keys
+              → AllByRecursion (IsEither D []) keys
           both [] c d = tt
           both (key ∷ keys) c d = ((c.0.0, inl d.0), both keys c.1 d.1)
 
-  body_counted : (D : Counted → Type 0) (body : Syntax) → IsCovered body → HasTexts body → AllByRecursion D (keys_of (flat code (dead_parts body)))
+  body_counted : (D : Counted → Type 0) (body : Syntax) → IsCovered body → HasTexts body
+      → AllByRecursion D (keys_of (flat code (dead_parts body)))
       → AllByRecursion (IsEither D (live_in_body body)) (keys_of (code body))
   body_counted D (Node at word.Body (Then directives (Then (Listed statements) End))) covered texts dead =
       subst (λ (l : List Syntax). AllByRecursion (IsEither D (live_calls statements)) (keys_of l))
       (sym (ap (λ (l : List Syntax). l ++ (code_among statements ++ [])) texts ∙ append-nil (code_among statements)))
       (statements_counted D statements covered.1.1.0 dead)
   body_counted D body covered texts dead =
-      each_weaker (IsCall (calls_in body)) (IsEither D (calls_in body)) (λ key h. (h.0, inr h.1)) (keys_of (code body)) (all_counted body covered)
+      each_weaker (IsCall (calls_in body)) (IsEither D (calls_in body)) (λ key h. (h.0, inr h.1)) (keys_of (code body))
+          (all_counted body covered)
 
 -- The parts of a function: its parameters count no node, and the calls of its body are its own.
 
@@ -377,7 +406,8 @@ count_left : (xs ys : Calls) → at_most xs (xs ++ ys)
 count_left xs ys span = let both : count span (xs ++ ys) ≡ count span xs + count span ys = count_append span xs ys in omega (arith, both)
 
 fewer_then : (xs ys zs : Calls) → at_most xs ys → at_most ys zs → at_most xs zs
-fewer_then xs ys zs a b span = let first : count span xs ≤ count span ys = a span in let second : count span ys ≤ count span zs = b span in omega (arith, first, second)
+fewer_then xs ys zs a b span = let first : count span xs ≤ count span ys = a span in let second : count span ys
+    ≤ count span zs = b span in omega (arith, first, second)
 
 -- The calls of the last of some parts are among those of all.
 last_within : (xs ys : Calls) (span : Span) → IsAmong ys span → IsAmong (xs ++ (ys ++ [])) span
@@ -388,28 +418,40 @@ last_fewer xs ys = fewer_then ys (ys ++ []) (xs ++ (ys ++ [])) (count_left ys []
 
 parted : (f : Syntax) → IsCoveredFunction f → fits_function f ≡ true → IsParted f
 parted (Node at word.Arrow (Then marked (Then is_async (Then params (Then body End))))) covered fit =
-    let fits_all = four_fit _ marked is_async params body refl (field.One kind.Flag) (field.One kind.Flag) (field.One kind.FormalParameters) (field.One kind.ArrowBody) fit in
+    let fits_all = four_fit _ marked is_async params body refl (field.One kind.Flag) (field.One kind.Flag)
+        (field.One kind.FormalParameters) (field.One kind.ArrowBody) fit in
     record {
       params = params_counted params fits_all.2 covered.1.1.0;
       texts = arrow_texts body fits_all.3;
-      within = λ span h. among_right (calls_in marked) _ span (among_right (calls_in is_async) _ span (last_within (calls_in params) (calls_in body) span h));
-      fewer = fewer_then (calls_in body) _ _ (last_fewer (calls_in params) (calls_in body)) (fewer_then _ _ _ (count_right (calls_in is_async) (calls_in params ++ (calls_in body ++ []))) (count_right (calls_in marked) (calls_in is_async ++ (calls_in params ++ (calls_in body ++ [])))));
+      within = λ span h. among_right (calls_in marked) _ span
+          (among_right (calls_in is_async) _ span (last_within (calls_in params) (calls_in body) span h));
+      fewer = fewer_then (calls_in body) _ _ (last_fewer (calls_in params) (calls_in body))
+          (fewer_then _ _ _ (count_right (calls_in is_async) (calls_in params ++ (calls_in body ++ [])))
+          (count_right (calls_in marked) (calls_in is_async ++ (calls_in params ++ (calls_in body ++ [])))));
     }
 parted (Node at word.Fundecl (Then marked (Then is_async (Then generator (Then name (Then params (Then body End))))))) covered fit =
-    let fits_all = six_fit _ marked is_async generator name params body refl (field.One kind.Flag) (field.One kind.Flag) (field.One kind.Flag) (field.Maybe kind.BindingIdentifier) (field.One kind.FormalParameters) (field.Maybe kind.FunctionBody) fit in
+    let fits_all = six_fit _ marked is_async generator name params body refl (field.One kind.Flag) (field.One kind.Flag)
+        (field.One kind.Flag) (field.Maybe kind.BindingIdentifier) (field.One kind.FormalParameters) (field.Maybe kind.FunctionBody) fit in
     let front : Calls = calls_in params ++ (calls_in body ++ []) in
     record {
       params = params_counted params fits_all.4 covered.1.1.1.1.0;
       texts = body_texts body fits_all.5;
-      within = λ span h. among_right (calls_in marked) _ span (among_right (calls_in is_async) _ span (among_right (calls_in generator) _ span (among_right (calls_in name) _ span (last_within (calls_in params) (calls_in body) span h))));
+      within = λ span h. among_right (calls_in marked) _ span
+          (among_right (calls_in is_async) _ span (among_right (calls_in generator) _ span
+          (among_right (calls_in name) _ span (last_within (calls_in params) (calls_in body) span h))));
       fewer = fewer_then (calls_in body) front _ (last_fewer (calls_in params) (calls_in body))
           (fewer_then front (calls_in name ++ front) _ (count_right (calls_in name) front)
-          (fewer_then (calls_in name ++ front) (calls_in generator ++ (calls_in name ++ front)) _ (count_right (calls_in generator) (calls_in name ++ front))
-          (fewer_then (calls_in generator ++ (calls_in name ++ front)) (calls_in is_async ++ (calls_in generator ++ (calls_in name ++ front))) _ (count_right (calls_in is_async) (calls_in generator ++ (calls_in name ++ front)))
+          (fewer_then (calls_in name ++ front) (calls_in generator ++ (calls_in name ++ front)) _
+              (count_right (calls_in generator) (calls_in name ++ front))
+          (fewer_then (calls_in generator ++ (calls_in name ++ front))
+              (calls_in is_async ++ (calls_in generator ++ (calls_in name ++ front))) _
+              (count_right (calls_in is_async) (calls_in generator ++ (calls_in name ++ front)))
           (count_right (calls_in marked) (calls_in is_async ++ (calls_in generator ++ (calls_in name ++ front)))))));
     }
-parted (Node at word.Arrow _) covered fit = record { params = λ methods. refl; texts = tt; within = λ span h. absurd h; fewer = λ span. omega arith }
-parted (Node at word.Fundecl _) covered fit = record { params = λ methods. refl; texts = tt; within = λ span h. absurd h; fewer = λ span. omega arith }
+parted (Node at word.Arrow _) covered fit = record { params = λ methods. refl; texts = tt; within = λ span h. absurd h; fewer =
+    λ span. omega arith }
+parted (Node at word.Fundecl _) covered fit = record { params = λ methods. refl; texts = tt; within = λ span h. absurd h; fewer =
+    λ span. omega arith }
 parted _ covered fit = absurd covered
 
 -- The reachable calls are no more than all.
@@ -417,25 +459,32 @@ live_fewer : (statements : Pieces) → at_most (live_calls statements) (calls_am
 live_fewer End span = omega arith
 live_fewer (Then s statements) span = by_end (live_fewer statements span) (can_complete s)
   where
-    by_end : count span (live_calls statements) ≤ count span (calls_among statements) → (completes : Bool) → count span (calls_in s ++ (if completes then live_calls statements else [])) ≤ count span (calls_in s ++ calls_among statements)
+    by_end : count span (live_calls statements) ≤ count span (calls_among statements) → (completes : Bool)
+        → count span (calls_in s ++ (if completes then live_calls statements else [])) ≤ count span (calls_in s ++ calls_among statements)
     by_end rest true =
-        let live : count span (calls_in s ++ live_calls statements) ≡ count span (calls_in s) + count span (live_calls statements) = count_append span (calls_in s) (live_calls statements) in
-        let all : count span (calls_in s ++ calls_among statements) ≡ count span (calls_in s) + count span (calls_among statements) = count_append span (calls_in s) (calls_among statements) in
+        let live : count span (calls_in s ++ live_calls statements) ≡ count span (calls_in s) + count span (live_calls statements) =
+            count_append span (calls_in s) (live_calls statements) in
+        let all : count span (calls_in s ++ calls_among statements) ≡ count span (calls_in s) + count span (calls_among statements) =
+            count_append span (calls_in s) (calls_among statements) in
         omega (arith, live, all, rest)
     by_end rest false =
         let live : count span (calls_in s ++ []) ≡ count span (calls_in s) + 0 = count_append span (calls_in s) [] in
-        let all : count span (calls_in s ++ calls_among statements) ≡ count span (calls_in s) + count span (calls_among statements) = count_append span (calls_in s) (calls_among statements) in
+        let all : count span (calls_in s ++ calls_among statements) ≡ count span (calls_in s) + count span (calls_among statements) =
+            count_append span (calls_in s) (calls_among statements) in
         omega (arith, live, all)
 
 body_fewer : (body : Syntax) → at_most (live_in_body body) (calls_in body)
 body_fewer (Node at word.Body (Then directives (Then (Listed statements) End))) span =
-    fewer_then (live_calls statements) (calls_among statements) (calls_in directives ++ (calls_among statements ++ [])) (live_fewer statements) (last_fewer (calls_in directives) (calls_among statements)) span
+    fewer_then (live_calls statements) (calls_among statements) (calls_in directives ++ (calls_among statements ++ []))
+        (live_fewer statements) (last_fewer (calls_in directives) (calls_among statements)) span
 body_fewer body span = omega arith
 
 -- Each counted node of a covered function is held once, where its table and its blocks hold its calls.
-pub held_once : (f : Syntax) (h : HirFunction (List BlockPair)) → IsCoveredFunction f → fits_function f ≡ true → AreDistinct (calls_in f) → HoldsCalls f h → HoldsOnce f h
+pub held_once : (f : Syntax) (h : HirFunction (List BlockPair)) → IsCoveredFunction f → fits_function f ≡ true → AreDistinct (calls_in f)
+    → HoldsCalls f h → HoldsOnce f h
 held_once f h covered fit apart held = record {
-  table = All-from_recursion InTable (counted_in f) (all_of InTable (λ key call. in_table key call.0 (parts.within key.span call.1)) (all_counted methods body inside));
+  table = All-from_recursion InTable (counted_in f) (all_of InTable (λ key call. in_table key call.0 (parts.within key.span call.1))
+      (all_counted methods body inside));
   blocks = All-from_recursion InBlocks (counted_in f) all_in_blocks;
 }
   where
@@ -478,15 +527,18 @@ held_once f h covered fit apart held = record {
         omega (arith, all, some, most, own, same)
 
     -- A fact of all counted nodes is one of those of the body.
-    all_of : (P : Counted → Type 0) → ((key : Counted) → IsCall (calls_in body) key → P key) → AllByRecursion (IsCall (calls_in body)) (flat (counted_at methods) (code body))
+    all_of : (P : Counted → Type 0) → ((key : Counted) → IsCall (calls_in body) key → P key)
+        → AllByRecursion (IsCall (calls_in body)) (flat (counted_at methods) (code body))
         → AllByRecursion P (counted_in f)
     all_of P so calls =
         subst (AllByRecursion P) (sym (flat_append (counted_at methods) (code (params_in f)) (code body)))
-        (each_append P (flat (counted_at methods) (code (params_in f))) (flat (counted_at methods) (code body)) (subst (AllByRecursion P) (sym (parts.params methods)) tt)
+        (each_append P (flat (counted_at methods) (code (params_in f))) (flat (counted_at methods) (code body))
+            (subst (AllByRecursion P) (sym (parts.params methods)) tt)
         (each_weaker _ P so (flat (counted_at methods) (code body)) calls))
 
     zipped : (keys : List Counted) → AllByRecursion (IsCall (calls_in body)) keys
-        → AllByRecursion (λ key. (key.kinds ≡ call_kinds) × (Contains (dead_nodes f) key ⊎ IsAmong (live_in_body body) key.span)) keys → AllByRecursion InBlocks keys
+        → AllByRecursion (λ key. (key.kinds ≡ call_kinds) × (Contains (dead_nodes f) key ⊎ IsAmong (live_in_body body) key.span)) keys
+            → AllByRecursion InBlocks keys
     zipped [] a b = tt
     zipped (key ∷ keys) a b = (
       elim b.0.1 [ inl dead ↦ inl dead | inr live ↦ inr (in_blocks key b.0.0 (parts.within key.span a.0.1) live) ],
@@ -496,6 +548,8 @@ held_once f h covered fit apart held = record {
     all_in_blocks : AllByRecursion InBlocks (counted_in f)
     all_in_blocks =
         subst (AllByRecursion InBlocks) (sym (flat_append (counted_at methods) (code (params_in f)) (code body)))
-        (each_append InBlocks (flat (counted_at methods) (code (params_in f))) (flat (counted_at methods) (code body)) (subst (AllByRecursion InBlocks) (sym (parts.params methods)) tt)
+        (each_append InBlocks (flat (counted_at methods) (code (params_in f))) (flat (counted_at methods) (code body))
+            (subst (AllByRecursion InBlocks) (sym (parts.params methods)) tt)
         (zipped (flat (counted_at methods) (code body)) (all_counted methods body inside)
-        (body_counted methods (Contains (dead_nodes f)) body inside parts.texts (recursion_from_All (Contains (dead_nodes f)) (dead_nodes f) (All-contains_itself (dead_nodes f))))))
+        (body_counted methods (Contains (dead_nodes f)) body inside parts.texts
+            (recursion_from_All (Contains (dead_nodes f)) (dead_nodes f) (All-contains_itself (dead_nodes f))))))

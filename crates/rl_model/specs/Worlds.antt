@@ -5,7 +5,7 @@ use Rattle.rl_base.specs.declared.ids.FunctionId.{FunctionId}
 use Rattle.rl_hir.specs.Blocks.{Pair as BlockPair}
 use Rattle.rl_hir.specs.Pairs.{identifier_of}
 use Rattle.rl_hir.specs.Pieces.{operands}
-use Rattle.rl_hir.specs.Values.{Form, Silent, Asks, Assigns, form_of}
+use Rattle.rl_hir.specs.Values.{Form, Assigns, form_of}
 use Rattle.rl_hir.specs.declared.function.HirFunction.{HirFunction}
 use Rattle.rl_hir.specs.declared.function.InnerFunction.{InnerFunction}
 use Rattle.rl_hir.specs.declared.function.Lowered.{Lowered}

@@ -3,7 +3,7 @@ use Rattle.std.specs.Str.{IsUtf8}
 use Rattle.rl_syntax.specs.Syntax.{Syntax, Pieces, End, Then, nodes, nodes_of, pieces_of, syntax}
 use Rattle.rl_hir.specs.Instructions.{argument_shape}
 use Rattle.rl_builder.specs.Builder.{State, state_of}
-use Rattle.rl_model.specs.Covered.{AreCovered, IsCovered}
+use Rattle.rl_model.specs.Covered.{AreCovered}
 use Rattle.rl_model.proofs.CoveredMeanings.{plain_shape}
 use Rattle.rl_model.specs.Shapes.{shapes}
 use Rattle.rl_names.specs.Seen.{seen}
