@@ -1,5 +1,5 @@
 -- Each counted node of a function is held once in its graph.
-use Rattle.std.specs.Prelude.{◌≡◌, ◌⊎◌, ℕ, ◌+◌, nat_eq, Bool, false, ◌&&◌, if◌then◌else◌, Option, Some, None, List, [], ◌∷◌, ◌++◌, All, Contains, slice_get}
+use Rattle.std.specs.Prelude.{◌≡◌, ◌⊎◌, ℕ, ◌+◌, nat_eq, Bool, true, false, ◌&&◌, if◌then◌else◌, Option, Some, None, List, [], ◌∷◌, ◌++◌, All, Contains, slice_get}
 use Rattle.std.specs.List.{list_any}
 use Rattle.std.specs.Str.{bytes_eq}
 use Rattle.rl_base.specs.declared.ids.InstructionId.{InstructionId}
@@ -9,15 +9,23 @@ use Rattle.rl_hir.specs.Written.{value_word}
 use Rattle.rl_hir.specs.declared.function.HirFunction.{HirFunction}
 use Rattle.rl_hir.specs.declared.instruction.Instruction.{Instruction}
 use Rattle.rl_hir.specs.declared.instruction.InstructionValue.{InstructionValue}
+use Rattle.rl_hir.specs.declared.instruction.InstructionValue.TheVariants as values
 use Rattle.rl_model.specs.Code.{code, code_of, flat}
 use Rattle.rl_model.specs.Counted.{Counted, counted_at, counted_in, method_at}
 use Rattle.rl_model.specs.Dead.{dead_parts}
+use Rattle.rl_model.specs.Worlds.{is_reassign}
 use Rattle.rl_names.specs.Functions.{body_in}
 use Rattle.rl_syntax.specs.Syntax.{Syntax}
 
+-- True of a value that its word is enough to count. A store is counted where it assigns a variable that was declared before.
+abbrev pub is_counted : InstructionValue → Bool
+is_counted (values.StoreLocal kind p v) = is_reassign kind
+is_counted (values.StoreContext kind p v) = is_reassign kind
+is_counted _ = true
+
 -- True of a value of one of the kinds.
 abbrev pub is_of : (kinds : List (List ℕ)) → InstructionValue → Bool
-is_of kinds v = list_any (bytes_eq (value_word v)) kinds
+is_of kinds v = list_any (bytes_eq (value_word v)) kinds && is_counted v
 
 abbrev pub is_span : Span → Option Span → Bool
 is_span span None = false
