@@ -1,0 +1,5 @@
+mod Worded
+pub mod Heights
+pub mod NoValues
+pub mod Nodes
+pub mod ReadBack
