@@ -41,32 +41,31 @@ unfolding trim_jsx_text split_line_endings
 tabs_and_spaces = refl
 
 -- `amp` stands for 38.
-amp : (name : List ℕ) → Option ℕ
-unfolding bytes_eq
+abbrev amp : (name : List ℕ) → Option ℕ
 amp name = if bytes_eq name (codes "amp") then Some 38 else None
 
 decodes_words_and_numbers : decode_jsx_entities amp (codes "a &amp; b &bogus; &#x41;") ≡ codes "a & b &bogus; A"
-unfolding decode_jsx_entities amp encode_utf8
+unfolding decode_jsx_entities encode_utf8
 decodes_words_and_numbers = refl
 
 decodes_from_the_last_ampersand : decode_jsx_entities amp (codes "&a&amp;") ≡ codes "&a&"
-unfolding decode_jsx_entities amp encode_utf8
+unfolding decode_jsx_entities encode_utf8
 decodes_from_the_last_ampersand = refl
 
 keeps_what_no_semicolon_ends : decode_jsx_entities amp (codes "a;&amp") ≡ codes "a;&amp"
-unfolding decode_jsx_entities amp encode_utf8
+unfolding decode_jsx_entities encode_utf8
 keeps_what_no_semicolon_ends = refl
 
 reads_a_plus : decode_jsx_entities amp (codes "&#+65;&#x+41;") ≡ codes "AA"
-unfolding decode_jsx_entities amp encode_utf8
+unfolding decode_jsx_entities encode_utf8
 reads_a_plus = refl
 
 -- The last is the hexadecimal number behind the last scalar value.
 keeps_what_is_no_scalar_value : decode_jsx_entities amp (codes "&#;&#x;&#++65;&#-65;&#xd800;&#X110000;") ≡ codes "&#;&#x;&#++65;&#-65;&#xd800;&#X110000;"
-unfolding decode_jsx_entities amp encode_utf8
+unfolding decode_jsx_entities encode_utf8
 keeps_what_is_no_scalar_value = refl
 
 -- The euro sign and an emoji, in UTF-8.
 decodes_to_utf8 : decode_jsx_entities amp (codes "&#8364;&#X1f600;") ≡ 226 ∷ 130 ∷ 172 ∷ 240 ∷ 159 ∷ 152 ∷ 128 ∷ []
-unfolding decode_jsx_entities amp encode_utf8
+unfolding decode_jsx_entities encode_utf8
 decodes_to_utf8 = refl

@@ -89,11 +89,14 @@ abbrev pub decoded_as : (value : Option ℕ) → (word : List ℕ) → List ℕ
 decoded_as (Some value) word = encode_utf8 value
 decoded_as None word = 38 ∷ (word ++ 59 ∷ [])
 
+abbrev pub decoded_word : (entity : (name : List ℕ) → Option ℕ) → (word : List ℕ) → List ℕ
+decoded_word entity word = decoded_as (word_value entity word) word
+
 -- A part that ends at a `;`, and this `;`, decoded: the word that is looked up stands behind the part's last `&`.
 abbrev pub decoded_part : (entity : (name : List ℕ) → Option ℕ) → (part : List ℕ) → List ℕ
 decoded_part entity [] = 59 ∷ []
 decoded_part entity (byte ∷ bytes) =
-    if byte == 38 && not (list_any (λ other. other == 38) bytes) then decoded_as (word_value entity bytes) bytes
+    if byte == 38 && not (list_any (λ other. other == 38) bytes) then decoded_word entity bytes
     else byte ∷ decoded_part entity bytes
 
 -- Parts with a `;` between each two, decoded. Behind the last `;`, bytes stay as they are.

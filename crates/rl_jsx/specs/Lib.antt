@@ -1,1 +1,2 @@
 pub mod JsxTexts
+pub mod Marks
