@@ -6,6 +6,8 @@ mod atoms;
 #[cfg(test)]
 mod base;
 #[cfg(test)]
+mod jsx;
+#[cfg(test)]
 mod text;
 #[cfg(test)]
 mod units;
