@@ -1,5 +1,5 @@
 -- Entities, part by part.
-use Rattle.std.proofs.Common.{◌≡◌, ◌∙◌, ◌++◌, ◌∷◌, [], ℕ, Bool, Option, true, false, ◌||◌, ◌==◌, cond, List, map, refl, sym, ap, arith, true≢false, append_assoc}
+use Rattle.std.proofs.Common.{◌≡◌, ◌∙◌, ◌++◌, ◌∷◌, [], ℕ, Bool, Option, true, false, ◌==◌, cond, List, refl, sym, ap, append_assoc}
 use Rattle.std.specs.List.{list_any, slice_split, onto_first}
 use Rattle.std.proofs.lemmas.Bool.{or_parts, or_right, and_left, and_right, cond-false, false_from_ne_true, not_from_true}
 use Rattle.rl_jsx.specs.JsxTexts.{decoded_word, decoded_part, decoded_parts, decode_jsx_entities, tabs_as_spaces}

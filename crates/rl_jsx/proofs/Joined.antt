@@ -1,5 +1,5 @@
 -- Lines that are joined one after another.
-use Rattle.std.proofs.Common.{◌≡◌, ◌∙◌, ◌++◌, ◌∷◌, [], ℕ, Bool, Option, Some, None, true, false, not, ◌==◌, List, length, refl, sym, ap, arith, true≢false, append_assoc}
+use Rattle.std.proofs.Common.{◌≡◌, ◌∙◌, ◌++◌, ◌∷◌, [], ℕ, Some, None, true, false, not, ◌==◌, List, length, refl, sym, ap, arith, true≢false, append_assoc}
 use Rattle.std.specs.List.{filter, join_with_byte}
 use Rattle.std.proofs.lemmas.Bool.{ne_eqb}
 use Rattle.std.proofs.lemmas.List.Elements.{filter-append}

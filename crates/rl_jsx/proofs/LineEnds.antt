@@ -1,5 +1,5 @@
 -- Where lines end.
-use Rattle.std.proofs.Common.{◌≡◌, ◌∙◌, ◌⊎◌, inl, inr, ◌++◌, ◌∷◌, [], ℕ, Bool, true, false, not, ◌&&◌, ◌||◌, ◌==◌, cond, List, ◌+◌, ◌-◌, ◌<◌, length, take, drop, get_or, refl, sym, ap, arith, true≢false}
+use Rattle.std.proofs.Common.{◌≡◌, ◌∙◌, ◌⊎◌, inl, inr, ◌++◌, ◌∷◌, [], ℕ, Bool, true, false, ◌&&◌, ◌||◌, ◌==◌, cond, List, ◌+◌, ◌-◌, ◌<◌, length, take, drop, get_or, refl, sym, ap, arith}
 use Rattle.std.specs.List.{list_all, onto_first}
 use Rattle.std.proofs.lemmas.List.{drop_more, take-append-drop}
 use Rattle.std.proofs.Math.ListN.{drop_of_length-le}

@@ -1,5 +1,5 @@
 -- What the cuts of a text say, by its bytes.
-use Rattle.std.proofs.Common.{◌≡◌, ◌≢◌, ◌∙◌, ◌⊎◌, inl, inr, ◌++◌, ◌∷◌, [], ◌<◌, ℕ, Option, Some, None, MatchOption, true, false, List, length, take, drop, get_or, suc, sym, ap, subst, arith, true≢false}
+use Rattle.std.proofs.Common.{◌≡◌, ◌≢◌, ◌∙◌, inl, inr, ◌++◌, ◌∷◌, [], ◌<◌, ℕ, Option, Some, None, MatchOption, List, length, take, drop, get_or, suc, sym, ap, subst, arith, true≢false}
 use denote.Ref.{Bor}
 use Rattle.std.specs.Str.Pattern.{RFindsChar, SplitsAroundMatch}
 use Rattle.std.proofs.lemmas.Bool.{or_cases, eqb-true}

@@ -1,5 +1,5 @@
 -- Numbers behind `#`, as they are parsed.
-use Rattle.std.proofs.Common.{◌≡◌, ◌∙◌, ◌<◌, ◌≤◌, ◌^◌, ℕ, Bool, Option, Some, None, true, false, List, [], ◌∷◌, length, refl, sym, ap, arith, true≢false}
+use Rattle.std.proofs.Common.{◌≡◌, ◌∙◌, ◌<◌, ◌^◌, ℕ, Option, Some, None, true, false, List, [], ◌∷◌, refl, sym, ap, arith, true≢false}
 use Rattle.std.specs.Option.{MatchOption, SomeIff}
 use Rattle.std.specs.Char.{is_digit, IsScalar, InScalarRange, OutOfScalarRange}
 use Rattle.std.specs.List.{list_all}
@@ -7,7 +7,7 @@ use Rattle.std.specs.Str.Parse.{AllDigits, IsNumeral, digits_value, without_lead
 use Rattle.std.proofs.lemmas.Bool.{and_parts, and_from, and_right, cond-true, cond-false, false_from_ne_true, ltb-true, lt-ltb, leb-true, eqb-true, or_from}
 use Rattle.std.proofs.lemmas.Bool.Decides.{nat_tests}
 use Rattle.rl_base.specs.Scalars.{is_scalar_value}
-use Rattle.rl_jsx.specs.JsxTexts.{is_empty, is_numeral, scalar_of, numbered, word_value}
+use Rattle.rl_jsx.specs.JsxTexts.{is_numeral, scalar_of, numbered, word_value}
 
 digits-to : (base : ℕ) (ds : List ℕ) → list_all (λ digit. is_digit digit base) ds ≡ true → AllDigits base ds
 digits-to base [] h = tt

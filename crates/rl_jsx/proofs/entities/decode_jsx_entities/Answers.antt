@@ -1,4 +1,4 @@
-use Rattle.std.proofs.Common.{◌≡◌, ◌∙◌, ◌++◌, string_bytes, sym, ap, rules}
+use Rattle.std.proofs.Common.{◌∙◌, ◌++◌, string_bytes, sym, ap, rules}
 use Rattle.rl_atoms.specs.Entities.{entity_value}
 use Rattle.rl_jsx.proofs.Decoding.{decode-step, decode-end, grown}
 use Rattle.rl_jsx.proofs.entities.decode_jsx_entities.Goals as goal

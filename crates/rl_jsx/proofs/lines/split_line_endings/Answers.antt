@@ -1,4 +1,4 @@
-use Rattle.std.proofs.Common.{◌≡◌, ◌∙◌, ◌++◌, ◌∷◌, [], sym, ap, rules}
+use Rattle.std.proofs.Common.{◌∙◌, ◌++◌, ◌∷◌, [], sym, ap, rules}
 use Rattle.rl_jsx.proofs.Decoding.{grown}
 use Rattle.rl_jsx.proofs.lines.split_line_endings.Goals as goal
 

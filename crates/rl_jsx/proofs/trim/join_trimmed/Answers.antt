@@ -1,6 +1,6 @@
-use Rattle.std.proofs.Common.{◌≡◌, ◌∙◌, ◌++◌, ◌∷◌, [], string_bytes, sym, ap, subst, rules}
-use Rattle.rl_jsx.proofs.Joined.{alone-joined, joins-first, joins-more, joins-all}
-use Rattle.rl_jsx.specs.JsxTexts.{joined_lines, without_leading_spaces, without_trailing_spaces}
+use Rattle.std.proofs.Common.{◌∙◌, ◌++◌, ◌∷◌, [], string_bytes, ap, rules}
+use Rattle.rl_jsx.proofs.Joined.{alone-joined, joins-first, joins-more}
+use Rattle.rl_jsx.specs.JsxTexts.{joined_lines, without_leading_spaces}
 use Rattle.rl_jsx.proofs.trim.join_trimmed.Goals as goal
 
 pub returns-in_default : goal.returns-in_default

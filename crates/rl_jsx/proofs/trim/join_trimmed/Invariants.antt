@@ -1,7 +1,6 @@
-use Rattle.std.proofs.Common.{◌≡◌, ◌++◌, ℕ, List, length, string_bytes}
+use Rattle.std.proofs.Common.{length, string_bytes}
 use denote.Text.{Utf8}
 use denote.Shadow.{shadow}
-use Rattle.rl_jsx.specs.JsxTexts.{split_line_endings, trimmed_lines, trimmed_behind, joined_lines}
 use Rattle.rl_jsx.proofs.Joined.{Joins}
 use Rattle.rl_jsx.proofs.trim.join_trimmed.Given as goal
 

@@ -1,6 +1,6 @@
-use Rattle.std.proofs.Common.{◌≡◌, ◌∙◌, ◌++◌, ◌∷◌, [], List, ℕ, true, false, string_bytes, sym, ap, lit<}
+use Rattle.std.proofs.Common.{◌≡◌, ◌∙◌, ◌++◌, ◌∷◌, [], false, string_bytes, sym, ap, lit<}
 use Rattle.std.proofs.lemmas.Str.{encode_ascii}
-use Rattle.rl_jsx.specs.JsxTexts.{is_empty, joined_lines}
+use Rattle.rl_jsx.specs.JsxTexts.{is_empty}
 use Rattle.rl_jsx.proofs.Joined.{empty-length, empty-is, joined-first, joined-more, pushed-behind}
 use Rattle.rl_jsx.proofs.trim.push_line.Goals as goal
 

@@ -1,4 +1,4 @@
-use Rattle.std.proofs.Common.{◌≡◌, ◌∙◌, ◌++◌, ◌∷◌, [], string_bytes, append_assoc, sym, ap, lit<, rules}
+use Rattle.std.proofs.Common.{◌∙◌, ◌++◌, ◌∷◌, [], string_bytes, append_assoc, sym, ap, lit<, rules}
 use Rattle.std.proofs.lemmas.Str.{encode_ascii}
 use Rattle.rl_jsx.specs.JsxTexts.{tabs_as_spaces}
 use Rattle.rl_jsx.proofs.Decoding.{grown, two-pushed, tabs-step, tabs-end}

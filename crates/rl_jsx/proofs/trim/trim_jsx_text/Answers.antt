@@ -1,4 +1,4 @@
-use Rattle.std.proofs.Common.{◌≡◌, ◌∙◌, string_bytes, sym, ap, Some, true, false}
+use Rattle.std.proofs.Common.{◌∙◌, sym, ap, Some}
 use Rattle.rl_jsx.proofs.Joined.{empty-length, shown-none, shown-some}
 use Rattle.rl_jsx.specs.JsxTexts.{is_empty, joined_lines, trimmed_lines, split_line_endings, tabs_as_spaces}
 use Rattle.rl_jsx.proofs.trim.trim_jsx_text.Goals as goal

@@ -1,4 +1,4 @@
-use Rattle.std.proofs.Common.{◌≡◌, ◌+◌, ◌-◌, ◌≤◌, ◌<◌, length, take, get_or}
+use Rattle.std.proofs.Common.{◌≡◌, ◌+◌, ◌≤◌, ◌<◌, length, take, get_or}
 use Rattle.std.specs.List.{suffix_len}
 use Rattle.rl_jsx.specs.JsxTexts.{is_space}
 use Rattle.rl_jsx.proofs.trim.without_trailing_spaces.Given as goal
