@@ -24,7 +24,7 @@ module _ (ident : ℕ → Option ℕ) (one : AreOne ident) (source graph : World
   agrees_changed (x ∷ assignments) before after a =
       agrees_changed assignments _ _
       (subst (λ (b : Bool). Agrees ident (if b then set before x.symbol.0 x.value else before)
-          (if graph.opens x.symbol.0 then set_where (ident x.symbol.0) after x.value else after))
+      (if graph.opens x.symbol.0 then set_where (ident x.symbol.0) after x.value else after))
       (sym (shares.opens x.symbol.0)) (agrees_opened before after x.symbol.0 x.value a (graph.opens x.symbol.0)))
 
 -- An answer leaves identifiers that are nobody's.
@@ -66,9 +66,9 @@ kept_same c scene source store a shares =
 
     along : (symbols : List ℕ) → All IsKnown symbols
         → map (λ (symbol : ℕ). kept symbol (value_where (c.ident symbol) store)) symbols
-            ≡ map (λ (symbol : ℕ). kept symbol (source symbol)) symbols
+        ≡ map (λ (symbol : ℕ). kept symbol (source symbol)) symbols
     along [] known = refl
     along (symbol ∷ symbols) known =
         ap (λ (v : Value). kept symbol v ∷ map (λ (other : ℕ). kept other (value_where (c.ident other) store)) symbols)
-            (same symbol (All-head IsKnown symbol symbols known))
+        (same symbol (All-head IsKnown symbol symbols known))
         ∙ ap (λ (l : List Assignment). kept symbol (source symbol) ∷ l) (along symbols (All-tail IsKnown symbol symbols known))

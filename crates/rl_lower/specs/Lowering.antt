@@ -43,7 +43,7 @@ pub record CountersGrowBy (old new : State) (more : ℕ) : Type 0 where
 abbrev pub KeepsNamed : (old new : List Identifier) → Type 0
 KeepsNamed old new =
     (identifier : ℕ) (known : Identifier) → slice_get old identifier ≡ Some known → known.name ≢ None
-        → slice_get new identifier ≡ Some known
+    → slice_get new identifier ≡ Some known
 
 -- The identifiers of the pairs are named for their symbols.
 abbrev pub HasNamedPairs : Names → State → Type 0
@@ -103,7 +103,7 @@ LowersStatement names s old new =
 abbrev pub LowersStatements : Names → Pieces → State → State → Type 0
 LowersStatements names ss old new =
     Lowers names (nodes_of ss) (refusals_in names ss) (calls_among ss) (live_calls ss) (can_all_complete ss)
-        (λ scene. exec_all scene ss) old new
+    (λ scene. exec_all scene ss) old new
 
 -- The meaning of a body before its end, where the function returns undefined: an expression returns its value.
 abbrev pub exec_before_end : Scene → Syntax → Action (Unit {0})
@@ -115,4 +115,4 @@ exec_before_end scene body = do
 abbrev pub LowersBody : Names → Syntax → State → State → Type 0
 LowersBody names b old new =
     Lowers names (nodes b + 1) (refusals names b) (calls_in b) (live_in_body b) (can_body_complete b)
-        (λ scene. exec_before_end scene b) old new
+    (λ scene. exec_before_end scene b) old new

@@ -43,14 +43,14 @@ global_throws = refl
 
 returns_the_call : runs (yields 0 ∷ yields 1 ∷ yields 2 ∷ [])
     ≡ traced (
-      event (codes "truthy") [] (given 7 ∷ []) ∷ event (codes "global") (codes "f" ∷ []) [] ∷
-      event (codes "call") (codes "place" ∷ []) (given 1 ∷ given 7 ∷ []) ∷
-      []) (ending.Returned returns.Implicit (given 2) [])
+    event (codes "truthy") [] (given 7 ∷ []) ∷ event (codes "global") (codes "f" ∷ []) [] ∷
+    event (codes "call") (codes "place" ∷ []) (given 1 ∷ given 7 ∷ []) ∷
+    []) (ending.Returned returns.Implicit (given 2) [])
 returns_the_call = refl
 
 call_throws : runs (yields 0 ∷ yields 1 ∷ throws 2 ∷ [])
     ≡ traced (
-      event (codes "truthy") [] (given 7 ∷ []) ∷ event (codes "global") (codes "f" ∷ []) [] ∷
-      event (codes "call") (codes "place" ∷ []) (given 1 ∷ given 7 ∷ []) ∷
-      []) (ending.Threw (given 2))
+    event (codes "truthy") [] (given 7 ∷ []) ∷ event (codes "global") (codes "f" ∷ []) [] ∷
+    event (codes "call") (codes "place" ∷ []) (given 1 ∷ given 7 ∷ []) ∷
+    []) (ending.Threw (given 2))
 call_throws = refl

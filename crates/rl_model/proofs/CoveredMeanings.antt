@@ -99,9 +99,9 @@ module _ (scene : Scene) (ways : Ways) (onward : List Value → Cont) (answers :
 
       by_symbol : Behind → (o : Option SymbolId) → is_some o ≡ true → (given : List Value)
           → declare o (first_piece given) ways (λ (end : Unit {0}). take_arguments scene (λ param. true) (params_of ps)
-              (later_pieces given) ways onward) store answers
+          (later_pieces given) ways onward) store answers
           ≡ onward (left_of ps (later_pieces given)) (take_values
-              (symbols_of (of_item [] found o ++ parameters_among scene.names (params_of ps))) given store) answers
+          (symbols_of (of_item [] found o ++ parameters_among scene.names (params_of ps))) given store) answers
       by_symbol behind None none given = absurd (true≢false (sym none))
       by_symbol behind (Some symbol) there [] = behind [] (set store symbol.0 value.Undefined)
       by_symbol behind (Some symbol) there (v ∷ given) = behind given (set store symbol.0 v)

@@ -104,7 +104,7 @@ source_alone names count stored f covered = record {
   opens = λ symbol. ap (λ (l : List Syntax). list_any (assigns symbol) l) (others_none f covered);
   keeps = filter_none (is_kept names stored f f) (below count) (λ symbol.
       ap (λ (l : List Syntax). names_symbol names stored f symbol && list_any (sees symbol) l) (others_none f covered)
-          ∙ and_false (names_symbol names stored f symbol));
+      ∙ and_false (names_symbol names stored f symbol));
 }
   where
     assigns : ℕ → Syntax → Bool
@@ -127,6 +127,6 @@ graph_alone l f = record {
   opens = stands_for_none l.pairs;
   keeps =
       ap (λ (identifiers : List ℕ). filter (stands_for l.pairs identifiers) (below (symbol_bound l.pairs)))
-          (filter_none (contains []) (marked_identifiers f) (λ identifier. refl))
+      (filter_none (contains []) (marked_identifiers f) (λ identifier. refl))
       ∙ filter_none (stands_for l.pairs []) (below (symbol_bound l.pairs)) (stands_for_none l.pairs);
 }

@@ -74,7 +74,7 @@ picked (p ∷ ps) bind = if nat_eq p.0 bind then Some (record { 0 = p.1 }) else 
 abbrev pub of_body : (params statements : List Syntax) → Syntax
 of_body params statements =
     unit (tree word.Expr (
-      tree word.Arrow (
-        yes ∷ no ∷ tree word.Params (listed params ∷ Absent ∷ []) ∷ tree word.Body (listed [] ∷ listed statements ∷ []) ∷
-        []) ∷
-      []) ∷ [])
+    tree word.Arrow (
+    yes ∷ no ∷ tree word.Params (listed params ∷ Absent ∷ []) ∷ tree word.Body (listed [] ∷ listed statements ∷ []) ∷
+    []) ∷
+    []) ∷ [])

@@ -77,7 +77,7 @@ table_counted key kinds (i ∷ table) =
     ap (λ (k : List (List ℕ)). one_if (is_of k i.value && is_span key.span i.span)) kinds ∙ value_counted key.span i.value i.span in
     let rest : times key table ≡ count key.span (calls_of table) = table_counted key kinds table in
     let both : count key.span (call_at i ++ calls_of table) ≡ count key.span (call_at i) + count key.span
-        (calls_of table) = count_append key.span (call_at i) (calls_of table) in
+    (calls_of table) = count_append key.span (call_at i) (calls_of table) in
     omega (arith, here, rest, both)
 
 -- The calls that blocks list are those of the instructions that they list.
@@ -91,7 +91,7 @@ calls_listed_at : (table : List Instruction) (ids : List InstructionId) → call
 calls_listed_at table [] = refl
 calls_listed_at table (id ∷ ids) =
     by_instruction (slice_get table id.0) ∙ ap (λ (l : Calls). (elim (slice_get table id.0) [ Some i ↦ call_at i | None ↦ [] ]) ++ l)
-        (calls_listed_at table ids)
+    (calls_listed_at table ids)
   where
     by_instruction : (o : Option Instruction) → calls_of (found_one o ++ listed_at table ids)
         ≡ (elim o [ Some i ↦ call_at i | None ↦ [] ]) ++ calls_of (listed_at table ids)
@@ -167,7 +167,7 @@ count_one (x ∷ xs) span d h = elim (tells span x) [
     | inl here ↦ absurd (other.1 here)
     | inr later ↦ (let rest : count span xs ≡ 1 = count_one xs span (distinct_rest x xs d) later in
         let same : count span (x ∷ xs) ≡ 0 + count span xs = ap (λ (b : Bool). one_if b + count span xs) other.0 in omega
-            (arith, rest, same))
+        (arith, rest, same))
   ]
 ]
 
@@ -257,10 +257,10 @@ module _ (methods : List ℕ) where
     all_counted : (s : Syntax) → IsCovered s → AllByRecursion (IsCall (calls_in s)) (keys_of (code s))
     all_counted (Node at w parts) covered =
         by_tests (IsCall (calls_in (Node at w parts))) (Node at w parts) (is_no_code w parts) (is_function w) (is_instantiate w) _ _
-            (code_among parts)
+        (code_among parts)
         (plain_word w parts covered.0) (no_instantiate w parts covered.0) (own_counted at w parts covered.0)
         (each_weaker _ _ (λ key h. (h.0, among_node at w parts key.span h.1)) (keys_of (code_among parts))
-            (all_counted_among parts covered.1))
+        (all_counted_among parts covered.1))
     all_counted (Listed parts) covered = all_counted_among parts covered
     all_counted (Said text) covered = tt
     all_counted (Count number) covered = tt
@@ -271,12 +271,12 @@ module _ (methods : List ℕ) where
     all_counted_among End covered = tt
     all_counted_among (Then part parts) covered =
         subst (AllByRecursion (IsCall (calls_in part ++ calls_among parts)))
-            (sym (flat_append (counted_at methods) (code part) (code_among parts)))
+        (sym (flat_append (counted_at methods) (code part) (code_among parts)))
         (each_append _ (keys_of (code part)) (keys_of (code_among parts))
         (each_weaker _ _ (λ key h. (h.0, among_left (calls_in part) (calls_among parts) key.span h.1)) (keys_of (code part))
-            (all_counted part covered.0))
+        (all_counted part covered.0))
         (each_weaker _ _ (λ key h. (h.0, among_right (calls_in part) (calls_among parts) key.span h.1)) (keys_of (code_among parts))
-            (all_counted_among parts covered.1)))
+        (all_counted_among parts covered.1)))
 
   -- A covered statement is left by its end unless it returns, and none of its parts is dead.
 
@@ -320,16 +320,22 @@ module _ (methods : List ℕ) where
   statements_counted D End covered dead = tt
   statements_counted D (Then s statements) covered dead =
       subst (AllByRecursion (IsEither D (live_calls (Then s statements))))
-          (sym (flat_append (counted_at methods) (code s) (code_among statements)))
+      (sym (flat_append (counted_at methods) (code s) (code_among statements)))
       (each_append _ (keys_of (code s)) (keys_of (code_among statements))
       (each_weaker _ _ (λ key h. (h.0, inr (among_left (calls_in s) (behind_live (can_complete s)) key.span h.1))) (keys_of (code s))
-          (all_counted s covered.0))
-      (each_weaker _ _ (λ key h. (h.0, elim h.1 [ inl d ↦ inl d | inr live ↦ inr
-          (among_right (calls_in s) (behind_live (can_complete s)) key.span live) ])) (keys_of (code_among statements))
+      (all_counted s covered.0))
+      (each_weaker _ _ (λ key h. (
+        h.0,
+        elim h.1 [
+          | inl d ↦ inl d
+          | inr live ↦ inr
+              (among_right (calls_in s) (behind_live (can_complete s)) key.span live)
+        ],
+      )) (keys_of (code_among statements))
       (by_end (statements_counted D statements covered.1) (all_counted_among statements covered.1) (can_complete s)
-          (subst (λ (l : List Syntax). AllByRecursion D (keys_of (flat code l)))
-          (ap (λ (l : List Syntax). l ++ dead_among (lives None s).outs.falls statements) (none_dead s covered.0)
-          ∙ ap (λ (b : Bool). dead_among b statements) (falls_same s covered.0)) dead))))
+      (subst (λ (l : List Syntax). AllByRecursion D (keys_of (flat code l)))
+      (ap (λ (l : List Syntax). l ++ dead_among (lives None s).outs.falls statements) (none_dead s covered.0)
+      ∙ ap (λ (b : Bool). dead_among b statements) (falls_same s covered.0)) dead))))
     where
       behind_live : Bool → Calls
       behind_live completes = if completes then live_calls statements else []
@@ -357,7 +363,7 @@ module _ (methods : List ℕ) where
       (statements_counted D statements covered.1.1.0 dead)
   body_counted D body covered texts dead =
       each_weaker (IsCall (calls_in body)) (IsEither D (calls_in body)) (λ key h. (h.0, inr h.1)) (keys_of (code body))
-          (all_counted body covered)
+      (all_counted body covered)
 
 -- The parts of a function: its parameters count no node, and the calls of its body are its own.
 
@@ -419,7 +425,7 @@ last_fewer xs ys = fewer_then ys (ys ++ []) (xs ++ (ys ++ [])) (count_left ys []
 parted : (f : Syntax) → IsCoveredFunction f → fits_function f ≡ true → IsParted f
 parted (Node at word.Arrow (Then marked (Then is_async (Then params (Then body End))))) covered fit =
     let fits_all = four_fit _ marked is_async params body refl (field.One kind.Flag) (field.One kind.Flag)
-        (field.One kind.FormalParameters) (field.One kind.ArrowBody) fit in
+    (field.One kind.FormalParameters) (field.One kind.ArrowBody) fit in
     record {
       params = params_counted params fits_all.2 covered.1.1.0;
       texts = arrow_texts body fits_all.3;
@@ -431,7 +437,7 @@ parted (Node at word.Arrow (Then marked (Then is_async (Then params (Then body E
     }
 parted (Node at word.Fundecl (Then marked (Then is_async (Then generator (Then name (Then params (Then body End))))))) covered fit =
     let fits_all = six_fit _ marked is_async generator name params body refl (field.One kind.Flag) (field.One kind.Flag)
-        (field.One kind.Flag) (field.Maybe kind.BindingIdentifier) (field.One kind.FormalParameters) (field.Maybe kind.FunctionBody) fit in
+    (field.One kind.Flag) (field.Maybe kind.BindingIdentifier) (field.One kind.FormalParameters) (field.Maybe kind.FunctionBody) fit in
     let front : Calls = calls_in params ++ (calls_in body ++ []) in
     record {
       params = params_counted params fits_all.4 covered.1.1.1.1.0;
@@ -442,16 +448,26 @@ parted (Node at word.Fundecl (Then marked (Then is_async (Then generator (Then n
       fewer = fewer_then (calls_in body) front _ (last_fewer (calls_in params) (calls_in body))
           (fewer_then front (calls_in name ++ front) _ (count_right (calls_in name) front)
           (fewer_then (calls_in name ++ front) (calls_in generator ++ (calls_in name ++ front)) _
-              (count_right (calls_in generator) (calls_in name ++ front))
+          (count_right (calls_in generator) (calls_in name ++ front))
           (fewer_then (calls_in generator ++ (calls_in name ++ front))
-              (calls_in is_async ++ (calls_in generator ++ (calls_in name ++ front))) _
-              (count_right (calls_in is_async) (calls_in generator ++ (calls_in name ++ front)))
+          (calls_in is_async ++ (calls_in generator ++ (calls_in name ++ front))) _
+          (count_right (calls_in is_async) (calls_in generator ++ (calls_in name ++ front)))
           (count_right (calls_in marked) (calls_in is_async ++ (calls_in generator ++ (calls_in name ++ front)))))));
     }
-parted (Node at word.Arrow _) covered fit = record { params = λ methods. refl; texts = tt; within = λ span h. absurd h; fewer =
-    λ span. omega arith }
-parted (Node at word.Fundecl _) covered fit = record { params = λ methods. refl; texts = tt; within = λ span h. absurd h; fewer =
-    λ span. omega arith }
+parted (Node at word.Arrow _) covered fit = record {
+  params = λ methods. refl;
+  texts = tt;
+  within = λ span h. absurd h;
+  fewer =
+      λ span. omega arith;
+}
+parted (Node at word.Fundecl _) covered fit = record {
+  params = λ methods. refl;
+  texts = tt;
+  within = λ span h. absurd h;
+  fewer =
+      λ span. omega arith;
+}
 parted _ covered fit = absurd covered
 
 -- The reachable calls are no more than all.
@@ -463,20 +479,20 @@ live_fewer (Then s statements) span = by_end (live_fewer statements span) (can_c
         → count span (calls_in s ++ (if completes then live_calls statements else [])) ≤ count span (calls_in s ++ calls_among statements)
     by_end rest true =
         let live : count span (calls_in s ++ live_calls statements) ≡ count span (calls_in s) + count span (live_calls statements) =
-            count_append span (calls_in s) (live_calls statements) in
+        count_append span (calls_in s) (live_calls statements) in
         let all : count span (calls_in s ++ calls_among statements) ≡ count span (calls_in s) + count span (calls_among statements) =
-            count_append span (calls_in s) (calls_among statements) in
+        count_append span (calls_in s) (calls_among statements) in
         omega (arith, live, all, rest)
     by_end rest false =
         let live : count span (calls_in s ++ []) ≡ count span (calls_in s) + 0 = count_append span (calls_in s) [] in
         let all : count span (calls_in s ++ calls_among statements) ≡ count span (calls_in s) + count span (calls_among statements) =
-            count_append span (calls_in s) (calls_among statements) in
+        count_append span (calls_in s) (calls_among statements) in
         omega (arith, live, all)
 
 body_fewer : (body : Syntax) → at_most (live_in_body body) (calls_in body)
 body_fewer (Node at word.Body (Then directives (Then (Listed statements) End))) span =
     fewer_then (live_calls statements) (calls_among statements) (calls_in directives ++ (calls_among statements ++ []))
-        (live_fewer statements) (last_fewer (calls_in directives) (calls_among statements)) span
+    (live_fewer statements) (last_fewer (calls_in directives) (calls_among statements)) span
 body_fewer body span = omega arith
 
 -- Each counted node of a covered function is held once, where its table and its blocks hold its calls.
@@ -533,12 +549,12 @@ held_once f h covered fit apart held = record {
     all_of P so calls =
         subst (AllByRecursion P) (sym (flat_append (counted_at methods) (code (params_in f)) (code body)))
         (each_append P (flat (counted_at methods) (code (params_in f))) (flat (counted_at methods) (code body))
-            (subst (AllByRecursion P) (sym (parts.params methods)) tt)
+        (subst (AllByRecursion P) (sym (parts.params methods)) tt)
         (each_weaker _ P so (flat (counted_at methods) (code body)) calls))
 
     zipped : (keys : List Counted) → AllByRecursion (IsCall (calls_in body)) keys
         → AllByRecursion (λ key. (key.kinds ≡ call_kinds) × (Contains (dead_nodes f) key ⊎ IsAmong (live_in_body body) key.span)) keys
-            → AllByRecursion InBlocks keys
+        → AllByRecursion InBlocks keys
     zipped [] a b = tt
     zipped (key ∷ keys) a b = (
       elim b.0.1 [ inl dead ↦ inl dead | inr live ↦ inr (in_blocks key b.0.0 (parts.within key.span a.0.1) live) ],
@@ -549,7 +565,7 @@ held_once f h covered fit apart held = record {
     all_in_blocks =
         subst (AllByRecursion InBlocks) (sym (flat_append (counted_at methods) (code (params_in f)) (code body)))
         (each_append InBlocks (flat (counted_at methods) (code (params_in f))) (flat (counted_at methods) (code body))
-            (subst (AllByRecursion InBlocks) (sym (parts.params methods)) tt)
+        (subst (AllByRecursion InBlocks) (sym (parts.params methods)) tt)
         (zipped (flat (counted_at methods) (code body)) (all_counted methods body inside)
         (body_counted methods (Contains (dead_nodes f)) body inside parts.texts
-            (recursion_from_All (Contains (dead_nodes f)) (dead_nodes f) (All-contains_itself (dead_nodes f))))))
+        (recursion_from_All (Contains (dead_nodes f)) (dead_nodes f) (All-contains_itself (dead_nodes f))))))

@@ -15,8 +15,8 @@ use Rattle.rl_syntax.specs.declared.word.Word.TheVariants as word
 abbrev literal : Syntax
 literal =
     unit (
-      tree word.Expr (tree word.Arrow (yes ∷ no ∷ tree word.Params (listed [] ∷ Absent ∷ []) ∷ tree word.Bool (yes ∷ []) ∷ []) ∷ [])
-      ∷ [])
+    tree word.Expr (tree word.Arrow (yes ∷ no ∷ tree word.Params (listed [] ∷ Absent ∷ []) ∷ tree word.Bool (yes ∷ []) ∷ []) ∷ [])
+    ∷ [])
 
 literal_runs : source_trace_of literal None [] []
     []
@@ -33,20 +33,20 @@ literal_supported = refl
 abbrev import_meta : Syntax
 import_meta =
     unit (
-      tree word.Expr (
-        tree word.Arrow (
-          yes ∷ no ∷
-          tree word.Params (listed [] ∷ Absent ∷ []) ∷
-          tree word.Member (no ∷ tree word.Importmeta [] ∷ text (codes "l") ∷ []) ∷
-          []) ∷
-        [])
-      ∷ [])
+    tree word.Expr (
+    tree word.Arrow (
+    yes ∷ no ∷
+    tree word.Params (listed [] ∷ Absent ∷ []) ∷
+    tree word.Member (no ∷ tree word.Importmeta [] ∷ text (codes "l") ∷ []) ∷
+    []) ∷
+    [])
+    ∷ [])
 
 import_meta_runs : source_trace_of import_meta None [] []
     (yields 1 ∷ yields 2 ∷ [])
     ≡ traced (
-      event (codes "metaproperty") [] [] ∷ event (codes "propertyload") [] (given 1 ∷ (value.Text (codes "l")) ∷ []) ∷
-      []) (ending.Returned returns.Implicit (given 2) [])
+    event (codes "metaproperty") [] [] ∷ event (codes "propertyload") [] (given 1 ∷ (value.Text (codes "l")) ∷ []) ∷
+    []) (ending.Returned returns.Implicit (given 2) [])
 import_meta_runs = refl
 
 import_meta_orderly : is_orderly import_meta None ≡ true
@@ -60,45 +60,45 @@ import_meta_supported = refl
 abbrev object_target : Syntax
 object_target =
     unit (
-      tree word.Expr (
-        tree word.Arrow (
-          yes ∷ no ∷
-          tree word.Params (listed (tree word.Param (name (codes "v") ∷ Absent ∷ []) ∷ []) ∷ Absent ∷ []) ∷
-          tree word.Assign (
-            text (codes "=") ∷
-            tree word.Objecttarget (
-              listed (
-                tree word.Short (id (codes "a") ∷ Absent ∷ []) ∷
-                tree word.Short (id (codes "b") ∷ tree word.Str (text (codes "d") ∷ []) ∷ []) ∷
-                tree word.Keyed (
-                  no ∷
-                  tree word.Name (text (codes "k") ∷ []) ∷
-                  tree word.Member (no ∷ id (codes "g") ∷ text (codes "p") ∷ []) ∷
-                  []) ∷
-                []) ∷
-              tree word.Rest (id (codes "c") ∷ []) ∷
-              []) ∷
-            id (codes "v") ∷
-            []) ∷
-          []) ∷
-        [])
-      ∷ [])
+    tree word.Expr (
+    tree word.Arrow (
+    yes ∷ no ∷
+    tree word.Params (listed (tree word.Param (name (codes "v") ∷ Absent ∷ []) ∷ []) ∷ Absent ∷ []) ∷
+    tree word.Assign (
+    text (codes "=") ∷
+    tree word.Objecttarget (
+    listed (
+    tree word.Short (id (codes "a") ∷ Absent ∷ []) ∷
+    tree word.Short (id (codes "b") ∷ tree word.Str (text (codes "d") ∷ []) ∷ []) ∷
+    tree word.Keyed (
+    no ∷
+    tree word.Name (text (codes "k") ∷ []) ∷
+    tree word.Member (no ∷ id (codes "g") ∷ text (codes "p") ∷ []) ∷
+    []) ∷
+    []) ∷
+    tree word.Rest (id (codes "c") ∷ []) ∷
+    []) ∷
+    id (codes "v") ∷
+    []) ∷
+    []) ∷
+    [])
+    ∷ [])
 
 object_target_runs : source_trace_of object_target None [] (given 7 ∷ [])
     (
-      full kinds.Yes (given 10) (given 1 ∷ value.Undefined ∷ given 3 ∷ given 4 ∷ []) [] ∷ yields 11 ∷ yields 20 ∷ yields 21 ∷
-      yields 22 ∷ yields 30 ∷ yields 31 ∷ yields 32 ∷
-      [])
+    full kinds.Yes (given 10) (given 1 ∷ value.Undefined ∷ given 3 ∷ given 4 ∷ []) [] ∷ yields 11 ∷ yields 20 ∷ yields 21 ∷
+    yields 22 ∷ yields 30 ∷ yields 31 ∷ yields 32 ∷
+    [])
     ≡ traced (
-      event (codes "destructure")
-          (codes "object" ∷ codes ".a" ∷ codes "place" ∷ codes ".b" ∷ codes "place" ∷ codes ".k" ∷ codes "place" ∷ codes "spread" ∷ [])
-              (given 7 ∷ []) ∷
-      event (codes "storeglobal") (codes "a" ∷ []) (given 1 ∷ []) ∷
-      event (codes "binary") (codes "===" ∷ []) (value.Undefined ∷ value.Undefined ∷ []) ∷ event (codes "truthy") [] (given 20 ∷ []) ∷
-      event (codes "storeglobal") (codes "b" ∷ []) ((value.Text (codes "d")) ∷ []) ∷ event (codes "global") (codes "g" ∷ []) [] ∷
-      event (codes "propertystore") [] (given 30 ∷ (value.Text (codes "p")) ∷ given 3 ∷ []) ∷
-      event (codes "storeglobal") (codes "c" ∷ []) (given 4 ∷ []) ∷
-      []) (ending.Returned returns.Implicit (given 7) [])
+    event (codes "destructure")
+    (codes "object" ∷ codes ".a" ∷ codes "place" ∷ codes ".b" ∷ codes "place" ∷ codes ".k" ∷ codes "place" ∷ codes "spread" ∷ [])
+    (given 7 ∷ []) ∷
+    event (codes "storeglobal") (codes "a" ∷ []) (given 1 ∷ []) ∷
+    event (codes "binary") (codes "===" ∷ []) (value.Undefined ∷ value.Undefined ∷ []) ∷ event (codes "truthy") [] (given 20 ∷ []) ∷
+    event (codes "storeglobal") (codes "b" ∷ []) ((value.Text (codes "d")) ∷ []) ∷ event (codes "global") (codes "g" ∷ []) [] ∷
+    event (codes "propertystore") [] (given 30 ∷ (value.Text (codes "p")) ∷ given 3 ∷ []) ∷
+    event (codes "storeglobal") (codes "c" ∷ []) (given 4 ∷ []) ∷
+    []) (ending.Returned returns.Implicit (given 7) [])
 object_target_runs = refl
 
 object_target_orderly : is_orderly object_target None ≡ true
@@ -112,33 +112,33 @@ object_target_supported = refl
 abbrev tags : Syntax
 tags =
     unit (
-      tree word.Expr (
-        tree word.Arrow (
-          yes ∷ no ∷
-          tree word.Params (listed (tree word.Param (name (codes "v") ∷ Absent ∷ []) ∷ []) ∷ Absent ∷ []) ∷
-          tree word.Element (
-            tree word.Opening (
-              tree word.Tagmember (id (codes "g") ∷ text (codes "x") ∷ []) ∷
-              listed (
-                tree word.Attrspread (id (codes "v") ∷ []) ∷
-                tree word.Attr (tree word.Attrns (text (codes "a") ∷ text (codes "b") ∷ []) ∷ Absent ∷ []) ∷
-                []) ∷
-              []) ∷
-            listed (tree word.Element (tree word.Opening (tree word.This [] ∷ listed [] ∷ []) ∷ listed [] ∷ Absent ∷ []) ∷ []) ∷
-            Absent ∷
-            []) ∷
-          []) ∷
-        [])
-      ∷ [])
+    tree word.Expr (
+    tree word.Arrow (
+    yes ∷ no ∷
+    tree word.Params (listed (tree word.Param (name (codes "v") ∷ Absent ∷ []) ∷ []) ∷ Absent ∷ []) ∷
+    tree word.Element (
+    tree word.Opening (
+    tree word.Tagmember (id (codes "g") ∷ text (codes "x") ∷ []) ∷
+    listed (
+    tree word.Attrspread (id (codes "v") ∷ []) ∷
+    tree word.Attr (tree word.Attrns (text (codes "a") ∷ text (codes "b") ∷ []) ∷ Absent ∷ []) ∷
+    []) ∷
+    []) ∷
+    listed (tree word.Element (tree word.Opening (tree word.This [] ∷ listed [] ∷ []) ∷ listed [] ∷ Absent ∷ []) ∷ []) ∷
+    Absent ∷
+    []) ∷
+    []) ∷
+    [])
+    ∷ [])
 
 tags_runs : source_trace_of tags None [] (given 7 ∷ [])
     (yields 1 ∷ yields 2 ∷ yields 3 ∷ yields 4 ∷ [])
     ≡ traced (
-      event (codes "global") (codes "g" ∷ []) [] ∷ event (codes "propertyload") [] (given 1 ∷ (value.Text (codes "x")) ∷ []) ∷
-      event (codes "jsx") (codes ".this" ∷ []) [] ∷
-      event (codes "jsx") (codes "place" ∷ codes "spread" ∷ codes ".a:b" ∷ codes "place" ∷ codes "place" ∷ [])
-          (given 2 ∷ given 7 ∷ (value.Bool true) ∷ given 3 ∷ []) ∷
-      []) (ending.Returned returns.Implicit (given 4) [])
+    event (codes "global") (codes "g" ∷ []) [] ∷ event (codes "propertyload") [] (given 1 ∷ (value.Text (codes "x")) ∷ []) ∷
+    event (codes "jsx") (codes ".this" ∷ []) [] ∷
+    event (codes "jsx") (codes "place" ∷ codes "spread" ∷ codes ".a:b" ∷ codes "place" ∷ codes "place" ∷ [])
+    (given 2 ∷ given 7 ∷ (value.Bool true) ∷ given 3 ∷ []) ∷
+    []) (ending.Returned returns.Implicit (given 4) [])
 unfolding jsx.trim_jsx_text jsx.split_line_endings jsx.decode_jsx_entities
 tags_runs = refl
 
@@ -153,27 +153,27 @@ tags_supported = refl
 abbrev setter : Syntax
 setter =
     unit (
-      tree word.Expr (
-        tree word.Arrow (
-          yes ∷ no ∷
-          tree word.Params (listed [] ∷ Absent ∷ []) ∷
-          tree word.Object (
-            listed (
-              tree word.Prop (no ∷ tree word.Name (text (codes "k") ∷ []) ∷ id (codes "g") ∷ []) ∷
-              tree word.Set (
-                no ∷
-                tree word.Name (text (codes "s") ∷ []) ∷
-                tree word.Funexpr (
-                  no ∷ no ∷ no ∷ Absent ∷
-                  tree word.Params (listed (tree word.Param (name (codes "v") ∷ Absent ∷ []) ∷ []) ∷ Absent ∷ []) ∷
-                  tree word.Body (listed [] ∷ listed [] ∷ []) ∷
-                  []) ∷
-                []) ∷
-              []) ∷
-            []) ∷
-          []) ∷
-        [])
-      ∷ [])
+    tree word.Expr (
+    tree word.Arrow (
+    yes ∷ no ∷
+    tree word.Params (listed [] ∷ Absent ∷ []) ∷
+    tree word.Object (
+    listed (
+    tree word.Prop (no ∷ tree word.Name (text (codes "k") ∷ []) ∷ id (codes "g") ∷ []) ∷
+    tree word.Set (
+    no ∷
+    tree word.Name (text (codes "s") ∷ []) ∷
+    tree word.Funexpr (
+    no ∷ no ∷ no ∷ Absent ∷
+    tree word.Params (listed (tree word.Param (name (codes "v") ∷ Absent ∷ []) ∷ []) ∷ Absent ∷ []) ∷
+    tree word.Body (listed [] ∷ listed [] ∷ []) ∷
+    []) ∷
+    []) ∷
+    []) ∷
+    []) ∷
+    []) ∷
+    [])
+    ∷ [])
 
 setter_runs : source_trace_of setter None [] []
     (yields 1 ∷ yields 2 ∷ [])
@@ -191,21 +191,21 @@ setter_supported = refl
 abbrev declarations_of_types : Syntax
 declarations_of_types =
     unit (
-      tree word.Expr (
-        tree word.Arrow (
-          yes ∷ no ∷
-          tree word.Params (listed [] ∷ Absent ∷ []) ∷
-          tree word.Body (
-            listed [] ∷
-            listed (
-              tree word.Typealias (name (codes "T") ∷ tree word.Type (text (codes "other") ∷ listed [] ∷ []) ∷ []) ∷
-              tree word.Interface (name (codes "I") ∷ []) ∷
-              tree word.Debugger [] ∷
-              []) ∷
-            []) ∷
-          []) ∷
-        [])
-      ∷ [])
+    tree word.Expr (
+    tree word.Arrow (
+    yes ∷ no ∷
+    tree word.Params (listed [] ∷ Absent ∷ []) ∷
+    tree word.Body (
+    listed [] ∷
+    listed (
+    tree word.Typealias (name (codes "T") ∷ tree word.Type (text (codes "other") ∷ listed [] ∷ []) ∷ []) ∷
+    tree word.Interface (name (codes "I") ∷ []) ∷
+    tree word.Debugger [] ∷
+    []) ∷
+    []) ∷
+    []) ∷
+    [])
+    ∷ [])
 
 declarations_of_types_runs : source_trace_of declarations_of_types None [] []
     (yields 1 ∷ [])
@@ -222,14 +222,14 @@ declarations_of_types_supported = refl
 abbrev private_in : Syntax
 private_in =
     unit (
-      tree word.Expr (
-        tree word.Arrow (
-          yes ∷ no ∷
-          tree word.Params (listed [] ∷ Absent ∷ []) ∷
-          tree word.Privatein (text (codes "a") ∷ id (codes "g") ∷ []) ∷
-          []) ∷
-        [])
-      ∷ [])
+    tree word.Expr (
+    tree word.Arrow (
+    yes ∷ no ∷
+    tree word.Params (listed [] ∷ Absent ∷ []) ∷
+    tree word.Privatein (text (codes "a") ∷ id (codes "g") ∷ []) ∷
+    []) ∷
+    [])
+    ∷ [])
 
 private_in_runs : source_trace_of private_in None [] []
     (yields 1 ∷ [])
@@ -247,32 +247,32 @@ private_in_supported = refl
 abbrev private_target : Syntax
 private_target =
     unit (
-      tree word.Expr (
-        tree word.Arrow (
-          yes ∷ no ∷
-          tree word.Params (listed (tree word.Param (name (codes "v") ∷ Absent ∷ []) ∷ []) ∷ Absent ∷ []) ∷
-          tree word.Assign (
-            text (codes "=") ∷
-            tree word.Arraytarget (
-              listed (
-                tree word.Member (no ∷ id (codes "g") ∷ text (codes "a") ∷ []) ∷
-                tree word.Privatemember (no ∷ id (codes "g") ∷ text (codes "b") ∷ []) ∷
-                []) ∷
-              Absent ∷
-              []) ∷
-            id (codes "v") ∷
-            []) ∷
-          []) ∷
-        [])
-      ∷ [])
+    tree word.Expr (
+    tree word.Arrow (
+    yes ∷ no ∷
+    tree word.Params (listed (tree word.Param (name (codes "v") ∷ Absent ∷ []) ∷ []) ∷ Absent ∷ []) ∷
+    tree word.Assign (
+    text (codes "=") ∷
+    tree word.Arraytarget (
+    listed (
+    tree word.Member (no ∷ id (codes "g") ∷ text (codes "a") ∷ []) ∷
+    tree word.Privatemember (no ∷ id (codes "g") ∷ text (codes "b") ∷ []) ∷
+    []) ∷
+    Absent ∷
+    []) ∷
+    id (codes "v") ∷
+    []) ∷
+    []) ∷
+    [])
+    ∷ [])
 
 private_target_runs : source_trace_of private_target None [] (given 7 ∷ [])
     (full kinds.Yes (given 10) (given 1 ∷ given 2 ∷ []) [] ∷ yields 3 ∷ yields 4 ∷ yields 5 ∷ [])
     ≡ traced (
-      event (codes "destructure") (codes "array" ∷ codes "place" ∷ codes "place" ∷ []) (given 7 ∷ []) ∷
-      event (codes "global") (codes "g" ∷ []) [] ∷
-      event (codes "propertystore") [] (given 3 ∷ (value.Text (codes "a")) ∷ given 1 ∷ []) ∷
-      []) ending.Waiting
+    event (codes "destructure") (codes "array" ∷ codes "place" ∷ codes "place" ∷ []) (given 7 ∷ []) ∷
+    event (codes "global") (codes "g" ∷ []) [] ∷
+    event (codes "propertystore") [] (given 3 ∷ (value.Text (codes "a")) ∷ given 1 ∷ []) ∷
+    []) ending.Waiting
 private_target_runs = refl
 
 private_target_orderly : is_orderly private_target None ≡ true
@@ -286,18 +286,18 @@ private_target_supported = refl
 abbrev computed_key : Syntax
 computed_key =
     unit (
-      tree word.Expr (
-        tree word.Arrow (
-          yes ∷ no ∷
-          tree word.Params (listed (tree word.Param (name (codes "v") ∷ Absent ∷ []) ∷ []) ∷ Absent ∷ []) ∷
-          tree word.Assign (
-            text (codes "=") ∷
-            tree word.Objecttarget (listed (tree word.Keyed (yes ∷ id (codes "g") ∷ id (codes "a") ∷ []) ∷ []) ∷ Absent ∷ []) ∷
-            id (codes "v") ∷
-            []) ∷
-          []) ∷
-        [])
-      ∷ [])
+    tree word.Expr (
+    tree word.Arrow (
+    yes ∷ no ∷
+    tree word.Params (listed (tree word.Param (name (codes "v") ∷ Absent ∷ []) ∷ []) ∷ Absent ∷ []) ∷
+    tree word.Assign (
+    text (codes "=") ∷
+    tree word.Objecttarget (listed (tree word.Keyed (yes ∷ id (codes "g") ∷ id (codes "a") ∷ []) ∷ []) ∷ Absent ∷ []) ∷
+    id (codes "v") ∷
+    []) ∷
+    []) ∷
+    [])
+    ∷ [])
 
 computed_key_runs : source_trace_of computed_key None [] (given 7 ∷ [])
     (yields 1 ∷ [])
@@ -314,21 +314,21 @@ computed_key_supported = refl
 abbrev enum_and_meta : Syntax
 enum_and_meta =
     unit (
-      tree word.Expr (
-        tree word.Arrow (
-          yes ∷ no ∷
-          tree word.Params (listed [] ∷ Absent ∷ []) ∷
-          tree word.Body (
-            listed [] ∷
-            listed (
-              tree word.Expr (id (codes "g") ∷ []) ∷
-              tree word.Enum (name (codes "E") ∷ []) ∷
-              tree word.Expr (tree word.Newtarget [] ∷ []) ∷
-              []) ∷
-            []) ∷
-          []) ∷
-        [])
-      ∷ [])
+    tree word.Expr (
+    tree word.Arrow (
+    yes ∷ no ∷
+    tree word.Params (listed [] ∷ Absent ∷ []) ∷
+    tree word.Body (
+    listed [] ∷
+    listed (
+    tree word.Expr (id (codes "g") ∷ []) ∷
+    tree word.Enum (name (codes "E") ∷ []) ∷
+    tree word.Expr (tree word.Newtarget [] ∷ []) ∷
+    []) ∷
+    []) ∷
+    []) ∷
+    [])
+    ∷ [])
 
 enum_and_meta_runs : source_trace_of enum_and_meta None [] []
     (yields 1 ∷ yields 2 ∷ [])
@@ -345,14 +345,14 @@ enum_and_meta_supported = refl
 abbrev super_call : Syntax
 super_call =
     unit (
-      tree word.Expr (
-        tree word.Arrow (
-          yes ∷ no ∷
-          tree word.Params (listed [] ∷ Absent ∷ []) ∷
-          tree word.Call (no ∷ tree word.Member (no ∷ tree word.Super [] ∷ text (codes "a") ∷ []) ∷ listed [] ∷ []) ∷
-          []) ∷
-        [])
-      ∷ [])
+    tree word.Expr (
+    tree word.Arrow (
+    yes ∷ no ∷
+    tree word.Params (listed [] ∷ Absent ∷ []) ∷
+    tree word.Call (no ∷ tree word.Member (no ∷ tree word.Super [] ∷ text (codes "a") ∷ []) ∷ listed [] ∷ []) ∷
+    []) ∷
+    [])
+    ∷ [])
 
 super_call_runs : source_trace_of super_call None [] []
     (yields 1 ∷ [])

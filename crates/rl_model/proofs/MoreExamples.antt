@@ -17,39 +17,39 @@ use Rattle.rl_syntax.specs.declared.word.Word.TheVariants as word
 abbrev switch_unit : Syntax
 switch_unit =
     unit (
-      tree word.Expr (
-        tree word.Arrow (
-          yes ∷ no ∷
-          tree word.Params (
-            listed (tree word.Param (name (codes "x") ∷ Absent ∷ []) ∷ tree word.Param (name (codes "y") ∷ Absent ∷ []) ∷ []) ∷ Absent ∷
-            []) ∷
-          tree word.Body (
-            listed [] ∷
-            listed (
-              tree word.Switch (
-                id (codes "x") ∷
-                listed (
-                  tree word.Case (
-                    tree word.Call (no ∷ id (codes "f") ∷ listed [] ∷ []) ∷
-                    listed (tree word.Expr (id (codes "p") ∷ []) ∷ []) ∷
-                    []) ∷
-                  tree word.Case (Absent ∷ listed (tree word.Break (Absent ∷ []) ∷ []) ∷ []) ∷
-                  tree word.Case (id (codes "y") ∷ listed (tree word.Return (tree word.Str (text (codes "3") ∷ []) ∷ []) ∷ []) ∷ []) ∷
-                  []) ∷
-                []) ∷
-              tree word.Return (tree word.Str (text (codes "end") ∷ []) ∷ []) ∷
-              []) ∷
-            []) ∷
-          []) ∷
-        []) ∷
-      [])
+    tree word.Expr (
+    tree word.Arrow (
+    yes ∷ no ∷
+    tree word.Params (
+    listed (tree word.Param (name (codes "x") ∷ Absent ∷ []) ∷ tree word.Param (name (codes "y") ∷ Absent ∷ []) ∷ []) ∷ Absent ∷
+    []) ∷
+    tree word.Body (
+    listed [] ∷
+    listed (
+    tree word.Switch (
+    id (codes "x") ∷
+    listed (
+    tree word.Case (
+    tree word.Call (no ∷ id (codes "f") ∷ listed [] ∷ []) ∷
+    listed (tree word.Expr (id (codes "p") ∷ []) ∷ []) ∷
+    []) ∷
+    tree word.Case (Absent ∷ listed (tree word.Break (Absent ∷ []) ∷ []) ∷ []) ∷
+    tree word.Case (id (codes "y") ∷ listed (tree word.Return (tree word.Str (text (codes "3") ∷ []) ∷ []) ∷ []) ∷ []) ∷
+    []) ∷
+    []) ∷
+    tree word.Return (tree word.Str (text (codes "end") ∷ []) ∷ []) ∷
+    []) ∷
+    []) ∷
+    []) ∷
+    []) ∷
+    [])
 
 switch_runs : source_trace_of switch_unit None [] (given 1 ∷ given 2 ∷ [])
     (yields 1 ∷ yields 2 ∷ full kinds.No value.Undefined [] [] ∷ yields 4 ∷ yields 5 ∷ [])
     ≡ traced (
-      event (codes "global") (codes "f" ∷ []) [] ∷ event (codes "call") [] (given 1 ∷ []) ∷
-      event (codes "matches") [] (given 1 ∷ given 2 ∷ []) ∷ event (codes "matches") [] (given 1 ∷ given 2 ∷ []) ∷
-      []) (ending.Returned returns.Explicit (value.Text (codes "3")) [])
+    event (codes "global") (codes "f" ∷ []) [] ∷ event (codes "call") [] (given 1 ∷ []) ∷
+    event (codes "matches") [] (given 1 ∷ given 2 ∷ []) ∷ event (codes "matches") [] (given 1 ∷ given 2 ∷ []) ∷
+    []) (ending.Returned returns.Explicit (value.Text (codes "3")) [])
 switch_runs = refl
 
 switch_ported : ported_trace_of switch_unit (picked []) None [] (given 1 ∷ given 2 ∷ [])
@@ -69,39 +69,39 @@ switch_supported = refl
 abbrev switch_default_unit : Syntax
 switch_default_unit =
     unit (
-      tree word.Expr (
-        tree word.Arrow (
-          yes ∷ no ∷
-          tree word.Params (
-            listed (tree word.Param (name (codes "x") ∷ Absent ∷ []) ∷ tree word.Param (name (codes "y") ∷ Absent ∷ []) ∷ []) ∷ Absent ∷
-            []) ∷
-          tree word.Body (
-            listed [] ∷
-            listed (
-              tree word.Switch (
-                id (codes "x") ∷
-                listed (
-                  tree word.Case (
-                    tree word.Call (no ∷ id (codes "f") ∷ listed [] ∷ []) ∷
-                    listed (tree word.Expr (id (codes "p") ∷ []) ∷ []) ∷
-                    []) ∷
-                  tree word.Case (Absent ∷ listed (tree word.Break (Absent ∷ []) ∷ []) ∷ []) ∷
-                  tree word.Case (id (codes "y") ∷ listed (tree word.Return (tree word.Str (text (codes "3") ∷ []) ∷ []) ∷ []) ∷ []) ∷
-                  []) ∷
-                []) ∷
-              tree word.Return (tree word.Str (text (codes "end") ∷ []) ∷ []) ∷
-              []) ∷
-            []) ∷
-          []) ∷
-        []) ∷
-      [])
+    tree word.Expr (
+    tree word.Arrow (
+    yes ∷ no ∷
+    tree word.Params (
+    listed (tree word.Param (name (codes "x") ∷ Absent ∷ []) ∷ tree word.Param (name (codes "y") ∷ Absent ∷ []) ∷ []) ∷ Absent ∷
+    []) ∷
+    tree word.Body (
+    listed [] ∷
+    listed (
+    tree word.Switch (
+    id (codes "x") ∷
+    listed (
+    tree word.Case (
+    tree word.Call (no ∷ id (codes "f") ∷ listed [] ∷ []) ∷
+    listed (tree word.Expr (id (codes "p") ∷ []) ∷ []) ∷
+    []) ∷
+    tree word.Case (Absent ∷ listed (tree word.Break (Absent ∷ []) ∷ []) ∷ []) ∷
+    tree word.Case (id (codes "y") ∷ listed (tree word.Return (tree word.Str (text (codes "3") ∷ []) ∷ []) ∷ []) ∷ []) ∷
+    []) ∷
+    []) ∷
+    tree word.Return (tree word.Str (text (codes "end") ∷ []) ∷ []) ∷
+    []) ∷
+    []) ∷
+    []) ∷
+    []) ∷
+    [])
 
 switch_default_runs : source_trace_of switch_default_unit None [] (given 1 ∷ given 2 ∷ [])
     (yields 1 ∷ yields 2 ∷ full kinds.No value.Undefined [] [] ∷ full kinds.No value.Undefined [] [] ∷ [])
     ≡ traced (
-      event (codes "global") (codes "f" ∷ []) [] ∷ event (codes "call") [] (given 1 ∷ []) ∷
-      event (codes "matches") [] (given 1 ∷ given 2 ∷ []) ∷ event (codes "matches") [] (given 1 ∷ given 2 ∷ []) ∷
-      []) (ending.Returned returns.Explicit (value.Text (codes "end")) [])
+    event (codes "global") (codes "f" ∷ []) [] ∷ event (codes "call") [] (given 1 ∷ []) ∷
+    event (codes "matches") [] (given 1 ∷ given 2 ∷ []) ∷ event (codes "matches") [] (given 1 ∷ given 2 ∷ []) ∷
+    []) (ending.Returned returns.Explicit (value.Text (codes "end")) [])
 switch_default_runs = refl
 
 switch_default_ported : ported_trace_of switch_default_unit (picked []) None [] (given 1 ∷ given 2 ∷ [])
@@ -121,43 +121,43 @@ switch_default_supported = refl
 abbrev compound_unit : Syntax
 compound_unit =
     unit (
-      tree word.Expr (
-        tree word.Arrow (
-          yes ∷ no ∷
-          tree word.Params (listed (tree word.Param (name (codes "o") ∷ Absent ∷ []) ∷ []) ∷ Absent ∷ []) ∷
-          tree word.Body (
-            listed [] ∷
-            listed (
-              tree word.Expr (
-                tree word.Assign (
-                  text (codes "+=") ∷
-                  tree word.Index (no ∷ id (codes "o") ∷ tree word.Str (text (codes "0") ∷ []) ∷ []) ∷
-                  tree word.Assign (
-                    text (codes "=") ∷
-                    tree word.Member (no ∷ id (codes "o") ∷ text (codes "k") ∷ []) ∷ id (codes "z") ∷
-                    []) ∷
-                  []) ∷
-                []) ∷
-              tree word.Return (
-                tree word.Update (text (codes "--") ∷ no ∷ tree word.Member (no ∷ id (codes "o") ∷ text (codes "q") ∷ []) ∷ []) ∷
-                []) ∷
-              []) ∷
-            []) ∷
-          []) ∷
-        []) ∷
-      [])
+    tree word.Expr (
+    tree word.Arrow (
+    yes ∷ no ∷
+    tree word.Params (listed (tree word.Param (name (codes "o") ∷ Absent ∷ []) ∷ []) ∷ Absent ∷ []) ∷
+    tree word.Body (
+    listed [] ∷
+    listed (
+    tree word.Expr (
+    tree word.Assign (
+    text (codes "+=") ∷
+    tree word.Index (no ∷ id (codes "o") ∷ tree word.Str (text (codes "0") ∷ []) ∷ []) ∷
+    tree word.Assign (
+    text (codes "=") ∷
+    tree word.Member (no ∷ id (codes "o") ∷ text (codes "k") ∷ []) ∷ id (codes "z") ∷
+    []) ∷
+    []) ∷
+    []) ∷
+    tree word.Return (
+    tree word.Update (text (codes "--") ∷ no ∷ tree word.Member (no ∷ id (codes "o") ∷ text (codes "q") ∷ []) ∷ []) ∷
+    []) ∷
+    []) ∷
+    []) ∷
+    []) ∷
+    []) ∷
+    [])
 
 compound_runs : source_trace_of compound_unit None [] (given 1 ∷ [])
     (yields 1 ∷ yields 2 ∷ yields 3 ∷ yields 4 ∷ yields 5 ∷ yields 6 ∷ yields 7 ∷ yields 8 ∷ [])
     ≡ traced (
-      event (codes "computedload") [] (given 1 ∷ value.Text (codes "0") ∷ []) ∷ event (codes "global") (codes "z" ∷ []) [] ∷
-      event (codes "propertystore") [] (given 1 ∷ value.Text (codes "k") ∷ given 2 ∷ []) ∷
-      event (codes "binary") (codes "+" ∷ []) (given 1 ∷ given 2 ∷ []) ∷
-      event (codes "computedstore") [] (given 1 ∷ value.Text (codes "0") ∷ given 4 ∷ []) ∷
-      event (codes "propertyload") [] (given 1 ∷ value.Text (codes "q") ∷ []) ∷
-      event (codes "binary") (codes "-" ∷ []) (given 6 ∷ value.Number 1 ∷ []) ∷
-      event (codes "propertystore") [] (given 1 ∷ value.Text (codes "q") ∷ given 7 ∷ []) ∷
-      []) (ending.Returned returns.Explicit (given 6) [])
+    event (codes "computedload") [] (given 1 ∷ value.Text (codes "0") ∷ []) ∷ event (codes "global") (codes "z" ∷ []) [] ∷
+    event (codes "propertystore") [] (given 1 ∷ value.Text (codes "k") ∷ given 2 ∷ []) ∷
+    event (codes "binary") (codes "+" ∷ []) (given 1 ∷ given 2 ∷ []) ∷
+    event (codes "computedstore") [] (given 1 ∷ value.Text (codes "0") ∷ given 4 ∷ []) ∷
+    event (codes "propertyload") [] (given 1 ∷ value.Text (codes "q") ∷ []) ∷
+    event (codes "binary") (codes "-" ∷ []) (given 6 ∷ value.Number 1 ∷ []) ∷
+    event (codes "propertystore") [] (given 1 ∷ value.Text (codes "q") ∷ given 7 ∷ []) ∷
+    []) (ending.Returned returns.Explicit (given 6) [])
 compound_runs = refl
 
 compound_ported : ported_trace_of compound_unit (picked []) None [] (given 1 ∷ [])
@@ -177,42 +177,42 @@ compound_supported = refl
 abbrev calls_unit : Syntax
 calls_unit =
     unit (
-      tree word.Expr (
-        tree word.Arrow (
-          yes ∷ no ∷
-          tree word.Params (listed (tree word.Param (name (codes "o") ∷ Absent ∷ []) ∷ []) ∷ Absent ∷ []) ∷
-          tree word.Body (
-            listed [] ∷
-            listed (
-              tree word.Return (
-                tree word.Call (
-                  no ∷
-                  tree word.Paren (tree word.Chain (tree word.Member (yes ∷ id (codes "o") ∷ text (codes "m") ∷ []) ∷ []) ∷ []) ∷
-                  listed (tree word.Spread (id (codes "o") ∷ []) ∷ tree word.New (id (codes "o") ∷ listed [] ∷ []) ∷ []) ∷
-                  []) ∷
-                []) ∷
-              []) ∷
-            []) ∷
-          []) ∷
-        []) ∷
-      [])
+    tree word.Expr (
+    tree word.Arrow (
+    yes ∷ no ∷
+    tree word.Params (listed (tree word.Param (name (codes "o") ∷ Absent ∷ []) ∷ []) ∷ Absent ∷ []) ∷
+    tree word.Body (
+    listed [] ∷
+    listed (
+    tree word.Return (
+    tree word.Call (
+    no ∷
+    tree word.Paren (tree word.Chain (tree word.Member (yes ∷ id (codes "o") ∷ text (codes "m") ∷ []) ∷ []) ∷ []) ∷
+    listed (tree word.Spread (id (codes "o") ∷ []) ∷ tree word.New (id (codes "o") ∷ listed [] ∷ []) ∷ []) ∷
+    []) ∷
+    []) ∷
+    []) ∷
+    []) ∷
+    []) ∷
+    []) ∷
+    [])
 
 calls_runs : source_trace_of calls_unit None [] (given 1 ∷ [])
     (full kinds.No value.Undefined [] [] ∷ yields 2 ∷ yields 3 ∷ yields 4 ∷ [])
     ≡ traced (
-      event (codes "nullish") [] (given 1 ∷ []) ∷ event (codes "propertyload") [] (given 1 ∷ value.Text (codes "m") ∷ []) ∷
-      event (codes "new") [] (given 1 ∷ []) ∷
-      event (codes "methodcall") (codes "spread" ∷ codes "place" ∷ []) (given 1 ∷ given 2 ∷ given 1 ∷ given 3 ∷ []) ∷
-      []) (ending.Returned returns.Explicit (given 4) [])
+    event (codes "nullish") [] (given 1 ∷ []) ∷ event (codes "propertyload") [] (given 1 ∷ value.Text (codes "m") ∷ []) ∷
+    event (codes "new") [] (given 1 ∷ []) ∷
+    event (codes "methodcall") (codes "spread" ∷ codes "place" ∷ []) (given 1 ∷ given 2 ∷ given 1 ∷ given 3 ∷ []) ∷
+    []) (ending.Returned returns.Explicit (given 4) [])
 calls_runs = refl
 
 calls_ported : ported_trace_of calls_unit (picked []) None [] (given 1 ∷ [])
     (full kinds.No value.Undefined [] [] ∷ yields 2 ∷ yields 3 ∷ yields 4 ∷ [])
     ≡ traced (
-      event (codes "nullish") [] (given 1 ∷ []) ∷ event (codes "propertyload") [] (given 1 ∷ value.Text (codes "m") ∷ []) ∷
-      event (codes "new") [] (given 1 ∷ []) ∷
-      event (codes "call") (codes "spread" ∷ codes "place" ∷ []) (given 2 ∷ given 1 ∷ given 3 ∷ []) ∷
-      []) (ending.Returned returns.Explicit (given 4) [])
+    event (codes "nullish") [] (given 1 ∷ []) ∷ event (codes "propertyload") [] (given 1 ∷ value.Text (codes "m") ∷ []) ∷
+    event (codes "new") [] (given 1 ∷ []) ∷
+    event (codes "call") (codes "spread" ∷ codes "place" ∷ []) (given 2 ∷ given 1 ∷ given 3 ∷ []) ∷
+    []) (ending.Returned returns.Explicit (given 4) [])
 calls_ported = refl
 
 calls_orderly : is_orderly calls_unit None ≡ false
@@ -226,39 +226,39 @@ calls_supported = refl
 abbrev calls_that_end_unit : Syntax
 calls_that_end_unit =
     unit (
-      tree word.Expr (
-        tree word.Arrow (
-          yes ∷ no ∷
-          tree word.Params (listed (tree word.Param (name (codes "o") ∷ Absent ∷ []) ∷ []) ∷ Absent ∷ []) ∷
-          tree word.Body (
-            listed [] ∷
-            listed (
-              tree word.Return (
-                tree word.Call (
-                  no ∷
-                  tree word.Paren (tree word.Chain (tree word.Member (yes ∷ id (codes "o") ∷ text (codes "m") ∷ []) ∷ []) ∷ []) ∷
-                  listed (tree word.Str (text (codes "1") ∷ []) ∷ []) ∷
-                  []) ∷
-                []) ∷
-              []) ∷
-            []) ∷
-          []) ∷
-        []) ∷
-      [])
+    tree word.Expr (
+    tree word.Arrow (
+    yes ∷ no ∷
+    tree word.Params (listed (tree word.Param (name (codes "o") ∷ Absent ∷ []) ∷ []) ∷ Absent ∷ []) ∷
+    tree word.Body (
+    listed [] ∷
+    listed (
+    tree word.Return (
+    tree word.Call (
+    no ∷
+    tree word.Paren (tree word.Chain (tree word.Member (yes ∷ id (codes "o") ∷ text (codes "m") ∷ []) ∷ []) ∷ []) ∷
+    listed (tree word.Str (text (codes "1") ∷ []) ∷ []) ∷
+    []) ∷
+    []) ∷
+    []) ∷
+    []) ∷
+    []) ∷
+    []) ∷
+    [])
 
 calls_that_end_runs : source_trace_of calls_that_end_unit None [] (given 1 ∷ []) (yields 1 ∷ yields 2 ∷ [])
     ≡ traced (
-      event (codes "nullish") [] (given 1 ∷ []) ∷
-      event (codes "methodcall") (codes "place" ∷ []) (value.Undefined ∷ value.Undefined ∷ value.Text (codes "1") ∷ []) ∷
-      []) (ending.Returned returns.Explicit (given 2) [])
+    event (codes "nullish") [] (given 1 ∷ []) ∷
+    event (codes "methodcall") (codes "place" ∷ []) (value.Undefined ∷ value.Undefined ∷ value.Text (codes "1") ∷ []) ∷
+    []) (ending.Returned returns.Explicit (given 2) [])
 calls_that_end_runs = refl
 
 calls_that_end_ported : ported_trace_of calls_that_end_unit (picked []) None [] (given 1 ∷ [])
     (yields 1 ∷ yields 2 ∷ [])
     ≡ traced (
-      event (codes "nullish") [] (given 1 ∷ []) ∷
-      event (codes "call") (codes "place" ∷ []) (value.Undefined ∷ value.Text (codes "1") ∷ []) ∷
-      []) (ending.Returned returns.Explicit (given 2) [])
+    event (codes "nullish") [] (given 1 ∷ []) ∷
+    event (codes "call") (codes "place" ∷ []) (value.Undefined ∷ value.Text (codes "1") ∷ []) ∷
+    []) (ending.Returned returns.Explicit (given 2) [])
 calls_that_end_ported = refl
 
 calls_that_end_orderly : is_orderly calls_that_end_unit None ≡ false
@@ -272,46 +272,46 @@ calls_that_end_supported = refl
 abbrev tagged_unit : Syntax
 tagged_unit =
     unit (
-      tree word.Expr (
-        tree word.Arrow (
-          yes ∷ no ∷
-          tree word.Params (listed (tree word.Param (name (codes "o") ∷ Absent ∷ []) ∷ []) ∷ Absent ∷ []) ∷
-          tree word.Body (
-            listed [] ∷
-            listed (
-              tree word.Return (
-                tree word.Tagged (
-                  tree word.Member (no ∷ id (codes "o") ∷ text (codes "t") ∷ []) ∷
-                  tree word.Template (
-                    listed (
-                      tree word.Quasi (text (codes "a") ∷ text (codes "a") ∷ []) ∷
-                      tree word.Quasi (text (codes "b") ∷ text (codes "b") ∷ []) ∷
-                      []) ∷
-                    listed (tree word.Str (text (codes "4") ∷ []) ∷ []) ∷
-                    []) ∷
-                  []) ∷
-                []) ∷
-              []) ∷
-            []) ∷
-          []) ∷
-        []) ∷
-      [])
+    tree word.Expr (
+    tree word.Arrow (
+    yes ∷ no ∷
+    tree word.Params (listed (tree word.Param (name (codes "o") ∷ Absent ∷ []) ∷ []) ∷ Absent ∷ []) ∷
+    tree word.Body (
+    listed [] ∷
+    listed (
+    tree word.Return (
+    tree word.Tagged (
+    tree word.Member (no ∷ id (codes "o") ∷ text (codes "t") ∷ []) ∷
+    tree word.Template (
+    listed (
+    tree word.Quasi (text (codes "a") ∷ text (codes "a") ∷ []) ∷
+    tree word.Quasi (text (codes "b") ∷ text (codes "b") ∷ []) ∷
+    []) ∷
+    listed (tree word.Str (text (codes "4") ∷ []) ∷ []) ∷
+    []) ∷
+    []) ∷
+    []) ∷
+    []) ∷
+    []) ∷
+    []) ∷
+    []) ∷
+    [])
 
 tagged_runs : source_trace_of tagged_unit None [] (given 1 ∷ []) (yields 2 ∷ yields 3 ∷ [])
     ≡ traced (
-      event (codes "propertyload") [] (given 1 ∷ value.Text (codes "t") ∷ []) ∷
-      event (codes "tagged") (codes "place" ∷ codes "a" ∷ codes ".a" ∷ codes "b" ∷ codes ".b" ∷ codes "place" ∷ [])
-          (given 1 ∷ given 2 ∷ value.Text (codes "4") ∷ []) ∷
-      []) (ending.Returned returns.Explicit (given 3) [])
+    event (codes "propertyload") [] (given 1 ∷ value.Text (codes "t") ∷ []) ∷
+    event (codes "tagged") (codes "place" ∷ codes "a" ∷ codes ".a" ∷ codes "b" ∷ codes ".b" ∷ codes "place" ∷ [])
+    (given 1 ∷ given 2 ∷ value.Text (codes "4") ∷ []) ∷
+    []) (ending.Returned returns.Explicit (given 3) [])
 tagged_runs = refl
 
 tagged_ported : ported_trace_of tagged_unit (picked []) None [] (given 1 ∷ [])
     (yields 2 ∷ yields 3 ∷ [])
     ≡ traced (
-      event (codes "propertyload") [] (given 1 ∷ value.Text (codes "t") ∷ []) ∷
-      event (codes "tagged") (codes "place" ∷ codes "a" ∷ codes ".a" ∷ codes "b" ∷ codes ".b" ∷ codes "place" ∷ [])
-          (given 2 ∷ value.Text (codes "4") ∷ []) ∷
-      []) (ending.Returned returns.Explicit (given 3) [])
+    event (codes "propertyload") [] (given 1 ∷ value.Text (codes "t") ∷ []) ∷
+    event (codes "tagged") (codes "place" ∷ codes "a" ∷ codes ".a" ∷ codes "b" ∷ codes ".b" ∷ codes "place" ∷ [])
+    (given 2 ∷ value.Text (codes "4") ∷ []) ∷
+    []) (ending.Returned returns.Explicit (given 3) [])
 tagged_ported = refl
 
 tagged_orderly : is_orderly tagged_unit None ≡ false
@@ -326,49 +326,49 @@ tagged_supported = refl
 abbrev object_unit : Syntax
 object_unit =
     unit (
-      tree word.Expr (
-        tree word.Arrow (
-          yes ∷ no ∷
-          tree word.Params (listed (tree word.Param (name (codes "o") ∷ Absent ∷ []) ∷ []) ∷ Absent ∷ []) ∷
-          tree word.Body (
-            listed [] ∷
-            listed (
-              tree word.Return (
-                tree word.Object (
-                  listed (
-                    tree word.Prop (no ∷ tree word.Name (text (codes "a") ∷ []) ∷ tree word.Str (text (codes "1") ∷ []) ∷ []) ∷
-                    tree word.Spread (id (codes "o") ∷ []) ∷
-                    tree word.Prop (
-                      yes ∷ id (codes "k") ∷
-                      tree word.Array (listed (tree word.Hole [] ∷ id (codes "o") ∷ []) ∷ []) ∷
-                      []) ∷
-                    tree word.Method (
-                      no ∷
-                      tree word.Str (text (codes "m") ∷ []) ∷
-                      tree word.Funexpr (
-                        no ∷ no ∷ no ∷ Absent ∷
-                        tree word.Params (listed [] ∷ Absent ∷ []) ∷
-                        tree word.Body (listed [] ∷ listed [] ∷ []) ∷
-                        []) ∷
-                      []) ∷
-                    []) ∷
-                  []) ∷
-                []) ∷
-              []) ∷
-            []) ∷
-          []) ∷
-        []) ∷
-      [])
+    tree word.Expr (
+    tree word.Arrow (
+    yes ∷ no ∷
+    tree word.Params (listed (tree word.Param (name (codes "o") ∷ Absent ∷ []) ∷ []) ∷ Absent ∷ []) ∷
+    tree word.Body (
+    listed [] ∷
+    listed (
+    tree word.Return (
+    tree word.Object (
+    listed (
+    tree word.Prop (no ∷ tree word.Name (text (codes "a") ∷ []) ∷ tree word.Str (text (codes "1") ∷ []) ∷ []) ∷
+    tree word.Spread (id (codes "o") ∷ []) ∷
+    tree word.Prop (
+    yes ∷ id (codes "k") ∷
+    tree word.Array (listed (tree word.Hole [] ∷ id (codes "o") ∷ []) ∷ []) ∷
+    []) ∷
+    tree word.Method (
+    no ∷
+    tree word.Str (text (codes "m") ∷ []) ∷
+    tree word.Funexpr (
+    no ∷ no ∷ no ∷ Absent ∷
+    tree word.Params (listed [] ∷ Absent ∷ []) ∷
+    tree word.Body (listed [] ∷ listed [] ∷ []) ∷
+    []) ∷
+    []) ∷
+    []) ∷
+    []) ∷
+    []) ∷
+    []) ∷
+    []) ∷
+    []) ∷
+    []) ∷
+    [])
 
 object_runs : source_trace_of object_unit None [] (given 1 ∷ [])
     (yields 2 ∷ yields 3 ∷ yields 4 ∷ yields 5 ∷ yields 6 ∷ [])
     ≡ traced (
-      event (codes "global") (codes "k" ∷ []) [] ∷ event (codes "array") (codes "hole" ∷ codes "place" ∷ []) (given 1 ∷ []) ∷
-      event (codes "objectmethod") (decimal 22 ∷ []) [] ∷
-      event (codes "object")
-          (codes ".a" ∷ codes "place" ∷ codes "spread" ∷ codes "place" ∷ codes "place" ∷ codes ".m" ∷ codes "place" ∷ [])
-              (value.Text (codes "1") ∷ given 1 ∷ given 2 ∷ given 3 ∷ given 4 ∷ []) ∷
-      []) (ending.Returned returns.Explicit (given 5) [])
+    event (codes "global") (codes "k" ∷ []) [] ∷ event (codes "array") (codes "hole" ∷ codes "place" ∷ []) (given 1 ∷ []) ∷
+    event (codes "objectmethod") (decimal 22 ∷ []) [] ∷
+    event (codes "object")
+    (codes ".a" ∷ codes "place" ∷ codes "spread" ∷ codes "place" ∷ codes "place" ∷ codes ".m" ∷ codes "place" ∷ [])
+    (value.Text (codes "1") ∷ given 1 ∷ given 2 ∷ given 3 ∷ given 4 ∷ []) ∷
+    []) (ending.Returned returns.Explicit (given 5) [])
 object_runs = refl
 
 object_ported : ported_trace_of object_unit (picked []) None [] (given 1 ∷ [])
@@ -388,57 +388,57 @@ object_supported = refl
 abbrev targets_unit : Syntax
 targets_unit =
     unit (
-      tree word.Expr (
-        tree word.Arrow (
-          yes ∷ no ∷
-          tree word.Params (listed (tree word.Param (name (codes "o") ∷ Absent ∷ []) ∷ []) ∷ Absent ∷ []) ∷
-          tree word.Body (
-            listed [] ∷
-            listed (
-              tree word.Expr (
-                tree word.Assign (
-                  text (codes "=") ∷
-                  tree word.Arraytarget (
-                    listed (
-                      id (codes "o") ∷
-                      tree word.Hole [] ∷
-                      tree word.Default (tree word.Member (no ∷ id (codes "o") ∷ text (codes "p") ∷ []) ∷ id (codes "d") ∷ []) ∷
-                      []) ∷
-                    tree word.Rest (id (codes "g") ∷ []) ∷
-                    []) ∷
-                  id (codes "o") ∷
-                  []) ∷
-                []) ∷
-              tree word.Return (id (codes "o") ∷ []) ∷
-              []) ∷
-            []) ∷
-          []) ∷
-        []) ∷
-      [])
+    tree word.Expr (
+    tree word.Arrow (
+    yes ∷ no ∷
+    tree word.Params (listed (tree word.Param (name (codes "o") ∷ Absent ∷ []) ∷ []) ∷ Absent ∷ []) ∷
+    tree word.Body (
+    listed [] ∷
+    listed (
+    tree word.Expr (
+    tree word.Assign (
+    text (codes "=") ∷
+    tree word.Arraytarget (
+    listed (
+    id (codes "o") ∷
+    tree word.Hole [] ∷
+    tree word.Default (tree word.Member (no ∷ id (codes "o") ∷ text (codes "p") ∷ []) ∷ id (codes "d") ∷ []) ∷
+    []) ∷
+    tree word.Rest (id (codes "g") ∷ []) ∷
+    []) ∷
+    id (codes "o") ∷
+    []) ∷
+    []) ∷
+    tree word.Return (id (codes "o") ∷ []) ∷
+    []) ∷
+    []) ∷
+    []) ∷
+    []) ∷
+    [])
 
 targets_runs : source_trace_of targets_unit None [] (given 1 ∷ [])
     (
-      full kinds.Yes value.Undefined (given 2 ∷ value.Undefined ∷ []) [] ∷ yields 3 ∷ yields 4 ∷ yields 5 ∷ yields 6 ∷ yields 7 ∷
-      yields 8 ∷
-      [])
+    full kinds.Yes value.Undefined (given 2 ∷ value.Undefined ∷ []) [] ∷ yields 3 ∷ yields 4 ∷ yields 5 ∷ yields 6 ∷ yields 7 ∷
+    yields 8 ∷
+    [])
     ≡ traced (
-      event (codes "destructure") (codes "array" ∷ codes "place" ∷ codes "hole" ∷ codes "place" ∷ codes "spread" ∷ []) (given 1 ∷ []) ∷
-      event (codes "binary") (codes "===" ∷ []) (value.Undefined ∷ value.Undefined ∷ []) ∷ event (codes "truthy") [] (given 3 ∷ []) ∷
-      event (codes "global") (codes "d" ∷ []) [] ∷ event (codes "propertystore") [] (given 2 ∷ value.Text (codes "p") ∷ given 5 ∷ []) ∷
-      event (codes "storeglobal") (codes "g" ∷ []) (value.Undefined ∷ []) ∷
-      []) (ending.Returned returns.Explicit (given 2) [])
+    event (codes "destructure") (codes "array" ∷ codes "place" ∷ codes "hole" ∷ codes "place" ∷ codes "spread" ∷ []) (given 1 ∷ []) ∷
+    event (codes "binary") (codes "===" ∷ []) (value.Undefined ∷ value.Undefined ∷ []) ∷ event (codes "truthy") [] (given 3 ∷ []) ∷
+    event (codes "global") (codes "d" ∷ []) [] ∷ event (codes "propertystore") [] (given 2 ∷ value.Text (codes "p") ∷ given 5 ∷ []) ∷
+    event (codes "storeglobal") (codes "g" ∷ []) (value.Undefined ∷ []) ∷
+    []) (ending.Returned returns.Explicit (given 2) [])
 targets_runs = refl
 
 targets_ported : ported_trace_of targets_unit (picked []) None [] (given 1 ∷ [])
     (
-      full kinds.Yes value.Undefined (given 2 ∷ value.Undefined ∷ []) [] ∷ yields 3 ∷ yields 4 ∷ yields 5 ∷ yields 6 ∷ yields 7 ∷
-      yields 8 ∷
-      [])
+    full kinds.Yes value.Undefined (given 2 ∷ value.Undefined ∷ []) [] ∷ yields 3 ∷ yields 4 ∷ yields 5 ∷ yields 6 ∷ yields 7 ∷
+    yields 8 ∷
+    [])
     ≡ source_trace_of targets_unit None [] (given 1 ∷ [])
     (
-      full kinds.Yes value.Undefined (given 2 ∷ value.Undefined ∷ []) [] ∷ yields 3 ∷ yields 4 ∷ yields 5 ∷ yields 6 ∷ yields 7 ∷
-      yields 8 ∷
-      [])
+    full kinds.Yes value.Undefined (given 2 ∷ value.Undefined ∷ []) [] ∷ yields 3 ∷ yields 4 ∷ yields 5 ∷ yields 6 ∷ yields 7 ∷
+    yields 8 ∷
+    [])
 targets_ported = refl
 
 targets_orderly : is_orderly targets_unit None ≡ true
@@ -452,57 +452,57 @@ targets_supported = refl
 abbrev parameters_unit : Syntax
 parameters_unit =
     unit (
-      tree word.Expr (
-        tree word.Arrow (
-          yes ∷ no ∷
-          tree word.Params (
-            listed (
-              tree word.Param (
-                tree word.Arraypat (
-                  listed (name (codes "a") ∷ tree word.Defaultpat (name (codes "b") ∷ id (codes "c") ∷ []) ∷ []) ∷ Absent ∷
-                  []) ∷
-                Absent ∷
-                []) ∷
-              tree word.Param (name (codes "c") ∷ tree word.Str (text (codes "5") ∷ []) ∷ []) ∷
-              []) ∷
-            tree word.Rest (name (codes "r") ∷ []) ∷
-            []) ∷
-          tree word.Body (
-            listed [] ∷
-            listed (
-              tree word.Return (
-                tree word.Array (listed (id (codes "a") ∷ id (codes "b") ∷ id (codes "c") ∷ id (codes "r") ∷ []) ∷ []) ∷
-                []) ∷
-              []) ∷
-            []) ∷
-          []) ∷
-        []) ∷
-      [])
+    tree word.Expr (
+    tree word.Arrow (
+    yes ∷ no ∷
+    tree word.Params (
+    listed (
+    tree word.Param (
+    tree word.Arraypat (
+    listed (name (codes "a") ∷ tree word.Defaultpat (name (codes "b") ∷ id (codes "c") ∷ []) ∷ []) ∷ Absent ∷
+    []) ∷
+    Absent ∷
+    []) ∷
+    tree word.Param (name (codes "c") ∷ tree word.Str (text (codes "5") ∷ []) ∷ []) ∷
+    []) ∷
+    tree word.Rest (name (codes "r") ∷ []) ∷
+    []) ∷
+    tree word.Body (
+    listed [] ∷
+    listed (
+    tree word.Return (
+    tree word.Array (listed (id (codes "a") ∷ id (codes "b") ∷ id (codes "c") ∷ id (codes "r") ∷ []) ∷ []) ∷
+    []) ∷
+    []) ∷
+    []) ∷
+    []) ∷
+    []) ∷
+    [])
 
 parameters_runs : source_trace_of parameters_unit None [] (given 1 ∷ value.Undefined ∷ given 9 ∷ [])
     (
-      full kinds.Yes value.Undefined (given 2 ∷ []) [] ∷ yields 3 ∷ yields 4 ∷ yields 5 ∷ full kinds.No value.Undefined [] [] ∷
-      yields 6 ∷
-      [])
+    full kinds.Yes value.Undefined (given 2 ∷ []) [] ∷ yields 3 ∷ yields 4 ∷ yields 5 ∷ full kinds.No value.Undefined [] [] ∷
+    yields 6 ∷
+    [])
     ≡ traced (
-      event (codes "destructure") (codes "array" ∷ codes "place" ∷ codes "place" ∷ []) (given 1 ∷ []) ∷
-      event (codes "binary") (codes "===" ∷ []) (value.Undefined ∷ value.Undefined ∷ []) ∷ event (codes "truthy") [] (given 3 ∷ []) ∷
-      event (codes "binary") (codes "===" ∷ []) (value.Undefined ∷ value.Undefined ∷ []) ∷ event (codes "truthy") [] (given 5 ∷ []) ∷
-      event (codes "array") (codes "place" ∷ codes "place" ∷ codes "place" ∷ codes "place" ∷ [])
-          (given 2 ∷ value.Undefined ∷ value.Undefined ∷ given 9 ∷ []) ∷
-      []) (ending.Returned returns.Explicit (given 6) [])
+    event (codes "destructure") (codes "array" ∷ codes "place" ∷ codes "place" ∷ []) (given 1 ∷ []) ∷
+    event (codes "binary") (codes "===" ∷ []) (value.Undefined ∷ value.Undefined ∷ []) ∷ event (codes "truthy") [] (given 3 ∷ []) ∷
+    event (codes "binary") (codes "===" ∷ []) (value.Undefined ∷ value.Undefined ∷ []) ∷ event (codes "truthy") [] (given 5 ∷ []) ∷
+    event (codes "array") (codes "place" ∷ codes "place" ∷ codes "place" ∷ codes "place" ∷ [])
+    (given 2 ∷ value.Undefined ∷ value.Undefined ∷ given 9 ∷ []) ∷
+    []) (ending.Returned returns.Explicit (given 6) [])
 parameters_runs = refl
 
 parameters_ported : ported_trace_of parameters_unit (picked []) None [] (given 1 ∷ value.Undefined ∷ given 9 ∷ [])
     (
-      full kinds.Yes value.Undefined (given 2 ∷ []) [] ∷ yields 3 ∷ yields 4 ∷ yields 5 ∷ full kinds.No value.Undefined [] [] ∷
-      yields 6 ∷
-      [])
+    full kinds.Yes value.Undefined (given 2 ∷ []) [] ∷ yields 3 ∷ yields 4 ∷ yields 5 ∷ full kinds.No value.Undefined [] [] ∷
+    yields 6 ∷
+    [])
     ≡ source_trace_of parameters_unit None [] (given 1 ∷ value.Undefined ∷ given 9 ∷ [])
     (
-      full kinds.Yes value.Undefined (given 2 ∷ []) [] ∷ yields 3 ∷ yields 4 ∷ yields 5 ∷ full kinds.No value.Undefined [] [] ∷
-      yields 6 ∷
-      [])
+    full kinds.Yes value.Undefined (given 2 ∷ []) [] ∷ yields 3 ∷ yields 4 ∷ yields 5 ∷ full kinds.No value.Undefined [] [] ∷
+    yields 6 ∷
+    [])
 parameters_ported = refl
 
 parameters_orderly : is_orderly parameters_unit None ≡ false
@@ -517,50 +517,50 @@ parameters_supported = refl
 abbrev labels_unit : Syntax
 labels_unit =
     unit (
-      tree word.Expr (
-        tree word.Arrow (
-          yes ∷ no ∷
-          tree word.Params (listed (tree word.Param (name (codes "x") ∷ Absent ∷ []) ∷ []) ∷ Absent ∷ []) ∷
-          tree word.Body (
-            listed [] ∷
-            listed (
-              tree word.Labeled (
-                text (codes "a") ∷
-                tree word.Block (
-                  listed (
-                    tree word.Labeled (
-                      text (codes "b") ∷
-                      tree word.While (
-                        id (codes "x") ∷
-                        tree word.Block (
-                          listed (
-                            tree word.If (
-                              id (codes "x") ∷
-                              tree word.Break (text (codes "a") ∷ []) ∷
-                              tree word.Continue (text (codes "b") ∷ []) ∷
-                              []) ∷
-                            []) ∷
-                          []) ∷
-                        []) ∷
-                      []) ∷
-                    tree word.Expr (id (codes "never") ∷ []) ∷
-                    []) ∷
-                  []) ∷
-                []) ∷
-              tree word.Dowhile (tree word.Block (listed (tree word.Break (Absent ∷ []) ∷ []) ∷ []) ∷ id (codes "x") ∷ []) ∷
-              tree word.Return (Absent ∷ []) ∷
-              []) ∷
-            []) ∷
-          []) ∷
-        []) ∷
-      [])
+    tree word.Expr (
+    tree word.Arrow (
+    yes ∷ no ∷
+    tree word.Params (listed (tree word.Param (name (codes "x") ∷ Absent ∷ []) ∷ []) ∷ Absent ∷ []) ∷
+    tree word.Body (
+    listed [] ∷
+    listed (
+    tree word.Labeled (
+    text (codes "a") ∷
+    tree word.Block (
+    listed (
+    tree word.Labeled (
+    text (codes "b") ∷
+    tree word.While (
+    id (codes "x") ∷
+    tree word.Block (
+    listed (
+    tree word.If (
+    id (codes "x") ∷
+    tree word.Break (text (codes "a") ∷ []) ∷
+    tree word.Continue (text (codes "b") ∷ []) ∷
+    []) ∷
+    []) ∷
+    []) ∷
+    []) ∷
+    []) ∷
+    tree word.Expr (id (codes "never") ∷ []) ∷
+    []) ∷
+    []) ∷
+    []) ∷
+    tree word.Dowhile (tree word.Block (listed (tree word.Break (Absent ∷ []) ∷ []) ∷ []) ∷ id (codes "x") ∷ []) ∷
+    tree word.Return (Absent ∷ []) ∷
+    []) ∷
+    []) ∷
+    []) ∷
+    []) ∷
+    [])
 
 labels_runs : source_trace_of labels_unit None [] (given 1 ∷ [])
     (yields 1 ∷ full kinds.No value.Undefined [] [] ∷ yields 2 ∷ yields 3 ∷ [])
     ≡ traced (
-      event (codes "truthy") [] (given 1 ∷ []) ∷ event (codes "truthy") [] (given 1 ∷ []) ∷ event (codes "truthy") [] (given 1 ∷ []) ∷
-      event (codes "truthy") [] (given 1 ∷ []) ∷
-      []) (ending.Returned returns.Explicit value.Undefined [])
+    event (codes "truthy") [] (given 1 ∷ []) ∷ event (codes "truthy") [] (given 1 ∷ []) ∷ event (codes "truthy") [] (given 1 ∷ []) ∷
+    event (codes "truthy") [] (given 1 ∷ []) ∷
+    []) (ending.Returned returns.Explicit value.Undefined [])
 labels_runs = refl
 
 labels_ported : ported_trace_of labels_unit (picked []) None [] (given 1 ∷ [])
@@ -580,38 +580,38 @@ labels_supported = refl
 abbrev logicals_unit : Syntax
 logicals_unit =
     unit (
-      tree word.Expr (
-        tree word.Arrow (
-          yes ∷ no ∷
-          tree word.Params (listed (tree word.Param (name (codes "x") ∷ Absent ∷ []) ∷ []) ∷ Absent ∷ []) ∷
-          tree word.Body (
-            listed [] ∷
-            listed (
-              tree word.Return (
-                tree word.Cond (
-                  tree word.Logical (
-                    text (codes "??") ∷ id (codes "x") ∷
-                    tree word.Unary (text (codes "!") ∷ id (codes "x") ∷ []) ∷
-                    []) ∷
-                  tree word.Seq (listed (id (codes "x") ∷ tree word.Str (text (codes "1") ∷ []) ∷ []) ∷ []) ∷
-                  tree word.Unary (
-                    text (codes "delete") ∷
-                    tree word.Paren (tree word.Member (no ∷ id (codes "x") ∷ text (codes "k") ∷ []) ∷ []) ∷
-                    []) ∷
-                  []) ∷
-                []) ∷
-              []) ∷
-            []) ∷
-          []) ∷
-        []) ∷
-      [])
+    tree word.Expr (
+    tree word.Arrow (
+    yes ∷ no ∷
+    tree word.Params (listed (tree word.Param (name (codes "x") ∷ Absent ∷ []) ∷ []) ∷ Absent ∷ []) ∷
+    tree word.Body (
+    listed [] ∷
+    listed (
+    tree word.Return (
+    tree word.Cond (
+    tree word.Logical (
+    text (codes "??") ∷ id (codes "x") ∷
+    tree word.Unary (text (codes "!") ∷ id (codes "x") ∷ []) ∷
+    []) ∷
+    tree word.Seq (listed (id (codes "x") ∷ tree word.Str (text (codes "1") ∷ []) ∷ []) ∷ []) ∷
+    tree word.Unary (
+    text (codes "delete") ∷
+    tree word.Paren (tree word.Member (no ∷ id (codes "x") ∷ text (codes "k") ∷ []) ∷ []) ∷
+    []) ∷
+    []) ∷
+    []) ∷
+    []) ∷
+    []) ∷
+    []) ∷
+    []) ∷
+    [])
 
 logicals_runs : source_trace_of logicals_unit None [] (given 1 ∷ [])
     (full kinds.No value.Undefined [] [] ∷ full kinds.No value.Undefined [] [] ∷ yields 2 ∷ [])
     ≡ traced (
-      event (codes "nullish") [] (given 1 ∷ []) ∷ event (codes "truthy") [] (given 1 ∷ []) ∷
-      event (codes "propertydelete") [] (given 1 ∷ value.Text (codes "k") ∷ []) ∷
-      []) (ending.Returned returns.Explicit (given 2) [])
+    event (codes "nullish") [] (given 1 ∷ []) ∷ event (codes "truthy") [] (given 1 ∷ []) ∷
+    event (codes "propertydelete") [] (given 1 ∷ value.Text (codes "k") ∷ []) ∷
+    []) (ending.Returned returns.Explicit (given 2) [])
 logicals_runs = refl
 
 logicals_ported : ported_trace_of logicals_unit (picked []) None [] (given 1 ∷ [])
@@ -632,45 +632,45 @@ logicals_supported = refl
 abbrev jsx_unit : Syntax
 jsx_unit =
     unit (
-      tree word.Expr (
-        tree word.Arrow (
-          yes ∷ no ∷
-          tree word.Params (listed (tree word.Param (name (codes "x") ∷ Absent ∷ []) ∷ []) ∷ Absent ∷ []) ∷
-          tree word.Body (
-            listed [] ∷
-            listed (
-              tree word.Return (
-                tree word.Element (
-                  tree word.Opening (
-                    id (codes "Foo") ∷
-                    listed (
-                      tree word.Attr (tree word.Attrname (text (codes "a") ∷ []) ∷ Absent ∷ []) ∷
-                      tree word.Attr (tree word.Attrname (text (codes "b") ∷ []) ∷ tree word.Container (id (codes "x") ∷ []) ∷ []) ∷
-                      tree word.Attrspread (id (codes "x") ∷ []) ∷
-                      []) ∷
-                    []) ∷
-                  listed (
-                    tree word.Text (text (codes " t ") ∷ []) ∷
-                    tree word.Container (id (codes "x") ∷ []) ∷
-                    tree word.Container (Absent ∷ []) ∷
-                    tree word.Fragment (listed [] ∷ []) ∷
-                    []) ∷
-                  tree word.Closing [] ∷
-                  []) ∷
-                []) ∷
-              []) ∷
-            []) ∷
-          []) ∷
-        []) ∷
-      [])
+    tree word.Expr (
+    tree word.Arrow (
+    yes ∷ no ∷
+    tree word.Params (listed (tree word.Param (name (codes "x") ∷ Absent ∷ []) ∷ []) ∷ Absent ∷ []) ∷
+    tree word.Body (
+    listed [] ∷
+    listed (
+    tree word.Return (
+    tree word.Element (
+    tree word.Opening (
+    id (codes "Foo") ∷
+    listed (
+    tree word.Attr (tree word.Attrname (text (codes "a") ∷ []) ∷ Absent ∷ []) ∷
+    tree word.Attr (tree word.Attrname (text (codes "b") ∷ []) ∷ tree word.Container (id (codes "x") ∷ []) ∷ []) ∷
+    tree word.Attrspread (id (codes "x") ∷ []) ∷
+    []) ∷
+    []) ∷
+    listed (
+    tree word.Text (text (codes " t ") ∷ []) ∷
+    tree word.Container (id (codes "x") ∷ []) ∷
+    tree word.Container (Absent ∷ []) ∷
+    tree word.Fragment (listed [] ∷ []) ∷
+    []) ∷
+    tree word.Closing [] ∷
+    []) ∷
+    []) ∷
+    []) ∷
+    []) ∷
+    []) ∷
+    []) ∷
+    [])
 
 jsx_runs : source_trace_of jsx_unit None [] (given 1 ∷ []) (yields 2 ∷ yields 3 ∷ yields 4 ∷ [])
     ≡ traced (
-      event (codes "global") (codes "Foo" ∷ []) [] ∷ event (codes "jsxfragment") [] [] ∷
-      event (codes "jsx") (codes "place" ∷ codes ".a" ∷ codes "place" ∷ codes ".b" ∷ codes "place" ∷ codes "spread" ∷ codes "place" ∷
-          codes "place" ∷ codes "place" ∷ [])
-              (given 2 ∷ value.Bool true ∷ given 1 ∷ given 1 ∷ value.Text (codes " t ") ∷ given 1 ∷ given 3 ∷ []) ∷
-      []) (ending.Returned returns.Explicit (given 4) [])
+    event (codes "global") (codes "Foo" ∷ []) [] ∷ event (codes "jsxfragment") [] [] ∷
+    event (codes "jsx") (codes "place" ∷ codes ".a" ∷ codes "place" ∷ codes ".b" ∷ codes "place" ∷ codes "spread" ∷ codes "place" ∷
+    codes "place" ∷ codes "place" ∷ [])
+    (given 2 ∷ value.Bool true ∷ given 1 ∷ given 1 ∷ value.Text (codes " t ") ∷ given 1 ∷ given 3 ∷ []) ∷
+    []) (ending.Returned returns.Explicit (given 4) [])
 unfolding jsx.trim_jsx_text jsx.split_line_endings jsx.decode_jsx_entities
 jsx_runs = refl
 
@@ -692,35 +692,35 @@ jsx_supported = refl
 abbrev throw_into_pattern_unit : Syntax
 throw_into_pattern_unit =
     unit (
-      tree word.Expr (
-        tree word.Arrow (
-          yes ∷ no ∷
-          tree word.Params (listed (tree word.Param (name (codes "x") ∷ Absent ∷ []) ∷ []) ∷ Absent ∷ []) ∷
-          tree word.Body (
-            listed [] ∷
-            listed (
-              tree word.Try (
-                tree word.Block (listed (tree word.Throw (id (codes "x") ∷ []) ∷ []) ∷ []) ∷
-                tree word.Catch (
-                  tree word.Objectpat (
-                    listed (tree word.Keyedpat (no ∷ tree word.Name (text (codes "m") ∷ []) ∷ name (codes "m") ∷ []) ∷ []) ∷ Absent ∷
-                    []) ∷
-                  tree word.Block (listed (tree word.Expr (id (codes "m") ∷ []) ∷ []) ∷ []) ∷
-                  []) ∷
-                Absent ∷
-                []) ∷
-              tree word.Throw (id (codes "x") ∷ []) ∷
-              []) ∷
-            []) ∷
-          []) ∷
-        []) ∷
-      [])
+    tree word.Expr (
+    tree word.Arrow (
+    yes ∷ no ∷
+    tree word.Params (listed (tree word.Param (name (codes "x") ∷ Absent ∷ []) ∷ []) ∷ Absent ∷ []) ∷
+    tree word.Body (
+    listed [] ∷
+    listed (
+    tree word.Try (
+    tree word.Block (listed (tree word.Throw (id (codes "x") ∷ []) ∷ []) ∷ []) ∷
+    tree word.Catch (
+    tree word.Objectpat (
+    listed (tree word.Keyedpat (no ∷ tree word.Name (text (codes "m") ∷ []) ∷ name (codes "m") ∷ []) ∷ []) ∷ Absent ∷
+    []) ∷
+    tree word.Block (listed (tree word.Expr (id (codes "m") ∷ []) ∷ []) ∷ []) ∷
+    []) ∷
+    Absent ∷
+    []) ∷
+    tree word.Throw (id (codes "x") ∷ []) ∷
+    []) ∷
+    []) ∷
+    []) ∷
+    []) ∷
+    [])
 
 throw_into_pattern_runs : source_trace_of throw_into_pattern_unit None [] (given 1 ∷ [])
     (full kinds.Yes value.Undefined (given 2 ∷ []) [] ∷ [])
     ≡ traced (
-      event (codes "destructure") (codes "object" ∷ codes ".m" ∷ codes "place" ∷ []) (given 1 ∷ []) ∷
-      []) (ending.Threw (given 1))
+    event (codes "destructure") (codes "object" ∷ codes ".m" ∷ codes "place" ∷ []) (given 1 ∷ []) ∷
+    []) (ending.Threw (given 1))
 throw_into_pattern_runs = refl
 
 throw_into_pattern_ported : ported_trace_of throw_into_pattern_unit (picked []) None [] (given 1 ∷ [])

@@ -20,54 +20,54 @@ f4 = refl
 -- (expr (assign "=" (privatemember n (id "a") "b") (id "c")))
 f5 : is_supported
     (of_body [] (tree word.Expr
-        (tree word.Assign (text (codes "=") ∷ tree word.Privatemember (no ∷ id (codes "a") ∷ text (codes "b") ∷ []) ∷ id (codes "c") ∷ [])
-            ∷ []) ∷ []))
+    (tree word.Assign (text (codes "=") ∷ tree word.Privatemember (no ∷ id (codes "a") ∷ text (codes "b") ∷ []) ∷ id (codes "c") ∷ [])
+    ∷ []) ∷ []))
     ≡ false
 f5 = refl
 
 -- (var "const" [(declarator (bind "n" -) (str "1"))]) (expr (assign "=" (id "n") (id "n")))
 f6 : is_supported
     (of_body [] (tree word.Var
-        (text (codes "const") ∷ listed (tree word.Declarator (name (codes "n") ∷ tree word.Str (text (codes "1") ∷ []) ∷ []) ∷ []) ∷ []) ∷
-            tree word.Expr (tree word.Assign (text (codes "=") ∷ id (codes "n") ∷ id (codes "n") ∷ []) ∷ []) ∷ []))
+    (text (codes "const") ∷ listed (tree word.Declarator (name (codes "n") ∷ tree word.Str (text (codes "1") ∷ []) ∷ []) ∷ []) ∷ []) ∷
+    tree word.Expr (tree word.Assign (text (codes "=") ∷ id (codes "n") ∷ id (codes "n") ∷ []) ∷ []) ∷ []))
     ≡ false
 f6 = refl
 
 -- (param (bind "v" -) -) : (var "const" [(declarator (objectpat [(keyedpat y (id "k") (bind "a" -))] -) (id "v"))])
 f8 : is_supported
     (of_body (tree word.Param (name (codes "v") ∷ Absent ∷ []) ∷ [])
-        (tree word.Var (text (codes "const") ∷ listed
-            (tree word.Declarator
-                (tree word.Objectpat (listed (tree word.Keyedpat (yes ∷ id (codes "k") ∷ name (codes "a") ∷ []) ∷ []) ∷ Absent ∷ []) ∷ id
-                    (codes "v") ∷ []) ∷ []) ∷ []) ∷ []))
+    (tree word.Var (text (codes "const") ∷ listed
+    (tree word.Declarator
+    (tree word.Objectpat (listed (tree word.Keyedpat (yes ∷ id (codes "k") ∷ name (codes "a") ∷ []) ∷ []) ∷ Absent ∷ []) ∷ id
+    (codes "v") ∷ []) ∷ []) ∷ []) ∷ []))
     ≡ false
 f8 = refl
 
 -- (expr (object [(prop n (private "a") (id "b"))]))
 f9 : is_supported
     (of_body [] (tree word.Expr
-        (tree word.Object (listed (tree word.Prop (no ∷ tree word.Private (text (codes "a") ∷ []) ∷ id (codes "b") ∷ []) ∷ []) ∷ []) ∷ [])
-            ∷ []))
+    (tree word.Object (listed (tree word.Prop (no ∷ tree word.Private (text (codes "a") ∷ []) ∷ id (codes "b") ∷ []) ∷ []) ∷ []) ∷ [])
+    ∷ []))
     ≡ false
 f9 = refl
 
 -- (param (bind "v" -) -) : (var "let" [(declarator (objectpat [] (rest (arraypat [] -))) (id "v"))])
 f10 : is_supported
     (of_body (tree word.Param (name (codes "v") ∷ Absent ∷ []) ∷ [])
-        (tree word.Var (text (codes "let") ∷ listed
-            (tree word.Declarator
-                (tree word.Objectpat (listed [] ∷ tree word.Rest (tree word.Arraypat (listed [] ∷ Absent ∷ []) ∷ []) ∷ []) ∷ id
-                    (codes "v") ∷ []) ∷ []) ∷ []) ∷ []))
+    (tree word.Var (text (codes "let") ∷ listed
+    (tree word.Declarator
+    (tree word.Objectpat (listed [] ∷ tree word.Rest (tree word.Arraypat (listed [] ∷ Absent ∷ []) ∷ []) ∷ []) ∷ id
+    (codes "v") ∷ []) ∷ []) ∷ []) ∷ []))
     ≡ false
 f10 = refl
 
 -- (param (bind "v" -) -) : (expr (assign "=" (arraytarget [(privatemember n (id "v") "a")] -) (id "v")))
 f11 : is_supported
     (of_body (tree word.Param (name (codes "v") ∷ Absent ∷ []) ∷ [])
-        (tree word.Expr (tree word.Assign
-            (text (codes "=") ∷ tree word.Arraytarget
-                (listed (tree word.Privatemember (no ∷ id (codes "v") ∷ text (codes "a") ∷ []) ∷ []) ∷ Absent ∷ []) ∷ id (codes "v") ∷ [])
-                    ∷ []) ∷ []))
+    (tree word.Expr (tree word.Assign
+    (text (codes "=") ∷ tree word.Arraytarget
+    (listed (tree word.Privatemember (no ∷ id (codes "v") ∷ text (codes "a") ∷ []) ∷ []) ∷ Absent ∷ []) ∷ id (codes "v") ∷ [])
+    ∷ []) ∷ []))
     ≡ false
 f11 = refl
 
@@ -80,8 +80,8 @@ f12 = refl
 -- (expr (tagged (id "a") (template [(quasi "a" "b")] [])))
 f13 : is_supported
     (of_body [] (tree word.Expr
-        (tree word.Tagged (id (codes "a") ∷ tree word.Template
-            (listed (tree word.Quasi (text (codes "a") ∷ text (codes "b") ∷ []) ∷ []) ∷ listed [] ∷ []) ∷ []) ∷ []) ∷ []))
+    (tree word.Tagged (id (codes "a") ∷ tree word.Template
+    (listed (tree word.Quasi (text (codes "a") ∷ text (codes "b") ∷ []) ∷ []) ∷ listed [] ∷ []) ∷ []) ∷ []) ∷ []))
     ≡ false
 f13 = refl
 
@@ -104,78 +104,78 @@ f20 = refl
 -- (param (bind "v" -) -) : (expr (update "++" n (nonnull (id "v"))))
 f22 : is_supported
     (of_body (tree word.Param (name (codes "v") ∷ Absent ∷ []) ∷ [])
-        (tree word.Expr (tree word.Update (text (codes "++") ∷ no ∷ tree word.Nonnull (id (codes "v") ∷ []) ∷ []) ∷ []) ∷ []))
+    (tree word.Expr (tree word.Update (text (codes "++") ∷ no ∷ tree word.Nonnull (id (codes "v") ∷ []) ∷ []) ∷ []) ∷ []))
     ≡ false
 f22 = refl
 
 -- (param (bind "v" -) -) : (expr (assign "||=" (id "v") (id "g")))
 f23 : is_supported
     (of_body (tree word.Param (name (codes "v") ∷ Absent ∷ []) ∷ [])
-        (tree word.Expr (tree word.Assign (text (codes "||=") ∷ id (codes "v") ∷ id (codes "g") ∷ []) ∷ []) ∷ []))
+    (tree word.Expr (tree word.Assign (text (codes "||=") ∷ id (codes "v") ∷ id (codes "g") ∷ []) ∷ []) ∷ []))
     ≡ false
 f23 = refl
 
 -- (param (bind "v" -) -) : (expr (assign "+=" (arraytarget [] -) (id "v")))
 f24 : is_supported
     (of_body (tree word.Param (name (codes "v") ∷ Absent ∷ []) ∷ [])
-        (tree word.Expr (tree word.Assign (text (codes "+=") ∷ tree word.Arraytarget (listed [] ∷ Absent ∷ []) ∷ id (codes "v") ∷ []) ∷
-            []) ∷ []))
+    (tree word.Expr (tree word.Assign (text (codes "+=") ∷ tree word.Arraytarget (listed [] ∷ Absent ∷ []) ∷ id (codes "v") ∷ []) ∷
+    []) ∷ []))
     ≡ false
 f24 = refl
 
 -- (expr (element (opening (tag "a") [(attr (attrname "b:c") -)]) [] -))
 f25 : is_supported
     (of_body [] (tree word.Expr
-        (tree word.Element (tree word.Opening
-            (tree word.Tag (text (codes "a") ∷ []) ∷ listed
-                (tree word.Attr (tree word.Attrname (text (codes "b:c") ∷ []) ∷ Absent ∷ []) ∷ []) ∷ []) ∷ listed [] ∷ Absent ∷ []) ∷ [])
-                    ∷ []))
+    (tree word.Element (tree word.Opening
+    (tree word.Tag (text (codes "a") ∷ []) ∷ listed
+    (tree word.Attr (tree word.Attrname (text (codes "b:c") ∷ []) ∷ Absent ∷ []) ∷ []) ∷ []) ∷ listed [] ∷ Absent ∷ []) ∷ [])
+    ∷ []))
     ≡ false
 f25 = refl
 
 -- (expr (element (opening (tagns "a:b" "c") []) [] -))
 f27 : is_supported
     (of_body [] (tree word.Expr
-        (tree word.Element (tree word.Opening (tree word.Tagns (text (codes "a:b") ∷ text (codes "c") ∷ []) ∷ listed [] ∷ []) ∷ listed []
-            ∷ Absent ∷ []) ∷ []) ∷ []))
+    (tree word.Element (tree word.Opening (tree word.Tagns (text (codes "a:b") ∷ text (codes "c") ∷ []) ∷ listed [] ∷ []) ∷ listed []
+    ∷ Absent ∷ []) ∷ []) ∷ []))
     ≡ false
 f27 = refl
 
 -- (expr (object [(get n (name "a") (funexpr n n n - (params [] -) (body [] [])))]))
 f28 : is_supported
     (of_body [] (tree word.Expr
-        (tree word.Object (listed
-            (tree word.Get (no ∷ tree word.Name (text (codes "a") ∷ []) ∷ tree word.Funexpr
-                (no ∷ no ∷ no ∷ Absent ∷ tree word.Params (listed [] ∷ Absent ∷ []) ∷ tree word.Body (listed [] ∷ listed [] ∷ []) ∷ []) ∷
-                    []) ∷ []) ∷ []) ∷ []) ∷ []))
+    (tree word.Object (listed
+    (tree word.Get (no ∷ tree word.Name (text (codes "a") ∷ []) ∷ tree word.Funexpr
+    (no ∷ no ∷ no ∷ Absent ∷ tree word.Params (listed [] ∷ Absent ∷ []) ∷ tree word.Body (listed [] ∷ listed [] ∷ []) ∷ []) ∷
+    []) ∷ []) ∷ []) ∷ []) ∷ []))
     ≡ false
 f28 = refl
 
 -- (expr (arrow y n (params [(param (bind "a" -) (binary "+" (id "g") (id "h")))] -) (id "a")))
 f29 : is_supported
     (unit (tree word.Expr
-        (tree word.Arrow (yes ∷ no ∷ tree word.Params
-            (listed (tree word.Param (name (codes "a") ∷ tree word.Binary (text (codes "+") ∷ id (codes "g") ∷ id (codes "h") ∷ []) ∷ [])
-                ∷ []) ∷ Absent ∷ []) ∷ id (codes "a") ∷ []) ∷ []) ∷ []))
+    (tree word.Arrow (yes ∷ no ∷ tree word.Params
+    (listed (tree word.Param (name (codes "a") ∷ tree word.Binary (text (codes "+") ∷ id (codes "g") ∷ id (codes "h") ∷ []) ∷ [])
+    ∷ []) ∷ Absent ∷ []) ∷ id (codes "a") ∷ []) ∷ []) ∷ []))
     ≡ false
 f29 = refl
 
 -- (expr (arrow y n (params [(param (bind "a" -) (array [(id "g") (member n (id "h") "k")]))] -) (id "a")))
 f29_not : is_supported
     (unit (tree word.Expr
-        (tree word.Arrow (yes ∷ no ∷ tree word.Params
-            (listed (tree word.Param
-                (name (codes "a") ∷ tree word.Array
-                    (listed (id (codes "g") ∷ tree word.Member (no ∷ id (codes "h") ∷ text (codes "k") ∷ []) ∷ []) ∷ []) ∷ []) ∷ []) ∷
-                        Absent ∷ []) ∷ id (codes "a") ∷ []) ∷ []) ∷ []))
+    (tree word.Arrow (yes ∷ no ∷ tree word.Params
+    (listed (tree word.Param
+    (name (codes "a") ∷ tree word.Array
+    (listed (id (codes "g") ∷ tree word.Member (no ∷ id (codes "h") ∷ text (codes "k") ∷ []) ∷ []) ∷ []) ∷ []) ∷ []) ∷
+    Absent ∷ []) ∷ id (codes "a") ∷ []) ∷ []) ∷ []))
     ≡ true
 f29_not = refl
 
 -- (try (block [(throw (id "a"))]) (catch - (block [])) -)
 f30 : is_supported
     (of_body [] (tree word.Try
-        (tree word.Block (listed (tree word.Throw (id (codes "a") ∷ []) ∷ []) ∷ []) ∷ tree word.Catch
-            (Absent ∷ tree word.Block (listed [] ∷ []) ∷ []) ∷ Absent ∷ []) ∷ []))
+    (tree word.Block (listed (tree word.Throw (id (codes "a") ∷ []) ∷ []) ∷ []) ∷ tree word.Catch
+    (Absent ∷ tree word.Block (listed [] ∷ []) ∷ []) ∷ Absent ∷ []) ∷ []))
     ≡ false
 f30 = refl
 
@@ -200,8 +200,8 @@ f34 = refl
 -- (try (block []) (catch - (block [])) (block []))
 f35 : is_supported
     (of_body [] (tree word.Try
-        (tree word.Block (listed [] ∷ []) ∷ tree word.Catch (Absent ∷ tree word.Block (listed [] ∷ []) ∷ []) ∷ tree word.Block
-            (listed [] ∷ []) ∷ []) ∷ []))
+    (tree word.Block (listed [] ∷ []) ∷ tree word.Catch (Absent ∷ tree word.Block (listed [] ∷ []) ∷ []) ∷ tree word.Block
+    (listed [] ∷ []) ∷ []) ∷ []))
     ≡ false
 f35 = refl
 
@@ -216,7 +216,7 @@ f37 = refl
 -- (var "var" [(declarator (bind "a" -) (id "g"))])
 f39 : is_supported
     (of_body [] (tree word.Var (text (codes "var") ∷ listed (tree word.Declarator (name (codes "a") ∷ id (codes "g") ∷ []) ∷ []) ∷ []) ∷
-        []))
+    []))
     ≡ false
 f39 = refl
 
@@ -229,7 +229,7 @@ f40 = refl
 -- (return -) (expr (arrow n n (params [] -) (id "g")))
 f41 : is_supported
     (of_body [] (tree word.Return (Absent ∷ []) ∷ tree word.Expr
-        (tree word.Arrow (no ∷ no ∷ tree word.Params (listed [] ∷ Absent ∷ []) ∷ id (codes "g") ∷ []) ∷ []) ∷ []))
+    (tree word.Arrow (no ∷ no ∷ tree word.Params (listed [] ∷ Absent ∷ []) ∷ id (codes "g") ∷ []) ∷ []) ∷ []))
     ≡ false
 f41 = refl
 
@@ -240,32 +240,32 @@ f42 = refl
 -- (expr (chain (member n (nonnull (member y (id "a") "b")) "c")))
 f44 : is_supported
     (of_body [] (tree word.Expr
-        (tree word.Chain (tree word.Member
-            (no ∷ tree word.Nonnull (tree word.Member (yes ∷ id (codes "a") ∷ text (codes "b") ∷ []) ∷ []) ∷ text (codes "c") ∷ []) ∷ [])
-                ∷ []) ∷ []))
+    (tree word.Chain (tree word.Member
+    (no ∷ tree word.Nonnull (tree word.Member (yes ∷ id (codes "a") ∷ text (codes "b") ∷ []) ∷ []) ∷ text (codes "c") ∷ []) ∷ [])
+    ∷ []) ∷ []))
     ≡ false
 f44 = refl
 
 -- (expr (chain (member y (nonnull (id "a")) "c")))
 f44_not : is_supported
     (of_body [] (tree word.Expr
-        (tree word.Chain (tree word.Member (yes ∷ tree word.Nonnull (id (codes "a") ∷ []) ∷ text (codes "c") ∷ []) ∷ []) ∷ []) ∷ []))
+    (tree word.Chain (tree word.Member (yes ∷ tree word.Nonnull (id (codes "a") ∷ []) ∷ text (codes "c") ∷ []) ∷ []) ∷ []) ∷ []))
     ≡ true
 f44_not = refl
 
 -- (param (bind "v" -) -) : (forof n (nonnull (id "v")) (id "v") (empty))
 f45 : is_supported
     (of_body (tree word.Param (name (codes "v") ∷ Absent ∷ []) ∷ [])
-        (tree word.Forof (no ∷ tree word.Nonnull (id (codes "v") ∷ []) ∷ id (codes "v") ∷ tree word.Empty [] ∷ []) ∷ []))
+    (tree word.Forof (no ∷ tree word.Nonnull (id (codes "v") ∷ []) ∷ id (codes "v") ∷ tree word.Empty [] ∷ []) ∷ []))
     ≡ false
 f45 = refl
 
 -- (param (bind "v" -) -) : (forof n (arraytarget [(as (id "v") (type "other" []))] -) (id "v") (empty))
 f45_in_a_pattern : is_supported
     (of_body (tree word.Param (name (codes "v") ∷ Absent ∷ []) ∷ [])
-        (tree word.Forof (no ∷ tree word.Arraytarget
-            (listed (tree word.As (id (codes "v") ∷ tree word.Type (text (codes "other") ∷ listed [] ∷ []) ∷ []) ∷ []) ∷ Absent ∷ []) ∷ id
-                (codes "v") ∷ tree word.Empty [] ∷ []) ∷ []))
+    (tree word.Forof (no ∷ tree word.Arraytarget
+    (listed (tree word.As (id (codes "v") ∷ tree word.Type (text (codes "other") ∷ listed [] ∷ []) ∷ []) ∷ []) ∷ Absent ∷ []) ∷ id
+    (codes "v") ∷ tree word.Empty [] ∷ []) ∷ []))
     ≡ false
 f45_in_a_pattern = refl
 
@@ -282,15 +282,15 @@ s1 = refl
 -- (param (bind "v" -) -) : (expr (assign "=" (nonnull (id "v")) (id "g")))
 s3 : is_supported
     (of_body (tree word.Param (name (codes "v") ∷ Absent ∷ []) ∷ [])
-        (tree word.Expr (tree word.Assign (text (codes "=") ∷ tree word.Nonnull (id (codes "v") ∷ []) ∷ id (codes "g") ∷ []) ∷ []) ∷ []))
+    (tree word.Expr (tree word.Assign (text (codes "=") ∷ tree word.Nonnull (id (codes "v") ∷ []) ∷ id (codes "g") ∷ []) ∷ []) ∷ []))
     ≡ false
 s3 = refl
 
 -- (try (block []) (catch (arraypat [] -) (block [])) -)
 s4 : is_supported
     (of_body [] (tree word.Try
-        (tree word.Block (listed [] ∷ []) ∷ tree word.Catch
-            (tree word.Arraypat (listed [] ∷ Absent ∷ []) ∷ tree word.Block (listed [] ∷ []) ∷ []) ∷ Absent ∷ []) ∷ []))
+    (tree word.Block (listed [] ∷ []) ∷ tree word.Catch
+    (tree word.Arraypat (listed [] ∷ Absent ∷ []) ∷ tree word.Block (listed [] ∷ []) ∷ []) ∷ Absent ∷ []) ∷ []))
     ≡ false
 s4 = refl
 
@@ -302,14 +302,14 @@ s6 = refl
 --   -)])])])))
 s7_not : is_supported
     (of_body [] (tree word.Labeled
-        (text (codes "a") ∷ tree word.Forin
-            (tree word.Var (text (codes "const") ∷ listed (tree word.Declarator (name (codes "k") ∷ Absent ∷ []) ∷ []) ∷ []) ∷ id
-                (codes "o") ∷ tree word.Block
-                    (listed (tree word.Switch
-                        (id (codes "o") ∷ listed
-                            (tree word.Case (Absent ∷ listed
-                                (tree word.Continue (text (codes "a") ∷ []) ∷ tree word.Break (Absent ∷ []) ∷ []) ∷ []) ∷ []) ∷ []) ∷ [])
-                                    ∷ []) ∷ []) ∷ []) ∷ []))
+    (text (codes "a") ∷ tree word.Forin
+    (tree word.Var (text (codes "const") ∷ listed (tree word.Declarator (name (codes "k") ∷ Absent ∷ []) ∷ []) ∷ []) ∷ id
+    (codes "o") ∷ tree word.Block
+    (listed (tree word.Switch
+    (id (codes "o") ∷ listed
+    (tree word.Case (Absent ∷ listed
+    (tree word.Continue (text (codes "a") ∷ []) ∷ tree word.Break (Absent ∷ []) ∷ []) ∷ []) ∷ []) ∷ []) ∷ [])
+    ∷ []) ∷ []) ∷ []) ∷ []))
     ≡ true
 s7_not = refl
 
@@ -320,15 +320,15 @@ k1 = refl
 -- (var "using" [(declarator (bind "a" -) (id "g"))])
 k2 : is_supported
     (of_body [] (tree word.Var (text (codes "using") ∷ listed (tree word.Declarator (name (codes "a") ∷ id (codes "g") ∷ []) ∷ []) ∷ []) ∷
-        []))
+    []))
     ≡ false
 k2 = refl
 
 -- (expr (arrow n n (params [] -) (body [] [(break -) (return (this))])))
 inner_function : is_supported
     (of_body [] (tree word.Expr
-        (tree word.Arrow (no ∷ no ∷ tree word.Params (listed [] ∷ Absent ∷ []) ∷ tree word.Body
-            (listed [] ∷ listed (tree word.Break (Absent ∷ []) ∷ tree word.Return (tree word.This [] ∷ []) ∷ []) ∷ []) ∷ []) ∷ []) ∷ []))
+    (tree word.Arrow (no ∷ no ∷ tree word.Params (listed [] ∷ Absent ∷ []) ∷ tree word.Body
+    (listed [] ∷ listed (tree word.Break (Absent ∷ []) ∷ tree word.Return (tree word.This [] ∷ []) ∷ []) ∷ []) ∷ []) ∷ []) ∷ []))
     ≡ false
 inner_function = refl
 
@@ -336,17 +336,17 @@ inner_function = refl
 --   (id "x") (null))))
 f7 : is_supported
     (of_body [] (tree word.Var
-        (text (codes "const") ∷ listed (tree word.Declarator (name (codes "x") ∷ tree word.Null [] ∷ []) ∷ []) ∷ []) ∷ tree word.Expr
-            (tree word.Arrow (no ∷ no ∷ tree word.Params (listed [] ∷ Absent ∷ []) ∷ id (codes "x") ∷ []) ∷ []) ∷ tree word.Expr
-                (tree word.Arrow (no ∷ no ∷ tree word.Params (listed [] ∷ Absent ∷ []) ∷ tree word.Assign
-                    (text (codes "=") ∷ id (codes "x") ∷ tree word.Null [] ∷ []) ∷ []) ∷ []) ∷ []))
+    (text (codes "const") ∷ listed (tree word.Declarator (name (codes "x") ∷ tree word.Null [] ∷ []) ∷ []) ∷ []) ∷ tree word.Expr
+    (tree word.Arrow (no ∷ no ∷ tree word.Params (listed [] ∷ Absent ∷ []) ∷ id (codes "x") ∷ []) ∷ []) ∷ tree word.Expr
+    (tree word.Arrow (no ∷ no ∷ tree word.Params (listed [] ∷ Absent ∷ []) ∷ tree word.Assign
+    (text (codes "=") ∷ id (codes "x") ∷ tree word.Null [] ∷ []) ∷ []) ∷ []) ∷ []))
     ≡ false
 f7 = refl
 
 -- (expr (arrow n n (params [] -) (id "x"))) (var "const" [(declarator (bind "x" -) (null))])
 f7_with_a_marker : is_supported
     (of_body [] (tree word.Expr (tree word.Arrow (no ∷ no ∷ tree word.Params (listed [] ∷ Absent ∷ []) ∷ id (codes "x") ∷ []) ∷ []) ∷ tree
-        word.Var (text (codes "const") ∷ listed (tree word.Declarator (name (codes "x") ∷ tree word.Null [] ∷ []) ∷ []) ∷ []) ∷ []))
+    word.Var (text (codes "const") ∷ listed (tree word.Declarator (name (codes "x") ∷ tree word.Null [] ∷ []) ∷ []) ∷ []) ∷ []))
     ≡ true
 f7_with_a_marker = refl
 
@@ -361,24 +361,24 @@ f17 = refl
 -- (var "let" [(declarator (bind "x" -) (null))]) (expr (update "++" y (id "x"))) (expr (arrow n n (params [] -) (id "x")))
 f19 : is_supported
     (of_body [] (tree word.Var (text (codes "let") ∷ listed (tree word.Declarator (name (codes "x") ∷ tree word.Null [] ∷ []) ∷ []) ∷ [])
-        ∷ tree word.Expr (tree word.Update (text (codes "++") ∷ yes ∷ id (codes "x") ∷ []) ∷ []) ∷ tree word.Expr
-            (tree word.Arrow (no ∷ no ∷ tree word.Params (listed [] ∷ Absent ∷ []) ∷ id (codes "x") ∷ []) ∷ []) ∷ []))
+    ∷ tree word.Expr (tree word.Update (text (codes "++") ∷ yes ∷ id (codes "x") ∷ []) ∷ []) ∷ tree word.Expr
+    (tree word.Arrow (no ∷ no ∷ tree word.Params (listed [] ∷ Absent ∷ []) ∷ id (codes "x") ∷ []) ∷ []) ∷ []))
     ≡ false
 f19 = refl
 
 -- (expr (call n (id "f") [])) (fundecl n n n (bind "f" -) (params [] -) (body [] [])) (expr (update "++" y (id "f")))
 f19_by_a_marker : is_supported
     (of_body [] (tree word.Expr (tree word.Call (no ∷ id (codes "f") ∷ listed [] ∷ []) ∷ []) ∷ tree word.Fundecl
-        (no ∷ no ∷ no ∷ name (codes "f") ∷ tree word.Params (listed [] ∷ Absent ∷ []) ∷ tree word.Body (listed [] ∷ listed [] ∷ []) ∷ [])
-            ∷ tree word.Expr (tree word.Update (text (codes "++") ∷ yes ∷ id (codes "f") ∷ []) ∷ []) ∷ []))
+    (no ∷ no ∷ no ∷ name (codes "f") ∷ tree word.Params (listed [] ∷ Absent ∷ []) ∷ tree word.Body (listed [] ∷ listed [] ∷ []) ∷ [])
+    ∷ tree word.Expr (tree word.Update (text (codes "++") ∷ yes ∷ id (codes "f") ∷ []) ∷ []) ∷ []))
     ≡ false
 f19_by_a_marker = refl
 
 -- (fundecl n n n (bind "f" -) (params [] -) (body [] [])) (expr (update "++" y (id "f")))
 update_of_a_function : is_supported
     (of_body [] (tree word.Fundecl
-        (no ∷ no ∷ no ∷ name (codes "f") ∷ tree word.Params (listed [] ∷ Absent ∷ []) ∷ tree word.Body (listed [] ∷ listed [] ∷ []) ∷ [])
-            ∷ tree word.Expr (tree word.Update (text (codes "++") ∷ yes ∷ id (codes "f") ∷ []) ∷ []) ∷ []))
+    (no ∷ no ∷ no ∷ name (codes "f") ∷ tree word.Params (listed [] ∷ Absent ∷ []) ∷ tree word.Body (listed [] ∷ listed [] ∷ []) ∷ [])
+    ∷ tree word.Expr (tree word.Update (text (codes "++") ∷ yes ∷ id (codes "f") ∷ []) ∷ []) ∷ []))
     ≡ true
 update_of_a_function = refl
 
@@ -386,21 +386,21 @@ update_of_a_function = refl
 --   (tagns "fbt" "enum") []) [] -) (null)))] -))
 f26 : is_supported
     (of_body [] (tree word.Expr
-        (tree word.Element (tree word.Opening (tree word.Tag (text (codes "fbt") ∷ []) ∷ listed [] ∷ []) ∷ listed
-            (tree word.Element (tree word.Opening (tree word.Tagns (text (codes "fbt") ∷ text (codes "enum") ∷ []) ∷ listed [] ∷ []) ∷
-                listed [] ∷ Absent ∷ []) ∷ tree word.Container
-                    (tree word.Cond (id (codes "g") ∷ tree word.Element
-                        (tree word.Opening (tree word.Tagns (text (codes "fbt") ∷ text (codes "enum") ∷ []) ∷ listed [] ∷ []) ∷ listed []
-                            ∷ Absent ∷ []) ∷ tree word.Null [] ∷ []) ∷ []) ∷ []) ∷ Absent ∷ []) ∷ []) ∷ []))
+    (tree word.Element (tree word.Opening (tree word.Tag (text (codes "fbt") ∷ []) ∷ listed [] ∷ []) ∷ listed
+    (tree word.Element (tree word.Opening (tree word.Tagns (text (codes "fbt") ∷ text (codes "enum") ∷ []) ∷ listed [] ∷ []) ∷
+    listed [] ∷ Absent ∷ []) ∷ tree word.Container
+    (tree word.Cond (id (codes "g") ∷ tree word.Element
+    (tree word.Opening (tree word.Tagns (text (codes "fbt") ∷ text (codes "enum") ∷ []) ∷ listed [] ∷ []) ∷ listed []
+    ∷ Absent ∷ []) ∷ tree word.Null [] ∷ []) ∷ []) ∷ []) ∷ Absent ∷ []) ∷ []) ∷ []))
     ≡ false
 f26 = refl
 
 -- (expr (element (opening (tag "fbt") []) [(element (opening (tagns "fbt" "enum") []) [] -)] -))
 single_tags : is_supported
     (of_body [] (tree word.Expr
-        (tree word.Element (tree word.Opening (tree word.Tag (text (codes "fbt") ∷ []) ∷ listed [] ∷ []) ∷ listed
-            (tree word.Element (tree word.Opening (tree word.Tagns (text (codes "fbt") ∷ text (codes "enum") ∷ []) ∷ listed [] ∷ []) ∷
-                listed [] ∷ Absent ∷ []) ∷ []) ∷ Absent ∷ []) ∷ []) ∷ []))
+    (tree word.Element (tree word.Opening (tree word.Tag (text (codes "fbt") ∷ []) ∷ listed [] ∷ []) ∷ listed
+    (tree word.Element (tree word.Opening (tree word.Tagns (text (codes "fbt") ∷ text (codes "enum") ∷ []) ∷ listed [] ∷ []) ∷
+    listed [] ∷ Absent ∷ []) ∷ []) ∷ Absent ∷ []) ∷ []) ∷ []))
     ≡ true
 single_tags = refl
 
@@ -411,7 +411,7 @@ f38 = refl
 -- (var "await using" [(declarator (bind "a" -) (id "g"))])
 k3 : is_supported
     (of_body [] (tree word.Var
-        (text (codes "await using") ∷ listed (tree word.Declarator (name (codes "a") ∷ id (codes "g") ∷ []) ∷ []) ∷ []) ∷ []))
+    (text (codes "await using") ∷ listed (tree word.Declarator (name (codes "a") ∷ id (codes "g") ∷ []) ∷ []) ∷ []) ∷ []))
     ≡ false
 k3 = refl
 
@@ -422,32 +422,32 @@ s2 = refl
 -- (fundecl n n n (bind "g" -) (params [(param (bind "this" -) -)] -) -)
 s2_without_a_body : is_supported
     (of_body [] (tree word.Fundecl
-        (no ∷ no ∷ no ∷ name (codes "g") ∷ tree word.Params
-            (listed (tree word.Param (name (codes "this") ∷ Absent ∷ []) ∷ []) ∷ Absent ∷ []) ∷ Absent ∷ []) ∷ []))
+    (no ∷ no ∷ no ∷ name (codes "g") ∷ tree word.Params
+    (listed (tree word.Param (name (codes "this") ∷ Absent ∷ []) ∷ []) ∷ Absent ∷ []) ∷ Absent ∷ []) ∷ []))
     ≡ false
 s2_without_a_body = refl
 
 -- (param (bind "fbs" -) -) : (expr (element (opening (id "fbs") []) [] -))
 s5 : is_supported
     (of_body (tree word.Param (name (codes "fbs") ∷ Absent ∷ []) ∷ [])
-        (tree word.Expr (tree word.Element (tree word.Opening (id (codes "fbs") ∷ listed [] ∷ []) ∷ listed [] ∷ Absent ∷ []) ∷ []) ∷ []))
+    (tree word.Expr (tree word.Element (tree word.Opening (id (codes "fbs") ∷ listed [] ∷ []) ∷ listed [] ∷ Absent ∷ []) ∷ []) ∷ []))
     ≡ false
 s5 = refl
 
 -- (param (bind "fbs" -) -) : (expr (element (opening (tagmember (id "fbs") "x") []) [] -))
 member_tag : is_supported
     (of_body (tree word.Param (name (codes "fbs") ∷ Absent ∷ []) ∷ [])
-        (tree word.Expr (tree word.Element
-            (tree word.Opening (tree word.Tagmember (id (codes "fbs") ∷ text (codes "x") ∷ []) ∷ listed [] ∷ []) ∷ listed [] ∷ Absent ∷
-                []) ∷ []) ∷ []))
+    (tree word.Expr (tree word.Element
+    (tree word.Opening (tree word.Tagmember (id (codes "fbs") ∷ text (codes "x") ∷ []) ∷ listed [] ∷ []) ∷ listed [] ∷ Absent ∷
+    []) ∷ []) ∷ []))
     ≡ true
 member_tag = refl
 
 -- (expr (funexpr n n n (bind "fbt" -) (params [] -) (body [] [])))
 own_name : is_supported
     (of_body [] (tree word.Expr
-        (tree word.Funexpr (no ∷ no ∷ no ∷ name (codes "fbt") ∷ tree word.Params (listed [] ∷ Absent ∷ []) ∷ tree word.Body
-            (listed [] ∷ listed [] ∷ []) ∷ []) ∷ []) ∷ []))
+    (tree word.Funexpr (no ∷ no ∷ no ∷ name (codes "fbt") ∷ tree word.Params (listed [] ∷ Absent ∷ []) ∷ tree word.Body
+    (listed [] ∷ listed [] ∷ []) ∷ []) ∷ []) ∷ []))
     ≡ true
 own_name = refl
 
@@ -458,7 +458,7 @@ s7 = refl
 -- (labeled "a" (block [(while (id "g") (continue "a"))]))
 s7_of_a_label : is_supported
     (of_body [] (tree word.Labeled
-        (text (codes "a") ∷ tree word.Block
-            (listed (tree word.While (id (codes "g") ∷ tree word.Continue (text (codes "a") ∷ []) ∷ []) ∷ []) ∷ []) ∷ []) ∷ []))
+    (text (codes "a") ∷ tree word.Block
+    (listed (tree word.While (id (codes "g") ∷ tree word.Continue (text (codes "a") ∷ []) ∷ []) ∷ []) ∷ []) ∷ []) ∷ []))
     ≡ false
 s7_of_a_label = refl

@@ -16,22 +16,22 @@ use Rattle.rl_syntax.specs.declared.word.Word.TheVariants as word
 abbrev logical_unit : Syntax
 logical_unit =
     unit (
-      tree word.Expr (
-        tree word.Arrow (
-          yes ∷ no ∷
-          tree word.Params (listed (tree word.Param (name (codes "x") ∷ Absent ∷ []) ∷ []) ∷ Absent ∷ []) ∷
-          tree word.Logical (
-            text (codes "&&") ∷ id (codes "a") ∷
-            tree word.Call (no ∷ id (codes "f") ∷ listed (id (codes "x") ∷ []) ∷ []) ∷
-            []) ∷
-          []) ∷
-        []) ∷
-      [])
+    tree word.Expr (
+    tree word.Arrow (
+    yes ∷ no ∷
+    tree word.Params (listed (tree word.Param (name (codes "x") ∷ Absent ∷ []) ∷ []) ∷ Absent ∷ []) ∷
+    tree word.Logical (
+    text (codes "&&") ∷ id (codes "a") ∷
+    tree word.Call (no ∷ id (codes "f") ∷ listed (id (codes "x") ∷ []) ∷ []) ∷
+    []) ∷
+    []) ∷
+    []) ∷
+    [])
 
 logical_runs : source_trace_of logical_unit None [] (given 7 ∷ []) (yields 1 ∷ full kinds.No value.Undefined [] [] ∷ [])
     ≡ traced (
-      event (codes "global") (codes "a" ∷ []) [] ∷ event (codes "truthy") [] (given 1 ∷ []) ∷
-      []) (ending.Returned returns.Implicit (given 1) [])
+    event (codes "global") (codes "a" ∷ []) [] ∷ event (codes "truthy") [] (given 1 ∷ []) ∷
+    []) (ending.Returned returns.Implicit (given 1) [])
 logical_runs = refl
 
 logical_ported : ported_trace_of logical_unit (picked []) None [] (given 7 ∷ [])
@@ -50,25 +50,25 @@ logical_supported = refl
 abbrev chain_that_ends_unit : Syntax
 chain_that_ends_unit =
     unit (
-      tree word.Expr (
-        tree word.Arrow (
-          yes ∷ no ∷
-          tree word.Params (listed [] ∷ Absent ∷ []) ∷
-          tree word.Chain (
-            tree word.Call (
-              no ∷
-              tree word.Member (no ∷ tree word.Member (yes ∷ id (codes "a") ∷ text (codes "b") ∷ []) ∷ text (codes "c") ∷ []) ∷
-              listed (tree word.Call (no ∷ id (codes "d") ∷ listed [] ∷ []) ∷ []) ∷
-              []) ∷
-            []) ∷
-          []) ∷
-        []) ∷
-      [])
+    tree word.Expr (
+    tree word.Arrow (
+    yes ∷ no ∷
+    tree word.Params (listed [] ∷ Absent ∷ []) ∷
+    tree word.Chain (
+    tree word.Call (
+    no ∷
+    tree word.Member (no ∷ tree word.Member (yes ∷ id (codes "a") ∷ text (codes "b") ∷ []) ∷ text (codes "c") ∷ []) ∷
+    listed (tree word.Call (no ∷ id (codes "d") ∷ listed [] ∷ []) ∷ []) ∷
+    []) ∷
+    []) ∷
+    []) ∷
+    []) ∷
+    [])
 
 chain_that_ends_runs : source_trace_of chain_that_ends_unit None [] [] (yields 1 ∷ yields 0 ∷ [])
     ≡ traced (
-      event (codes "global") (codes "a" ∷ []) [] ∷ event (codes "nullish") [] (given 1 ∷ []) ∷
-      []) (ending.Returned returns.Implicit value.Undefined [])
+    event (codes "global") (codes "a" ∷ []) [] ∷ event (codes "nullish") [] (given 1 ∷ []) ∷
+    []) (ending.Returned returns.Implicit value.Undefined [])
 chain_that_ends_runs = refl
 
 chain_that_ends_ported : ported_trace_of chain_that_ends_unit (picked []) None [] []
@@ -87,29 +87,29 @@ chain_that_ends_supported = refl
 abbrev chain_unit : Syntax
 chain_unit =
     unit (
-      tree word.Expr (
-        tree word.Arrow (
-          yes ∷ no ∷
-          tree word.Params (listed [] ∷ Absent ∷ []) ∷
-          tree word.Chain (
-            tree word.Call (
-              no ∷
-              tree word.Member (no ∷ tree word.Member (yes ∷ id (codes "a") ∷ text (codes "b") ∷ []) ∷ text (codes "c") ∷ []) ∷
-              listed (tree word.Call (no ∷ id (codes "d") ∷ listed [] ∷ []) ∷ []) ∷
-              []) ∷
-            []) ∷
-          []) ∷
-        []) ∷
-      [])
+    tree word.Expr (
+    tree word.Arrow (
+    yes ∷ no ∷
+    tree word.Params (listed [] ∷ Absent ∷ []) ∷
+    tree word.Chain (
+    tree word.Call (
+    no ∷
+    tree word.Member (no ∷ tree word.Member (yes ∷ id (codes "a") ∷ text (codes "b") ∷ []) ∷ text (codes "c") ∷ []) ∷
+    listed (tree word.Call (no ∷ id (codes "d") ∷ listed [] ∷ []) ∷ []) ∷
+    []) ∷
+    []) ∷
+    []) ∷
+    []) ∷
+    [])
 
 chain_runs : source_trace_of chain_unit None [] []
     (yields 1 ∷ full kinds.No value.Undefined [] [] ∷ yields 2 ∷ yields 3 ∷ yields 4 ∷ yields 5 ∷ yields 6 ∷ [])
     ≡ traced (
-      event (codes "global") (codes "a" ∷ []) [] ∷ event (codes "nullish") [] (given 1 ∷ []) ∷
-      event (codes "propertyload") [] (given 1 ∷ value.Text (codes "b") ∷ []) ∷
-      event (codes "propertyload") [] (given 2 ∷ value.Text (codes "c") ∷ []) ∷ event (codes "global") (codes "d" ∷ []) [] ∷
-      event (codes "call") [] (given 4 ∷ []) ∷ event (codes "methodcall") (codes "place" ∷ []) (given 2 ∷ given 3 ∷ given 5 ∷ []) ∷
-      []) (ending.Returned returns.Implicit (given 6) [])
+    event (codes "global") (codes "a" ∷ []) [] ∷ event (codes "nullish") [] (given 1 ∷ []) ∷
+    event (codes "propertyload") [] (given 1 ∷ value.Text (codes "b") ∷ []) ∷
+    event (codes "propertyload") [] (given 2 ∷ value.Text (codes "c") ∷ []) ∷ event (codes "global") (codes "d" ∷ []) [] ∷
+    event (codes "call") [] (given 4 ∷ []) ∷ event (codes "methodcall") (codes "place" ∷ []) (given 2 ∷ given 3 ∷ given 5 ∷ []) ∷
+    []) (ending.Returned returns.Implicit (given 6) [])
 chain_runs = refl
 
 chain_ported : ported_trace_of chain_unit (picked []) None [] []
@@ -129,53 +129,53 @@ chain_supported = refl
 abbrev for_of_unit : Syntax
 for_of_unit =
     unit (
-      tree word.Expr (
-        tree word.Arrow (
-          yes ∷ no ∷
-          tree word.Params (listed (tree word.Param (name (codes "y") ∷ Absent ∷ []) ∷ []) ∷ Absent ∷ []) ∷
-          tree word.Body (
-            listed [] ∷
-            listed (
-              tree word.Forof (
-                no ∷
-                tree word.Var (text (codes "const") ∷ listed (tree word.Declarator (name (codes "x") ∷ Absent ∷ []) ∷ []) ∷ []) ∷
-                id (codes "y") ∷
-                tree word.Block (
-                  listed (
-                    tree word.If (id (codes "x") ∷ tree word.Continue (Absent ∷ []) ∷ Absent ∷ []) ∷
-                    tree word.Expr (tree word.Call (no ∷ id (codes "g") ∷ listed (id (codes "x") ∷ []) ∷ []) ∷ []) ∷
-                    []) ∷
-                  []) ∷
-                []) ∷
-              []) ∷
-            []) ∷
-          []) ∷
-        []) ∷
-      [])
+    tree word.Expr (
+    tree word.Arrow (
+    yes ∷ no ∷
+    tree word.Params (listed (tree word.Param (name (codes "y") ∷ Absent ∷ []) ∷ []) ∷ Absent ∷ []) ∷
+    tree word.Body (
+    listed [] ∷
+    listed (
+    tree word.Forof (
+    no ∷
+    tree word.Var (text (codes "const") ∷ listed (tree word.Declarator (name (codes "x") ∷ Absent ∷ []) ∷ []) ∷ []) ∷
+    id (codes "y") ∷
+    tree word.Block (
+    listed (
+    tree word.If (id (codes "x") ∷ tree word.Continue (Absent ∷ []) ∷ Absent ∷ []) ∷
+    tree word.Expr (tree word.Call (no ∷ id (codes "g") ∷ listed (id (codes "x") ∷ []) ∷ []) ∷ []) ∷
+    []) ∷
+    []) ∷
+    []) ∷
+    []) ∷
+    []) ∷
+    []) ∷
+    []) ∷
+    [])
 
 for_of_runs : source_trace_of for_of_unit None [] (given 1 ∷ [])
     (
-      yields 9 ∷ yields 2 ∷ yields 0 ∷ yields 3 ∷ full kinds.No value.Undefined [] [] ∷ yields 4 ∷ yields 5 ∷
-      full kinds.No value.Undefined [] [] ∷
-      [])
+    yields 9 ∷ yields 2 ∷ yields 0 ∷ yields 3 ∷ full kinds.No value.Undefined [] [] ∷ yields 4 ∷ yields 5 ∷
+    full kinds.No value.Undefined [] [] ∷
+    [])
     ≡ traced (
-      event (codes "getiterator") [] (given 1 ∷ []) ∷ event (codes "next") [] (given 9 ∷ given 1 ∷ []) ∷
-      event (codes "truthy") [] (given 2 ∷ []) ∷ event (codes "next") [] (given 9 ∷ given 1 ∷ []) ∷
-      event (codes "truthy") [] (given 3 ∷ []) ∷ event (codes "global") (codes "g" ∷ []) [] ∷
-      event (codes "call") (codes "place" ∷ []) (given 4 ∷ given 3 ∷ []) ∷ event (codes "next") [] (given 9 ∷ given 1 ∷ []) ∷
-      []) (ending.Returned returns.Void value.Undefined [])
+    event (codes "getiterator") [] (given 1 ∷ []) ∷ event (codes "next") [] (given 9 ∷ given 1 ∷ []) ∷
+    event (codes "truthy") [] (given 2 ∷ []) ∷ event (codes "next") [] (given 9 ∷ given 1 ∷ []) ∷
+    event (codes "truthy") [] (given 3 ∷ []) ∷ event (codes "global") (codes "g" ∷ []) [] ∷
+    event (codes "call") (codes "place" ∷ []) (given 4 ∷ given 3 ∷ []) ∷ event (codes "next") [] (given 9 ∷ given 1 ∷ []) ∷
+    []) (ending.Returned returns.Void value.Undefined [])
 for_of_runs = refl
 
 for_of_ported : ported_trace_of for_of_unit (picked []) None [] (given 1 ∷ [])
     (
-      yields 9 ∷ yields 2 ∷ yields 0 ∷ yields 3 ∷ full kinds.No value.Undefined [] [] ∷ yields 4 ∷ yields 5 ∷
-      full kinds.No value.Undefined [] [] ∷
-      [])
+    yields 9 ∷ yields 2 ∷ yields 0 ∷ yields 3 ∷ full kinds.No value.Undefined [] [] ∷ yields 4 ∷ yields 5 ∷
+    full kinds.No value.Undefined [] [] ∷
+    [])
     ≡ source_trace_of for_of_unit None [] (given 1 ∷ [])
     (
-      yields 9 ∷ yields 2 ∷ yields 0 ∷ yields 3 ∷ full kinds.No value.Undefined [] [] ∷ yields 4 ∷ yields 5 ∷
-      full kinds.No value.Undefined [] [] ∷
-      [])
+    yields 9 ∷ yields 2 ∷ yields 0 ∷ yields 3 ∷ full kinds.No value.Undefined [] [] ∷ yields 4 ∷ yields 5 ∷
+    full kinds.No value.Undefined [] [] ∷
+    [])
 for_of_ported = refl
 
 for_of_orderly : is_orderly for_of_unit None ≡ true
@@ -189,30 +189,30 @@ for_of_supported = refl
 abbrev try_catch_unit : Syntax
 try_catch_unit =
     unit (
-      tree word.Expr (
-        tree word.Arrow (
-          yes ∷ no ∷
-          tree word.Params (listed (tree word.Param (name (codes "x") ∷ Absent ∷ []) ∷ []) ∷ Absent ∷ []) ∷
-          tree word.Body (
-            listed [] ∷
-            listed (
-              tree word.Try (
-                tree word.Block (
-                  listed (tree word.Expr (tree word.Call (no ∷ id (codes "g") ∷ listed (id (codes "x") ∷ []) ∷ []) ∷ []) ∷ []) ∷
-                  []) ∷
-                tree word.Catch (name (codes "e") ∷ tree word.Block (listed (tree word.Return (id (codes "e") ∷ []) ∷ []) ∷ []) ∷ []) ∷
-                Absent ∷
-                []) ∷
-              []) ∷
-            []) ∷
-          []) ∷
-        []) ∷
-      [])
+    tree word.Expr (
+    tree word.Arrow (
+    yes ∷ no ∷
+    tree word.Params (listed (tree word.Param (name (codes "x") ∷ Absent ∷ []) ∷ []) ∷ Absent ∷ []) ∷
+    tree word.Body (
+    listed [] ∷
+    listed (
+    tree word.Try (
+    tree word.Block (
+    listed (tree word.Expr (tree word.Call (no ∷ id (codes "g") ∷ listed (id (codes "x") ∷ []) ∷ []) ∷ []) ∷ []) ∷
+    []) ∷
+    tree word.Catch (name (codes "e") ∷ tree word.Block (listed (tree word.Return (id (codes "e") ∷ []) ∷ []) ∷ []) ∷ []) ∷
+    Absent ∷
+    []) ∷
+    []) ∷
+    []) ∷
+    []) ∷
+    []) ∷
+    [])
 
 try_catch_runs : source_trace_of try_catch_unit None [] (given 1 ∷ []) (yields 2 ∷ throws 3 ∷ [])
     ≡ traced (
-      event (codes "global") (codes "g" ∷ []) [] ∷ event (codes "call") (codes "place" ∷ []) (given 2 ∷ given 1 ∷ []) ∷
-      []) (ending.Returned returns.Explicit (given 3) [])
+    event (codes "global") (codes "g" ∷ []) [] ∷ event (codes "call") (codes "place" ∷ []) (given 2 ∷ given 1 ∷ []) ∷
+    []) (ending.Returned returns.Explicit (given 3) [])
 try_catch_runs = refl
 
 try_catch_ported : ported_trace_of try_catch_unit (picked []) None [] (given 1 ∷ [])
@@ -232,40 +232,40 @@ try_catch_supported = refl
 abbrev branches_unit : Syntax
 branches_unit =
     unit (
-      tree word.Expr (
-        tree word.Arrow (
-          yes ∷ no ∷
-          tree word.Params (listed [] ∷ Absent ∷ []) ∷
-          tree word.Body (
-            listed [] ∷
-            listed (
-              tree word.If (
-                id (codes "a") ∷
-                tree word.Return (tree word.Str (text (codes "1") ∷ []) ∷ []) ∷
-                tree word.Return (tree word.Str (text (codes "2") ∷ []) ∷ []) ∷
-                []) ∷
-              tree word.Expr (
-                tree word.Call (
-                  no ∷ id (codes "g") ∷
-                  listed (
-                    tree word.Arrow (
-                      no ∷ no ∷
-                      tree word.Params (listed [] ∷ Absent ∷ []) ∷
-                      tree word.Str (text (codes "2") ∷ []) ∷
-                      []) ∷
-                    []) ∷
-                  []) ∷
-                []) ∷
-              []) ∷
-            []) ∷
-          []) ∷
-        []) ∷
-      [])
+    tree word.Expr (
+    tree word.Arrow (
+    yes ∷ no ∷
+    tree word.Params (listed [] ∷ Absent ∷ []) ∷
+    tree word.Body (
+    listed [] ∷
+    listed (
+    tree word.If (
+    id (codes "a") ∷
+    tree word.Return (tree word.Str (text (codes "1") ∷ []) ∷ []) ∷
+    tree word.Return (tree word.Str (text (codes "2") ∷ []) ∷ []) ∷
+    []) ∷
+    tree word.Expr (
+    tree word.Call (
+    no ∷ id (codes "g") ∷
+    listed (
+    tree word.Arrow (
+    no ∷ no ∷
+    tree word.Params (listed [] ∷ Absent ∷ []) ∷
+    tree word.Str (text (codes "2") ∷ []) ∷
+    []) ∷
+    []) ∷
+    []) ∷
+    []) ∷
+    []) ∷
+    []) ∷
+    []) ∷
+    []) ∷
+    [])
 
 branches_runs : source_trace_of branches_unit None [] [] (yields 1 ∷ full kinds.No value.Undefined [] [] ∷ [])
     ≡ traced (
-      event (codes "global") (codes "a" ∷ []) [] ∷ event (codes "truthy") [] (given 1 ∷ []) ∷
-      []) (ending.Returned returns.Explicit (value.Text (codes "2")) [])
+    event (codes "global") (codes "a" ∷ []) [] ∷ event (codes "truthy") [] (given 1 ∷ []) ∷
+    []) (ending.Returned returns.Explicit (value.Text (codes "2")) [])
 branches_runs = refl
 
 branches_ported : ported_trace_of branches_unit (picked []) None [] []
@@ -285,29 +285,29 @@ branches_supported = refl
 abbrev outer_label_unit : Syntax
 outer_label_unit =
     unit (
-      tree word.Expr (
-        tree word.Arrow (
-          yes ∷ no ∷
-          tree word.Params (listed [] ∷ Absent ∷ []) ∷
-          tree word.Body (
-            listed [] ∷
-            listed (
-              tree word.Labeled (
-                text (codes "a") ∷
-                tree word.Labeled (
-                  text (codes "b") ∷
-                  tree word.Forin (
-                    tree word.Var (text (codes "const") ∷ listed (tree word.Declarator (name (codes "k") ∷ Absent ∷ []) ∷ []) ∷ []) ∷
-                    id (codes "o") ∷
-                    tree word.Block (listed (tree word.Continue (text (codes "a") ∷ []) ∷ []) ∷ []) ∷
-                    []) ∷
-                  []) ∷
-                []) ∷
-              []) ∷
-            []) ∷
-          []) ∷
-        []) ∷
-      [])
+    tree word.Expr (
+    tree word.Arrow (
+    yes ∷ no ∷
+    tree word.Params (listed [] ∷ Absent ∷ []) ∷
+    tree word.Body (
+    listed [] ∷
+    listed (
+    tree word.Labeled (
+    text (codes "a") ∷
+    tree word.Labeled (
+    text (codes "b") ∷
+    tree word.Forin (
+    tree word.Var (text (codes "const") ∷ listed (tree word.Declarator (name (codes "k") ∷ Absent ∷ []) ∷ []) ∷ []) ∷
+    id (codes "o") ∷
+    tree word.Block (listed (tree word.Continue (text (codes "a") ∷ []) ∷ []) ∷ []) ∷
+    []) ∷
+    []) ∷
+    []) ∷
+    []) ∷
+    []) ∷
+    []) ∷
+    []) ∷
+    [])
 
 outer_label_runs : source_trace_of outer_label_unit None [] [] (yields 1 ∷ yields 2 ∷ yields 3 ∷ [])
     ≡ traced (event (codes "global") (codes "o" ∷ []) [] ∷ event (codes "nextpropertyof") [] (given 1 ∷ []) ∷ []) ending.Waiting
@@ -331,82 +331,82 @@ outer_label_supported = refl
 abbrev defaults_in_try_unit : Syntax
 defaults_in_try_unit =
     unit (
-      tree word.Expr (
-        tree word.Arrow (
-          yes ∷ no ∷
-          tree word.Params (
-            listed (tree word.Param (name (codes "v") ∷ Absent ∷ []) ∷ tree word.Param (name (codes "c") ∷ Absent ∷ []) ∷ []) ∷ Absent ∷
-            []) ∷
-          tree word.Body (
-            listed [] ∷
-            listed (
-              tree word.While (
-                id (codes "c") ∷
-                tree word.Block (
-                  listed (
-                    tree word.Try (
-                      tree word.Block (
-                        listed (
-                          tree word.Expr (tree word.Call (no ∷ id (codes "g") ∷ listed (id (codes "b") ∷ []) ∷ []) ∷ []) ∷
-                          tree word.Var (
-                            text (codes "let") ∷
-                            listed (
-                              tree word.Declarator (
-                                tree word.Arraypat (
-                                  listed (
-                                    tree word.Defaultpat (
-                                      name (codes "a") ∷
-                                      tree word.Call (no ∷ id (codes "f") ∷ listed [] ∷ []) ∷
-                                      []) ∷
-                                    name (codes "b") ∷
-                                    []) ∷
-                                  Absent ∷
-                                  []) ∷
-                                id (codes "v") ∷
-                                []) ∷
-                              []) ∷
-                            []) ∷
-                          []) ∷
-                        []) ∷
-                      tree word.Catch (Absent ∷ tree word.Block (listed [] ∷ []) ∷ []) ∷ Absent ∷
-                      []) ∷
-                    []) ∷
-                  []) ∷
-                []) ∷
-              []) ∷
-            []) ∷
-          []) ∷
-        []) ∷
-      [])
+    tree word.Expr (
+    tree word.Arrow (
+    yes ∷ no ∷
+    tree word.Params (
+    listed (tree word.Param (name (codes "v") ∷ Absent ∷ []) ∷ tree word.Param (name (codes "c") ∷ Absent ∷ []) ∷ []) ∷ Absent ∷
+    []) ∷
+    tree word.Body (
+    listed [] ∷
+    listed (
+    tree word.While (
+    id (codes "c") ∷
+    tree word.Block (
+    listed (
+    tree word.Try (
+    tree word.Block (
+    listed (
+    tree word.Expr (tree word.Call (no ∷ id (codes "g") ∷ listed (id (codes "b") ∷ []) ∷ []) ∷ []) ∷
+    tree word.Var (
+    text (codes "let") ∷
+    listed (
+    tree word.Declarator (
+    tree word.Arraypat (
+    listed (
+    tree word.Defaultpat (
+    name (codes "a") ∷
+    tree word.Call (no ∷ id (codes "f") ∷ listed [] ∷ []) ∷
+    []) ∷
+    name (codes "b") ∷
+    []) ∷
+    Absent ∷
+    []) ∷
+    id (codes "v") ∷
+    []) ∷
+    []) ∷
+    []) ∷
+    []) ∷
+    []) ∷
+    tree word.Catch (Absent ∷ tree word.Block (listed [] ∷ []) ∷ []) ∷ Absent ∷
+    []) ∷
+    []) ∷
+    []) ∷
+    []) ∷
+    []) ∷
+    []) ∷
+    []) ∷
+    []) ∷
+    [])
 
 defaults_in_try_runs : source_trace_of defaults_in_try_unit None [] (given 1 ∷ given 2 ∷ [])
     (
-      yields 0 ∷ yields 3 ∷ yields 4 ∷ full kinds.Yes value.Undefined (value.Undefined ∷ given 7 ∷ []) [] ∷ yields 5 ∷ yields 0 ∷
-      yields 6 ∷ throws 8 ∷ yields 0 ∷ yields 3 ∷ yields 4 ∷
-      [])
+    yields 0 ∷ yields 3 ∷ yields 4 ∷ full kinds.Yes value.Undefined (value.Undefined ∷ given 7 ∷ []) [] ∷ yields 5 ∷ yields 0 ∷
+    yields 6 ∷ throws 8 ∷ yields 0 ∷ yields 3 ∷ yields 4 ∷
+    [])
     ≡ traced (
-      event (codes "truthy") [] (given 2 ∷ []) ∷ event (codes "global") (codes "g" ∷ []) [] ∷
-      event (codes "call") (codes "place" ∷ []) (given 3 ∷ value.Undefined ∷ []) ∷
-      event (codes "destructure") (codes "array" ∷ codes "place" ∷ codes "place" ∷ []) (given 1 ∷ []) ∷
-      event (codes "binary") (codes "===" ∷ []) (value.Undefined ∷ value.Undefined ∷ []) ∷ event (codes "truthy") [] (given 5 ∷ []) ∷
-      event (codes "global") (codes "f" ∷ []) [] ∷ event (codes "call") [] (given 6 ∷ []) ∷ event (codes "truthy") [] (given 2 ∷ []) ∷
-      event (codes "global") (codes "g" ∷ []) [] ∷ event (codes "call") (codes "place" ∷ []) (given 3 ∷ value.Undefined ∷ []) ∷
-      []) ending.Waiting
+    event (codes "truthy") [] (given 2 ∷ []) ∷ event (codes "global") (codes "g" ∷ []) [] ∷
+    event (codes "call") (codes "place" ∷ []) (given 3 ∷ value.Undefined ∷ []) ∷
+    event (codes "destructure") (codes "array" ∷ codes "place" ∷ codes "place" ∷ []) (given 1 ∷ []) ∷
+    event (codes "binary") (codes "===" ∷ []) (value.Undefined ∷ value.Undefined ∷ []) ∷ event (codes "truthy") [] (given 5 ∷ []) ∷
+    event (codes "global") (codes "f" ∷ []) [] ∷ event (codes "call") [] (given 6 ∷ []) ∷ event (codes "truthy") [] (given 2 ∷ []) ∷
+    event (codes "global") (codes "g" ∷ []) [] ∷ event (codes "call") (codes "place" ∷ []) (given 3 ∷ value.Undefined ∷ []) ∷
+    []) ending.Waiting
 defaults_in_try_runs = refl
 
 defaults_in_try_ported : ported_trace_of defaults_in_try_unit (picked []) None [] (given 1 ∷ given 2 ∷ [])
     (
-      yields 0 ∷ yields 3 ∷ yields 4 ∷ full kinds.Yes value.Undefined (value.Undefined ∷ given 7 ∷ []) [] ∷ yields 5 ∷ yields 0 ∷
-      yields 6 ∷ throws 8 ∷ yields 0 ∷ yields 3 ∷ yields 4 ∷
-      [])
+    yields 0 ∷ yields 3 ∷ yields 4 ∷ full kinds.Yes value.Undefined (value.Undefined ∷ given 7 ∷ []) [] ∷ yields 5 ∷ yields 0 ∷
+    yields 6 ∷ throws 8 ∷ yields 0 ∷ yields 3 ∷ yields 4 ∷
+    [])
     ≡ traced (
-      event (codes "truthy") [] (given 2 ∷ []) ∷ event (codes "global") (codes "g" ∷ []) [] ∷
-      event (codes "call") (codes "place" ∷ []) (given 3 ∷ value.Undefined ∷ []) ∷
-      event (codes "destructure") (codes "array" ∷ codes "place" ∷ codes "place" ∷ []) (given 1 ∷ []) ∷
-      event (codes "binary") (codes "===" ∷ []) (value.Undefined ∷ value.Undefined ∷ []) ∷ event (codes "truthy") [] (given 5 ∷ []) ∷
-      event (codes "global") (codes "f" ∷ []) [] ∷ event (codes "call") [] (given 6 ∷ []) ∷ event (codes "truthy") [] (given 2 ∷ []) ∷
-      event (codes "global") (codes "g" ∷ []) [] ∷ event (codes "call") (codes "place" ∷ []) (given 3 ∷ given 7 ∷ []) ∷
-      []) ending.Waiting
+    event (codes "truthy") [] (given 2 ∷ []) ∷ event (codes "global") (codes "g" ∷ []) [] ∷
+    event (codes "call") (codes "place" ∷ []) (given 3 ∷ value.Undefined ∷ []) ∷
+    event (codes "destructure") (codes "array" ∷ codes "place" ∷ codes "place" ∷ []) (given 1 ∷ []) ∷
+    event (codes "binary") (codes "===" ∷ []) (value.Undefined ∷ value.Undefined ∷ []) ∷ event (codes "truthy") [] (given 5 ∷ []) ∷
+    event (codes "global") (codes "f" ∷ []) [] ∷ event (codes "call") [] (given 6 ∷ []) ∷ event (codes "truthy") [] (given 2 ∷ []) ∷
+    event (codes "global") (codes "g" ∷ []) [] ∷ event (codes "call") (codes "place" ∷ []) (given 3 ∷ given 7 ∷ []) ∷
+    []) ending.Waiting
 defaults_in_try_ported = refl
 
 defaults_in_try_orderly : is_orderly defaults_in_try_unit None ≡ false
@@ -420,24 +420,24 @@ defaults_in_try_supported = refl
 abbrev shadowed_unit : Syntax
 shadowed_unit =
     unit (
-      tree word.Expr (
-        tree word.Arrow (
-          yes ∷ no ∷
-          tree word.Params (listed [] ∷ Absent ∷ []) ∷
-          tree word.Body (
-            listed [] ∷
-            listed (
-              tree word.Fundecl (
-                no ∷ no ∷ no ∷ name (codes "f") ∷
-                tree word.Params (listed (tree word.Param (name (codes "f") ∷ Absent ∷ []) ∷ []) ∷ Absent ∷ []) ∷
-                tree word.Body (listed [] ∷ listed [] ∷ []) ∷
-                []) ∷
-              tree word.Return (id (codes "f") ∷ []) ∷
-              []) ∷
-            []) ∷
-          []) ∷
-        []) ∷
-      [])
+    tree word.Expr (
+    tree word.Arrow (
+    yes ∷ no ∷
+    tree word.Params (listed [] ∷ Absent ∷ []) ∷
+    tree word.Body (
+    listed [] ∷
+    listed (
+    tree word.Fundecl (
+    no ∷ no ∷ no ∷ name (codes "f") ∷
+    tree word.Params (listed (tree word.Param (name (codes "f") ∷ Absent ∷ []) ∷ []) ∷ Absent ∷ []) ∷
+    tree word.Body (listed [] ∷ listed [] ∷ []) ∷
+    []) ∷
+    tree word.Return (id (codes "f") ∷ []) ∷
+    []) ∷
+    []) ∷
+    []) ∷
+    []) ∷
+    [])
 
 shadowed_runs : source_trace_of shadowed_unit None [] [] (yields 1 ∷ [])
     ≡ traced (event (codes "function") (decimal 6 ∷ []) [] ∷ []) (ending.Returned returns.Explicit (given 1) [])
@@ -446,8 +446,8 @@ shadowed_runs = refl
 shadowed_ported : ported_trace_of shadowed_unit (picked ((7, 1) ∷ [])) None [] []
     (yields 1 ∷ [])
     ≡ traced (
-      event (codes "function") (decimal 6 ∷ []) [] ∷
-      []) (ending.Returned returns.Explicit value.Undefined (sets 1 (given 1) ∷ []))
+    event (codes "function") (decimal 6 ∷ []) [] ∷
+    []) (ending.Returned returns.Explicit value.Undefined (sets 1 (given 1) ∷ []))
 shadowed_ported = refl
 
 shadowed_orderly : is_orderly shadowed_unit None ≡ false
@@ -462,44 +462,44 @@ shadowed_supported = refl
 abbrev loops_unit : Syntax
 loops_unit =
     unit (
-      tree word.Expr (
-        tree word.Arrow (
-          yes ∷ no ∷
-          tree word.Params (listed (tree word.Param (name (codes "n") ∷ Absent ∷ []) ∷ []) ∷ Absent ∷ []) ∷
-          tree word.Body (
-            listed [] ∷
-            listed (
-              tree word.For (
-                tree word.Var (
-                  text (codes "let") ∷
-                  listed (tree word.Declarator (name (codes "i") ∷ tree word.Str (text (codes "0") ∷ []) ∷ []) ∷ []) ∷
-                  []) ∷
-                tree word.Binary (text (codes "<") ∷ id (codes "i") ∷ id (codes "n") ∷ []) ∷
-                tree word.Update (text (codes "++") ∷ no ∷ id (codes "i") ∷ []) ∷
-                tree word.Block (
-                  listed (
-                    tree word.If (
-                      tree word.Call (no ∷ id (codes "f") ∷ listed (id (codes "i") ∷ []) ∷ []) ∷
-                      tree word.Continue (Absent ∷ []) ∷ Absent ∷
-                      []) ∷
-                    tree word.Expr (tree word.Call (no ∷ id (codes "g") ∷ listed (id (codes "i") ∷ []) ∷ []) ∷ []) ∷
-                    []) ∷
-                  []) ∷
-                []) ∷
-              []) ∷
-            []) ∷
-          []) ∷
-        []) ∷
-      [])
+    tree word.Expr (
+    tree word.Arrow (
+    yes ∷ no ∷
+    tree word.Params (listed (tree word.Param (name (codes "n") ∷ Absent ∷ []) ∷ []) ∷ Absent ∷ []) ∷
+    tree word.Body (
+    listed [] ∷
+    listed (
+    tree word.For (
+    tree word.Var (
+    text (codes "let") ∷
+    listed (tree word.Declarator (name (codes "i") ∷ tree word.Str (text (codes "0") ∷ []) ∷ []) ∷ []) ∷
+    []) ∷
+    tree word.Binary (text (codes "<") ∷ id (codes "i") ∷ id (codes "n") ∷ []) ∷
+    tree word.Update (text (codes "++") ∷ no ∷ id (codes "i") ∷ []) ∷
+    tree word.Block (
+    listed (
+    tree word.If (
+    tree word.Call (no ∷ id (codes "f") ∷ listed (id (codes "i") ∷ []) ∷ []) ∷
+    tree word.Continue (Absent ∷ []) ∷ Absent ∷
+    []) ∷
+    tree word.Expr (tree word.Call (no ∷ id (codes "g") ∷ listed (id (codes "i") ∷ []) ∷ []) ∷ []) ∷
+    []) ∷
+    []) ∷
+    []) ∷
+    []) ∷
+    []) ∷
+    []) ∷
+    []) ∷
+    [])
 
 loops_runs : source_trace_of loops_unit None [] (given 9 ∷ [])
     (yields 1 ∷ yields 0 ∷ yields 2 ∷ yields 3 ∷ yields 0 ∷ yields 4 ∷ yields 5 ∷ full kinds.No value.Undefined [] [] ∷ [])
     ≡ traced (
-      event (codes "binary") (codes "<" ∷ []) (value.Text (codes "0") ∷ given 9 ∷ []) ∷ event (codes "truthy") [] (given 1 ∷ []) ∷
-      event (codes "global") (codes "f" ∷ []) [] ∷ event (codes "call") (codes "place" ∷ []) (given 2 ∷ value.Text (codes "0") ∷ []) ∷
-      event (codes "truthy") [] (given 3 ∷ []) ∷ event (codes "postfixupdate") (codes "++" ∷ []) (value.Text (codes "0") ∷ []) ∷
-      event (codes "binary") (codes "<" ∷ []) (given 4 ∷ given 9 ∷ []) ∷ event (codes "truthy") [] (given 5 ∷ []) ∷
-      []) (ending.Returned returns.Void value.Undefined [])
+    event (codes "binary") (codes "<" ∷ []) (value.Text (codes "0") ∷ given 9 ∷ []) ∷ event (codes "truthy") [] (given 1 ∷ []) ∷
+    event (codes "global") (codes "f" ∷ []) [] ∷ event (codes "call") (codes "place" ∷ []) (given 2 ∷ value.Text (codes "0") ∷ []) ∷
+    event (codes "truthy") [] (given 3 ∷ []) ∷ event (codes "postfixupdate") (codes "++" ∷ []) (value.Text (codes "0") ∷ []) ∷
+    event (codes "binary") (codes "<" ∷ []) (given 4 ∷ given 9 ∷ []) ∷ event (codes "truthy") [] (given 5 ∷ []) ∷
+    []) (ending.Returned returns.Void value.Undefined [])
 loops_runs = refl
 
 loops_ported : ported_trace_of loops_unit (picked []) None [] (given 9 ∷ [])
@@ -519,44 +519,44 @@ loops_supported = refl
 abbrev statements_unit : Syntax
 statements_unit =
     unit (
-      tree word.Expr (
-        tree word.Arrow (
-          yes ∷ no ∷
-          tree word.Params (listed (tree word.Param (name (codes "v") ∷ Absent ∷ []) ∷ []) ∷ Absent ∷ []) ∷
-          tree word.Body (
-            listed [] ∷
-            listed (
-              tree word.Var (
-                text (codes "const") ∷
-                listed (
-                  tree word.Declarator (
-                    tree word.Objectpat (
-                      listed (
-                        tree word.Keyedpat (
-                          no ∷
-                          tree word.Name (text (codes "a") ∷ []) ∷
-                          tree word.Defaultpat (name (codes "a") ∷ tree word.Str (text (codes "1") ∷ []) ∷ []) ∷
-                          []) ∷
-                        []) ∷
-                      Absent ∷
-                      []) ∷
-                    id (codes "v") ∷
-                    []) ∷
-                  []) ∷
-                []) ∷
-              tree word.Return (id (codes "a") ∷ []) ∷
-              []) ∷
-            []) ∷
-          []) ∷
-        []) ∷
-      [])
+    tree word.Expr (
+    tree word.Arrow (
+    yes ∷ no ∷
+    tree word.Params (listed (tree word.Param (name (codes "v") ∷ Absent ∷ []) ∷ []) ∷ Absent ∷ []) ∷
+    tree word.Body (
+    listed [] ∷
+    listed (
+    tree word.Var (
+    text (codes "const") ∷
+    listed (
+    tree word.Declarator (
+    tree word.Objectpat (
+    listed (
+    tree word.Keyedpat (
+    no ∷
+    tree word.Name (text (codes "a") ∷ []) ∷
+    tree word.Defaultpat (name (codes "a") ∷ tree word.Str (text (codes "1") ∷ []) ∷ []) ∷
+    []) ∷
+    []) ∷
+    Absent ∷
+    []) ∷
+    id (codes "v") ∷
+    []) ∷
+    []) ∷
+    []) ∷
+    tree word.Return (id (codes "a") ∷ []) ∷
+    []) ∷
+    []) ∷
+    []) ∷
+    []) ∷
+    [])
 
 statements_runs : source_trace_of statements_unit None [] (given 5 ∷ [])
     (full kinds.Yes value.Undefined (value.Undefined ∷ []) [] ∷ yields 2 ∷ yields 0 ∷ [])
     ≡ traced (
-      event (codes "destructure") (codes "object" ∷ codes ".a" ∷ codes "place" ∷ []) (given 5 ∷ []) ∷
-      event (codes "binary") (codes "===" ∷ []) (value.Undefined ∷ value.Undefined ∷ []) ∷ event (codes "truthy") [] (given 2 ∷ []) ∷
-      []) (ending.Returned returns.Explicit (value.Text (codes "1")) [])
+    event (codes "destructure") (codes "object" ∷ codes ".a" ∷ codes "place" ∷ []) (given 5 ∷ []) ∷
+    event (codes "binary") (codes "===" ∷ []) (value.Undefined ∷ value.Undefined ∷ []) ∷ event (codes "truthy") [] (given 2 ∷ []) ∷
+    []) (ending.Returned returns.Explicit (value.Text (codes "1")) [])
 statements_runs = refl
 
 statements_ported : ported_trace_of statements_unit (picked []) None [] (given 5 ∷ [])
@@ -576,42 +576,42 @@ statements_supported = refl
 abbrev captures_unit : Syntax
 captures_unit =
     unit (
-      tree word.Expr (
-        tree word.Arrow (
-          yes ∷ no ∷
-          tree word.Params (listed [] ∷ Absent ∷ []) ∷
-          tree word.Body (
-            listed [] ∷
-            listed (
-              tree word.Var (
-                text (codes "let") ∷
-                listed (tree word.Declarator (name (codes "n") ∷ tree word.Str (text (codes "0") ∷ []) ∷ []) ∷ []) ∷
-                []) ∷
-              tree word.Expr (
-                tree word.Call (
-                  no ∷ id (codes "f") ∷
-                  listed (
-                    tree word.Arrow (
-                      no ∷ no ∷
-                      tree word.Params (listed [] ∷ Absent ∷ []) ∷
-                      tree word.Assign (text (codes "=") ∷ id (codes "n") ∷ tree word.Str (text (codes "1") ∷ []) ∷ []) ∷
-                      []) ∷
-                    []) ∷
-                  []) ∷
-                []) ∷
-              tree word.Return (id (codes "n") ∷ []) ∷
-              []) ∷
-            []) ∷
-          []) ∷
-        []) ∷
-      [])
+    tree word.Expr (
+    tree word.Arrow (
+    yes ∷ no ∷
+    tree word.Params (listed [] ∷ Absent ∷ []) ∷
+    tree word.Body (
+    listed [] ∷
+    listed (
+    tree word.Var (
+    text (codes "let") ∷
+    listed (tree word.Declarator (name (codes "n") ∷ tree word.Str (text (codes "0") ∷ []) ∷ []) ∷ []) ∷
+    []) ∷
+    tree word.Expr (
+    tree word.Call (
+    no ∷ id (codes "f") ∷
+    listed (
+    tree word.Arrow (
+    no ∷ no ∷
+    tree word.Params (listed [] ∷ Absent ∷ []) ∷
+    tree word.Assign (text (codes "=") ∷ id (codes "n") ∷ tree word.Str (text (codes "1") ∷ []) ∷ []) ∷
+    []) ∷
+    []) ∷
+    []) ∷
+    []) ∷
+    tree word.Return (id (codes "n") ∷ []) ∷
+    []) ∷
+    []) ∷
+    []) ∷
+    []) ∷
+    [])
 
 captures_runs : source_trace_of captures_unit None [] []
     (yields 1 ∷ yields 2 ∷ full kinds.Yes (given 4) [] (sets 0 (given 3) ∷ []) ∷ [])
     ≡ traced (
-      event (codes "global") (codes "f" ∷ []) [] ∷ event (codes "function") (decimal 13 ∷ []) [] ∷
-      event (codes "call") (codes "place" ∷ []) (given 1 ∷ given 2 ∷ []) ∷
-      []) (ending.Returned returns.Explicit (given 3) (sets 0 (given 3) ∷ []))
+    event (codes "global") (codes "f" ∷ []) [] ∷ event (codes "function") (decimal 13 ∷ []) [] ∷
+    event (codes "call") (codes "place" ∷ []) (given 1 ∷ given 2 ∷ []) ∷
+    []) (ending.Returned returns.Explicit (given 3) (sets 0 (given 3) ∷ []))
 captures_runs = refl
 
 captures_ported : ported_trace_of captures_unit (picked []) None [] []
@@ -631,35 +631,35 @@ captures_supported = refl
 abbrev captures_inner_unit : Syntax
 captures_inner_unit =
     unit (
-      tree word.Expr (
-        tree word.Arrow (
-          yes ∷ no ∷
-          tree word.Params (listed [] ∷ Absent ∷ []) ∷
-          tree word.Body (
-            listed [] ∷
-            listed (
-              tree word.Var (
-                text (codes "let") ∷
-                listed (tree word.Declarator (name (codes "n") ∷ tree word.Str (text (codes "0") ∷ []) ∷ []) ∷ []) ∷
-                []) ∷
-              tree word.Expr (
-                tree word.Call (
-                  no ∷ id (codes "f") ∷
-                  listed (
-                    tree word.Arrow (
-                      no ∷ no ∷
-                      tree word.Params (listed [] ∷ Absent ∷ []) ∷
-                      tree word.Assign (text (codes "=") ∷ id (codes "n") ∷ tree word.Str (text (codes "1") ∷ []) ∷ []) ∷
-                      []) ∷
-                    []) ∷
-                  []) ∷
-                []) ∷
-              tree word.Return (id (codes "n") ∷ []) ∷
-              []) ∷
-            []) ∷
-          []) ∷
-        []) ∷
-      [])
+    tree word.Expr (
+    tree word.Arrow (
+    yes ∷ no ∷
+    tree word.Params (listed [] ∷ Absent ∷ []) ∷
+    tree word.Body (
+    listed [] ∷
+    listed (
+    tree word.Var (
+    text (codes "let") ∷
+    listed (tree word.Declarator (name (codes "n") ∷ tree word.Str (text (codes "0") ∷ []) ∷ []) ∷ []) ∷
+    []) ∷
+    tree word.Expr (
+    tree word.Call (
+    no ∷ id (codes "f") ∷
+    listed (
+    tree word.Arrow (
+    no ∷ no ∷
+    tree word.Params (listed [] ∷ Absent ∷ []) ∷
+    tree word.Assign (text (codes "=") ∷ id (codes "n") ∷ tree word.Str (text (codes "1") ∷ []) ∷ []) ∷
+    []) ∷
+    []) ∷
+    []) ∷
+    []) ∷
+    tree word.Return (id (codes "n") ∷ []) ∷
+    []) ∷
+    []) ∷
+    []) ∷
+    []) ∷
+    [])
 
 captures_inner_runs : source_trace_of captures_inner_unit (Some 13) [] [] []
     ≡ traced [] (ending.Returned returns.Implicit (value.Text (codes "1")) (sets 0 (value.Text (codes "1")) ∷ []))

@@ -27,7 +27,6 @@ Action A = Ways → (onward : A → Cont) → Cont
 
 infixl 20 ◌>>=◌
 infixl 20 ◌>>◌
-
 -- Two actions in a row; the second sees the value of the first. `do` blocks are made of these.
 abbrev pub ◌>>=◌ : {A B : Type 0} → Action A → (A → Action B) → Action B
 ◌>>=◌ action next ways onward = action ways (λ a. next a ways onward)

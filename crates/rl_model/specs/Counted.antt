@@ -40,7 +40,7 @@ counted_at methods (Node at word.Set (Then computed (Then key (Then function End
     counted_as (at_of function).id.0 (codes "objectmethod" ∷ []) at.span
 counted_at methods (Node at word.Assign (Then (Said operator) (Then (Node there word.Id parts) rest))) =
     counted_as at.id.0 (codes "storeglobal" ∷ codes "storelocal" ∷ codes "storecontext" ∷ [])
-        (if bytes_eq operator (codes "=") then there.span else at.span)
+    (if bytes_eq operator (codes "=") then there.span else at.span)
 counted_at methods (Node at word.Funexpr parts) =
     if contains methods at.id.0 then [] else counted_as at.id.0 (codes "function" ∷ []) at.span
 counted_at methods _ = []

@@ -262,12 +262,12 @@ abbrev mutual
   -- JSX
   eval scene
       (Node at word.Element
-        (Then (Node there word.Opening (Then tag (Then (Listed attributes) End))) (Then (Listed children) (Then closing End)))) = do
-    head ← tag_values tag (tag_value scene tag)
-    vs ← values scene attributes
-    ws ← values scene children
-    ask scene (event (codes "jsx") (shapes.tag_shape tag ++ shapes.attribute_shapes attributes ++ shapes.child_shapes scene children)
-        (head ++ vs ++ ws))
+      (Then (Node there word.Opening (Then tag (Then (Listed attributes) End))) (Then (Listed children) (Then closing End)))) = do
+        head ← tag_values tag (tag_value scene tag)
+        vs ← values scene attributes
+        ws ← values scene children
+        ask scene (event (codes "jsx") (shapes.tag_shape tag ++ shapes.attribute_shapes attributes ++ shapes.child_shapes scene children)
+            (head ++ vs ++ ws))
   eval scene (Node at word.Fragment (Then (Listed children) End)) = do
     vs ← values scene children
     ask scene (event (codes "jsxfragment") (shapes.child_shapes scene children) vs)

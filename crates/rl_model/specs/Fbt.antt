@@ -28,7 +28,7 @@ abbrev mutual
   found_in namespace (Node at word.Call (Then optional (Then callee (Then arguments End)))) = found_in namespace arguments
   found_in namespace
       (Node at word.Arrow (Then marked
-          (Then is_async (Then params (Then (Node there word.Body (Then directives (Then (Listed statements) End))) End))))) =
+      (Then is_async (Then params (Then (Node there word.Body (Then directives (Then (Listed statements) End))) End))))) =
       found_in_statements namespace statements
   found_in namespace (Node at word.Arrow (Then marked (Then is_async (Then params (Then body End))))) = found_in namespace body
   found_in namespace (Listed parts) = found_among namespace parts

@@ -131,7 +131,7 @@ abbrev pub is_named_early : Bindings → (symbol : ℕ) → Bound → (statement
 is_named_early b symbol first statement =
     list_any (is_inner_use_of b symbol) (uses_in false statement)
     || (is_hoisted_kind first.kind
-      && (list_any (is_use_of b symbol) (uses_in false statement) || (not (is_fundecl statement) && is_around first.node.0 statement)))
+    && (list_any (is_use_of b symbol) (uses_in false statement) || (not (is_fundecl statement) && is_around first.node.0 statement)))
 
 -- The id of the statement in front of which the symbol gets its marker, among the statements of a list from some statement on. None where
 -- it gets none there, or is declared before.

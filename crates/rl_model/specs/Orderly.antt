@@ -141,7 +141,7 @@ used_in names expression = flat (used_at names (flat builtin_tag_at (code expres
 abbrev pub is_orderly_pattern : Names → (opens : ℕ → Bool) → (tried : Bool) → Syntax → Bool
 is_orderly_pattern names opens tried pattern =
     list_all (λ symbol. not tried && not (opens symbol) && not (contains (flat (used_in names) (defaults_in pattern)) symbol)
-      && nat_le (length (filter (nat_eq symbol) (symbols_in (items_of names pattern)))) 1)
+    && nat_le (length (filter (nat_eq symbol) (symbols_in (items_of names pattern)))) 1)
     (right_of (items_of names pattern))
 
 abbrev mutual
@@ -174,4 +174,4 @@ is_orderly_by names shadowed marked function =
     list_all (is_orderly_node names (flat (assigned_in names) (lowered_functions marked))) (code_of function)
     && list_all (is_orderly_name shadowed) (code_of function)
     && list_all (λ p. is_orderly_pattern names (is_open names marked function) p.0 p.1)
-        ((false, params_in function) ∷ patterns_in false (body_in function))
+    ((false, params_in function) ∷ patterns_in false (body_in function))

@@ -63,7 +63,7 @@ has_meaning init condition = false
 abbrev pub turn_while : (condition : Action Bool) → (body : Action (Unit {0})) → Action Bool
 turn_while condition body = do
   met ← condition
-  if met then (do body ; give true) else give false
+  if met then (do body; give true) else give false
 
 -- A turn of a `for`-`in` or `for`-`of` loop: its next value, or the end.
 abbrev pub turn_with : Option Value → (body : Value → Action (Unit {0})) → Action Bool
@@ -115,9 +115,9 @@ abbrev mutual
   exec scene own (Node at word.Fundecl (Then marked (Then is_async (Then generator (Then name (Then params (Then Absent End))))))) = done
   exec scene own
       (Node at word.Fundecl
-        (Then marked (Then is_async (Then generator (Then (Node there word.Bind parts) (Then params (Then body End))))))) = do
-    v ← ask scene (function at.id.0)
-    declare (scene.stored there.id.0) v
+      (Then marked (Then is_async (Then generator (Then (Node there word.Bind parts) (Then params (Then body End))))))) = do
+        v ← ask scene (function at.id.0)
+        declare (scene.stored there.id.0) v
   exec scene own (Node at word.Return (Then Absent End)) = return_with scene returns.Explicit value.Undefined
   exec scene own (Node at word.Return (Then expression End)) = do
     v ← eval scene expression
@@ -206,5 +206,5 @@ abbrev mutual
   try_cases scene (Then (Node at word.Case (Then condition (Then (Listed statements) End))) cases) v known other = do
     w ← known_or (first_test known) (eval scene condition)
     same ← test scene (matches v w)
-    if same then (do exec_all scene statements ; exec_cases scene cases) else try_cases scene cases v (later_tests known) other
+    if same then (do exec_all scene statements; exec_cases scene cases) else try_cases scene cases v (later_tests known) other
   try_cases scene _ v known other = other

@@ -46,7 +46,7 @@ abbrev mutual
   is_reorderable f locals (Node at word.Privatemember (Then optional (Then object parts))) = is_module_path f object
   is_reorderable f locals
       (Node at word.Arrow
-        (Then marked (Then is_async (Then params (Then (Node there word.Body (Then directives (Then (Listed End) End))) End))))) = true
+      (Then marked (Then is_async (Then params (Then (Node there word.Body (Then directives (Then (Listed End) End))) End))))) = true
   is_reorderable f locals (Node at word.Arrow (Then marked (Then is_async (Then params (Then (Node there word.Body parts) End))))) = false
   is_reorderable f locals (Node at word.Arrow (Then marked (Then is_async (Then params (Then body End))))) = is_reorderable f false body
   is_reorderable f locals (Node at word.Call (Then optional (Then callee (Then (Listed arguments) End)))) =
@@ -111,7 +111,7 @@ abbrev pub is_supported_by : Facts → (marked : Syntax) → Bool
 is_supported_by f marked =
     is_none (rows_in f top (params_in marked) ++ rows_in f top (body_in marked)) && not (has_wrapped_target marked)
     && list_all (λ function. list_all (λ node. stays f node && is_whole_chain node && keeps_fbt node) (code_of function))
-        (lowered_functions marked)
+    (lowered_functions marked)
 
 abbrev pub is_among : ℕ → Syntax → Bool
 is_among id (Node at w parts) = nat_le at.id.0 id && not (nat_le at.end.0 id)
