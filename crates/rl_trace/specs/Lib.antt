@@ -1,0 +1,4 @@
+pub mod Progress
+pub mod Shared
+pub mod Values
+pub mod Variables
