@@ -1,0 +1,13 @@
+pub mod Shaping
+pub mod Adding
+pub mod Smaller
+pub mod FunctionParts
+pub mod Coding
+pub mod FunctionCode
+pub mod Locals
+pub mod Assigning
+pub mod Binding
+pub mod Lowering
+pub mod Flagging
+pub mod Naming
+pub mod Shared

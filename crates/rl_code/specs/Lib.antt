@@ -1,0 +1,6 @@
+pub mod Codes
+pub mod Parts
+pub mod Roles
+pub mod Heads
+pub mod Flags
+pub mod Worlds
