@@ -1,5 +1,5 @@
 -- Lists that grow by what a tree has.
-use Rattle.std.proofs.Common.{◌≡◌, List, [], ◌++◌, append_assoc, append-nil, ap, sym, refl, ◌∙◌}
+use Rattle.std.proofs.Common.{◌≡◌, List, [], ◌++◌, append_assoc, append-nil, ap, sym, ◌∙◌}
 use Rattle.rl_syntax.specs.Syntax.{Syntax, syntax}
 use Rattle.rl_syntax.specs.declared.numbered.Numbered.{Numbered}
 

@@ -1,5 +1,5 @@
 -- The variables that a target assigns, by its form and by its role.
-use Rattle.std.proofs.Common.{◌≡◌, ℕ, Bool, List, [], ◌∷◌, ◌++◌, Option, Some, None, map, append-nil, ap, sym, refl, ◌∙◌}
+use Rattle.std.proofs.Common.{◌≡◌, ℕ, Bool, List, [], ◌++◌, Option, Some, None, map, append-nil, ap, sym, refl, ◌∙◌}
 use Rattle.rl_code.specs.Heads.{assigned_head, target_of}
 use Rattle.rl_code.specs.Parts.{items_and_rest, said_only}
 use Rattle.rl_code.specs.Roles.{assigned_as, part_at, target_role}
@@ -9,7 +9,7 @@ use Rattle.rl_code.proofs.Adding.{adds_none, adds_some, adds_both}
 use Rattle.rl_model.specs.Code.{assigned_among, assigned_at, assigned_by, local_of}
 use Rattle.rl_names.specs.Names.{Names}
 use Rattle.rl_semantic.specs.Items.{of_item}
-use Rattle.rl_syntax.specs.Syntax.{Syntax, Node, Listed, Said, Count, Flag, Absent, Pieces, End, Then, pieces_of, syntax}
+use Rattle.rl_syntax.specs.Syntax.{Syntax, Node, Listed, Said, Flag, Absent, Pieces, End, Then, pieces_of, syntax}
 use Rattle.rl_syntax.specs.declared.numbered.At.{At}
 use Rattle.rl_syntax.specs.declared.numbered.Numbered.{Numbered}
 use Rattle.rl_syntax.specs.declared.numbered.Numbered.TheVariants as numbered

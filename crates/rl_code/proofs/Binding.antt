@@ -1,5 +1,5 @@
 -- The symbols that a binding pattern declares, by its form and by its role.
-use Rattle.std.proofs.Common.{◌≡◌, ℕ, Bool, List, [], ◌∷◌, ◌++◌, Option, Some, None, map, append-nil, ap, sym, refl, ◌∙◌}
+use Rattle.std.proofs.Common.{◌≡◌, ℕ, Bool, List, [], ◌++◌, Option, Some, None, map, append-nil, ap, sym, refl, ◌∙◌}
 use Rattle.rl_code.specs.Parts.{items_and_rest}
 use Rattle.rl_code.specs.Roles.{bound_as, part_at, pattern_role}
 use Rattle.rl_code.specs.declared.role.Part.{Part}
@@ -8,7 +8,7 @@ use Rattle.rl_code.proofs.Adding.{adds_none, adds_some, adds_both}
 use Rattle.rl_model.specs.Code.{bound_among, bound_by, declared_by}
 use Rattle.rl_names.specs.Names.{Names}
 use Rattle.rl_semantic.specs.Items.{of_item}
-use Rattle.rl_syntax.specs.Syntax.{Syntax, Node, Listed, Said, Count, Flag, Absent, Pieces, End, Then, pieces_of, syntax}
+use Rattle.rl_syntax.specs.Syntax.{Syntax, Node, Listed, Flag, Absent, Pieces, End, Then, pieces_of, syntax}
 use Rattle.rl_syntax.specs.declared.numbered.At.{At}
 use Rattle.rl_syntax.specs.declared.numbered.Numbered.{Numbered}
 use Rattle.rl_syntax.specs.declared.numbered.Numbered.TheVariants as numbered

@@ -4,7 +4,7 @@ use Rattle.rl_code.specs.Codes.{code_below}
 use Rattle.rl_code.specs.Parts.{name_of}
 use Rattle.rl_code.proofs.Adding.{adds_none, adds_some, adds_both}
 use Rattle.rl_model.specs.Code.{code, code_among, first_code, is_function, is_instantiate, is_no_code, name_code}
-use Rattle.rl_syntax.specs.Syntax.{Syntax, Node, Listed, Said, Count, Flag, Absent, Pieces, End, Then, pieces_of, syntax}
+use Rattle.rl_syntax.specs.Syntax.{Syntax, Node, Flag, Absent, Pieces, End, Then, pieces_of, syntax}
 use Rattle.rl_syntax.specs.declared.numbered.At.{At}
 use Rattle.rl_syntax.specs.declared.numbered.Numbered.{Numbered}
 use Rattle.rl_syntax.specs.declared.numbered.Numbered.TheVariants as numbered

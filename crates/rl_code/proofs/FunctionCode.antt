@@ -1,10 +1,10 @@
 -- The code of a function, from that of its parts.
-use Rattle.std.proofs.Common.{◌≡◌, List, [], ◌++◌, Option, Some, None, append-nil, ap, sym, ◌∙◌}
+use Rattle.std.proofs.Common.{◌≡◌, List, [], ◌++◌, Some, None, ap, sym, ◌∙◌}
 use Rattle.rl_code.specs.Parts.{parts_of_function}
 use Rattle.rl_code.proofs.FunctionParts.{parts_are, no_parts}
 use Rattle.rl_model.specs.Code.{code}
 use Rattle.rl_model.specs.Code.{code_of as code_of_function}
-use Rattle.rl_names.specs.Functions.{body_in, params_in}
+use Rattle.rl_names.specs.Functions.{params_in}
 use Rattle.rl_syntax.specs.Syntax.{Syntax}
 
 pub code_some : (f params body : Syntax) (out o1 o2 : List Syntax) → out ≡ [] → Some (params, body) ≡ parts_of_function f

@@ -1,9 +1,9 @@
 -- Parameters and body of a function are its parts.
-use Rattle.std.proofs.Common.{◌≡◌, Option, Some, None, ap, sym, refl}
+use Rattle.std.proofs.Common.{◌≡◌, Some, None, ap, sym, refl}
 use Rattle.rl_code.proofs.Smaller.{unpacked}
-use Rattle.rl_code.specs.Parts.{function_parts, parts_of_function}
+use Rattle.rl_code.specs.Parts.{parts_of_function}
 use Rattle.rl_names.specs.Functions.{body_in, params_in}
-use Rattle.rl_syntax.specs.Syntax.{Syntax, Node, Listed, Said, Count, Flag, Absent, Pieces, End, Then}
+use Rattle.rl_syntax.specs.Syntax.{Syntax, Node, Absent, End, Then}
 use Rattle.rl_syntax.specs.declared.word.Word.{Word}
 use Rattle.rl_syntax.specs.declared.word.Word.TheVariants as word
 

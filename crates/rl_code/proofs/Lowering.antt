@@ -1,13 +1,13 @@
 -- The lowered functions of a tree, by its form.
-use Rattle.std.proofs.Common.{◌≡◌, ℕ, Bool, true, false, if◌then◌else◌, List, [], ◌∷◌, ◌++◌, Option, Some, None, map, append_assoc}
+use Rattle.std.proofs.Common.{◌≡◌, ℕ, Bool, true, false, if◌then◌else◌, List, [], ◌++◌, Some, None, map}
 use Rattle.std.proofs.Common.{append-nil, ap, sym, refl, ◌∙◌}
 use Rattle.rl_code.specs.Codes.{itself, lowered_below}
-use Rattle.rl_code.specs.Parts.{function_parts, parts_of_function}
+use Rattle.rl_code.specs.Parts.{parts_of_function}
 use Rattle.rl_code.proofs.Adding.{adds_none, adds_some, adds_both}
 use Rattle.rl_code.proofs.FunctionParts.{parts_are, no_parts}
-use Rattle.rl_model.specs.Code.{first_lowered, inner_functions, is_function, is_instantiate, is_no_code, lowered_among, lowered_in}
-use Rattle.rl_names.specs.Functions.{body_in, params_in}
-use Rattle.rl_syntax.specs.Syntax.{Syntax, Node, Listed, Said, Count, Flag, Absent, Pieces, End, Then, pieces_of, syntax}
+use Rattle.rl_model.specs.Code.{first_lowered, inner_functions, is_instantiate, is_no_code, lowered_among, lowered_in}
+use Rattle.rl_names.specs.Functions.{params_in}
+use Rattle.rl_syntax.specs.Syntax.{Syntax, Node, Flag, Absent, Pieces, End, Then, pieces_of, syntax}
 use Rattle.rl_syntax.specs.declared.numbered.At.{At}
 use Rattle.rl_syntax.specs.declared.numbered.Numbered.{Numbered}
 use Rattle.rl_syntax.specs.declared.numbered.Numbered.TheVariants as numbered

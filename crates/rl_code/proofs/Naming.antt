@@ -1,16 +1,16 @@
 -- The variables that a node names, by its form and by its word.
-use Rattle.std.proofs.Common.{◌≡◌, ℕ, Bool, true, false, not, if◌then◌else◌, List, [], ◌∷◌, ◌++◌, Option, Some, None, map, option_map}
+use Rattle.std.proofs.Common.{◌≡◌, ℕ, Bool, true, false, not, if◌then◌else◌, List, [], ◌∷◌, ◌++◌, Option, Some, None, map}
 use Rattle.std.proofs.Common.{append-nil, ap, sym, refl, ◌∙◌}
 use Rattle.rl_base.specs.declared.ids.SymbolId.{SymbolId}
 use Rattle.rl_code.specs.Heads.{bound_part, is_id, named_as, stored_as, tag_as, tag_part, used_as}
-use Rattle.rl_code.specs.Parts.{both, first, name_of, said_only}
+use Rattle.rl_code.specs.Parts.{both, name_of, said_only}
 use Rattle.rl_code.proofs.Adding.{adds_none, adds_some}
 use Rattle.rl_model.specs.Code.{bound_by, builtin_tag_at, code_of, contains, declared_by, flat, function_names_at, is_builtin_tag}
 use Rattle.rl_model.specs.Code.{local_of, named_at, named_in}
 use Rattle.rl_model.specs.Shapes.{is_capital}
 use Rattle.rl_names.specs.Names.{Names, at_of}
 use Rattle.rl_semantic.specs.Items.{of_item}
-use Rattle.rl_syntax.specs.Syntax.{Syntax, Node, Listed, Said, Count, Flag, Absent, Pieces, End, Then, pieces_of, syntax}
+use Rattle.rl_syntax.specs.Syntax.{Syntax, Node, Said, Flag, Absent, Pieces, End, Then, pieces_of, syntax}
 use Rattle.rl_syntax.specs.declared.numbered.At.{At}
 use Rattle.rl_syntax.specs.declared.numbered.Numbered.{Numbered}
 use Rattle.rl_syntax.specs.declared.numbered.Numbered.TheVariants as numbered

@@ -1,8 +1,8 @@
 -- Parts that do not have the form wanted.
-use Rattle.std.proofs.Common.{◌≡◌, Bool, false, Option, Some, None, refl}
+use Rattle.std.proofs.Common.{◌≡◌, false, None, refl}
 use Rattle.rl_code.specs.Parts.{both, items_and_rest, only, said_only}
 use Rattle.rl_syntax.specs.Shapes.{is_list, is_text}
-use Rattle.rl_syntax.specs.Syntax.{Syntax, Node, Listed, Said, Count, Flag, Absent, Pieces, End, Then}
+use Rattle.rl_syntax.specs.Syntax.{Syntax, Listed, Said, Pieces, End, Then}
 
 pub no_both : (parts : Pieces) → both parts ≡ None → None ≡ items_and_rest parts
 no_both (Then (Listed items) (Then rest End)) none = absurd (cc)

@@ -1,6 +1,6 @@
 -- Variables that functions share.
 use Rattle.std.proofs.Common.{◌≡◌, ◌||◌, ℕ, ◌+◌, nat_eq, Bool, true, false, if◌then◌else◌, filter, List, [], ◌∷◌, ◌++◌, add-one}
-use Rattle.std.proofs.Common.{append-nil, ap, sym, refl, ◌∙◌}
+use Rattle.std.proofs.Common.{ap, sym, refl, ◌∙◌}
 use Rattle.std.proofs.lemmas.List.Elements.{filter-append}
 use Rattle.std.specs.List.{list_any}
 use Rattle.rl_code.specs.Worlds.{named_here}

@@ -1,11 +1,11 @@
 -- Parts of a node are smaller than all its parts together.
-use Rattle.std.proofs.Common.{◌≡◌, ℕ, ◌+◌, ◌*◌, ◌<◌, ◌≤◌, Option, Some, None, ap, refl, arith}
-use Rattle.rl_code.specs.Parts.{first, function_parts, items_and_rest, only, second, third_of_three}
+use Rattle.std.proofs.Common.{◌≡◌, ◌<◌, Some, ap, arith}
+use Rattle.rl_code.specs.Parts.{first, items_and_rest, only, third_of_three}
 use Rattle.rl_code.specs.Roles.{part_at}
 use Rattle.rl_code.specs.declared.role.Part.{Part}
 use Rattle.rl_code.specs.declared.role.Part.TheVariants as part
 use Rattle.rl_syntax.specs.Sizes.{size, size_of}
-use Rattle.rl_syntax.specs.Syntax.{Syntax, Node, Listed, Said, Count, Flag, Absent, Pieces, End, Then}
+use Rattle.rl_syntax.specs.Syntax.{Syntax, Listed, Pieces, End, Then}
 
 -- What two options have is the same, if they are.
 pub unpacked : {X : Type 0} (x y : X) → Some x ≡ Some y → x ≡ y

@@ -1,7 +1,7 @@
 -- The code below a node, and the functions.
-use Rattle.std.specs.Prelude.{if◌then◌else◌, List, [], ◌∷◌, ◌++◌}
+use Rattle.std.specs.Prelude.{if◌then◌else◌, List, [], ◌∷◌}
 use Rattle.rl_model.specs.Code.{code_among, first_code, first_lowered, is_function, is_instantiate, lowered_among, name_code}
-use Rattle.rl_syntax.specs.Syntax.{Syntax, Pieces, End, Then}
+use Rattle.rl_syntax.specs.Syntax.{Syntax, Pieces}
 use Rattle.rl_syntax.specs.declared.word.Word.{Word}
 
 -- The nodes below a node that are code with it.

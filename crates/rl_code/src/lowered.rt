@@ -1,11 +1,10 @@
 //! The functions of a unit that are lowered.
 
-ghost use Rattle.std.specs.Prelude.{◌≡◌, [], ◌∷◌, ◌++◌, map, option_map, IfOk, OnOk};
+ghost use Rattle.std.specs.Prelude.{◌≡◌, [], ◌++◌, map, IfOk, OnOk};
 ghost use Rattle.rl_ast.specs.Marked.{first, marked_functions};
 ghost use Rattle.rl_code.specs.Codes as spec;
 ghost use Rattle.rl_code.specs.Parts as parts;
 ghost use Rattle.rl_model.specs.Code as code;
-ghost use Rattle.rl_names.specs.Functions.{body_in, params_in};
 ghost use Rattle.rl_semantic.specs.Items.{of_item};
 ghost use Rattle.rl_syntax.specs.Syntax.{pieces_of, syntax};
 

@@ -4,7 +4,7 @@ ghost use Rattle.std.specs.Prelude.{◌≡◌, [], ◌∷◌, true, false, None,
 ghost use Rattle.rl_code.specs.Parts as spec;
 ghost use Rattle.rl_model.specs.Code as code;
 ghost use Rattle.rl_syntax.specs.Shapes.{is_text};
-ghost use Rattle.rl_syntax.specs.Syntax.{Listed, Said, End, Then, pieces_of, syntax};
+ghost use Rattle.rl_syntax.specs.Syntax.{Said, End, Then, pieces_of, syntax};
 ghost use Rattle.rl_syntax.specs.declared.word.Word.TheVariants as words;
 
 use rl_base::text::Text;

@@ -1,6 +1,6 @@
 //! The variables that names stand for, by number.
 
-ghost use Rattle.std.specs.Prelude.{◌≡◌, ℕ, [], ◌++◌, List, slice_get, OnOk};
+ghost use Rattle.std.specs.Prelude.{◌≡◌, ℕ, ◌++◌, List, slice_get, OnOk};
 ghost use Rattle.rl_model.specs.Code as code;
 ghost use Rattle.rl_names.specs.Names as spec;
 ghost use Rattle.rl_names.specs.Seen.{seen};

@@ -1,4 +1,4 @@
-use Rattle.std.proofs.Common.{length, filter, map, ap, ◌∙◌}
+use Rattle.std.proofs.Common.{length, filter, ap, ◌∙◌}
 use Rattle.std.specs.List.{list_any}
 use Rattle.rl_code.specs.Worlds.{is_shared, others_among}
 use Rattle.rl_model.specs.Code.{assigned_in, below, contains}
