@@ -6,7 +6,7 @@ use Rattle.rl_bindings.specs.Roles.{role_of, parts_ahead, below}
 use Rattle.rl_bindings.specs.declared.role.Above.{Above}
 use Rattle.rl_bindings.specs.declared.role.Role.{Role}
 use Rattle.rl_bindings.specs.declared.role.Role.TheVariants as role
-use Rattle.rl_bindings.proofs.Following.{behind_tree, behind_parts, behind_items, node_kept}
+use Rattle.rl_bindings.proofs.Following.{behind_tree, behind_items, node_kept}
 use Rattle.rl_rules.specs.Declarations.{other_stands}
 use Rattle.rl_rules.specs.Following.{Context, followed, node_passes, part_below, outermost}
 use Rattle.rl_rules.specs.Marks.{body_of, bodies_among}

@@ -4,7 +4,6 @@ use Rattle.rl_code.proofs.Smaller.{unpacked}
 use Rattle.rl_code.specs.Parts.{parts_of_function}
 use Rattle.rl_names.specs.Functions.{body_in, params_in}
 use Rattle.rl_syntax.specs.Syntax.{Syntax, Node, Absent, End, Then}
-use Rattle.rl_syntax.specs.declared.word.Word.{Word}
 use Rattle.rl_syntax.specs.declared.word.Word.TheVariants as word
 
 apart : (q r : Syntax × Syntax) → Some q ≡ Some r → (r.0 ≡ q.0) × (r.1 ≡ q.1)

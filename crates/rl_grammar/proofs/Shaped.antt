@@ -1,5 +1,5 @@
 -- A tree that fits the grammar is shaped: its lists hold nodes and texts alone, and its nodes have at most 8 parts.
-use Rattle.std.proofs.Common.{◌≡◌, Bool, true, ◌&&◌, nat_le, Option, Some, None, List, [], ◌∷◌, length, refl, arith}
+use Rattle.std.proofs.Common.{◌≡◌, true, ◌&&◌, Option, Some, None, List, [], ◌∷◌, length, refl, arith}
 use Rattle.std.proofs.lemmas.Bool.{and_parts}
 use Rattle.rl_grammar.specs.Grammar.{fits, each, every}
 use Rattle.rl_grammar.specs.Rules.{rule}
@@ -9,7 +9,6 @@ use Rattle.rl_grammar.specs.declared.kind.Field.{Field}
 use Rattle.rl_grammar.specs.declared.kind.Field.TheVariants as field
 use Rattle.rl_grammar.specs.declared.kind.Kind.{Kind}
 use Rattle.rl_grammar.specs.declared.kind.Kind.TheVariants as kind
-use Rattle.rl_syntax.specs.declared.word.Word.{Word}
 use Rattle.rl_syntax.specs.declared.word.Word.TheVariants as word
 
 -- Parts that fit fields are as many as the fields.

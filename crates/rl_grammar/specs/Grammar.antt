@@ -1,5 +1,5 @@
 -- Trees that fit the grammar: the table of rules, applied to every node.
-use Rattle.std.specs.Prelude.{ℕ, Bool, true, false, ◌&&◌, Option, Some, None, List, [], ◌∷◌}
+use Rattle.std.specs.Prelude.{ℕ, Bool, true, false, ◌&&◌, Option, Some, List, [], ◌∷◌}
 use Rattle.rl_base.specs.ClosedTexts.{is_written}
 use Rattle.rl_base.specs.Operators.{is_operator, is_logical, is_unary, is_update, is_assignment}
 use Rattle.rl_base.specs.Scalars.{is_scalar_value}

@@ -59,7 +59,7 @@ joined_lines lines = join_with_byte 32 (filter (λ line. not (is_empty line)) li
 abbrev pub unless_empty : List ℕ → Option (List ℕ)
 unless_empty text = if is_empty text then None else Some text
 
--- What a JSX text shows: its tabs are spaces, spaces beside line endings go, and the lines that are not empty then are joined by
+-- The text that a JSX text shows: its tabs are spaces, spaces beside line endings go, and the lines left that are not empty are joined by
 -- spaces. `None` if nothing is left.
 unfoldable pub trim_jsx_text : List ℕ → Option (List ℕ)
 trim_jsx_text text = unless_empty (joined_lines (trimmed_lines (split_line_endings (tabs_as_spaces text))))

@@ -87,7 +87,7 @@ fn join_trimmed(alloc: Global, text: &str) -> Result<String, OutOfMemory>
     Ok(joined)
 }
 
-/// What a JSX text shows: its tabs are spaces, spaces beside line endings go, and the lines that are not empty then are joined by
+/// The text that a JSX text shows: its tabs are spaces, spaces beside line endings go, and the lines left that are not empty are joined by
 /// spaces. `None` if nothing is left. On `OutOfMemory` an allocation failed. It is `trimJsxText` of the original.
 pub fn trim_jsx_text(alloc: Global, text: &Text) -> Result<Option<Text>, OutOfMemory>
     ensures { IfOk result (λ trimmed. trimmed ≡ spec.trim_jsx_text text.now) }

@@ -1,5 +1,5 @@
 -- The parts of small graphs on which the machine is tried, and their runs.
-use Rattle.std.proofs.Common.{ℕ, None, List, [], ◌∷◌, map, codes}
+use Rattle.std.proofs.Common.{ℕ, false, None, List, [], ◌∷◌, map, codes}
 use Rattle.rl_base.specs.declared.ids.BlockId.{BlockId}
 use Rattle.rl_hir.specs.Blocks.{Pair}
 use Rattle.rl_hir.specs.declared.function.BlockKind.TheVariants as blocks
@@ -14,7 +14,7 @@ use Rattle.rl_hir.specs.declared.terminal.ReturnVariant.TheVariants as returns
 use Rattle.rl_hir.specs.declared.terminal.TerminalKind.{TerminalKind}
 use Rattle.rl_hir.specs.declared.terminal.TerminalKind.TheVariants as ends
 use Rattle.rl_machine.specs.Machine.{Graph, graph_trace}
-use Rattle.rl_machine.specs.Traces.{alone, waiting}
+use Rattle.rl_machine.specs.Traces.{World, waiting}
 use Rattle.rl_machine.specs.declared.trace.Answer.{Answer}
 use Rattle.rl_machine.specs.declared.trace.AnswerKind.{AnswerKind}
 use Rattle.rl_machine.specs.declared.trace.Ending.{Ending}
@@ -53,6 +53,10 @@ graph pairs table = record { blocks = pairs; table = table; entry = block 0 }
 
 abbrev pub given : (number : ℕ) → Value
 given number = value.Given number
+
+-- The world of a function that shares no variable.
+abbrev pub alone : World
+alone = record { opens = λ symbol. false; keeps = [] }
 
 -- The trace of a run with the argument 9.
 abbrev pub trace_of : Graph → List Answer → Trace

@@ -15,9 +15,9 @@ use Rattle.rl_hir.specs.declared.terminal.GotoVariant.TheVariants as gotos
 use Rattle.rl_hir.specs.declared.terminal.ReturnVariant.TheVariants as returns
 use Rattle.rl_hir.specs.declared.terminal.TerminalKind.{TerminalKind}
 use Rattle.rl_hir.specs.declared.terminal.TerminalKind.TheVariants as ends
-use Rattle.rl_machine.proofs.ExampleGraphs.{answer, block, branches, given, gives, global, goes, graph, instruction, lists, loads, place, returns_place, stores, trace, trace_of}
+use Rattle.rl_machine.proofs.ExampleGraphs.{alone, answer, block, branches, given, gives, global, goes, graph, instruction, lists, loads, place, returns_place, stores, trace, trace_of}
 use Rattle.rl_machine.specs.Machine.{Graph, graph_trace}
-use Rattle.rl_machine.specs.Traces.{World, alone, matches, nullish, truthy, waiting}
+use Rattle.rl_machine.specs.Traces.{World, matches, nullish, truthy, waiting}
 use Rattle.rl_machine.specs.declared.trace.Answer.{Answer}
 use Rattle.rl_machine.specs.declared.trace.AnswerKind.TheVariants.{Yes, No, Throw}
 use Rattle.rl_machine.specs.declared.trace.Assignment.{Assignment}

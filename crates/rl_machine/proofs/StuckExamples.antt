@@ -3,9 +3,9 @@ use Rattle.std.proofs.Common.{◌≡◌, None, Some, List, [], ◌∷◌, codes,
 use Rattle.rl_hir.specs.declared.instruction.InstructionValue.TheVariants as values
 use Rattle.rl_hir.specs.declared.terminal.TerminalKind.{TerminalKind}
 use Rattle.rl_hir.specs.declared.terminal.TerminalKind.TheVariants as ends
-use Rattle.rl_machine.proofs.ExampleGraphs.{answer, block, branches, goes, graph, instruction, lists, place, returns_place}
+use Rattle.rl_machine.proofs.ExampleGraphs.{alone, answer, block, branches, goes, graph, instruction, lists, place, returns_place}
 use Rattle.rl_machine.specs.Machine.{Graph, graph_trace}
-use Rattle.rl_machine.specs.Traces.{alone, emit}
+use Rattle.rl_machine.specs.Traces.{emit}
 use Rattle.rl_machine.specs.declared.trace.Answer.{Answer}
 use Rattle.rl_machine.specs.declared.trace.AnswerKind.TheVariants.{Yes, Throw}
 use Rattle.rl_machine.specs.declared.trace.Trace.{Trace}

@@ -1,5 +1,5 @@
 -- Traces in continuation-passing style, as both the source and the graph build them.
-use Rattle.std.specs.Prelude.{ℕ, nat_eq, Bool, false, if◌then◌else◌, List, [], ◌∷◌, codes}
+use Rattle.std.specs.Prelude.{ℕ, nat_eq, Bool, if◌then◌else◌, List, [], ◌∷◌, codes}
 use Rattle.rl_hir.specs.declared.terminal.ReturnVariant.{ReturnVariant}
 use Rattle.rl_machine.specs.declared.trace.Value.{Value}
 use Rattle.rl_machine.specs.declared.trace.Value.TheVariants.{Undefined}
@@ -54,10 +54,6 @@ pub record World : Type 0 where
   pub opens : ℕ → Bool
   -- the variables whose values other functions see when this one has returned, in order
   pub keeps : List ℕ
-
--- The world of a function that stands alone.
-abbrev pub alone : World
-alone = record { opens = λ symbol. false; keeps = [] }
 
 -- Continuations: the trace from a store and the answers that are left, from a value as well, from an answer, and from the values of some
 -- parts.

@@ -1,16 +1,14 @@
 -- Reached blocks are kept whole.
-use Rattle.std.proofs.Common.{◌≡◌, Bool, true, false, ◌||◌, ◌⊎◌, inl, inr, true≢false, Option, Some, None, is_some, unwrap_or, List, [], ◌∷◌, ◌++◌, reverse, refl, append-nil, sym, ap, ◌∙◌, subst}
+use Rattle.std.proofs.Common.{◌≡◌, Bool, true, false, ◌||◌, ◌⊎◌, true≢false, Option, Some, None, is_some, unwrap_or, List, [], ◌∷◌, ◌++◌, reverse, refl, append-nil, sym, ap, ◌∙◌, subst}
 use Rattle.std.specs.List.{list_any}
 use Rattle.std.specs.Map.{lookup}
 use Rattle.rl_base.specs.declared.ids.BlockId.{BlockId}
 use Rattle.rl_hir.specs.Blocks.{Pair, block_at, same_id}
-use Rattle.rl_hir.specs.Terminals.{fallthrough}
 use Rattle.rl_hir.specs.declared.function.BasicBlock.{BasicBlock}
 use Rattle.rl_order.proofs.KeptBlocks.{kept_apart}
 use Rattle.rl_order.proofs.Ordering.{is_done, same_ids, same_self, walked_opened}
 use Rattle.rl_order.proofs.IsUsed.{reached_used}
-use Rattle.rl_order.specs.Walk.{Ends, Expands, IsOrdered, KeepsReached, Passes, Walk, Walks, WalksFrom, entered, is_first, is_passed, is_used, kept, kept_block, left, nothing, visit, visits_from}
-use Rattle.rl_order.specs.declared.tasks.Visit.{Visit}
+use Rattle.rl_order.specs.Walk.{KeepsReached, Walk, Walks, WalksFrom, is_used, kept, kept_block}
 
 -- A block that no pair of the first list has is looked up in the second.
 block_at_skip : (xs ys : List Pair) (id : BlockId) → block_at xs id ≡ None → block_at (xs ++ ys) id ≡ block_at ys id

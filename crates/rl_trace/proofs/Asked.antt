@@ -1,6 +1,6 @@
 -- The trace of a run that asks an event is that of the run behind it.
 use Rattle.std.proofs.Common.{◌≡◌, List, [], ◌∷◌, ◌++◌, refl, ap, sym, ◌∙◌, append_assoc}
-use Rattle.rl_machine.specs.Traces.{AnswerCont, Store, asked, emit, waiting}
+use Rattle.rl_machine.specs.Traces.{AnswerCont, asked, emit, waiting}
 use Rattle.rl_machine.specs.declared.trace.Answer.{Answer}
 use Rattle.rl_machine.specs.declared.trace.Event.{Event}
 use Rattle.rl_machine.specs.declared.trace.Trace.{Trace}

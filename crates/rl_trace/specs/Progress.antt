@@ -1,5 +1,5 @@
 -- The progress of a run, as definitions of traces see it.
-use Rattle.std.specs.Prelude.{◌≡◌, ℕ, Bool, true, Option, Some, None, List, [], ◌∷◌, ◌++◌, map}
+use Rattle.std.specs.Prelude.{◌≡◌, ℕ, true, Option, Some, None, List, [], ◌∷◌, ◌++◌, map}
 use Rattle.std.specs.Borrow.{Bor}
 use Rattle.rl_machine.specs.Machine.{set_by, set_where, value_where}
 use Rattle.rl_machine.specs.Traces.{Changer, Store, World, set}

@@ -1,5 +1,5 @@
 -- The world that a run reads off its tables.
-use Rattle.std.specs.Prelude.{ℕ, Bool, false, Option, Some, None, List, map, slice_get}
+use Rattle.std.specs.Prelude.{ℕ, Bool, false, Option, Some, None, map, slice_get}
 use Rattle.rl_base.specs.declared.ids.IdentifierId.{IdentifierId}
 use Rattle.rl_machine.specs.Traces.{World}
 use Rattle.rl_trace.specs.declared.shared.Numbers.{Numbers}

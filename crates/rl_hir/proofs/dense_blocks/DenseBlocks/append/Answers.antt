@@ -1,7 +1,7 @@
 use Rattle.std.proofs.Common.{◌≡◌, ℕ, nat_eq, if◌then◌else◌, List, [], ◌∷◌, ◌++◌, length, Some, ap, sym, subst, ◌∙◌, arith}
 use Rattle.rl_hir.proofs.Indexed.{appended, no_index}
 use Rattle.rl_hir.specs.Blocks.{Pair}
-use Rattle.rl_hir.specs.Indexed.{IsIndexed, index_of}
+use Rattle.rl_hir.specs.Indexed.{IsIndexed}
 use Rattle.rl_hir.proofs.dense_blocks.DenseBlocks.append.Goals as goal
 
 pub invariant_of-self-2 : goal.invariant_of-self-2

@@ -1,7 +1,6 @@
 use Rattle.std.proofs.Common.{◌≡◌, ◌≤◌, length, Some, slice_get, refl, arith}
 use Rattle.std.proofs.lemmas.Option.{slice_get_read}
 use Rattle.rl_hir.proofs.Indexed.{all_below, id_at, one_more}
-use Rattle.rl_hir.specs.Blocks.{ids}
 use Rattle.rl_hir.proofs.dense_blocks.PairIndices.renumber.Goals as goal
 
 pub set-requires : goal.set-requires
