@@ -1,0 +1,7 @@
+use Rattle.std.proofs.Common.{◌≡◌, ◌∷◌, [], OnOk, ap, subst, sym, ◌∙◌}
+use Rattle.rl_hir.specs.Pieces.{Gives, used}
+use Rattle.rl_graph_events.specs.Buildings.{added, adds, built, with_operand}
+use Rattle.rl_graph_events.proofs.building.Building.gives.Goals as goal
+
+pub returns : goal.returns
+returns c = c.in_ok-uses.ensures ∙ ap (added (used c.args.place)) c.in_ok-says.ensures

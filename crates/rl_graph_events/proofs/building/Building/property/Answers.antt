@@ -1,0 +1,17 @@
+use Rattle.std.proofs.Common.{◌≡◌, ◌∷◌, [], OnOk, ap, subst, sym, ◌∙◌}
+use Rattle.rl_hir.specs.Pieces.{Gives, property_pieces}
+use Rattle.rl_graph_events.specs.Buildings.{added, adds, built, with_operand}
+use Rattle.rl_graph_events.proofs.building.Building.property.Goals as goal
+
+pub returns-in_ok-names-in-Property : goal.returns-in_ok-names-in-Property
+returns-in_ok-names-in-Property c =
+    subst (λ p. OnOk c.gives.result (built c.gives.new.self ≡ adds (property_pieces p) (built c.args.self.now))) (sym c.in-Property.is)
+    (subst (λ b. OnOk c.gives.result (built c.gives.new.self ≡ added
+    (Gives c.in-Property.place) b)) c.in_ok-names-in-Property.ensures c.gives.ensures)
+
+pub returns-in_ok-gives-in-Computed : goal.returns-in_ok-gives-in-Computed
+returns-in_ok-gives-in-Computed c =
+    subst (λ p. OnOk c.gives-in-Computed-2.result (built c.gives-in-Computed-2.new.self ≡ adds (property_pieces p)
+    (built c.args.self.now))) (sym c.in-Computed.is)
+    (subst (λ b. OnOk c.gives-in-Computed-2.result (built c.gives-in-Computed-2.new.self ≡ added
+    (Gives c.in-Computed.place) b)) c.in_ok-gives-in-Computed.ensures c.gives-in-Computed-2.ensures)

@@ -1,0 +1,7 @@
+use Rattle.std.proofs.Common.{◌≡◌, ◌∷◌, [], OnOk, ap, subst, sym, ◌∙◌}
+use Rattle.rl_hir.specs.Pieces.{Gives, used}
+use Rattle.rl_graph_events.specs.Buildings.{added, adds, built, with_operand}
+use Rattle.rl_graph_events.proofs.building.Building.text_and_value.Goals as goal
+
+pub returns : goal.returns
+returns c = subst (λ b. OnOk c.uses.result (built c.uses.new.self ≡ added (used c.args.value) b)) c.in_ok-says.ensures c.uses.ensures

@@ -1,0 +1,5 @@
+//! The events of instructions.
+#![tactic(auto)]
+
+pub mod building;
+pub mod event;
