@@ -1,0 +1,4 @@
+pub mod Asks
+pub mod SpacedTexts
+pub mod Stacks
+pub mod WrittenScenes

@@ -1,0 +1,10 @@
+pub mod Behinds
+pub mod Controls
+pub mod Frames
+pub mod Konts
+pub mod Loops
+pub mod Parts
+pub mod Properties
+pub mod Scenes
+pub mod States
+pub mod Texts

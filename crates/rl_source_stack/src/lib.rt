@@ -1,0 +1,13 @@
+//! Runs of functions by their source: what is to be done next, and what waits for it.
+#![tactic(auto)]
+
+pub mod apart;
+pub mod asking;
+pub mod behind;
+pub mod control;
+pub mod events;
+pub mod gather;
+pub mod property;
+pub mod run;
+pub mod stack;
+pub mod texts;
