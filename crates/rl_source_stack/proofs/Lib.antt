@@ -1,4 +1,5 @@
 pub mod Asks
+pub mod Goings
 pub mod SpacedTexts
 pub mod Stacks
 pub mod WrittenScenes

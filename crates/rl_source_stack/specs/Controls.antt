@@ -5,7 +5,7 @@ use Rattle.rl_machine.specs.declared.trace.Event.{Event}
 use Rattle.rl_machine.specs.declared.trace.Trace.{Trace}
 use Rattle.rl_machine.specs.declared.trace.Value.{Value}
 use Rattle.rl_model.specs.Actions.{Action, ◌>>=◌, ◌>>◌, answer_to, give}
-use Rattle.rl_model.specs.Expressions.{assign_to, callee, delete_property, eval, tag_value}
+use Rattle.rl_model.specs.Expressions.{assign_to, callee, delete_property, eval}
 use Rattle.rl_model.specs.Patterns.{bind}
 use Rattle.rl_model.specs.Scene.{Scene, kept_values}
 use Rattle.rl_model.specs.Statements.{exec, exec_all, exec_cases, exec_default, take_head, try_cases}
@@ -32,7 +32,6 @@ goes (control.Evaluate tree) scene k = eval scene (syntax tree.tree.now) k.ways 
 goes (control.Element tree) scene k = eval scene (syntax tree.tree.now) k.ways k.value
 goes (control.Fragment tree) scene k = eval scene (syntax tree.tree.now) k.ways k.value
 goes (control.Callee tree) scene k = callee scene (syntax tree.tree.now) k.ways (paired k)
-goes (control.Tag tree) scene k = tag_value scene (syntax tree.tree.now) k.ways k.value
 goes (control.Delete tree) scene k = delete_property scene (syntax tree.tree.now) k.ways k.value
 goes (control.Link property then_use object) scene k = linked scene property then_use (shown object) k
 goes (control.Call function arguments) scene k =

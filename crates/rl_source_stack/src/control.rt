@@ -5,9 +5,8 @@ use crate::behind::Turns;
 use crate::property::{Property, Use};
 use rl_base::text::Text;
 use rl_grammar::sort::{
-    ArgumentTrees, BlockStatementTree, ExpressionTree, ForHeadTree, JsxElementNameTree,
-    JsxElementTree, JsxFragmentTree, StatementTree, StatementTrees, SwitchCaseTrees,
-    VariableDeclarationTree,
+    ArgumentTrees, BlockStatementTree, ExpressionTree, ForHeadTree, JsxElementTree,
+    JsxFragmentTree, StatementTree, StatementTrees, SwitchCaseTrees, VariableDeclarationTree,
 };
 use rl_hir::terminal::ReturnVariant;
 use rl_machine::trace::Value;
@@ -24,8 +23,6 @@ pub enum Control<'b> {
     Fragment(JsxFragmentTree<'b>),
     /// Evaluate a callee that lends its object.
     Callee(ExpressionTree<'b>),
-    /// Evaluate a tag.
-    Tag(JsxElementNameTree<'b>),
     /// Delete a property.
     Delete(ExpressionTree<'b>),
     /// Go on with a property of an object.

@@ -23,7 +23,6 @@ pub struct JsxTexts<'b> {
 
 impl<'b> JsxTexts<'b> {
     /// True of a text that keeps its spaces.
-    #[tactic(auto, using(crate::proofs::SpacedTexts::spaced_found))]
     fn is_spaced(&self, node: NodeId) -> bool
         ensures { result ≡ contains (numbers_of self.now.spaced.now) node.0 }
     {

@@ -6,14 +6,14 @@ use Rattle.rl_source_stack.proofs.run.Run.ask_pieces.Goals as goal
 
 pub returns-in-Yes : goal.returns-in-Yes
 returns-in-Yes c =
-    as_pieces (state_of c.ask.new.self) _ _ c.as_slice-pieces.ensures
+    as_pieces (state_of c.ask.new.self) c.as_slice-pieces.result _ c.as_slice-pieces.ensures
     ∙ pieces_by _ _ _ _
     (in_some c.args.event _ _ (state_of c.args.self.now) (state_of c.ask.new.self) c.in-Some.is c.in_ok-answer.ensures)
     kinds.Yes c.in-Yes.is
 
 pub returns-in-No : goal.returns-in-No
 returns-in-No c =
-    as_pieces (state_of c.ask.new.self) _ _ c.as_slice-pieces.ensures
+    as_pieces (state_of c.ask.new.self) c.as_slice-pieces.result _ c.as_slice-pieces.ensures
     ∙ pieces_by _ _ _ _
     (in_some c.args.event _ _ (state_of c.args.self.now) (state_of c.ask.new.self) c.in-Some.is c.in_ok-answer.ensures)
     kinds.No c.in-No.is
