@@ -29,7 +29,7 @@ use Rattle.rl_trace.specs.Values.{shown}
 use Rattle.rl_trace.specs.declared.shared.Numbers.TheVariants as numbers
 use Rattle.rl_trace.specs.declared.value.Val.{Val}
 
--- Where variables are symbols, an answer assigns to them by their own numbers.
+-- An answer assigns to symbols by their own numbers, in a run whose variables are symbols.
 set_own : (opens : ℕ → Bool) (assignments : List Assignment) (store : Store)
     → set_by (ident_of numbers.Own) opens assignments store ≡ set_open opens assignments store
 set_own opens [] store = refl
@@ -59,7 +59,7 @@ was_asked : (names : FunctionNames) (texts : JsxTexts) (frames : List Frame) (e 
 was_asked names texts frames e None old new own q = unasked_in names texts frames old new q
 was_asked names texts frames e (Some a) old new own q = asked_in names texts frames e a.now old new own q
 
--- What a run's progress has asked, whose variables are symbols, the run has asked.
+-- A run whose variables are symbols has asked the events that its progress has asked.
 pub run_asked : (names : FunctionNames) (texts : JsxTexts) (frames : List Frame) (e : Event) (old new : Seen)
     → (result : Result (Option (Bor Answer)) OutOfMemory)
     → old.ident ≡ ident_of numbers.Own → IfOk result (λ answer. progress.WasAsked e answer old new)
@@ -88,7 +88,7 @@ pub in_some : (e : Event) (answer : Option (Bor Answer)) (a : Bor Answer) (old n
     → IsAsked e a.now old new
 in_some e answer a old new is q = subst (λ x. WasAsked e x old new) is q
 
--- What a run does by the kind of the answer `a`.
+-- The continuation of a run by the kind of the answer `a`.
 abbrev pub on_kind : AnswerKind → (if_yes if_no if_thrown : Scene → Konts → AnswerCont) → Scene → Konts → AnswerCont
 on_kind kind if_yes if_no if_thrown scene k a store rest =
     by_kind kind (if_yes scene k a store rest) (if_no scene k a store rest) (if_thrown scene k a store rest)
@@ -107,7 +107,7 @@ answered_by e a old new q kind is if_yes if_no if_thrown =
     sym (ap (λ k. onward_in (on_kind k if_yes if_no if_thrown) a new) is)
     ∙ answered e a old new q (λ scene k b. on_kind b.kind if_yes if_no if_thrown scene k b)
 
--- What comes behind an answer: its value, its throw, its pieces, the end of a loop, and another control.
+-- Continuations of an answer: its value, its throw, its pieces, the end of a loop, and another control.
 abbrev pub with_value : Scene → Konts → AnswerCont
 with_value scene k a = k.value a.value
 

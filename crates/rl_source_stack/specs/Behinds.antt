@@ -1,4 +1,4 @@
--- What is done with a value, by what waits for it.
+-- Continuations of values, by the construct that waits.
 use Rattle.std.specs.Prelude.{ℕ, Bool, if◌then◌else◌, Option, Some, None, List, [], ◌∷◌, ◌++◌, codes}
 use Rattle.rl_base.specs.Operators.{logical_text, operator_text, unary_text}
 use Rattle.rl_grammar.specs.Fields.{maybe}
@@ -36,7 +36,7 @@ updated_in scene object key prefix old new = do
   write_property scene object key new
   give (if prefix then new else old)
 
--- What is done with a value.
+-- The continuation of a value in an expression.
 abbrev pub value_behind : Scene → Behind → Value → Konts → Cont
 value_behind scene (behind.Unary operator) v k = ask scene (events.unary (unary_text operator) v) k.ways k.value
 value_behind scene (behind.BinaryRight operator right) v k =
@@ -90,7 +90,7 @@ value_behind scene (behind.Tag tag attributes children) v k =
     gathering scene (gather.Attributes tag attributes children) (among attributes.trees.now) (v ∷ []) k.ways k.value
 value_behind scene (behind.AssignTo target) v k = assign_to scene (target_syntax target) v k.ways (λ u. k.normal)
 
--- What a statement does with a value.
+-- The continuation of a value in a statement.
 abbrev pub value_following : Scene → Following → Value → Konts → Cont
 value_following scene following.Ignore v k = k.normal
 value_following scene (following.Return variant) v k = return_with scene variant v k.ways (λ (u : Unit {0}). k.normal)

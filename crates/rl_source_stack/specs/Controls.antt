@@ -1,4 +1,4 @@
--- The traces of runs: what is done next, in a state.
+-- The traces of runs, by control and state.
 use Rattle.std.specs.Prelude.{ℕ, Bool, true, false, if◌then◌else◌, Option, Some, None, List, [], ◌∷◌}
 use Rattle.rl_machine.specs.Traces.{Cont, returned, set_open, stepped, tested, threw, waiting}
 use Rattle.rl_machine.specs.declared.trace.Event.{Event}
@@ -26,7 +26,7 @@ abbrev pub paired : Konts → List Value → Cont
 paired k (object ∷ f ∷ []) = k.pair object f
 paired k _ = λ store answers. waiting
 
--- What is done next.
+-- The continuation of a control.
 abbrev pub goes : Control → Scene → Konts → Cont
 goes (control.Evaluate tree) scene k = eval scene (syntax tree.tree.now) k.ways k.value
 goes (control.Element tree) scene k = eval scene (syntax tree.tree.now) k.ways k.value

@@ -1,4 +1,4 @@
--- Where parts go that stand in a frame, by where the frame's construct goes.
+-- The continuations of a part in a frame, from those of the frame's construct.
 use Rattle.std.specs.Prelude.{ℕ, Bool, true, false, if◌then◌else◌, Option, Some, None, List, [], ◌∷◌, ◌++◌}
 use Rattle.rl_grammar.specs.Fields.{maybe}
 use Rattle.rl_hir.specs.declared.terminal.ReturnVariant.TheVariants as returns

@@ -1,4 +1,4 @@
--- Where a part goes that has come to its end.
+-- The continuations of a part, by its completion.
 use Rattle.std.specs.Prelude.{List}
 use Rattle.rl_machine.specs.Traces.{Cont, ValueCont, threw, waiting}
 use Rattle.rl_machine.specs.declared.trace.Value.{Value}

@@ -41,7 +41,7 @@ body_in (loops.For condition update body) = syntax body.tree.now
 body_in (loops.ForIn head collection body) = syntax body.tree.now
 body_in (loops.ForOf head iterator collection body) = syntax body.tree.now
 
--- One turn of a loop: true if another one is to be made.
+-- A turn of a loop: true if another one is to be made.
 abbrev pub turn : Scene → Label → Loop → Action Bool
 turn scene own (loops.While condition body) =
     turn_while (holds scene (syntax condition.tree.now)) (body_of_loop own (exec scene None (syntax body.tree.now)))
@@ -62,7 +62,7 @@ turns_left scene t = turns t.most (turn scene (label_of t.own) t.parts)
 abbrev pub turns_behind : Scene → Turns → (goes_on : Bool) → Action (Unit {0})
 turns_behind scene t goes_on = if goes_on then turns_left scene t else done
 
--- What a turn does behind the body of the loop: true if another turn is to be made.
+-- The end of a turn, behind the body of the loop: true if another turn is to be made.
 abbrev pub behind_body : Scene → Loop → Action Bool
 behind_body scene (loops.While condition body) = give true
 behind_body scene (loops.DoWhile body condition) = holds scene (syntax condition.tree.now)
@@ -90,7 +90,7 @@ take_next scene (loops.ForIn head collection body) v = take_head scene (syntax h
 take_next scene (loops.ForOf head iterator collection body) v = take_head scene (syntax head.tree.now) v
 take_next scene _ v = done
 
--- What a loop does where its test is met: its body, or the next turn where the test stands behind the body.
+-- The continuation of a loop whose test is met: its body, or the next turn where the test stands behind the body.
 abbrev pub on_yes : Scene → Turns → Loop → Action (Unit {0})
 on_yes scene t (loops.DoWhile body condition) = turns_left scene t
 on_yes scene t _ = body_and_rest scene t

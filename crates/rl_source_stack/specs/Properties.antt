@@ -1,4 +1,4 @@
--- Properties of objects: their keys, and what is done with them.
+-- Properties of objects: their keys and their uses.
 use Rattle.std.specs.Prelude.{ℕ, Bool, if◌then◌else◌, List, [], ◌∷◌}
 use Rattle.rl_base.specs.Operators.{operator_text, update_text}
 use Rattle.rl_machine.specs.Traces.{Cont}
@@ -32,7 +32,7 @@ compound_in scene operator right object key = do
   v ← ask scene (events.binary operator old w)
   write_property scene object key v
 
--- What is done with a property, once its object and its key are known.
+-- The use of a property, once its object and its key are known.
 abbrev pub used : Scene → Use → (object : Value) → events.Key → Konts → Cont
 used scene «use».Load object key k = ask scene (events.load object key) k.ways k.value
 used scene «use».Lend object key k = ask scene (events.load object key) k.ways (k.pair object)
@@ -43,6 +43,6 @@ used scene («use».Compound operator right) object key k =
 used scene («use».Update operator prefix) object key k = update_property scene prefix (update_text operator) object key k.ways k.value
 used scene («use».Store v) object key k = write_property scene object key (shown v) k.ways (λ w. k.normal)
 
--- What is done with a property, once its object is known.
+-- The use of a property, once its object is known.
 abbrev pub linked : Scene → Property → Use → (object : Value) → Konts → Cont
 linked scene key then_use object k = key_by scene key k.ways (λ known. used scene then_use object known k)

@@ -51,7 +51,7 @@ pub enum Targets<'b> {
     Properties(AssignmentTargetPropertyTrees<'b>),
 }
 
-/// What takes the pieces of a value.
+/// The pattern or the target that takes the pieces of a value.
 #[derive(Clone, Copy)]
 pub enum Apart<'b> {
     /// A pattern.

@@ -1,4 +1,4 @@
-//! What a run asks of the outside.
+//! Events that a run asks, and the ways on from their answers.
 
 ghost use Rattle.std.specs.Prelude.{◌≡◌, IfOk};
 ghost use Rattle.rl_machine.specs.Traces as traces;

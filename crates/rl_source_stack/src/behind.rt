@@ -1,4 +1,4 @@
-//! What is done with a value, once it is there.
+//! Continuations of values: the constructs that wait for one, and loops that are under way.
 
 use crate::apart::{Binding, Target};
 use crate::property::{Key, Property, Use};
@@ -72,7 +72,7 @@ pub struct Turns<'b> {
     pub parts: Loop<'b>,
 }
 
-/// What is done with a value.
+/// The continuation of a value in an expression.
 #[derive(Clone, Copy)]
 pub enum Behind<'b> {
     /// Behind the operand of a unary operation.
@@ -158,14 +158,14 @@ pub enum Behind<'b> {
         optional: bool,
         /// The key.
         property: Property<'b>,
-        /// What is done with the property.
+        /// The use of the property.
         then: Use<'b>,
     },
     /// Behind the key of a property.
     Key {
         /// The object.
         object: Val<'b>,
-        /// What is done with the property.
+        /// The use of the property.
         then: Use<'b>,
     },
     /// Behind the function that an object lends itself to.
@@ -252,7 +252,7 @@ pub enum Behind<'b> {
     },
 }
 
-/// What a statement does with a value.
+/// The continuation of a value in a statement.
 #[derive(Clone, Copy)]
 pub enum Following<'b> {
     /// Behind an expression whose value is not used.

@@ -1,4 +1,4 @@
-//! Lists of values: the parts that give them, and what is done with them.
+//! Lists of values: the parts that give them, and the constructs that take them.
 
 use rl_base::ids::NodeId;
 use rl_grammar::sort::{
@@ -87,7 +87,7 @@ pub enum Gather<'b> {
     },
 }
 
-/// What is left of a part, behind its first value.
+/// The rest of a part, behind its first value.
 #[derive(Clone, Copy)]
 pub enum Pending<'b> {
     /// Nothing.

@@ -1,4 +1,4 @@
-//! Runs of functions by their source: what is to be done next, and what waits for it.
+//! Runs of functions by their source: the next step, and the frames that wait for it.
 #![tactic(auto)]
 
 pub mod apart;

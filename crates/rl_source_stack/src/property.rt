@@ -1,4 +1,4 @@
-//! Properties of objects: their keys, and what is done with them.
+//! Properties of objects: their keys and their uses.
 
 use rl_base::operator::{BinaryOperator, UpdateOperator};
 use rl_base::text::Text;
@@ -23,7 +23,7 @@ pub struct Key<'b> {
     pub value: Val<'b>,
 }
 
-/// What is done with a property, once its object and its key are known.
+/// The use of a property, once its object and its key are known.
 #[derive(Clone, Copy)]
 pub enum Use<'b> {
     /// Its value is taken.

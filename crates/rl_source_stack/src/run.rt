@@ -20,11 +20,11 @@ use rl_trace::value::Val;
 pub struct Run<'b> {
     /// The names.
     pub names: FunctionNames<'b>,
-    /// What the texts of JSX depend on.
+    /// The entities and nodes by which the texts of JSX are read.
     pub texts: JsxTexts<'b>,
     /// The values of variables, by the numbers of their symbols; the answers that are left; the events so far.
     pub progress: Progress<'b>,
-    /// What waits.
+    /// The frames, the innermost one last.
     pub stack: Vec<Frame<'b>>,
 }
 

@@ -1,4 +1,4 @@
-//! The frames of a run: what waits for a part of the function.
+//! The frames of a run: continuations of parts of the function.
 
 use crate::apart::{Apart, Bindings, Targets};
 use crate::behind::{Behind, Following, Turns};
@@ -14,7 +14,7 @@ use rl_grammar::sort::{
 use rl_machine::trace::Value;
 use rl_trace::value::Val;
 
-/// What is done with a function that is called, and with the object that lends itself to it.
+/// The construct whose callee is evaluated.
 #[derive(Clone, Copy)]
 pub enum Heading<'b> {
     /// A call.
@@ -42,7 +42,7 @@ pub enum Code<'b> {
     Function(FunctionBodyTree<'b>),
 }
 
-/// What stands around a statement.
+/// The construct around a statement.
 #[derive(Clone, Copy)]
 pub enum Around<'b> {
     /// The statements behind it.
@@ -78,7 +78,7 @@ pub enum Around<'b> {
     },
     /// A `try`, of which it is the block.
     Try {
-        /// What takes the value of a throw.
+        /// The pattern that takes the value of a throw, or none.
         param: Option<BindingPatternTree<'b>>,
         /// The body of the `catch`.
         body: BlockStatementTree<'b>,
@@ -129,7 +129,7 @@ pub enum Around<'b> {
     End,
 }
 
-/// What stands around a target that takes a value.
+/// The construct around a target that takes a value.
 #[derive(Clone, Copy)]
 pub enum Receiving<'b> {
     /// A target, of which it is a part.
@@ -148,7 +148,7 @@ pub enum Receiving<'b> {
     },
 }
 
-/// What waits for a part.
+/// The continuation of a part.
 #[derive(Drop)]
 pub enum Frame<'b> {
     /// For its value, in an expression.
@@ -165,9 +165,9 @@ pub enum Frame<'b> {
     Pieces(Apart<'b>),
     /// For a value of a list.
     Given {
-        /// What takes the list.
+        /// The construct that takes the list.
         gather: Gather<'b>,
-        /// What is left of the part.
+        /// The rest of the part.
         pending: Pending<'b>,
         /// The parts that are left.
         left: Parts<'b>,

@@ -12,7 +12,7 @@ use rl_jsx::entities::decode_jsx_entities;
 use rl_jsx::trim::trim_jsx_text;
 use std::alloc::Global;
 
-/// What the texts of JSX in a function depend on.
+/// Entities of a unit, and nodes of a function, by which the texts of JSX are read.
 #[derive(Clone, Copy)]
 pub struct JsxTexts<'b> {
     /// The entities of the unit.
