@@ -10,4 +10,3 @@ pub mod Binding
 pub mod Lowering
 pub mod Flagging
 pub mod Naming
-pub mod Shared

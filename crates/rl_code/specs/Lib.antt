@@ -3,4 +3,3 @@ pub mod Parts
 pub mod Roles
 pub mod Heads
 pub mod Flags
-pub mod Worlds

@@ -12,4 +12,3 @@ pub mod parts;
 pub mod pattern;
 pub mod role;
 pub mod variables;
-pub mod world;

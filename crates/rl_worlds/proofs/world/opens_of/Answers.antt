@@ -1,10 +1,10 @@
 use Rattle.std.proofs.Common.{map, ap, ◌∙◌}
-use Rattle.rl_code.proofs.Shared.{contains_flat}
-use Rattle.rl_code.specs.Worlds.{others_among}
+use Rattle.rl_worlds.proofs.Shared.{contains_flat}
+use Rattle.rl_worlds.specs.Worlds.{others_among}
 use Rattle.rl_model.specs.Code.{assigned_in, contains}
 use Rattle.rl_names.specs.Seen.{seen}
 use Rattle.rl_syntax.specs.Syntax.{syntax}
-use Rattle.rl_code.proofs.world.opens_of.Goals as goal
+use Rattle.rl_worlds.proofs.world.opens_of.Goals as goal
 
 pub returns : goal.returns
 returns c n =

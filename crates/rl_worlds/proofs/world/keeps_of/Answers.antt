@@ -1,9 +1,9 @@
 use Rattle.std.proofs.Common.{◌&&◌, filter, map, ap, ◌∙◌}
-use Rattle.rl_code.specs.Worlds.{is_shared}
+use Rattle.rl_worlds.specs.Worlds.{is_shared}
 use Rattle.rl_model.specs.Code.{below}
 use Rattle.rl_names.specs.Seen.{seen}
 use Rattle.rl_syntax.specs.Syntax.{syntax}
-use Rattle.rl_code.proofs.world.keeps_of.Goals as goal
+use Rattle.rl_worlds.proofs.world.keeps_of.Goals as goal
 
 pub returns : goal.returns
 returns c =

@@ -1,9 +1,9 @@
 use Rattle.std.proofs.Common.{◌++◌, ap, ◌∙◌}
-use Rattle.rl_code.proofs.Shared.{contains_append, named_own}
+use Rattle.rl_worlds.proofs.Shared.{contains_append, named_own}
 use Rattle.rl_model.specs.Code.{code_of, contains, flat, function_names_at, named_in}
 use Rattle.rl_names.specs.Seen.{seen}
 use Rattle.rl_syntax.specs.Syntax.{syntax}
-use Rattle.rl_code.proofs.world.named_flags.Goals as goal
+use Rattle.rl_worlds.proofs.world.named_flags.Goals as goal
 
 pub returns : goal.returns
 returns c s =

@@ -3,18 +3,18 @@
 ghost use Rattle.std.specs.Prelude.{◌≡◌, ◌&&◌, ◌++◌, ◌∷◌, [], ℕ, if◌then◌else◌, filter, length, map, IfOk, OnOk};
 ghost use Rattle.std.specs.List.{list_any};
 ghost use Rattle.rl_code.specs.Flags.{flag_at};
-ghost use Rattle.rl_code.specs.Worlds as spec;
+ghost use Rattle.rl_worlds.specs.Worlds as spec;
 ghost use Rattle.rl_model.specs.Code as code;
 ghost use Rattle.rl_names.specs.Seen.{seen};
 ghost use Rattle.rl_syntax.specs.Syntax.{Syntax, syntax};
 
-use crate::assigned::push_assigned_in;
-use crate::code::{at_of, push_tree};
-use crate::named::{push_function_names, push_named_in};
-use crate::numbers::{flag_at, flags_of};
-use crate::variables::Variables;
 use rl_base::error::OutOfMemory;
 use rl_base::text::Text;
+use rl_code::assigned::push_assigned_in;
+use rl_code::code::{at_of, push_tree};
+use rl_code::named::{push_function_names, push_named_in};
+use rl_code::numbers::{flag_at, flags_of};
+use rl_code::variables::Variables;
 use rl_names::names::FunctionNames;
 use rl_syntax::numbered::Numbered;
 use std::alloc::Global;

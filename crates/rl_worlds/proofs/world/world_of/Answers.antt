@@ -1,10 +1,10 @@
 use Rattle.std.proofs.Common.{length, filter, ap, ◌∙◌}
 use Rattle.std.specs.List.{list_any}
-use Rattle.rl_code.specs.Worlds.{is_shared, others_among}
+use Rattle.rl_worlds.specs.Worlds.{is_shared, others_among}
 use Rattle.rl_model.specs.Code.{assigned_in, below, contains}
 use Rattle.rl_names.specs.Seen.{seen}
 use Rattle.rl_syntax.specs.Syntax.{syntax}
-use Rattle.rl_code.proofs.world.world_of.Goals as goal
+use Rattle.rl_worlds.proofs.world.world_of.Goals as goal
 
 pub returns-clause-opens : goal.returns-clause-opens
 returns-clause-opens c marked all s =

@@ -1,7 +1,7 @@
 use Rattle.std.proofs.Common.{◌≡◌, ◌++◌, map, drop, filter}
-use Rattle.rl_code.specs.Worlds.{is_other}
+use Rattle.rl_worlds.specs.Worlds.{is_other}
 use Rattle.rl_syntax.specs.Syntax.{syntax}
-use Rattle.rl_code.proofs.world.others.Given as goal
+use Rattle.rl_worlds.proofs.world.others.Given as goal
 
 abbrev pub invariant-functions : goal.invariant-functions
 invariant-functions l =

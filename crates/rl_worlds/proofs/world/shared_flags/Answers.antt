@@ -1,10 +1,10 @@
 use Rattle.std.proofs.Common.{map, ap, ◌∙◌}
-use Rattle.rl_code.proofs.Shared.{contains_flat, flat_named}
-use Rattle.rl_code.specs.Worlds.{others_among}
+use Rattle.rl_worlds.proofs.Shared.{contains_flat, flat_named}
+use Rattle.rl_worlds.specs.Worlds.{others_among}
 use Rattle.rl_model.specs.Code.{contains, named_in}
 use Rattle.rl_names.specs.Seen.{seen}
 use Rattle.rl_syntax.specs.Syntax.{syntax}
-use Rattle.rl_code.proofs.world.shared_flags.Goals as goal
+use Rattle.rl_worlds.proofs.world.shared_flags.Goals as goal
 
 pub returns : goal.returns
 returns c s =

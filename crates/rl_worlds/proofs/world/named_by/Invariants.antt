@@ -1,9 +1,9 @@
 use Rattle.std.proofs.Common.{◌≡◌, ◌++◌, map, drop}
-use Rattle.rl_code.specs.Worlds.{named_here}
+use Rattle.rl_worlds.specs.Worlds.{named_here}
 use Rattle.rl_model.specs.Code.{flat}
 use Rattle.rl_names.specs.Seen.{seen}
 use Rattle.rl_syntax.specs.Syntax.{syntax}
-use Rattle.rl_code.proofs.world.named_by.Given as goal
+use Rattle.rl_worlds.proofs.world.named_by.Given as goal
 
 abbrev pub invariant-functions : goal.invariant-functions
 invariant-functions l =
