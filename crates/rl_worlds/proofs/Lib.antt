@@ -1,1 +1,3 @@
 pub mod Shared
+pub mod Finding
+pub mod UnitTables

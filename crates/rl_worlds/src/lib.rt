@@ -1,4 +1,5 @@
-//! The world of a function: the variables that it shares with the other lowered functions of its unit.
+//! The lowered functions of a unit by their nodes, and the world of one: the variables that it shares with the others.
 #![tactic(auto)]
 
+pub mod function_at;
 pub mod world;
