@@ -1,12 +1,13 @@
 #!/usr/bin/env python3
-"""Checks functions of a crate without a check of the crates below it, which the compiler reads as source.
+"""Checks functions of a crate without a check of the crates below it, which the compiler reads as source or as they were built.
 
 Usage, at the top: python3 tools/check_only.py CRATE [FUNCTION..]
 
 A function is named as `rt check` prints it, or by the end of its name. Without functions all are checked, those of the crates
 below too. With TESTS set in the environment, tests and what they call may be named too. What is proved is kept in the folder that
-KEPT names, and a run over it starts in seconds. The verdict is that of `rt check` and of the gate: this run leaves out what they ask
-of a whole crate.
+KEPT names, and a run over it starts in seconds. BUILT names a folder of built libraries, NAME.rlib, as the gate or a check leaves them
+in crates/NAME/out/rlib: the crates that stand there are taken from it, and should be those of this checkout; it makes a first run a
+few times as fast. The verdict is that of `rt check` and of the gate: this run leaves out what they ask of a whole crate.
 """
 import os
 import pathlib
@@ -24,8 +25,8 @@ def crates_below(crate, uses):
     return below
 
 
-def arguments(crate, functions, root, kit, kept):
-    """The compiler's arguments, with each crate below as source."""
+def arguments(crate, functions, root, kit, kept, built):
+    """The compiler's arguments, with each crate below as source, or as it stands in the folder `built`."""
     lines = [line.split("#")[0].strip() for line in (root / "crates.txt").read_text().splitlines()]
     uses = {line.split(":")[0].strip(): line.split(":")[1].split() for line in lines if line}
     below = crates_below(crate, uses)
@@ -37,7 +38,10 @@ def arguments(crate, functions, root, kit, kept):
     for name in sorted(outside):
         words += ["--extern", f"{name}={kit}/rlibs/{name}.rlib"]
     words += ["-L", f"dependency={kit}/rlibs"]
-    for name in below:
+    libraries = {name: built / f"{name}.rlib" for name in below if built and (built / f"{name}.rlib" / "format").exists()}
+    for name, library in libraries.items():
+        words += ["--extern", f"{name}={library}", "-L", f"dependency={library.parent}"]
+    for name in (it for it in below if it not in libraries):
         seen = ",".join(dict.fromkeys(["core", "std", *uses[name]]))
         words += ["--lib", f"{name}:{seen}={root}/crates/{name}/src/lib.rt"]
     words += ["--antt-project", f"{kit}/rattle/logic/antt-project.json", "--logic-built", f"{kit}/logic_built"]
@@ -53,7 +57,8 @@ def main():
     rattle = pathlib.Path(shutil.which("rattle")).resolve()
     kept = os.environ.get("KEPT", str(root / "crates" / crate / "out" / "only"))
     pathlib.Path(kept).mkdir(parents=True, exist_ok=True)
-    words = arguments(crate, functions, root, rattle.parent.parent, kept)
+    built = pathlib.Path(os.environ["BUILT"]).resolve() if os.environ.get("BUILT") else None
+    words = arguments(crate, functions, root, rattle.parent.parent, kept, built)
     sys.exit(subprocess.run([rattle, *words], cwd=root / "crates" / crate).returncode)
 
 
