@@ -16,7 +16,7 @@ use Rattle.rl_model.specs.Scene.{Scene}
 use Rattle.rl_names.specs.declared.names.FunctionNames.{FunctionNames}
 use Rattle.rl_source_stack.specs.Controls.{apart_in, asked_then, from, goes, stepped_in, tested_in, trace_of}
 use Rattle.rl_source_stack.specs.Konts.{Konts}
-use Rattle.rl_source_stack.specs.States.{IsAsked, IsUnasked, State, WasAsked, answered_with, state_by}
+use Rattle.rl_source_stack.specs.States.{IsAsked, IsUnasked, State, WasAsked, state_by}
 use Rattle.rl_source_stack.specs.declared.control.Control.{Control}
 use Rattle.rl_source_stack.specs.declared.control.Control.TheVariants as control
 use Rattle.rl_source_stack.specs.declared.stack.Frame.{Frame}

@@ -1,5 +1,5 @@
 -- A run that goes on as another one does, and frames that are taken off.
-use Rattle.std.proofs.Common.{◌≡◌, Option, Some, None, Result, Ok, Err, IfOk, MatchOption, refl, ap, subst, sym, ◌∙◌}
+use Rattle.std.proofs.Common.{◌≡◌, Option, Some, None, Result, Ok, Err, IfOk, MatchOption, ap, subst, sym, ◌∙◌}
 use Rattle.rl_base.specs.declared.error.OutOfMemory.{OutOfMemory}
 use Rattle.rl_machine.specs.declared.trace.Trace.{Trace}
 use Rattle.rl_source_stack.specs.Controls.{goes, trace_of}

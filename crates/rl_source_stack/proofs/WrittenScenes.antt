@@ -1,5 +1,5 @@
 -- The scene of a run is that of the function as it is written.
-use Rattle.std.proofs.Common.{◌≡◌, ℕ, if◌then◌else◌, Option, Some, List, length}
+use Rattle.std.proofs.Common.{◌≡◌, ℕ, if◌then◌else◌, Some, List, length}
 use Rattle.rl_atoms.specs.Entities.{entity_value}
 use Rattle.rl_bindings.specs.Tables.{symbols_in}
 use Rattle.rl_jsx.specs.JsxTexts.{decode_jsx_entities, trim_jsx_text}

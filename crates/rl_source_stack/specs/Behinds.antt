@@ -1,5 +1,5 @@
 -- Continuations of values, by the construct that waits.
-use Rattle.std.specs.Prelude.{ℕ, Bool, if◌then◌else◌, Option, Some, None, List, [], ◌∷◌, ◌++◌, codes}
+use Rattle.std.specs.Prelude.{ℕ, Bool, if◌then◌else◌, None, [], ◌∷◌, codes}
 use Rattle.rl_base.specs.Operators.{logical_text, operator_text, unary_text}
 use Rattle.rl_grammar.specs.Fields.{maybe}
 use Rattle.rl_machine.specs.Traces.{Cont, matches, truthy}
@@ -10,9 +10,8 @@ use Rattle.rl_model.specs.Events as events
 use Rattle.rl_model.specs.Expressions.{assign_to, eval, eval_last, needs_right, unless_nullish, write, write_property}
 use Rattle.rl_model.specs.Patterns.{bind}
 use Rattle.rl_model.specs.Scene.{Scene}
-use Rattle.rl_model.specs.Shapes as shapes
 use Rattle.rl_model.specs.Statements.{exec, exec_all, exec_cases, exec_default, try_cases}
-use Rattle.rl_syntax.specs.Syntax.{Syntax, syntax}
+use Rattle.rl_syntax.specs.Syntax.{syntax}
 use Rattle.rl_source_stack.specs.Konts.{Konts}
 use Rattle.rl_source_stack.specs.Loops.{body_and_rest, on_yes, take_next, turn_in, turn_of, turns_left}
 use Rattle.rl_source_stack.specs.Parts.{among, binding_syntax, gathering, label_of, target_syntax}

@@ -1,10 +1,10 @@
 -- The traces of runs, by control and state.
-use Rattle.std.specs.Prelude.{ℕ, Bool, true, false, if◌then◌else◌, Option, Some, None, List, [], ◌∷◌}
+use Rattle.std.specs.Prelude.{true, false, None, List, [], ◌∷◌}
 use Rattle.rl_machine.specs.Traces.{Cont, returned, set_open, stepped, tested, threw, waiting}
 use Rattle.rl_machine.specs.declared.trace.Event.{Event}
 use Rattle.rl_machine.specs.declared.trace.Trace.{Trace}
 use Rattle.rl_machine.specs.declared.trace.Value.{Value}
-use Rattle.rl_model.specs.Actions.{Action, ◌>>=◌, ◌>>◌, answer_to, give}
+use Rattle.rl_model.specs.Actions.{Action, ◌>>=◌, ◌>>◌, answer_to}
 use Rattle.rl_model.specs.Expressions.{assign_to, callee, delete_property, eval}
 use Rattle.rl_model.specs.Patterns.{bind}
 use Rattle.rl_model.specs.Scene.{Scene, kept_values}

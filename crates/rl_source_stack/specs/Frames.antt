@@ -1,11 +1,11 @@
 -- The continuations of a part in a frame, from those of the frame's construct.
-use Rattle.std.specs.Prelude.{ℕ, Bool, true, false, if◌then◌else◌, Option, Some, None, List, [], ◌∷◌, ◌++◌}
+use Rattle.std.specs.Prelude.{Bool, true, false, if◌then◌else◌, Some, None, List, [], ◌∷◌}
 use Rattle.rl_grammar.specs.Fields.{maybe}
 use Rattle.rl_hir.specs.declared.terminal.ReturnVariant.TheVariants as returns
 use Rattle.rl_machine.specs.Traces.{Cont, waiting}
 use Rattle.rl_machine.specs.declared.trace.Value.{Value}
 use Rattle.rl_machine.specs.declared.trace.Value.TheVariants as value
-use Rattle.rl_model.specs.Actions.{Action, Label, ◌>>=◌, ◌>>◌, breakable, done, give, is_label, is_own, loop, return_with}
+use Rattle.rl_model.specs.Actions.{Action, Label, ◌>>=◌, ◌>>◌, breakable, is_label, is_own, loop, return_with}
 use Rattle.rl_model.specs.Expressions.{assign_items, assign_to, called, first_piece, unless_nullish}
 use Rattle.rl_model.specs.Functions.{run_body, take_arguments}
 use Rattle.rl_model.specs.Patterns.{bind, bind_items}

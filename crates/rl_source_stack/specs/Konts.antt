@@ -1,6 +1,6 @@
 -- The continuations of a part, by its completion.
 use Rattle.std.specs.Prelude.{List}
-use Rattle.rl_machine.specs.Traces.{Cont, ValueCont, threw, waiting}
+use Rattle.rl_machine.specs.Traces.{Cont, ValueCont, waiting}
 use Rattle.rl_machine.specs.declared.trace.Value.{Value}
 use Rattle.rl_model.specs.Actions.{Ways}
 use Rattle.rl_model.specs.Functions.{outside}

@@ -1,5 +1,5 @@
 -- Loops that are under way.
-use Rattle.std.specs.Prelude.{ℕ, Bool, true, if◌then◌else◌, Option, Some, None, List}
+use Rattle.std.specs.Prelude.{Bool, true, if◌then◌else◌, None}
 use Rattle.rl_grammar.specs.Fields.{maybe}
 use Rattle.rl_machine.specs.declared.trace.Value.{Value}
 use Rattle.rl_model.specs.Actions.{Action, Label, ◌>>=◌, ◌>>◌, body_of_loop, done, give, next, turns}

@@ -1,8 +1,7 @@
 -- Parts of the tree as a run holds them, and lists of values.
-use Rattle.std.specs.Prelude.{ℕ, Bool, if◌then◌else◌, Option, Some, None, List, [], ◌∷◌, ◌++◌, codes, map}
+use Rattle.std.specs.Prelude.{ℕ, if◌then◌else◌, Option, List, [], ◌∷◌, ◌++◌, codes, map}
 use Rattle.std.specs.Borrow.{Bor}
 use Rattle.std.specs.Option.{option_map}
-use Rattle.rl_grammar.specs.Fields.{maybe}
 use Rattle.rl_machine.specs.declared.trace.Value.{Value}
 use Rattle.rl_model.specs.Actions.{Action, Label, ◌>>=◌, ◌>>◌, ask, give}
 use Rattle.rl_model.specs.Events.{event, method}

@@ -1,5 +1,5 @@
 -- Properties of objects: their keys and their uses.
-use Rattle.std.specs.Prelude.{ℕ, Bool, if◌then◌else◌, List, [], ◌∷◌}
+use Rattle.std.specs.Prelude.{ℕ, List}
 use Rattle.rl_base.specs.Operators.{operator_text, update_text}
 use Rattle.rl_machine.specs.Traces.{Cont}
 use Rattle.rl_machine.specs.declared.trace.Value.{Value}

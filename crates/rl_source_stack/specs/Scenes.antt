@@ -1,5 +1,5 @@
 -- The scene of a run: the names of the unit, the texts of JSX, and the variables that the function shares with others.
-use Rattle.std.specs.Prelude.{ℕ, Bool, false, Option, List}
+use Rattle.std.specs.Prelude.{ℕ, false, Option, List}
 use Rattle.rl_machine.specs.Traces.{World}
 use Rattle.rl_model.specs.Scene.{Scene}
 use Rattle.rl_names.specs.Names.{Names}

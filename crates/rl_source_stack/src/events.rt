@@ -1,8 +1,7 @@
 //! Events of one value or of two.
 
-ghost use Rattle.std.specs.Prelude.{◌≡◌, ◌∷◌, [], IfOk, codes};
+ghost use Rattle.std.specs.Prelude.{◌≡◌, ◌∷◌, [], IfOk};
 ghost use Rattle.rl_base.specs.Operators.{operator_text};
-ghost use Rattle.rl_hir.specs.Instructions.{binding_texts};
 ghost use Rattle.rl_model.specs.Events as spec;
 ghost use Rattle.rl_source_stack.specs.Properties.{key_of};
 ghost use Rattle.rl_trace.specs.Values.{shown};
