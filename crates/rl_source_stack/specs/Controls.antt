@@ -4,7 +4,7 @@ use Rattle.rl_machine.specs.Traces.{Cont, returned, set_open, stepped, tested, t
 use Rattle.rl_machine.specs.declared.trace.Event.{Event}
 use Rattle.rl_machine.specs.declared.trace.Trace.{Trace}
 use Rattle.rl_machine.specs.declared.trace.Value.{Value}
-use Rattle.rl_model.specs.Actions.{Action, ◌>>=◌, ◌>>◌, answer_to}
+use Rattle.rl_model.specs.Actions.{Action, ◌>>◌, answer_to}
 use Rattle.rl_model.specs.Expressions.{assign_to, callee, delete_property, eval}
 use Rattle.rl_model.specs.Patterns.{bind}
 use Rattle.rl_model.specs.Scene.{Scene, kept_values}

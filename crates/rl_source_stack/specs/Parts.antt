@@ -3,7 +3,7 @@ use Rattle.std.specs.Prelude.{ℕ, if◌then◌else◌, Option, List, [], ◌∷
 use Rattle.std.specs.Borrow.{Bor}
 use Rattle.std.specs.Option.{option_map}
 use Rattle.rl_machine.specs.declared.trace.Value.{Value}
-use Rattle.rl_model.specs.Actions.{Action, Label, ◌>>=◌, ◌>>◌, ask, give}
+use Rattle.rl_model.specs.Actions.{Action, Label, ◌>>=◌, ask, give}
 use Rattle.rl_model.specs.Events.{event, method}
 use Rattle.rl_model.specs.Expressions.{eval, one_value, values}
 use Rattle.rl_model.specs.Scene.{Scene}

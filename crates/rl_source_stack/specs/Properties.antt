@@ -4,7 +4,7 @@ use Rattle.rl_base.specs.Operators.{operator_text, update_text}
 use Rattle.rl_machine.specs.Traces.{Cont}
 use Rattle.rl_machine.specs.declared.trace.Value.{Value}
 use Rattle.rl_machine.specs.declared.trace.Value.TheVariants as value
-use Rattle.rl_model.specs.Actions.{Action, ◌>>=◌, ◌>>◌, ask, give}
+use Rattle.rl_model.specs.Actions.{Action, ◌>>=◌, ask, give}
 use Rattle.rl_model.specs.Events as events
 use Rattle.rl_model.specs.Expressions.{eval, key_in, update_property, write_property}
 use Rattle.rl_model.specs.Scene.{Scene}
