@@ -1,0 +1,6 @@
+mod Cases
+mod Entries
+mod Functions
+mod Goes
+mod Taken
+mod Turns

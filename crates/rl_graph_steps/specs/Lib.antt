@@ -1,0 +1,5 @@
+pub mod Effects
+pub mod Graphs
+pub mod Notes
+pub mod Runs
+pub mod States
