@@ -1,4 +1,4 @@
-use Rattle.std.proofs.Common.{◌≡◌, ap, ◌∙◌}
+use Rattle.std.proofs.Common.{ap, ◌∙◌}
 use Rattle.rl_hir.specs.Values.{form_of}
 use Rattle.rl_machine.specs.Acts.{event_kind}
 use Rattle.rl_trace.specs.Progress.{seen}

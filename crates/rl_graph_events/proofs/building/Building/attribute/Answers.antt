@@ -1,6 +1,6 @@
-use Rattle.std.proofs.Common.{◌≡◌, ◌∷◌, [], OnOk, ap, subst, sym, ◌∙◌}
+use Rattle.std.proofs.Common.{◌≡◌, OnOk, subst, sym}
 use Rattle.rl_hir.specs.Pieces.{Gives, attribute_pieces}
-use Rattle.rl_graph_events.specs.Buildings.{added, adds, built, with_operand}
+use Rattle.rl_graph_events.specs.Buildings.{added, adds, built}
 use Rattle.rl_graph_events.proofs.building.Building.attribute.Goals as goal
 
 pub returns-in_ok-names-in-Attribute : goal.returns-in_ok-names-in-Attribute

@@ -1,6 +1,6 @@
-use Rattle.std.proofs.Common.{◌≡◌, ◌∷◌, [], OnOk, ap, subst, sym, ◌∙◌}
-use Rattle.rl_hir.specs.Pieces.{Gives, used}
-use Rattle.rl_graph_events.specs.Buildings.{added, adds, built, with_operand}
+use Rattle.std.proofs.Common.{◌≡◌, OnOk, subst}
+use Rattle.rl_hir.specs.Pieces.{used}
+use Rattle.rl_graph_events.specs.Buildings.{added, built}
 use Rattle.rl_graph_events.proofs.building.Building.computed_store.Goals as goal
 
 pub returns : goal.returns

@@ -1,5 +1,5 @@
-use Rattle.std.proofs.Common.{◌≡◌, ◌∷◌, [], OnOk, ap, subst, sym, ◌∙◌}
-use Rattle.rl_graph_events.specs.Buildings.{added, adds, built, with_operand}
+use Rattle.std.proofs.Common.{◌≡◌, OnOk, subst}
+use Rattle.rl_graph_events.specs.Buildings.{built, with_operand}
 use Rattle.rl_graph_events.proofs.building.Building.update.Goals as goal
 
 pub returns : goal.returns
