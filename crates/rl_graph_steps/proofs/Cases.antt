@@ -4,12 +4,11 @@ use Rattle.rl_base.specs.declared.ids.BlockId.{BlockId}
 use Rattle.rl_hir.specs.declared.instruction.Place.{Place}
 use Rattle.rl_hir.specs.declared.terminal.Case.{Case}
 use Rattle.rl_machine.specs.Machine.{Code, at, compared}
-use Rattle.rl_machine.specs.Traces.{AnswerCont, by_kind, waiting}
+use Rattle.rl_machine.specs.Traces.{AnswerCont, waiting}
 use Rattle.rl_machine.specs.declared.trace.Answer.{Answer}
 use Rattle.rl_machine.specs.declared.trace.AnswerKind.TheVariants as kinds
-use Rattle.rl_trace.specs.Progress.{IsAsked, IsUnasked, Seen}
-use Rattle.rl_trace.proofs.Asked.{unanswered}
-use Rattle.rl_graph_steps.specs.States.{Ahead, State, came, code, compares, test_of, with_seen}
+use Rattle.rl_trace.specs.Progress.{IsAsked, Seen}
+use Rattle.rl_graph_steps.specs.States.{Ahead, State, came, compares, test_of, with_seen}
 use Rattle.rl_graph_steps.specs.declared.machine.Goes.TheVariants as goes
 use Rattle.rl_graph_steps.proofs.Goes.{goes_by}
 
@@ -41,12 +40,3 @@ pub case_thrown : (ahead : Ahead) (test : Place) (block : BlockId) (cases : List
     ≡ compares ahead (record { test = Some test; block = block } ∷ cases) other value asked s
 case_thrown ahead test block cases other value asked a s new q is =
     goes_by (test_of s value test) a s new q kinds.Throw is (hit ahead s block) (miss ahead s cases other value) (miss ahead s cases other value)
-
-pub case_waits : (ahead : Ahead) (test : Place) (block : BlockId) (cases : List Case) (other : Option BlockId) (value : ℕ) (asked : Bool) (s : State)
-    (new : Seen)
-    → IsUnasked s.seen new
-    → came ahead goes.Waiting (with_seen s new) ≡ compares ahead (record { test = Some test; block = block } ∷ cases) other value asked s
-case_waits ahead test block cases other value asked s new q =
-    unanswered (test_of s value test) s.seen new q
-    (λ a later rest. by_kind a.kind (hit ahead s block (code s) a later rest) (miss ahead s cases other value (code s) a later rest)
-    (miss ahead s cases other value (code s) a later rest))

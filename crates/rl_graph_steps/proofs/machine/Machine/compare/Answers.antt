@@ -1,4 +1,4 @@
-use Rattle.std.proofs.Common.{◌≡◌, List, ap, sym, ◌∙◌}
+use Rattle.std.proofs.Common.{List, ap, sym, ◌∙◌}
 use Rattle.rl_hir.specs.declared.terminal.Case.{Case}
 use Rattle.rl_graph_steps.specs.States.{compared_by, compares, state_of}
 use Rattle.rl_graph_steps.proofs.machine.Machine.compare.Goals as goal
