@@ -13,6 +13,7 @@ pub mod Least
 mod MeaningExamples
 mod MoreExamples
 pub mod PlainFunctions
+mod DeadExamples
 mod RowExamples
 mod SupportedExamples
 mod WholeExamples

@@ -140,6 +140,7 @@ abbrev mutual
   lives_all (Then statement statements) = lives_in_row (lives None statement) (lives_all statements)
 
   pub lives_cases : Pieces → Lives
+  lives_cases (Then (Node at word.Case (Then condition (Then (Listed statements) End))) End) = lives_all statements
   lives_cases (Then (Node at word.Case (Then condition (Then (Listed statements) End))) cases) =
       lives_in_cases (lives_all statements) (lives_cases cases)
   lives_cases _ = quiet falling
