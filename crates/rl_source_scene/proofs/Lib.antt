@@ -1,0 +1,4 @@
+pub mod ElementParts
+pub mod EntityLists
+pub mod FunctionFits
+pub mod Keeping
