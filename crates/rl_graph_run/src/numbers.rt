@@ -26,7 +26,7 @@ fn raised(bound: usize, symbol: SymbolId) -> usize
     bound
 }
 
-/// One more than the largest number of a symbol that has a pair.
+/// The largest number of a symbol that has a pair, and 1 more; 0 without pairs.
 pub fn symbol_bound(pairs: &[Pair]) -> usize
     ensures bound { result ≡ symbol_bound pairs.now }
     ensures fits { result ≤ 4294967296 }
@@ -162,7 +162,7 @@ fn symbol_flag(flags: &[bool], symbol: usize) -> bool
 }
 
 /// The symbols below a bound that have a flag, in order. On `OutOfMemory` an allocation failed.
-#[tactic(auto, using(rl_code::proofs::Shared::further))]
+#[tactic(auto, using(rl_worlds::proofs::Shared::further))]
 pub fn symbols_below(
     alloc: Global,
     bound: usize,

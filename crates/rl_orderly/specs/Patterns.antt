@@ -9,7 +9,7 @@ use Rattle.rl_syntax.specs.Syntax.{Syntax, Pieces, End, Then}
 use Rattle.rl_syntax.specs.declared.word.Word.{Word}
 use Rattle.rl_syntax.specs.declared.word.Word.TheVariants as word
 
--- What a node is for the patterns in it.
+-- The part that a node plays for the patterns in it.
 abbrev pub place_of : Word → Place
 place_of word.Try = place.Tries
 place_of word.Declarator = place.Declares

@@ -120,7 +120,7 @@ name_orderly texts scopes symbols n t b e = ap not e ∙ not_shadowed texts scop
 
 pub ruleset names = (name_orderly)
 
--- One symbol on, if the first of them does not take the name.
+-- A symbol on, if the first of them does not take the name.
 pub taken_next : (texts : List Name) (own : Option SymbolId) (scopes : List ScopeId) (name other : List ℕ) (number : ℕ) (first : Bound)
     (rest symbols : List Bound) → symbols ≡ first ∷ rest → is_taking texts own scopes name other number first ≡ false
     → is_taken_by texts own scopes name other (number + 1) rest ≡ is_taken_by texts own scopes name other number symbols

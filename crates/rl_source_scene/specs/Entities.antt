@@ -24,6 +24,6 @@ pub record IsAdded (old : List Entity) (entity : Syntax) (new : List Entity) : T
   pub is : entity_node at text value ≡ entity
   pub same : (name : List ℕ) → entity_value new name ≡ first_found (entity_value old name) (value_among (Then entity End) name)
 
--- What the table finds, and else the entities that are left, is what all of them have.
+-- The value that the table finds, and else the one among the entities that are left, is the one that all of them have.
 pub record AreAdded (table : List Entity) (left all : Pieces) : Type 0 where
   pub same : (name : List ℕ) → first_found (entity_value table name) (value_among left name) ≡ value_among all name

@@ -1,4 +1,4 @@
-//! What the run of a function by its source depends on, made of its unit.
+//! The entities, symbols and texts that the run of a function by its source depends on, made of its unit.
 #![tactic(auto)]
 
 pub mod elements;

@@ -1,4 +1,4 @@
--- What an assignment does, by its operator.
+-- The change that an assignment makes, by its operator.
 use Rattle.std.specs.Prelude.{◌≡◌, ℕ, true, false, List, codes}
 use Rattle.std.specs.Str.{bytes_eq}
 use Rattle.rl_base.specs.Operators.{operator_text}
