@@ -17,7 +17,7 @@ use Rattle.rl_syntax.specs.declared.word.Word.{Word}
 use Rattle.rl_syntax.specs.declared.word.Word.TheVariants as word
 use Rattle.rl_syntax.proofs.Layers.{syntax_node, syntax_list, syntax_text, syntax_number, syntax_flag, syntax_absent}
 
--- What a node assigns is what it assigns by its role.
+-- The assignments of a node are those by its role.
 assigned_node : (n : Names) (at : At) (w : Word) (parts : Pieces) → assigned_as n at parts (target_role w) ≡ assigned_by n (Node at w parts)
 assigned_node n at word.Id (Then (Said name) End) = refl
 assigned_node n at word.Id _ = refl

@@ -16,7 +16,7 @@ use Rattle.rl_syntax.specs.declared.word.Word.{Word}
 use Rattle.rl_syntax.specs.declared.word.Word.TheVariants as word
 use Rattle.rl_syntax.proofs.Layers.{syntax_node, syntax_list, syntax_text, syntax_number, syntax_flag, syntax_absent}
 
--- What a node declares is what it declares by its role.
+-- The declarations of a node are those by its role.
 bound_node : (n : Names) (at : At) (w : Word) (parts : Pieces) → bound_as n at parts (pattern_role w) ≡ bound_by n (Node at w parts)
 bound_node n at word.Bind parts = refl
 bound_node n at word.Arraypat (Then (Listed items) (Then rest End)) = refl

@@ -7,7 +7,7 @@ use Rattle.rl_code.specs.declared.role.Part.TheVariants as part
 use Rattle.rl_syntax.specs.Sizes.{size, size_of}
 use Rattle.rl_syntax.specs.Syntax.{Syntax, Listed, Pieces, End, Then}
 
--- What two options have is the same, if they are.
+-- Two options that are the same have the same inside.
 pub unpacked : {X : Type 0} (x y : X) → Some x ≡ Some y → x ≡ y
 unpacked x y e = cc
 

@@ -1,4 +1,4 @@
--- What the cuts of a text say, by its bytes.
+-- Statements of the cuts of a text, by its bytes.
 use Rattle.std.proofs.Common.{◌≡◌, ◌≢◌, ◌∙◌, inl, inr, ◌++◌, ◌∷◌, [], ◌<◌, ℕ, Option, Some, None, MatchOption, List, length, take, drop, get_or, suc, sym, ap, subst, arith, true≢false}
 use denote.Ref.{Bor}
 use Rattle.std.specs.Str.Pattern.{RFindsChar, SplitsAroundMatch}

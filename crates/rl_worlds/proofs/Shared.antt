@@ -26,7 +26,7 @@ pub further : (p : ℕ → Bool) (n : ℕ) (found new : List ℕ) → found ≡ 
     → new ≡ filter p (below (n + 1))
 further p n found new e step = rw add-one (step ∙ ap (λ l. l ++ (if p n then n ∷ [] else [])) e ∙ sym (filter-append p (below n) (n ∷ [])))
 
--- What functions name, by its opaque word.
+-- Names in functions, by their opaque word.
 pub flat_named : (n : Names) (fs : List Syntax) → flat (named_here n) fs ≡ flat (named_in n) fs
 unfolding named_here
 flat_named n fs = refl

@@ -1,4 +1,4 @@
--- What a function shares with the others in a list.
+-- Symbols that a function shares with the others in a list.
 use Rattle.std.specs.Prelude.{ℕ, Bool, ◌&&◌, not, nat_eq, filter, List}
 use Rattle.std.specs.List.{list_any}
 use Rattle.rl_model.specs.Code.{contains, named_in, names_symbol}
