@@ -1,0 +1,4 @@
+pub mod Callees
+pub mod Functions
+pub mod Placed
+pub mod Targeted

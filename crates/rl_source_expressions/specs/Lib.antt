@@ -1,0 +1,5 @@
+pub mod Callees
+pub mod Operations
+pub mod Places
+pub mod Targets
+pub mod Tests
