@@ -1,0 +1,5 @@
+pub mod CaseViews
+pub mod Heads
+pub mod Parts
+pub mod Patterns
+pub mod Turns
