@@ -1,0 +1,4 @@
+pub mod Beginnings
+pub mod Endings
+pub mod Passing
+pub mod UnitRuns

@@ -1,0 +1,46 @@
+use Rattle.std.proofs.Common.{ap, refl, sym, ◌∙◌}
+use Rattle.rl_source_run.proofs.Passing.{passes}
+use Rattle.rl_source_stack.specs.Controls.{trace_of}
+use Rattle.rl_source_stack.specs.States.{pushed, state_of}
+use Rattle.rl_source_stack.specs.declared.control.Control.TheVariants as control
+use Rattle.rl_source_run.proofs.through.with_break.Goals as goal
+
+pub returns-in-Some-Value : goal.returns-in-Some-Value
+returns-in-Some-Value c =
+    passes (control.Break c.args.jump) (control.Break c.args.jump) (state_of c.args.run.now) (state_of c.pop.new.self) _ _ c.in-Some-Value.ensures
+    c.in-Some-Value.field-0-is refl
+
+pub returns-in-Some-Following : goal.returns-in-Some-Following
+returns-in-Some-Following c =
+    passes (control.Break c.args.jump) (control.Break c.args.jump) (state_of c.args.run.now) (state_of c.pop.new.self) _ _ c.in-Some-Following.ensures
+    c.in-Some-Following.field-0-is refl
+
+pub returns-in-Some-Statement : goal.returns-in-Some-Statement
+returns-in-Some-Statement c =
+    c.leave_broken.ensures
+    ∙ sym (ap (trace_of (control.Break c.args.jump)) (c.in-Some-Statement.ensures ∙ ap (λ f. pushed f (state_of c.pop.new.self)) c.in-Some-Statement.field-0-is))
+
+pub returns-in-Some-Target : goal.returns-in-Some-Target
+returns-in-Some-Target c =
+    passes (control.Break c.args.jump) (control.Break c.args.jump) (state_of c.args.run.now) (state_of c.pop.new.self) _ _ c.in-Some-Target.ensures
+    c.in-Some-Target.field-0-is refl
+
+pub returns-in-Some-Head : goal.returns-in-Some-Head
+returns-in-Some-Head c =
+    passes (control.Break c.args.jump) (control.Break c.args.jump) (state_of c.args.run.now) (state_of c.pop.new.self) _ _ c.in-Some-Head.ensures
+    c.in-Some-Head.field-0-is refl
+
+pub returns-in-Some-Pieces : goal.returns-in-Some-Pieces
+returns-in-Some-Pieces c =
+    passes (control.Break c.args.jump) (control.Break c.args.jump) (state_of c.args.run.now) (state_of c.pop.new.self) _ _ c.in-Some-Pieces.ensures
+    c.in-Some-Pieces.field-0-is refl
+
+pub returns-in-Some-Given : goal.returns-in-Some-Given
+returns-in-Some-Given c =
+    passes (control.Break c.args.jump) (control.Break c.args.jump) (state_of c.args.run.now) (state_of c.pop.new.self) _ _ c.in-Some-Given.ensures
+    c.in-Some-Given.field-0-is refl
+
+pub returns-in-Some-Chained : goal.returns-in-Some-Chained
+returns-in-Some-Chained c =
+    passes (control.Break c.args.jump) (control.Break c.args.jump) (state_of c.args.run.now) (state_of c.pop.new.self) _ _ c.in-Some-Chained.ensures
+    c.in-Some-Chained.field-0-is refl

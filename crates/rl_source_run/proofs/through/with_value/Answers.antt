@@ -1,0 +1,49 @@
+use Rattle.std.proofs.Common.{refl}
+use Rattle.rl_source_run.proofs.Passing.{passes, takes}
+use Rattle.rl_source_stack.proofs.Goings.{at_bottom}
+use Rattle.rl_source_stack.specs.States.{state_of}
+use Rattle.rl_source_stack.specs.declared.control.Control.TheVariants as control
+use Rattle.rl_source_run.proofs.through.with_value.Goals as goal
+
+pub returns-in-Some-Value : goal.returns-in-Some-Value
+returns-in-Some-Value c =
+    takes (control.Value c.args.value) (state_of c.args.run.now) (state_of c.pop.new.self) _ _ c.in-Some-Value.ensures c.in-Some-Value.field-0-is
+    c.take_value.result (state_of c.take_value.new.run) c.take_value.ensures
+
+pub returns-in-Some-Following : goal.returns-in-Some-Following
+returns-in-Some-Following c =
+    takes (control.Value c.args.value) (state_of c.args.run.now) (state_of c.pop.new.self) _ _ c.in-Some-Following.ensures c.in-Some-Following.field-0-is
+    c.take_in_statement.result (state_of c.take_in_statement.new.run) c.take_in_statement.ensures
+
+pub returns-in-Some-Statement : goal.returns-in-Some-Statement
+returns-in-Some-Statement c =
+    passes (control.Value c.args.value) (control.Value c.args.value) (state_of c.args.run.now) (state_of c.pop.new.self) _ _ c.in-Some-Statement.ensures
+    c.in-Some-Statement.field-0-is refl
+
+pub returns-in-Some-Target : goal.returns-in-Some-Target
+returns-in-Some-Target c =
+    passes (control.Value c.args.value) (control.Value c.args.value) (state_of c.args.run.now) (state_of c.pop.new.self) _ _ c.in-Some-Target.ensures
+    c.in-Some-Target.field-0-is refl
+
+pub returns-in-Some-Head : goal.returns-in-Some-Head
+returns-in-Some-Head c =
+    takes (control.Value c.args.value) (state_of c.args.run.now) (state_of c.pop.new.self) _ _ c.in-Some-Head.ensures c.in-Some-Head.field-0-is
+    c.take_callee.result (state_of c.take_callee.new.run) c.take_callee.ensures
+
+pub returns-in-Some-Pieces : goal.returns-in-Some-Pieces
+returns-in-Some-Pieces c =
+    passes (control.Value c.args.value) (control.Value c.args.value) (state_of c.args.run.now) (state_of c.pop.new.self) _ _ c.in-Some-Pieces.ensures
+    c.in-Some-Pieces.field-0-is refl
+
+pub returns-in-Some-Given : goal.returns-in-Some-Given
+returns-in-Some-Given c =
+    takes (control.Value c.args.value) (state_of c.args.run.now) (state_of c.pop.new.self) _ _ c.in-Some-Given.ensures c.in-Some-Given.field-0-is
+    c.take_given.result (state_of c.take_given.new.run) c.take_given.ensures
+
+pub returns-in-Some-Chained : goal.returns-in-Some-Chained
+returns-in-Some-Chained c =
+    passes (control.Value c.args.value) (control.Value c.args.value) (state_of c.args.run.now) (state_of c.pop.new.self) _ _ c.in-Some-Chained.ensures
+    c.in-Some-Chained.field-0-is refl
+
+pub returns-in-None : goal.returns-in-None
+returns-in-None c = at_bottom (control.Value c.args.value) control.Waiting _ _ c.in-None.ensures refl

@@ -1,0 +1,7 @@
+//! Runs of functions by their source.
+#![tactic(auto)]
+
+pub mod drive;
+pub mod source;
+pub mod through;
+pub mod unit;
