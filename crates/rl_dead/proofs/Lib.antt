@@ -1,0 +1,10 @@
+mod Pairs
+mod Covering
+mod Shaping
+mod Smaller
+mod Statements
+mod Loops
+mod Rows
+mod Switches
+mod Bodies
+mod Ids

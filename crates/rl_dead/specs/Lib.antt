@@ -1,0 +1,5 @@
+pub mod Jumps
+pub mod Ranges
+pub mod Parts
+pub mod Walks
+pub mod Functions

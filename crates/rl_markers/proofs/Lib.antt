@@ -1,0 +1,10 @@
+mod Pairs
+mod Shaping
+mod Using
+mod Listing
+mod Declaring
+mod Naming
+mod NodeTables
+mod Marks
+mod Opening
+mod Least
