@@ -1,0 +1,5 @@
+pub mod Bodiless
+pub mod Named
+pub mod Orders
+pub mod Parameters
+pub mod Spines

@@ -1,0 +1,5 @@
+pub mod Clean
+pub mod Clear
+pub mod Finds
+pub mod Itself
+pub mod Plans
