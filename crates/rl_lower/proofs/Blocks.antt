@@ -1,5 +1,5 @@
 -- The moves that lowering is made of preserve the blocks.
-use Rattle.std.proofs.Common.{◌+◌, inl, inr, Option, arith, refl}
+use Rattle.std.proofs.Common.{◌+◌, inl, inr, Option, arith, refl, ◌≡◌, zero, suc, ◌++◌, true, List, [], ◌∷◌}
 use Rattle.rl_base.specs.declared.diagnostic.Diagnostic.{Diagnostic}
 use Rattle.rl_base.specs.declared.span.Span.{Span}
 use Rattle.rl_hir.specs.declared.instruction.InstructionValue.{InstructionValue}
@@ -10,11 +10,24 @@ use Rattle.rl_hir.specs.declared.function.BlockKind.{BlockKind}
 use Rattle.rl_builder.specs.Builder.{State, reserved, new_block, recorded, ended_by, completed_by}
 use Rattle.rl_lower.specs.Values.{with_value}
 use Rattle.rl_lower.specs.Endings.{return_of, returned_from}
-use Rattle.rl_lower.specs.Simulation.{Extends, PreservesBlocks}
+use Rattle.rl_lower.specs.Simulation.{Extends, PreservesBlocks, AreEnded, is_plain}
 use Rattle.rl_lower.proofs.BlockNames.{own_completed, own_refl, own_then}
 use Rattle.rl_lower.proofs.Points.{settle_returned, settle_value}
 use Rattle.rl_lower.proofs.Moves.{contained_before, extends_refl, extends_then, extends_reserved, extends_recorded, extends_value, extends_completed}
-use Rattle.rl_lower.proofs.BlockIds.{ids_refl, ids_then, ids_counted, ids_ended, ids_fresh, free_fresh, free_then, ended_more}
+use Rattle.rl_hir.specs.Blocks.{Pair as BlockPair}
+use Rattle.rl_runs.proofs.BlockIds.{free_fresh, free_then, ids_counted, ids_ended, ids_fresh, ids_refl, ids_then}
+use Rattle.std.proofs.lemmas.List.Elements.{All-append}
+
+-- Complete blocks end plainly.
+
+only_one : (b : BlockPair) → is_plain b.1.terminal.kind ≡ true → AreEnded (b ∷ [])
+only_one b end zero d below = end
+only_one b end (suc k) d below = absurd (omega arith)
+
+pub ended_more : (completed : List BlockPair) (b : BlockPair) → is_plain b.1.terminal.kind ≡ true
+    → AreEnded completed → AreEnded (completed ++ b ∷ [])
+ended_more completed b end all =
+    All-append (λ (x : BlockPair). is_plain x.1.terminal.kind ≡ true) completed (b ∷ []) all (only_one b end)
 
 pub blocks_refl : (s : State) → PreservesBlocks s s
 blocks_refl s = record { extends = extends_refl s; ids = ids_refl s.completed s.current.id.0 s.env.next_block; ended = λ e. e; named = own_refl s; settle = λ c cover old. old }

@@ -7,7 +7,6 @@ use Rattle.rl_order.specs.Numbering.{orders_of}
 use Rattle.rl_lower.specs.Values.{temporary}
 use Rattle.rl_syntax.specs.Syntax.{Syntax, nodes}
 use Rattle.rl_names.specs.Names.{Names}
-use Rattle.rl_lower.specs.Listed.{IsListed}
 use Rattle.rl_lower.specs.Lowering.{HasRoom, Preserves, LowersBody}
 use Rattle.rl_lower.specs.Endings.{return_of, with_undefined, closed_off}
 use Rattle.rl_hir.specs.declared.terminal.ReturnVariant.TheVariants as returns
@@ -15,7 +14,8 @@ use Rattle.rl_hir.specs.declared.instruction.InstructionValue.TheVariants as val
 use Rattle.rl_hir.specs.declared.instruction.PrimitiveValue.TheVariants as primitives
 use Rattle.std.proofs.Common.{None}
 use Rattle.rl_lower.proofs.Keeping.{keeps_then, keeps_value, keeps_completed}
-use Rattle.rl_lower.proofs.Listed.{listed_none}
+use Rattle.rl_runs.proofs.Listed.{listed_none}
+use Rattle.rl_runs.specs.Listed.{IsListed}
 
 -- The moves that close off a body.
 pub keeps_closed : {names : Names} (s : State) → Preserves names s (closed_off s) 2

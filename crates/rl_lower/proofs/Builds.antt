@@ -14,13 +14,13 @@ use Rattle.rl_machine.specs.Machine.{Graph}
 use Rattle.rl_syntax.specs.Syntax.{Syntax, nodes}
 use Rattle.rl_names.specs.Names.{Names}
 use Rattle.rl_lower.specs.Endings.{closed_off}
-use Rattle.rl_lower.specs.Listed.{AreBelow}
 use Rattle.rl_lower.specs.Lowering.{HasRoom, LowersBody}
 use Rattle.rl_lower.proofs.Building.{IsFresh, closed_listed, orders_fit}
 use Rattle.rl_lower.proofs.Finished.{IsFinished, finished_whole}
 use Rattle.rl_lower.proofs.Functions.{function_finished}
 use Rattle.rl_lower.proofs.Parameters.{all_at}
-use Rattle.rl_lower.proofs.Tables.{table_same}
+use Rattle.rl_runs.proofs.Tables.{table_same}
+use Rattle.rl_runs.specs.Listed.{AreBelow}
 
 -- Blocks are not refused without instructions that make functions.
 

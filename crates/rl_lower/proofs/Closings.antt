@@ -18,7 +18,6 @@ use Rattle.rl_lower.specs.Values.{temporary}
 use Rattle.rl_machine.specs.Machine.{Graph}
 use Rattle.rl_lower.specs.Begun.{FunctionTables, begun_by, given_by}
 use Rattle.rl_lower.specs.Endings.{return_of, with_undefined, closed_off, IsGraphOf}
-use Rattle.rl_lower.specs.Listed.{AreBelow}
 use Rattle.rl_lower.specs.Lowering.{HasRoom, LowersBody}
 use Rattle.rl_lower.specs.Named.{TellDeclarations}
 use Rattle.rl_lower.specs.Parameters.{with_parameters}
@@ -26,6 +25,7 @@ use Rattle.rl_model.specs.Fields.{places_from}
 use Rattle.rl_lower.proofs.Building.{IsFresh}
 use Rattle.rl_semantic.specs.declared.semantic.Semantic.{Semantic}
 use Rattle.rl_lower.proofs.Builds.{closed_below, closed_env, closed_orders, closed_whole}
+use Rattle.rl_runs.specs.Listed.{AreBelow}
 
 -- A builder that is given no names, over tables that show the unit, begins with none.
 pub begun_from : (env : Environment) (tables : FunctionTables) (semantic : Semantic) (keys : List SymbolId) (s : State)

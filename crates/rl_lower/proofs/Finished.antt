@@ -2,7 +2,6 @@
 use Rattle.std.proofs.Common.{◌≡◌, ℕ, ◌<◌, ◌≤◌, inl, inr, Bool, true, false, true≢false, ◌&&◌, is_some, List, [], ◌∷◌, All, Option, Some, None, length, slice_get, nat_eq, refl, sym, ap, ◌∙◌, subst, arith}
 use Rattle.std.proofs.lemmas.Bool.Decides.{eqb_tells}
 use Rattle.std.specs.List.{list_all, list_any}
-use Rattle.std.proofs.lemmas.List.Elements.{All-head, All-tail}
 use Rattle.std.proofs.lemmas.Option.{slice_get_within}
 use Rattle.rl_base.specs.declared.ids.BlockId.{BlockId}
 use Rattle.rl_base.specs.declared.ids.InstructionId.{InstructionId}
@@ -13,7 +12,6 @@ use Rattle.rl_hir.specs.declared.terminal.TerminalKind.{TerminalKind}
 use Rattle.rl_hir.specs.declared.terminal.TerminalKind.TheVariants as kinds
 use Rattle.rl_builder.specs.Builder.{State}
 use Rattle.rl_machine.specs.Conditions.{EndsAs, MayOrder, Reached, loop_blocks}
-use Rattle.rl_machine.specs.Machine.{Graph}
 use Rattle.rl_machine.specs.Ends.{catcher_of}
 use Rattle.rl_machine.specs.Machine.{Code, Item, Runs, Ends, block_of, catcher_at, code_in, item_at, item_by, item_in}
 use Rattle.rl_machine.specs.Prunes.{Each}
@@ -22,9 +20,10 @@ use Rattle.rl_machine.specs.Traces.{World}
 use Rattle.rl_machine.proofs.Silence.{settles_nothing}
 use Rattle.rl_order.proofs.Ordering.{or_left, or_right, same_self}
 use Rattle.rl_order.specs.Walk.{IsWhole, has_block, leads_to}
-use Rattle.rl_lower.proofs.BlockNames.{leads_named}
-use Rattle.rl_lower.proofs.Graphs.{Apart, FoundAt, found_at, found_by, item_met}
-use Rattle.rl_lower.specs.Simulation.{AreEnded, CoversNames, Fact, HasItem, InCompleted, InCompletedPoint, InWip, IsCompleted, IsContainedIn, IsNamed, is_plain}
+use Rattle.rl_lower.specs.Simulation.{AreEnded, CoversNames, Fact, HasItem, InCompleted, InCompletedPoint, InWip, IsCompleted, IsContainedIn, IsNamed, is_plain, InBlock}
+use Rattle.rl_runs.proofs.Graphs.{Apart, FoundAt, found_at, found_by, item_met as item_of}
+use Rattle.rl_runs.proofs.Ordered.{completed_graph, found_holds}
+use Rattle.rl_runs.proofs.Successors.{leads_named}
 
 -- Every block is complete: ids are distinct, the entry and all blocks that are named are among them, each ends plainly, and their program
 -- points settle.
@@ -36,21 +35,10 @@ pub record IsFinished (s : State) : Type 0 where
   pub named : (id : ℕ) → IsNamed s.completed id → IsCompleted s.completed id
   pub settle : (c : Code) → IsContainedIn s c → (id place : ℕ) → InCompletedPoint s.completed id place → Settles c id place
 
--- A block that is found is one of all.
-pub found_holds : (P : BlockPair → Type 0) (pairs : List BlockPair) (id : BlockId) (block : BasicBlock) → All P pairs
-    → block_at pairs id ≡ Some block
-    → (other : BlockId) × P (other, block)
-found_holds P [] id block all found = absurd (cc)
-found_holds P (p ∷ pairs) id block all found = by_test (same_id id p.0) refl found (found_holds P pairs id block (All-tail P p pairs all))
-  where
-    by_test : (b : Bool) → same_id id p.0 ≡ b → block_at (p ∷ pairs) id ≡ Some block
-        → (block_at pairs id ≡ Some block → (other : BlockId) × P (other, block))
-        → (other : BlockId) × P (other, block)
-    by_test true is found1 rest =
-        let at : Some p.1 ≡ Some block = rw is at found1 in
-        let same : p.1 ≡ block = cc in
-        (p.0, subst (λ (b : BasicBlock). P (p.0, b)) same (All-head P p pairs all))
-    by_test false is found1 rest = let later : block_at pairs id ≡ Some block = rw is at found1 in rest later
+-- The item at an index of a block.
+item_met : (table : List Instruction) (b : BlockPair) (place : ℕ) (item : Item) → InBlock table b place item → item_in table b.1 place ≡ Some item
+item_met table b place (Runs i) h = item_of table b place (Runs i) h
+item_met table b place (Ends t) h = item_of table b place (Ends t) h
 
 -- An item stands at an instruction or at the terminal.
 item_place : (table : List Instruction) (block : BasicBlock) (place : ℕ) (item : Item) → item_in table block place ≡ Some item
@@ -103,10 +91,6 @@ none_looped is_so (kinds.For i t u b f) plain = absurd (cc)
 none_looped is_so (kinds.ForIn i b f) plain = absurd (cc)
 none_looped is_so (kinds.ForOf i t b f) plain = absurd (cc)
 none_looped is_so _ plain = tt
-
--- The completed blocks as a graph.
-abbrev pub completed_graph : State → Graph
-completed_graph s = record { blocks = s.completed; table = s.table; entry = s.entry }
 
 -- It may be ordered.
 pub finished_may_order : (s : State) → IsFinished s → All (λ b. b.1.preds ≡ []) s.completed → MayOrder (completed_graph s)

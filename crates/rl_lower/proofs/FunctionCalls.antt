@@ -30,17 +30,17 @@ use Rattle.rl_lower.proofs.FunctionGraphs.{begun_fresh, graph_table, graph_unlin
 use Rattle.rl_lower.proofs.FunctionTrees.{IsFunction, function_calls}
 use Rattle.rl_lower.proofs.Functions.{function_finished, knows_fresh}
 use Rattle.rl_lower.proofs.Calls.{calls_same}
-use Rattle.rl_lower.proofs.Graphs.{without_order}
 use Rattle.rl_lower.proofs.HeldCalls.{pruned_calls, used_tells}
 use Rattle.rl_lower.proofs.Linked.{built_plain}
 use Rattle.rl_lower.proofs.Parameters.{state_with}
 use Rattle.rl_lower.proofs.Reachable.{adds_value, completed_calls, goes_before, goes_finished, knows_after, none_where}
 use Rattle.rl_lower.specs.Begun.{FunctionTables, begun_by}
 use Rattle.rl_lower.specs.Endings.{IsGraphOf, closed_off, hir_of, return_of, with_undefined}
-use Rattle.rl_lower.specs.Listed.{IsListed}
 use Rattle.rl_lower.specs.Lowering.{LowersBody}
 use Rattle.rl_lower.specs.Reachable.{GoesOn, KnowsBlocks, TellsReached, is_reachable, reached_among, reached_calls, where_reachable}
 use Rattle.rl_lower.specs.Values.{temporary}
+use Rattle.rl_runs.proofs.Graphs.{without_order}
+use Rattle.rl_runs.specs.Listed.{IsListed}
 
 -- The calls of the instruction table.
 

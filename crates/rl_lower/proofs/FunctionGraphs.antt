@@ -43,7 +43,6 @@ use Rattle.rl_lower.specs.Simulation.{Agrees, CoversNames, Extends, HasSoundName
 use Rattle.rl_lower.specs.Parameters.{said_of_parameters, with_parameters}
 use Rattle.rl_lower.proofs.Building.{IsFresh, keeps_closed}
 use Rattle.rl_lower.proofs.FunctionTrees.{IsFunction, function_nodes, function_refusals}
-use Rattle.rl_lower.proofs.FinalNames.{sound_covers}
 use Rattle.rl_lower.proofs.Functions.{body_trace, extends_closed, function_finished, function_runs_by}
 use Rattle.rl_lower.proofs.GivenNames.{pairs_told, parameters_kept, parameters_pairs, parameters_sound}
 use Rattle.rl_lower.proofs.Linked.{built_length}
@@ -56,6 +55,7 @@ use Rattle.rl_lower.proofs.Building.{closed_listed}
 use Rattle.rl_builder.specs.Build.{graph_of}
 use Rattle.rl_machine.specs.Conditions.{MayOrder}
 use Rattle.rl_lower.proofs.Finished.{finished_may_order}
+use Rattle.rl_runs.proofs.FinalNames.{sound_covers}
 
 -- The builder behind the parameters.
 

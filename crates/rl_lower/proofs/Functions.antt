@@ -43,18 +43,20 @@ use Rattle.rl_lower.specs.Simulation.{Agrees, CoversNames, IsCompleted, IsCurren
 use Rattle.rl_lower.specs.Reachable.{KnowsBlocks}
 use Rattle.rl_lower.specs.Endings.{return_of, with_undefined, closed_off, hir_of}
 use Rattle.rl_lower.proofs.Building.{IsFresh}
-use Rattle.rl_lower.proofs.Steps.{get_seam, comes_at_once, steps_on}
 use Rattle.rl_lower.proofs.Moves.{extends_then, extends_value, extends_completed, contained_before, terminal_met}
 use Rattle.rl_base.specs.Distinct.{AreDistinct}
 use Rattle.rl_base.proofs.DistinctLists.{distinct_none}
-use Rattle.rl_lower.proofs.BlockIds.{apart_ended, ids_of, ended_more}
 use Rattle.rl_lower.proofs.Parts.{value_runs}
-use Rattle.rl_lower.proofs.Asking.{kept_same}
 use Rattle.rl_lower.proofs.BlockNames.{named_before}
-use Rattle.rl_lower.proofs.Finished.{IsFinished, completed_graph, finished_code, finished_contained, finished_may_order, finished_settles}
+use Rattle.rl_lower.proofs.Finished.{IsFinished, finished_code, finished_contained, finished_may_order, finished_settles}
 use Rattle.rl_lower.proofs.Points.{settle_returned, settle_value}
 use Rattle.rl_machine.proofs.Silence.{settled_walks, settles_passes_once}
 use Rattle.rl_machine.specs.Silence.{AlwaysSettles}
+use Rattle.rl_lower.proofs.Blocks.{ended_more}
+use Rattle.rl_runs.proofs.BlockIds.{apart_ended, ids_of}
+use Rattle.rl_runs.proofs.Ordered.{completed_graph}
+use Rattle.rl_runs.proofs.Shared.{kept_same}
+use Rattle.rl_runs.proofs.Steps.{get_seam, comes_at_once, steps_on}
 
 -- A block that ends by a return ends the run with the value.
 pub block_returns : (scene : Scene) (ways : Ways) (s : State) (span : Option Span) (variant : ReturnVariant) (place : Place) (next : WipBlock) (c : Code)
@@ -64,7 +66,7 @@ pub block_returns : (scene : Scene) (ways : Ways) (s : State) (span : Option Spa
 block_returns scene ways s span variant place next c cover stands v source store notes answers a is =
     steps_on c s.current.id.0 (length s.current.instructions) store notes answers (Ends (return_of span variant place)) (returned (kept_values scene source) variant v)
     (terminal_met s (return_of span variant place) next c cover)
-    (comes_at_once c _ _ (λ stuck onward. ap (λ (kept : List Assignment). returned kept variant (store place.identifier.0)) (kept_same c scene source store a stands.shares) ∙ ap (λ w. returned (kept_values scene source) variant w) is))
+    (comes_at_once c _ _ (λ stuck onward. ap (λ (kept : List Assignment). returned kept variant (store place.identifier.0)) (kept_same c scene.world source store a stands.shares) ∙ ap (λ w. returned (kept_values scene source) variant w) is))
 
 -- A body that is an expression: its value is returned, and a block that was reserved before goes on.
 pub value_returned : (scene : Scene) (s new : State) (d : Action Value) (identifier : ℕ) (span : Option Span) (place : Place) (kind : BlockKind)

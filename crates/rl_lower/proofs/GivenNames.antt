@@ -24,8 +24,8 @@ use Rattle.rl_names.specs.declared.parameters.Parameter.{Parameter}
 use Rattle.rl_lower.specs.Lowering.{HasNamedPairs, KeepsNamed}
 use Rattle.rl_lower.specs.Named.{AreDeclaredAt, declared_span}
 use Rattle.rl_lower.specs.Simulation.{GrowsNames, HasSoundNames}
-use Rattle.rl_lower.proofs.FinalNames.{unpaired}
 use Rattle.rl_lower.proofs.Parameters.{all_at, get_behind, identifier_for, known_at, known_from, pair_found, pair_tells, pairs_from, span_given, state_with, users_of}
+use Rattle.rl_runs.proofs.FinalNames.{unpaired}
 
 -- The name of a parameter is that of its symbol.
 user_found : (parameters : List Parameter) (place : ℕ) (p : Parameter) → AreApart parameters → slice_get parameters place ≡ Some p → user_of (users_of parameters) p.name ≡ Some p.symbol.0

@@ -26,11 +26,11 @@ use Rattle.rl_order.specs.Prune.{IsPruned, cleaned}
 use Rattle.rl_order.specs.Reached.{IsReached}
 use Rattle.rl_order.specs.Walk.{Walk, emptied, is_noted, is_used, kept, kept_block}
 use Rattle.rl_order.specs.declared.predecessors.Edge.{Edge}
-use Rattle.rl_lower.proofs.Graphs.{Apart, FoundAt, found_at, found_by, ordered_table_plain}
-use Rattle.rl_lower.proofs.BlockIds.{ids_of}
-use Rattle.rl_lower.proofs.Permuted.{given, given_permuted}
 use Rattle.rl_lower.proofs.Reachable.{graph_plain}
 use Rattle.rl_lower.specs.Reachable.{reached_among}
+use Rattle.rl_runs.proofs.BlockIds.{ids_of}
+use Rattle.rl_runs.proofs.Graphs.{Apart, FoundAt, found_at, found_by, ordered_table_plain}
+use Rattle.rl_runs.proofs.Permuted.{given, given_permuted}
 
 -- The calls that blocks list depend on what they list alone.
 

@@ -5,8 +5,8 @@ use Rattle.rl_base.specs.declared.diagnostic.Diagnostic.{Diagnostic}
 use Rattle.rl_base.specs.declared.span.Span.{Span}
 use Rattle.rl_hir.specs.declared.instruction.InstructionValue.{InstructionValue}
 use Rattle.rl_hir.specs.declared.terminal.Terminal.{Terminal}
-use Rattle.rl_builder.specs.Builder.{State, reserved, completed_by, recorded}
-use Rattle.rl_lower.specs.Values.{with_value}
+use Rattle.rl_builder.specs.Builder.{State, reserved, completed_by, recorded, with_temporary}
+use Rattle.rl_lower.specs.Values.{with_value, temporary, unordered}
 use Rattle.rl_builder.specs.declared.blocks.WipBlock.{WipBlock}
 use Rattle.rl_builder.specs.Dropped.{is_function_expression}
 use Rattle.rl_semantic.specs.declared.semantic.Semantic.{Semantic}
@@ -18,12 +18,12 @@ use Rattle.rl_builder.specs.Names.{fresh_identifier, new_span, resolved, resolve
 use Rattle.rl_used_names.specs.Choosing.{chosen, free_place}
 use Rattle.rl_builder.proofs.NameLaws.{OneMore-resolved}
 use Rattle.rl_used_names.proofs.NameLaws.{identifier_of-append_some, name_of-append, name_of-last}
-use Rattle.rl_lower.specs.Listed.{IsListed}
 use Rattle.rl_lower.specs.Lowering.{HasNamedPairs, HasRoom, CountersGrowBy, KeepsNamed, Preserves}
 use Rattle.rl_model.specs.Fields.{IsNamedPair}
 use Rattle.rl_lower.specs.Named.{IsNamed, declared_span}
-use Rattle.rl_lower.proofs.Listed.{listed_completed, listed_value}
-use Rattle.rl_lower.proofs.Steps.{get_more}
+use Rattle.rl_runs.proofs.Listed.{listed_completed, listed_plain, listed_reserved, listed_temporary}
+use Rattle.rl_runs.proofs.Steps.{get_more}
+use Rattle.rl_runs.specs.Listed.{IsListed}
 
 -- Identifiers of local variables stay.
 named_same : (names : Names) (s new : State) → new.handlers ≡ s.handlers → new.semantic ≡ s.semantic → new.bindings ≡ s.bindings → new.env.identifiers ≡ s.env.identifiers
@@ -106,6 +106,10 @@ keeps_more a b m n le k = record {
   fn_type = k.fn_type;
 }
 
+pub listed_value : (s : State) (v : InstructionValue) (span : Option Span) → is_function_expression v ≡ false → IsListed s → IsListed (with_value s v span)
+listed_value s v span plain l =
+    listed_plain (with_temporary s span) (unordered (temporary s span) v span) refl plain (listed_temporary s span l)
+
 pub keeps_value : {names : Names} (s : State) (v : InstructionValue) (span : Option Span) → is_function_expression v ≡ false → Preserves names s (with_value s v span) 1
 keeps_value {names} s v span plain = record {
   uses = record { blocks = omega arith; types = omega arith; identifiers = simp length-append (omega arith); instructions = simp length-append (omega arith); completed = omega arith };
@@ -116,10 +120,6 @@ keeps_value {names} s v span plain = record {
   functions = refl;
   fn_type = refl;
 }
-
-pub listed_reserved : (s : State) → IsListed s → IsListed (reserved s)
-listed_reserved s l =
-    record { completed = l.completed; current = l.current; counted = l.counted; once = l.once; unordered = l.unordered; no_functions = l.no_functions; predecessors = l.predecessors }
 
 pub uses_reserved : (s : State) → CountersGrowBy s (reserved s) 1
 uses_reserved s = record { blocks = omega arith; types = omega arith; identifiers = omega arith; instructions = omega arith; completed = omega arith }

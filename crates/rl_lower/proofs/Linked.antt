@@ -17,10 +17,10 @@ use Rattle.rl_builder.specs.Builder.{State}
 use Rattle.rl_machine.specs.Machine.{Graph}
 use Rattle.rl_model.specs.WellFormed.{IsLinked}
 use Rattle.rl_lower.specs.Endings.{hir_of}
-use Rattle.rl_lower.specs.Listed.{IsListed}
-use Rattle.rl_lower.proofs.Tables.{table_same}
-use Rattle.rl_lower.proofs.Graphs.{ordered_table_plain, without_order}
-use Rattle.rl_lower.proofs.Listed.{numbers}
+use Rattle.rl_runs.proofs.Graphs.{ordered_table_plain, without_order}
+use Rattle.rl_runs.proofs.Listed.{numbers}
+use Rattle.rl_runs.proofs.Tables.{table_same}
+use Rattle.rl_runs.specs.Listed.{IsListed}
 
 pub built_numbered : (s : State) (built : Graph) (env : Environment) → HaveOwnIds s.completed → IsListed s → IsBuilt s built env → IsNumbered built.table built.blocks
 built_numbered s built env own l b =

@@ -48,8 +48,7 @@ use Rattle.rl_lower.specs.Lowering.{Preserves, LowersExpression, LowersExpressio
 use Rattle.rl_lower.specs.Simulation.{RunsAll, RunsExpression}
 use Rattle.rl_lower.proofs.Blocks.{blocks_refl, blocks_then, blocks_value, blocks_recorded, blocks_returned}
 use Rattle.rl_lower.proofs.Calls.{added_then, calls_more, calls_same, nothing_added}
-use Rattle.rl_lower.proofs.Keeping.{keeps_refl, keeps_then, keeps_more, keeps_value, keeps_reserved, keeps_recorded, keeps_completed, listed_recorded}
-use Rattle.rl_lower.proofs.Listed.{listed_value}
+use Rattle.rl_lower.proofs.Keeping.{keeps_refl, keeps_then, keeps_more, keeps_value, keeps_reserved, keeps_recorded, keeps_completed, listed_recorded, listed_value}
 use Rattle.rl_lower.specs.Reachable.{can_all_complete}
 use Rattle.rl_lower.proofs.Reachable.{adds_value, adds_refl, adds_recorded, adds_then, adds_same, adds_returned}
 use Rattle.rl_lower.proofs.Parts.{value_runs, local_runs, outer_runs, binary_runs, call_runs, none_run, next_runs, means_same, evaluated_runs, return_runs, nothing_runs, sequence_runs}

@@ -19,8 +19,8 @@ use Rattle.rl_machine.specs.Ends.{Notes}
 use Rattle.rl_builder.proofs.NameLaws.{OneMore-resolved}
 use Rattle.rl_lower.specs.Simulation.{IsCurrentOrCompleted, InBlock, InWip, Extends, HasSoundNames, IsContainedIn, Nobody, TracesAt, TracesFrom}
 use Rattle.rl_machine.specs.Silence.{walk}
-use Rattle.rl_lower.proofs.FinalNames.{covers_before, names_refl, names_resolved, names_then, nobody_fresh, sound_more, sound_resolved}
-use Rattle.rl_lower.proofs.Steps.{get_more, get_seam, steps_on}
+use Rattle.rl_runs.proofs.FinalNames.{covers_before, names_refl, names_resolved, names_then, nobody_fresh, sound_more, sound_resolved}
+use Rattle.rl_runs.proofs.Steps.{get_more, get_seam, steps_on}
 
 block_more : (table more : List Instruction) (b : BlockPair) (place : ℕ) (item : Item) → InBlock table b place item
     → InBlock (table ++ more) b place item

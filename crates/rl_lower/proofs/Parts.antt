@@ -35,10 +35,11 @@ use Rattle.rl_hir.specs.Instructions.{argument_place, argument_shape, binding_te
 use Rattle.rl_lower.specs.Endings.{return_of, returned_from}
 use Rattle.rl_lower.specs.Simulation.{Agrees, Eventually, Continues, Extends, HasSoundNames, IsContainedIn, Nobody, TracesFrom, TracesAt, Later, StandsIn, RunsAll, RunsExpression, RunsStatement}
 use Rattle.rl_machine.specs.Silence.{walk}
-use Rattle.rl_lower.proofs.Asking.{agrees_changed, kept_same, later_changed}
-use Rattle.rl_lower.proofs.Steps.{agrees_set, set_same, comes_at_once, steps_on, later_refl, later_then, later_set}
+use Rattle.rl_lower.proofs.Steps.{later_refl, later_then, later_set, later_changed}
 use Rattle.rl_lower.proofs.Moves.{extends_refl, extends_then, extends_value, contained_before, instruction_met, terminal_met, push_runs, value_free, value_made}
 use Rattle.rl_lower.proofs.Blocks.{extends_returned}
+use Rattle.rl_runs.proofs.Shared.{agrees_changed, kept_same}
+use Rattle.rl_runs.proofs.Steps.{agrees_set, set_same, comes_at_once, steps_on}
 
 -- An instruction that computes a value silently.
 pub computed_runs : (scene : Scene) (s : State) (d : Action Value) (value : InstructionValue) (span : Option Span) (computed : Store → Value)
@@ -295,7 +296,7 @@ pub return_ends : (scene : Scene) (ways : Ways) (s : State) (span : Option Span)
 return_ends scene ways s span variant place kind c cover stands v source store notes answers a is =
     steps_on c s.current.id.0 (length s.current.instructions) store notes answers (Ends (return_of span variant place)) (returned (kept_values scene source) variant v)
     (terminal_met (reserved s) (return_of span variant place) (new_block s.env.next_block kind) c cover)
-    (comes_at_once c _ _ (λ stuck next. ap (λ (kept : List Assignment). returned kept variant (store place.identifier.0)) (kept_same c scene source store a stands.shares) ∙ ap (λ w. returned (kept_values scene source) variant w) is))
+    (comes_at_once c _ _ (λ stuck next. ap (λ (kept : List Assignment). returned kept variant (store place.identifier.0)) (kept_same c scene.world source store a stands.shares) ∙ ap (λ w. returned (kept_values scene source) variant w) is))
 
 -- A return of an expression's value.
 pub return_runs : (scene : Scene) (s new : State) (d : Action Value) (identifier : ℕ) (span : Option Span) (variant : ReturnVariant)

@@ -1,6 +1,5 @@
 -- The program points of a state settle, move by move.
 use Rattle.std.proofs.Common.{◌≡◌, ℕ, ◌+◌, ◌<◌, ◌≤◌, inl, inr, ◌++◌, List, [], ◌∷◌, length, length-append, Option, refl, sym, ap, ◌∙◌, subst, arith}
-use Rattle.std.proofs.lemmas.Bool.Decides.{leb_tells}
 use Rattle.rl_base.specs.declared.ids.InstructionId.{InstructionId}
 use Rattle.rl_base.specs.declared.span.Span.{Span}
 use Rattle.rl_hir.specs.Blocks.{Pair as BlockPair}
@@ -14,19 +13,12 @@ use Rattle.rl_builder.specs.declared.blocks.WipBlock.{WipBlock}
 use Rattle.rl_machine.proofs.Silence.{settles_behind, settles_returns}
 use Rattle.rl_machine.specs.Machine.{Code}
 use Rattle.rl_machine.specs.Silence.{Settles}
-use Rattle.rl_lower.proofs.BlockIds.{added_cases}
 use Rattle.rl_lower.proofs.Moves.{instruction_met, terminal_met}
 use Rattle.rl_lower.specs.Endings.{return_of}
 use Rattle.rl_lower.specs.Simulation.{HasPoint, IsContainedIn, PointsSettle}
 use Rattle.rl_lower.specs.Values.{temporary, unordered, with_value}
-
--- A point at most at an index is before it or at it.
-module _ (c : Code) (id bound : ℕ) (here : Settles c id bound) (before : (place : ℕ) → place < bound → Settles c id place) where
-  pub settles_up_to : (place : ℕ) → place ≤ bound → Settles c id place
-  settles_up_to place within = elim (leb_tells bound place) [
-    | inl t ↦ (let over : bound ≤ place = t.1 in let same : bound ≡ place = omega (arith, within, over) in subst (λ (n : ℕ). Settles c id n) same here)
-    | inr t ↦ before place t.1
-  ]
+use Rattle.rl_runs.proofs.Points.{settles_up_to}
+use Rattle.rl_runs.proofs.Steps.{added_cases}
 
 -- An instruction is appended to the current block.
 pub settle_pushed : (s : State) (i : Instruction) (c : Code) → IsContainedIn (plainly_pushed s i) c → PointsSettle c s

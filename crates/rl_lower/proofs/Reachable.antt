@@ -17,18 +17,19 @@ use Rattle.rl_order.specs.Numbering.{order_after, ordered_blocks}
 use Rattle.rl_lower.specs.Values.{temporary, unordered, with_value}
 use Rattle.rl_builder.specs.declared.blocks.WipBlock.{WipBlock}
 use Rattle.rl_model.specs.Calls.{call_at, graph_calls, listed_calls}
-use Rattle.rl_lower.specs.Listed.{AreBelow, IsListed}
 use Rattle.rl_lower.specs.Reachable.{AddsCalls, GoesOn, KnowsBlocks, TellsReached, is_reachable, reached_among, reached_calls, where_reachable}
 use Rattle.rl_lower.specs.Simulation.{IsCurrentOrCompleted, IsNamed, NamesOwn, PreservesBlocks, UniqueIds}
-use Rattle.rl_lower.proofs.BlockIds.{ids_counted}
-use Rattle.rl_lower.proofs.BlockNames.{named_before, own_completed, successor_named}
+use Rattle.rl_lower.proofs.BlockNames.{named_before, own_completed}
 use Rattle.rl_hir.specs.declared.instruction.Place.{Place}
 use Rattle.rl_hir.specs.declared.terminal.ReturnVariant.{ReturnVariant}
 use Rattle.rl_lower.specs.Endings.{return_of, returned_from}
 use Rattle.rl_lower.proofs.Building.{filtered}
-use Rattle.rl_lower.proofs.Graphs.{FoundAt, found_at, get_map, without_order}
-use Rattle.rl_lower.proofs.Keeping.{listed_reserved}
-use Rattle.rl_lower.proofs.Steps.{get_seam}
+use Rattle.rl_runs.proofs.BlockIds.{ids_counted}
+use Rattle.rl_runs.proofs.Graphs.{FoundAt, found_at, get_map, without_order}
+use Rattle.rl_runs.proofs.Listed.{listed_reserved}
+use Rattle.rl_runs.proofs.Steps.{get_seam}
+use Rattle.rl_runs.proofs.Successors.{successor_named}
+use Rattle.rl_runs.specs.Listed.{AreBelow, IsListed}
 
 abbrev Calls : Type 0
 Calls = List (Option Span)

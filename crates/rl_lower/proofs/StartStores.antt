@@ -1,11 +1,9 @@
 -- The stores in which runs begin agree, whatever symbols get identifiers later.
-use Rattle.std.proofs.Common.{◌≡◌, ℕ, suc, ◌+◌, inl, inr, Bool, cond, true, List, [], ◌∷◌, map, slice_get, Option, Some, None, refl, sym, ap, ◌∙◌, arith}
-use Rattle.std.proofs.lemmas.Bool.Decides.{eqb_tells}
-use Rattle.std.proofs.lemmas.Option.{none-some, same_Some}
+use Rattle.std.proofs.Common.{◌≡◌, ℕ, suc, ◌+◌, true, List, [], ◌∷◌, map, slice_get, Option, Some, refl, ap, ◌∙◌, arith}
 use Rattle.rl_hir.specs.Pairs.{identifier_of}
 use Rattle.rl_hir.specs.declared.function.Pair.{Pair}
 use Rattle.rl_hir.specs.declared.function.Param.{Param}
-use Rattle.rl_machine.specs.Machine.{set_by, set_where}
+use Rattle.rl_machine.specs.Machine.{set_by}
 use Rattle.rl_machine.specs.Traces.{Store, set, take_values, unset}
 use Rattle.rl_machine.specs.declared.trace.Assignment.{Assignment}
 use Rattle.rl_machine.specs.declared.trace.Value.{Value}
@@ -15,7 +13,8 @@ use Rattle.rl_model.specs.Functions.{set_all}
 use Rattle.rl_model.specs.Runs.{param_identifier}
 use Rattle.rl_names.specs.declared.parameters.Parameter.{Parameter}
 use Rattle.rl_lower.specs.Simulation.{Agrees}
-use Rattle.rl_lower.proofs.Steps.{set_other, set_same}
+use Rattle.rl_runs.proofs.Shared.{agrees_store, agrees_where}
+use Rattle.rl_runs.specs.Facts.{AreOne}
 
 -- Each parameter takes the argument at its index, or Undefined.
 abbrev pub take_arguments : List Param → List Value → Store → Store
@@ -29,39 +28,11 @@ take parameters arguments store = take_values (map (λ (p : Parameter). p.symbol
 abbrev pub start_values : List Pair → List Assignment → Store
 start_values pairs start = set_by (identifier_of pairs) (λ symbol. true) start unset
 
--- No two symbols have one identifier.
-abbrev pub AreOne : (ℕ → Option ℕ) → Type 0
-AreOne ident = (symbol other identifier : ℕ) → ident symbol ≡ Some identifier → ident other ≡ Some identifier → symbol ≡ other
-
 module _ (ident : ℕ → Option ℕ) (one : AreOne ident) where
-  -- A symbol and its identifier take a value.
-  agrees_store : (source store : Store) (symbol identifier : ℕ) (v : Value) → ident symbol ≡ Some identifier → Agrees ident source store
-      → Agrees ident (set source symbol v) (set store identifier v)
-  agrees_store source store symbol identifier v has a = record {
-    at = λ other found is. elim (eqb_tells other symbol) [
-      | inl same ↦ (
-          let told : found ≡ identifier = same_Some found identifier (sym is ∙ ap ident same.1 ∙ has) in
-          ap (λ (n : ℕ). set store identifier v n) told ∙ set_same store identifier v ∙ sym (ap (λ (b : Bool). cond b v (source other)) same.0))
-      | inr apart ↦ (
-          let ne : found ≡ identifier → ⊥ = λ e. apart.1 (one other symbol identifier (is ∙ ap (λ (n : ℕ). Some n) e) has) in
-          set_other store identifier found v ne ∙ a.at other found is ∙ sym (ap (λ (b : Bool). cond b v (source other)) apart.0))
-    ];
-  }
-
-  -- A symbol without an identifier has a value in the source alone.
-  pub agrees_where : (source store : Store) (symbol : ℕ) (v : Value) (o : Option ℕ) → ident symbol ≡ o → Agrees ident source store
-      → Agrees ident (set source symbol v) (set_where o store v)
-  agrees_where source store symbol v None none a = record {
-    at = λ other found is.
-        let ne : other ≡ symbol → ⊥ = λ e. none-some found (sym none ∙ ap ident (sym e) ∙ is) in
-        a.at other found is ∙ sym (set_other source symbol other v ne);
-  }
-  agrees_where source store symbol v (Some identifier) has a = agrees_store source store symbol identifier v has a
-
   agrees_all : (start : List Assignment) (source store : Store) → Agrees ident source store
       → Agrees ident (set_all start source) (set_by ident (λ symbol. true) start store)
   agrees_all [] source store a = a
-  agrees_all (s ∷ start) source store a = agrees_all start _ _ (agrees_where source store s.symbol.0 s.value (ident s.symbol.0) refl a)
+  agrees_all (s ∷ start) source store a = agrees_all start _ _ (agrees_where ident one source store s.symbol.0 s.value (ident s.symbol.0) refl a)
 
   -- The stores before parameters take their arguments.
   pub agrees_start : (start : List Assignment) → Agrees ident (set_all start unset) (set_by ident (λ symbol. true) start unset)
@@ -75,8 +46,8 @@ module _ (ident : ℕ → Option ℕ) (one : AreOne ident) where
   agrees_taken base (p ∷ parameters) [] source store given a =
       agrees_taken (base + 1) parameters [] (set source p.symbol.0 value.Undefined) (set store base value.Undefined)
       (λ place x is. given (suc place) x is ∙ ap (λ (m : ℕ). Some m) (omega arith))
-      (agrees_store source store p.symbol.0 base value.Undefined (given 0 p refl ∙ ap (λ (m : ℕ). Some m) (omega arith)) a)
+      (agrees_store ident one source store p.symbol.0 base value.Undefined (given 0 p refl ∙ ap (λ (m : ℕ). Some m) (omega arith)) a)
   agrees_taken base (p ∷ parameters) (v ∷ arguments) source store given a =
       agrees_taken (base + 1) parameters arguments (set source p.symbol.0 v) (set store base v)
       (λ place x is. given (suc place) x is ∙ ap (λ (m : ℕ). Some m) (omega arith))
-      (agrees_store source store p.symbol.0 base v (given 0 p refl ∙ ap (λ (m : ℕ). Some m) (omega arith)) a)
+      (agrees_store ident one source store p.symbol.0 base v (given 0 p refl ∙ ap (λ (m : ℕ). Some m) (omega arith)) a)

@@ -1,49 +1,13 @@
--- Lemmas of any graph: lists, stores, steps.
-use Rattle.std.proofs.Common.{◌≡◌, ℕ, zero, suc, ◌≤◌, ◌++◌, List, [], ◌∷◌, length, slice_get, Option, Some, cond, refl, ap, ◌∙◌, arith}
-use Rattle.std.proofs.lemmas.Bool.{ne_eqb}
-use Rattle.std.proofs.Common.{eq-eqb}
+-- Later points of a run, outside handlers.
+use Rattle.std.proofs.Common.{◌≡◌, ℕ, ◌≤◌, List, length, refl, ◌∙◌, arith}
 use Rattle.rl_builder.specs.Builder.{State}
-use Rattle.rl_lower.specs.Simulation.{Agrees, Eventually, Later, Nobody, TracesAt}
-use Rattle.rl_machine.specs.Silence.{walk}
+use Rattle.rl_lower.specs.Simulation.{Later}
 use Rattle.rl_machine.specs.declared.trace.Value.{Value}
-use Rattle.rl_machine.specs.declared.trace.Answer.{Answer}
-use Rattle.rl_machine.specs.declared.trace.Trace.{Trace}
 use Rattle.rl_machine.specs.Traces.{Store, set}
-use Rattle.rl_machine.specs.Machine.{Item, Code, Next, step}
-use Rattle.rl_machine.specs.Ends.{Notes}
-
-pub get_more : {X : Type 0} (xs ys : List X) (place : ℕ) (x : X) → slice_get xs place ≡ Some x
-    → slice_get (xs ++ ys) place ≡ Some x
-get_more [] ys place x e = cc
-get_more (y ∷ xs) ys zero x e = e
-get_more (y ∷ xs) ys (suc place) x e = get_more xs ys place x e
-
-pub get_seam : {X : Type 0} (xs : List X) (x : X) (ys : List X) → slice_get (xs ++ x ∷ ys) (length xs) ≡ Some x
-get_seam [] x ys = refl
-get_seam (y ∷ xs) x ys = get_seam xs x ys
-
-pub set_same : (store : Store) (identifier : ℕ) (v : Value) → set store identifier v identifier ≡ v
-set_same store identifier v = ap (λ b. cond b v (store identifier)) (eq-eqb identifier identifier refl)
-
-pub set_other : (store : Store) (identifier other : ℕ) (v : Value) → (other ≡ identifier → ⊥)
-    → set store identifier v other ≡ store other
-set_other store identifier other v ne = ap (λ b. cond b v (store other)) (ne_eqb other identifier ne)
-
--- A trace that is reached without a step.
-pub comes_at_once : (c : Code) (f : (stuck : Trace) → Next → Trace) (t : Trace)
-    → ((stuck : Trace) (next : Next) → f stuck next ≡ t) → Eventually c f t
-comes_at_once c f t is = record { by = (0, λ stuck steps enough. is stuck (walk stuck c steps)) }
-
--- One step, and the run behind it.
-pub steps_on : (c : Code) (block place : ℕ) (store : Store) (notes : Notes) (answers : List Answer) (item : Item) (t : Trace)
-    → c.item block place ≡ Some item
-    → Eventually c (λ stuck next. step stuck c (Some item) next next block place store notes answers) t
-    → TracesAt c block place store notes answers t
-steps_on c block place store notes answers item t is rest = record { by = (suc rest.by.0, onward) }
-  where
-    onward : (stuck : Trace) (steps : ℕ) → suc rest.by.0 ≤ steps → walk stuck c steps block place store notes answers ≡ t
-    onward stuck zero enough = absurd (omega arith)
-    onward stuck (suc steps) enough = ap (λ o. step stuck c o (walk stuck c steps) (walk stuck c steps) block place store notes answers) is ∙ rest.by.1 stuck steps (omega arith)
+use Rattle.rl_machine.specs.Machine.{Code, changer}
+use Rattle.rl_machine.specs.declared.trace.Assignment.{Assignment}
+use Rattle.rl_runs.proofs.Shared.{kept_changed}
+use Rattle.rl_runs.proofs.Steps.{set_other}
 
 pub later_refl : (c : Code) (s : State) (store : Store) → Later c s store store
 later_refl c s store = record { temporaries = λ identifier free below. refl }
@@ -59,11 +23,7 @@ later_set c s store identifier v fresh = record {
   temporaries = λ other free below. let ne : other ≡ identifier → ⊥ = λ e. omega arith in set_other store identifier other v ne;
 }
 
--- Setting an identifier that is nobody's leaves those of symbols.
-pub agrees_set : (ident : ℕ → Option ℕ) (source store : Store) (identifier : ℕ) (v : Value) → Nobody ident identifier
-    → Agrees ident source store → Agrees ident source (set store identifier v)
-agrees_set ident source store identifier v free a = record {
-  at = λ symbol other is.
-      let ne : other ≡ identifier → ⊥ = λ e. free symbol (is ∙ ap (λ (n : ℕ). Some n) e) in
-      set_other store identifier other v ne ∙ a.at symbol other is;
-}
+-- An answer leaves temporaries.
+pub later_changed : (c : Code) (s : State) (assignments : List Assignment) (store : Store) → Later c s store (changer c assignments store)
+later_changed c s assignments store =
+    record { temporaries = λ identifier free below. kept_changed c.ident c.world.opens identifier free assignments store }

@@ -13,12 +13,12 @@ use Rattle.rl_names.specs.Names.{Names}
 use Rattle.rl_names.specs.declared.parameters.Parameter.{Parameter}
 use Rattle.rl_lower.specs.Begun.{FunctionTables, begun_by}
 use Rattle.rl_lower.specs.Endings.{closed_off, IsGraphOf, hir_of}
-use Rattle.rl_lower.specs.Listed.{IsListed}
 use Rattle.rl_lower.proofs.Building.{closed_listed}
 use Rattle.rl_lower.proofs.Functions.{function_finished}
 use Rattle.rl_lower.proofs.Linked.{built_linked, built_numbered}
 use Rattle.rl_lower.proofs.Parameters.{state_with}
 use Rattle.rl_lower.proofs.FunctionGraphs.{begun_fresh, lowered_from}
+use Rattle.rl_runs.specs.Listed.{IsListed}
 
 graph_listed : (names : Names) (tables : FunctionTables) (parameters : List Parameter) (body : Syntax) (env new : Environment) (params : List Param) (built : Graph)
     (g : IsGraphOf names tables parameters body env new params built) → AreApart parameters → IsListed (closed_off g.state)

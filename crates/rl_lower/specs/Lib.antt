@@ -1,6 +1,5 @@
 pub mod Begun
 pub mod Endings
-pub mod Listed
 pub mod Lowering
 pub mod Named
 pub mod Parameters

@@ -18,10 +18,10 @@ use Rattle.rl_model.specs.Scene.{Scene}
 use Rattle.rl_model.specs.Shapes.{shapes}
 use Rattle.rl_model.specs.Statements.{exec, exec_all}
 use Rattle.rl_model.specs.Rows.{refusals, refusals_in}
-use Rattle.rl_lower.specs.Listed.{IsListed}
 use Rattle.rl_lower.specs.Reachable.{AddsCalls, can_all_complete, can_body_complete}
 use Rattle.rl_lower.specs.Named.{IsNamed}
 use Rattle.rl_lower.specs.Simulation.{PreservesBlocks, RunsAll, RunsExpression, RunsStatement}
+use Rattle.rl_runs.specs.Listed.{IsListed}
 
 -- Each counter stays below 2^31 when it grows by `more`.
 pub record HasRoom (s : State) (more : ℕ) : Type 0 where

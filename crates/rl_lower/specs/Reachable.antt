@@ -7,8 +7,8 @@ use Rattle.rl_hir.specs.Blocks.{Pair as BlockPair}
 use Rattle.rl_builder.specs.Builder.{State}
 use Rattle.rl_model.specs.Calls.{can_complete, graph_calls, listed_calls}
 use Rattle.rl_order.specs.Reached.{IsReached}
-use Rattle.rl_lower.specs.Listed.{IsListed}
 use Rattle.rl_lower.specs.Simulation.{IsNamed, UniqueIds}
+use Rattle.rl_runs.specs.Listed.{IsListed}
 
 -- `reached` is true of the ids of blocks alone to which successors lead from the entry of the finished graph.
 abbrev pub TellsReached : (reached : ℕ → Bool) → (finished : State) → Type 0

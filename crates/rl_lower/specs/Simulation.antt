@@ -1,41 +1,29 @@
 -- The simulation: the graph that is built between two states of the builder has the traces of a part of the source.
-use Rattle.std.specs.Prelude.{◌≡◌, ℕ, ◌<◌, ◌≤◌, ◌⊎◌, Bool, true, false, Option, None, Some, List, All, length, map, slice_get}
+use Rattle.std.specs.Prelude.{◌≡◌, ℕ, ◌<◌, ◌≤◌, ◌⊎◌, Bool, true, false, None, Some, List, All, length, map, slice_get}
 use Rattle.std.specs.List.{list_any}
-use Rattle.rl_base.specs.Distinct.{AreDistinct}
 use Rattle.rl_base.specs.declared.ids.InstructionId.{InstructionId}
 use Rattle.rl_hir.specs.declared.instruction.Instruction.{Instruction}
 use Rattle.rl_hir.specs.Blocks.{Pair as BlockPair, same_id}
-use Rattle.rl_hir.specs.declared.function.Pair.{Pair}
-use Rattle.rl_hir.specs.Pairs.{identifier_of}
-use Rattle.rl_hir.specs.declared.function.Identifier.{Identifier}
 use Rattle.rl_builder.specs.Builder.{State}
-use Rattle.rl_builder.specs.declared.blocks.WipBlock.{WipBlock}
-use Rattle.rl_used_names.specs.IdentifierNames.{AreNamed}
-use Rattle.rl_used_names.specs.UsedName.{UsedName}
 use Rattle.rl_machine.specs.declared.trace.Value.{Value}
 use Rattle.rl_machine.specs.declared.trace.Answer.{Answer}
-use Rattle.rl_machine.specs.declared.trace.Trace.{Trace}
-use Rattle.rl_machine.specs.Traces.{Store, ValueCont, ValuesCont, Cont, World, threw}
+use Rattle.rl_machine.specs.Traces.{Store, ValueCont, ValuesCont, Cont, threw}
 use Rattle.rl_model.specs.Actions.{Action, Ways}
 use Rattle.rl_model.specs.Scene.{Scene}
 use Rattle.rl_hir.specs.Terminals.{named_ids}
 use Rattle.rl_hir.specs.declared.terminal.TerminalKind.{TerminalKind}
 use Rattle.rl_hir.specs.declared.terminal.TerminalKind.TheVariants as kinds
-use Rattle.rl_machine.specs.Machine.{Item, Runs, Ends, Code, Next}
-use Rattle.rl_machine.specs.Silence.{Settles, walk}
+use Rattle.rl_machine.specs.Machine.{Item, Runs, Ends, Code}
 use Rattle.rl_machine.specs.Ends.{Notes}
+pub use Rattle.rl_runs.specs.Blocks.{HasPoint, InCompletedPoint, InCurrentPoint, IsOwn, PointsSettle, PreservesIds, PreservesUniqueIds, UniqueIds}
+pub use Rattle.rl_runs.specs.Continuations.{Agrees, Eventually, SharesVariables, TracesAt, TracesFrom}
+pub use Rattle.rl_runs.specs.Facts.{AreSoundNames, CoversNames, GrowsNames, HasSoundNames, IsCompleted, IsCurrentOrCompleted, Lists, Nobody}
 
 -- An item at an index of a block. The terminal's index is the number of instructions.
 pub record Fact : Type 0 where
   pub block : ℕ
   pub place : ℕ
   pub item : Item
-
--- The list has at index `place` the id of an instruction, and the table has that instruction.
-pub record Lists (table : List Instruction) (listed : List InstructionId) (place : ℕ) (i : Instruction) : Type 0 where
-  pub number : InstructionId
-  pub at : slice_get listed place ≡ Some number
-  pub kept : slice_get table number.0 ≡ Some i
 
 -- A complete block has the item at index `place`.
 abbrev pub InBlock : List Instruction → BlockPair → ℕ → Item → Type 0
@@ -64,45 +52,6 @@ pub record InCurrent (s : State) (f : Fact) : Type 0 where
 abbrev pub HasItem : State → Fact → Type 0
 HasItem s f = InCompleted s f ⊎ InCurrent s f
 
--- A complete block has the id `id`.
-pub record IsCompleted (completed : List BlockPair) (id : ℕ) : Type 0 where
-  pub place : ℕ
-  pub block : BlockPair
-  pub found : slice_get completed place ≡ Some block
-  pub named : block.0.0 ≡ id
-
--- The block `id` is under construction or complete.
-abbrev pub IsCurrentOrCompleted : State → ℕ → Type 0
-IsCurrentOrCompleted s id = (s.current.id.0 ≡ id) ⊎ IsCompleted s.completed id
-
--- The identifiers of symbols have names, each that of its own symbol; the builder and the environment agree on them, and no symbol
--- has two pairs.
-pub record AreSoundNames (bindings : List Pair) (used : List UsedName) (identifiers : List Identifier) (pairs : List Pair) : Type 0 where
-  pub agree : AreNamed bindings used identifiers
-  pub same : (symbol : ℕ) → identifier_of bindings symbol ≡ identifier_of pairs symbol
-  pub once : AreDistinct (map (λ (p : Pair). p.symbol.0) pairs)
-
-abbrev pub HasSoundNames : State → Type 0
-HasSoundNames s = AreSoundNames s.bindings s.used_names s.env.identifiers s.env.pairs
-
--- The new pairs give each symbol of the old ones the same identifier, and each other symbol one from `made` on, the number of
--- identifiers that were made before.
-pub record GrowsNames (old : List Pair) (made : ℕ) (new : List Pair) : Type 0 where
-  pub kept : (symbol identifier : ℕ) → identifier_of old symbol ≡ Some identifier → identifier_of new symbol ≡ Some identifier
-  pub fresh : (symbol identifier : ℕ) → identifier_of new symbol ≡ Some identifier
-      → (identifier_of old symbol ≡ Some identifier) ⊎ (made ≤ identifier)
-
--- The final identifiers of symbols, `ident`, are those of the pairs, and others from `made` on. No two symbols have one.
-pub record CoversNames (pairs : List Pair) (made : ℕ) (ident : ℕ → Option ℕ) : Type 0 where
-  pub kept : (symbol identifier : ℕ) → identifier_of pairs symbol ≡ Some identifier → ident symbol ≡ Some identifier
-  pub fresh : (symbol identifier : ℕ) → ident symbol ≡ Some identifier
-      → (identifier_of pairs symbol ≡ Some identifier) ⊎ (made ≤ identifier)
-  pub one : (symbol other identifier : ℕ) → ident symbol ≡ Some identifier → ident other ≡ Some identifier → symbol ≡ other
-
--- No symbol has the identifier in the end.
-abbrev pub Nobody : (ident : ℕ → Option ℕ) → (identifier : ℕ) → Type 0
-Nobody ident identifier = (symbol : ℕ) → ident symbol ≡ Some identifier → ⊥
-
 -- The new state has the items, blocks and names of the old one and its entry, no counter fell, and names stay sound.
 pub record Extends (old new : State) : Type 0 where
   pub done : (f : Fact) → InCompleted old f → InCompleted new f
@@ -120,29 +69,6 @@ pub record IsContainedIn (s : State) (c : Code) : Type 0 where
   pub has : (f : Fact) → HasItem s f → c.item f.block f.place ≡ Some f.item
   pub uncaught : (block : ℕ) → c.catcher block ≡ None
   pub names : CoversNames s.env.pairs (length s.env.identifiers) c.ident
-
--- The ids of blocks, the current one included, are distinct and below the counter `next`.
-pub record UniqueIds (completed : List BlockPair) (current next : ℕ) : Type 0 where
-  pub apart : AreDistinct (map (λ (b : BlockPair). b.0.0) completed)
-  pub open_block : IsCompleted completed current → ⊥
-  pub below : (id : ℕ) → IsCompleted completed id → id < next
-  pub current_below : current < next
-
--- The id of the current block, or one that the counter gives later.
-abbrev pub IsOwn : ℕ → ℕ → ℕ → Type 0
-IsOwn current next id = (id ≡ current) ⊎ (next ≤ id)
-
--- From the old to the new state only the current block and newly numbered blocks were completed, and ids stay distinct.
-pub record PreservesUniqueIds (completed0 : List BlockPair) (current0 next0 : ℕ) (completed : List BlockPair)
-    (current next : ℕ) : Type 0 where
-  pub added : (id : ℕ) → IsCompleted completed id → IsCompleted completed0 id ⊎ IsOwn current0 next0 id
-  pub own : IsOwn current0 next0 current
-  pub distinct : UniqueIds completed0 current0 next0 → UniqueIds completed current next
-  pub counted : next0 ≤ next
-
-abbrev pub PreservesIds : State → State → Type 0
-PreservesIds old new =
-    PreservesUniqueIds old.completed old.current.id.0 old.env.next_block new.completed new.current.id.0 new.env.next_block
 
 -- True of a terminal that is run to its end and opens no loop and no `try`. No handler takes what its block throws.
 abbrev pub is_plain : TerminalKind → Bool
@@ -172,26 +98,6 @@ abbrev pub NamesOwn : State → State → Type 0
 NamesOwn old new =
     (id : ℕ) → IsNamed new.completed id → IsNamed old.completed id ⊎ (IsCurrentOrCompleted new id × (old.env.next_block ≤ id))
 
--- A program point of a complete block: at one of its instructions, or at its terminal.
-pub record InCompletedPoint (completed : List BlockPair) (id place : ℕ) : Type 0 where
-  pub index : ℕ
-  pub block : BlockPair
-  pub found : slice_get completed index ≡ Some block
-  pub named : block.0.0 ≡ id
-  pub within : place ≤ length block.1.instructions
-
--- A program point at an instruction of the block under construction.
-pub record InCurrentPoint (current : WipBlock) (id place : ℕ) : Type 0 where
-  pub named : current.id.0 ≡ id
-  pub within : place < length current.instructions
-
-abbrev pub HasPoint : State → (id place : ℕ) → Type 0
-HasPoint s id place = InCompletedPoint s.completed id place ⊎ InCurrentPoint s.current id place
-
--- In the graph `c` the state's program points settle if the one does where the builder stands.
-abbrev pub PointsSettle : Code → State → Type 0
-PointsSettle c s = Settles c s.current.id.0 (length s.current.instructions) → (id place : ℕ) → HasPoint s id place → Settles c id place
-
 -- The new state extends the old one, ids stay distinct, complete blocks end plainly and name blocks of the state, and program points
 -- settle.
 pub record PreservesBlocks (old new : State) : Type 0 where
@@ -201,26 +107,10 @@ pub record PreservesBlocks (old new : State) : Type 0 where
   pub named : NamesOwn old new
   pub settle : (c : Code) → IsContainedIn new c → PointsSettle c old → PointsSettle c new
 
--- From some number of steps on, `f` of the run has the trace `t`, whatever trace a stuck run has: so the run is not stuck.
-pub record Eventually (c : Code) (f : (stuck : Trace) → Next → Trace) (t : Trace) : Type 0 where
-  pub by : (enough : ℕ) × ((stuck : Trace) (steps : ℕ) → enough ≤ steps → f stuck (walk stuck c steps) ≡ t)
-
--- The run from index `place` of a block has the trace `t`.
-abbrev pub TracesAt : Code → ℕ → ℕ → Store → Notes → List Answer → Trace → Type 0
-TracesAt c block place store notes answers t = Eventually c (λ stuck next. next block place store notes answers) t
-
--- The run from the program point where the builder stands has the trace `t`.
-abbrev pub TracesFrom : Code → State → Store → Notes → List Answer → Trace → Type 0
-TracesFrom c s store notes answers t = TracesAt c s.current.id.0 (length s.current.instructions) store notes answers t
-
 -- The store `later` has the values of `store` for all identifiers that the state has and that are no symbol's in the end.
 pub record Later (c : Code) (s : State) (store later : Store) : Type 0 where
   pub temporaries : (identifier : ℕ) → Nobody c.ident identifier → identifier < length s.env.identifiers
       → later identifier ≡ store identifier
-
--- The stores of source and graph agree: each symbol's value is in the identifier that it has in the end.
-pub record Agrees (ident : ℕ → Option ℕ) (source store : Store) : Type 0 where
-  pub at : (symbol identifier : ℕ) → ident symbol ≡ Some identifier → store identifier ≡ source symbol
 
 -- The run from the builder's program point at `new` has the traces of the continuation `k`, from stores that agree and where
 -- `store` has changed for identifiers of symbols and above those of `s` alone.
@@ -237,12 +127,6 @@ pub record Continues (c : Code) (s new : State) (store : Store) (identifier : �
 pub record ContinuesAll (c : Code) (s new : State) (store : Store) (identifiers : List ℕ) (k : ValuesCont) : Type 0 where
   pub goes : (vs : List Value) (source later : Store) (notes : Notes) (answers : List Answer) → Agrees c.ident source later
       → Later c s store later → map later identifiers ≡ vs → TracesFrom c new later notes answers (k vs source answers)
-
--- Source and graph share the same variables with other functions, and each whose value others see has an identifier.
-pub record SharesVariables (ident : ℕ → Option ℕ) (source graph : World) : Type 0 where
-  pub opens : (symbol : ℕ) → source.opens symbol ≡ graph.opens symbol
-  pub keeps : source.keeps ≡ graph.keeps
-  pub known : All (λ symbol. (identifier : ℕ) × (ident symbol ≡ Some identifier)) graph.keeps
 
 -- The part stands in the scene, and no handler encloses it: a throw ends the run.
 pub record StandsIn (c : Code) (scene : Scene) (ways : Ways) : Type 0 where

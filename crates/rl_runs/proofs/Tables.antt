@@ -1,21 +1,24 @@
 -- Blocks with distinct ids are their own table.
-use Rattle.std.proofs.Common.{◌≡◌, ℕ, ◌++◌, inl, inr, Bool, true, false, List, [], ◌∷◌, fold, refl, sym, ap, ◌∙◌, subst, append-nil, append_assoc}
+use Rattle.std.proofs.Common.{◌≡◌, ℕ, ◌++◌, inl, inr, Bool, true, false, List, [], ◌∷◌, fold, refl, sym, ap, ◌∙◌, subst, append-nil}
+use Rattle.std.proofs.Common.{append_assoc}
 use Rattle.rl_base.proofs.DistinctLists.{IsIn, distinct_head, distinct_tail, in_either, in_head, in_none, in_tail}
 use Rattle.rl_base.specs.declared.ids.BlockId.{BlockId}
+use Rattle.rl_builder.specs.Build.{table_of}
 use Rattle.rl_hir.specs.Blocks.{HaveOwnIds, Pair, ids, same_id, with_block}
 use Rattle.rl_hir.specs.declared.function.BasicBlock.{BasicBlock}
 use Rattle.rl_order.proofs.Follows.{one_id}
-use Rattle.rl_builder.specs.Build.{table_of}
-use Rattle.rl_lower.proofs.Permuted.{in_one}
+use Rattle.rl_runs.proofs.Permuted.{in_one}
 
 put_last : (pairs : List Pair) (id : BlockId) (block : BasicBlock) → (IsIn (ids pairs) id.0 → ⊥)
     → with_block pairs id block ≡ pairs ++ (id, block) ∷ []
 put_last [] id block none = refl
-put_last (p ∷ pairs) id block none = by_test (same_id id p.0) refl (put_last pairs id block (λ h. none (in_tail p.0.0 (ids pairs) id.0 h)))
+put_last (p ∷ pairs) id block none =
+    by_test (same_id id p.0) refl (put_last pairs id block (λ h. none (in_tail p.0.0 (ids pairs) id.0 h)))
   where
     by_test : (b : Bool) → same_id id p.0 ≡ b → with_block pairs id block ≡ pairs ++ (id, block) ∷ []
         → with_block (p ∷ pairs) id block ≡ p ∷ pairs ++ (id, block) ∷ []
-    by_test true is rest = absurd (none (subst (λ (x : BlockId). IsIn (p.0.0 ∷ ids pairs) x.0) (sym (one_id id p.0 is)) (in_head p.0.0 (ids pairs))))
+    by_test true is rest =
+        absurd (none (subst (λ (x : BlockId). IsIn (p.0.0 ∷ ids pairs) x.0) (sym (one_id id p.0 is)) (in_head p.0.0 (ids pairs))))
     by_test false is rest = rw is (ap (λ (t : List Pair). p ∷ t) rest)
 
 table_more : (done pairs : List Pair) → HaveOwnIds (done ++ pairs)

@@ -1,9 +1,12 @@
 -- Lists that distinct numbers give, one behind the other: in another order of the numbers they are a permutation.
-use Rattle.std.proofs.Common.{◌≡◌, ℕ, zero, suc, ◌⊎◌, inl, inr, Some, List, [], ◌∷◌, ◌++◌, slice_get, sym, ap, ◌∙◌, subst, refl, append-nil, append_assoc}
+use Rattle.std.proofs.Common.{◌≡◌, ℕ, zero, suc, ◌⊎◌, inl, inr, Some, List, [], ◌∷◌, ◌++◌, slice_get, sym, ap, ◌∙◌, subst, refl}
+use Rattle.std.proofs.Common.{append-nil, append_assoc}
 use Rattle.std.specs.Prelude.{IsPermutation}
 use Rattle.std.proofs.lemmas.Bool.Decides.{eqb_tells}
-use Rattle.std.proofs.lemmas.List.Sorted.{IsPermutation-refl, IsPermutation-sym, IsPermutation-trans, IsPermutation-append_left, IsPermutation-append_right, IsPermutation-cons, IsPermutation-to_front}
-use Rattle.rl_base.proofs.DistinctLists.{IsIn, distinct_cons, distinct_head, distinct_tail, in_either, in_head, in_left, in_none, in_right, in_tail}
+use Rattle.std.proofs.lemmas.List.Sorted.{IsPermutation-refl, IsPermutation-sym, IsPermutation-trans, IsPermutation-append_left}
+use Rattle.std.proofs.lemmas.List.Sorted.{IsPermutation-append_right, IsPermutation-cons, IsPermutation-to_front}
+use Rattle.rl_base.proofs.DistinctLists.{IsIn, distinct_cons, distinct_head, distinct_tail, in_either, in_head, in_left, in_none}
+use Rattle.rl_base.proofs.DistinctLists.{in_right, in_tail}
 use Rattle.rl_base.specs.Distinct.{AreDistinct}
 
 pub in_one : (a b : ℕ) → IsIn (a ∷ []) b → b ≡ a

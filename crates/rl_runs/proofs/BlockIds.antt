@@ -1,24 +1,22 @@
--- The ids of blocks stay distinct, and complete blocks end plainly.
-use Rattle.std.proofs.Common.{◌≡◌, ℕ, zero, suc, ◌+◌, ◌<◌, ◌≤◌, ◌⊎◌, inl, inr, ◌++◌, true, List, [], ◌∷◌, map, slice_get, Some, refl, sym, ap, ◌∙◌, subst, arith}
+-- The ids of blocks stay distinct.
+use Rattle.std.proofs.Common.{◌≡◌, ℕ, zero, suc, ◌+◌, ◌<◌, ◌≤◌, ◌⊎◌, inl, inr, ◌++◌, List, [], ◌∷◌, map, slice_get, Option, None, Some}
+use Rattle.std.proofs.Common.{refl, sym, ap, ◌∙◌, subst, arith}
 use Rattle.std.proofs.lemmas.List.{map-append}
-use Rattle.std.proofs.lemmas.List.Elements.{All-append}
-use Rattle.rl_base.specs.Distinct.{AreDistinct}
 use Rattle.rl_base.proofs.DistinctLists.{IsIn, distinct_push}
-use Rattle.rl_hir.specs.declared.terminal.Terminal.{Terminal}
+use Rattle.rl_base.specs.declared.ids.BlockId.{BlockId}
+use Rattle.rl_base.specs.Distinct.{AreDistinct}
+use Rattle.rl_builder.specs.Builder.{State, reserved, new_block, ended_by, completed_by, innermost, maybe_throw, plainly_pushed, pushed}
+use Rattle.rl_builder.specs.Builder.{pushed_under}
+use Rattle.rl_builder.specs.declared.blocks.WipBlock.{WipBlock}
 use Rattle.rl_hir.specs.Blocks.{Pair as BlockPair}
 use Rattle.rl_hir.specs.declared.function.BlockKind.{BlockKind}
-use Rattle.rl_builder.specs.Builder.{State, reserved, new_block, ended_by, completed_by}
-use Rattle.rl_builder.specs.declared.blocks.WipBlock.{WipBlock}
-use Rattle.rl_lower.specs.Simulation.{IsCompleted, UniqueIds, IsOwn, PreservesUniqueIds, PreservesIds, AreEnded, is_plain}
+use Rattle.rl_hir.specs.declared.instruction.Instruction.{Instruction}
+use Rattle.rl_hir.specs.declared.terminal.Terminal.{Terminal}
+use Rattle.rl_runs.proofs.Steps.{added_cases}
+use Rattle.rl_runs.specs.Blocks.{IsOwn, PreservesIds, PreservesUniqueIds, UniqueIds}
+use Rattle.rl_runs.specs.Facts.{IsCompleted}
 
--- An element of a list with one more at its end.
-pub added_cases : (xs : List BlockPair) (x : BlockPair) (place : ℕ) (b : BlockPair)
-    → slice_get (xs ++ x ∷ []) place ≡ Some b → (slice_get xs place ≡ Some b) ⊎ (b ≡ x)
-added_cases [] x zero b e = inr cc
-added_cases [] x (suc place) b e = absurd (cc)
-added_cases (y ∷ xs) x zero b e = inl e
-added_cases (y ∷ xs) x (suc place) b e = added_cases xs x place b e
-
+-- A complete block of a list with one more.
 completed_cases : (xs : List BlockPair) (x : BlockPair) (id : ℕ) → IsCompleted (xs ++ x ∷ []) id
     → IsCompleted xs id ⊎ (id ≡ x.0.0)
 completed_cases xs x id k = elim (added_cases xs x k.place k.block k.found) [
@@ -129,14 +127,48 @@ ids_ended {completed0} {current0} {next0} s t next y own f = record {
 pub ids_fresh : (s : State) (t : Terminal) (kind : BlockKind)
     → PreservesIds s (completed_by (reserved s) t (new_block s.env.next_block kind))
 ids_fresh s t kind =
-    ids_ended (reserved s) t (new_block s.env.next_block kind) (ids_counted s.completed s.current.id.0 s.env.next_block (s.env.next_block + 1) (omega arith)) (inr (omega arith))
+    ids_ended (reserved s) t (new_block s.env.next_block kind)
+    (ids_counted s.completed s.current.id.0 s.env.next_block (s.env.next_block + 1) (omega arith)) (inr (omega arith))
     (λ c. free_fresh s.completed s.current.id.0 s.env.next_block (s.env.next_block + 1) s.env.next_block c (omega arith) (omega arith))
 
-only_one : (b : BlockPair) → is_plain b.1.terminal.kind ≡ true → AreEnded (b ∷ [])
-only_one b end zero d below = end
-only_one b end (suc k) d below = absurd (omega arith)
+-- A free block in place of the current one, which then goes on.
+pub ids_aside : {completed0 : List BlockPair} {current0 next0 : ℕ} (s s2 : State) (w : ℕ) (t : Terminal)
+    → PreservesUniqueIds completed0 current0 next0 s.completed s.current.id.0 s.env.next_block → IsOwn current0 next0 w
+    → (UniqueIds completed0 current0 next0 → IsFree s.completed s.current.id.0 s.env.next_block w)
+    → PreservesUniqueIds s.completed w s.env.next_block s2.completed s2.current.id.0 s2.env.next_block
+    → PreservesUniqueIds completed0 current0 next0 (s2.completed ++ ended_by s2.current t ∷ []) s.current.id.0 s2.env.next_block
+ids_aside {completed0} {current0} {next0} s s2 w t y own f u = record {
+  added = λ id q. elim (completed_cases s2.completed _ id q) [
+    | inl q1 ↦ elim (u.added id q1) [ inl q0 ↦ y.added id q0 | inr o ↦ inr (mine id o) ]
+    | inr e ↦ inr (subst (λ (z : ℕ). IsOwn current0 next0 z) (sym e) (mine s2.current.id.0 u.own))
+  ];
+  own = y.own;
+  distinct = λ c. distinct_ended s2.completed s2.current.id.0 s2.env.next_block (ended_by s2.current t) s.current.id.0 refl (u.distinct (entering c)) (free_then s.current.id.0 u (record { below = (y.distinct c).current_below; unused = (y.distinct c).open_block; other = λ e. (f c).other (sym e) }));
+  counted = omega (arith, y.counted, u.counted);
+}
+  where
+    mine : (id : ℕ) → IsOwn w s.env.next_block id → IsOwn current0 next0 id
+    mine id o = elim o [ inl e ↦ subst (λ (z : ℕ). IsOwn current0 next0 z) (sym e) own | inr le ↦ inr (omega (arith, le, y.counted)) ]
 
-pub ended_more : (completed : List BlockPair) (b : BlockPair) → is_plain b.1.terminal.kind ≡ true
-    → AreEnded completed → AreEnded (completed ++ b ∷ [])
-ended_more completed b end all =
-    All-append (λ (x : BlockPair). is_plain x.1.terminal.kind ≡ true) completed (b ∷ []) all (only_one b end)
+    entering : UniqueIds completed0 current0 next0 → UniqueIds s.completed w s.env.next_block
+    entering c = record { apart = (y.distinct c).apart; open_block = (f c).unused; below = (y.distinct c).below; current_below = (f c).below }
+
+-- Other free ids stay free.
+pub free_aside : (s s2 : State) (w id : ℕ) (t : Terminal) → IsFree s.completed s.current.id.0 s.env.next_block id → (id ≡ w → ⊥)
+    → PreservesUniqueIds s.completed w s.env.next_block s2.completed s2.current.id.0 s2.env.next_block
+    → IsFree (s2.completed ++ ended_by s2.current t ∷ []) s.current.id.0 s2.env.next_block id
+free_aside s s2 w id t f ne u =
+    let g : IsFree s2.completed s2.current.id.0 s2.env.next_block id =
+    free_then id u (record { below = f.below; unused = f.unused; other = ne }) in
+    record { below = g.below; unused = λ q. elim (completed_cases s2.completed _ id q) [ inl q1 ↦ g.unused q1 | inr e ↦ g.other e ]; other = f.other }
+
+pub free_ended : (s : State) (t : Terminal) (w id : ℕ) → IsFree s.completed s.current.id.0 s.env.next_block id → (id ≡ w → ⊥)
+    → IsFree (s.completed ++ ended_by s.current t ∷ []) w s.env.next_block id
+free_ended s t w id f ne = record { below = f.below; unused = λ q. elim (completed_cases s.completed _ id q) [ inl q1 ↦ f.unused q1 | inr e ↦ f.other e ]; other = ne }
+
+ids_under : (o : Option BlockId) (s : State) (i : Instruction) → PreservesIds s (pushed_under o s i)
+ids_under None s i = ids_refl s.completed s.current.id.0 s.env.next_block
+ids_under (Some handler) s i = ids_fresh (plainly_pushed s i) (maybe_throw s.env.next_block handler i.span) s.current.kind
+
+pub ids_pushed : (s : State) (i : Instruction) → PreservesIds s (pushed s i)
+ids_pushed s i = ids_under (innermost s.handlers) s i

@@ -1,26 +1,28 @@
 -- The moves of a builder keep what blocks list.
-use Rattle.std.proofs.Common.{◌≡◌, ℕ, zero, suc, ◌+◌, ◌<◌, ◌≤◌, inl, inr, ◌++◌, Bool, true, false, cond, List, [], ◌∷◌, All}
-use Rattle.std.proofs.Common.{filter, length, length-append, append-nil, append_assoc, map}
-use Rattle.std.proofs.Common.{Option, refl, sym, ap, ◌∙◌, subst, arith}
+use Rattle.std.proofs.Common.{◌≡◌, ℕ, zero, suc, ◌+◌, ◌<◌, ◌≤◌, inl, inr, ◌++◌, Bool, true, false, cond, List, [], ◌∷◌, All, filter}
+use Rattle.std.proofs.Common.{length, length-append, append-nil, append_assoc, map, Option, Some, None, refl, sym, ap, ◌∙◌, subst}
+use Rattle.std.proofs.Common.{arith}
 use Rattle.std.proofs.lemmas.List.{map-append}
 use Rattle.std.proofs.lemmas.List.Elements.{All-append, All-nil, All-push}
-use Rattle.rl_base.specs.Distinct.{AreDistinct}
+use Rattle.rl_base.proofs.DistinctLists.{IsIn, distinct_append, distinct_apart, distinct_left, distinct_none, distinct_push}
+use Rattle.rl_base.proofs.DistinctLists.{distinct_right, in_either, in_left, in_right}
+use Rattle.rl_base.specs.declared.ids.BlockId.{BlockId}
 use Rattle.rl_base.specs.declared.ids.InstructionId.{InstructionId}
 use Rattle.rl_base.specs.declared.span.Span.{Span}
-use Rattle.rl_base.proofs.DistinctLists.{IsIn, distinct_append, distinct_apart, distinct_left, distinct_none}
-use Rattle.rl_base.proofs.DistinctLists.{distinct_push, distinct_right, in_either, in_left, in_right}
-use Rattle.rl_order.proofs.NumberedOrders.{listed_below, numbers_below}
-use Rattle.rl_builder.specs.Builder.{State, ended_by, completed_by}
-use Rattle.rl_builder.specs.Dropped.{is_function_expression}
-use Rattle.rl_order.specs.Numbering.{orders_of}
-use Rattle.rl_lower.specs.Values.{temporary, unordered, with_value}
+use Rattle.rl_base.specs.Distinct.{AreDistinct}
+use Rattle.rl_builder.specs.Builder.{State, completed_by, ended_by, innermost, maybe_throw, new_block, plainly_pushed, pushed}
+use Rattle.rl_builder.specs.Builder.{pushed_under, reserved, with_temporary}
 use Rattle.rl_builder.specs.declared.blocks.WipBlock.{WipBlock}
-use Rattle.rl_hir.specs.Numbered.{listed_in}
+use Rattle.rl_builder.specs.Dropped.{is_function_expression}
+use Rattle.rl_builder.specs.Temporaries.{temporary, unordered, with_value}
 use Rattle.rl_hir.specs.Blocks.{Pair as BlockPair}
 use Rattle.rl_hir.specs.declared.instruction.Instruction.{Instruction}
 use Rattle.rl_hir.specs.declared.instruction.InstructionValue.{InstructionValue}
 use Rattle.rl_hir.specs.declared.terminal.Terminal.{Terminal}
-use Rattle.rl_lower.specs.Listed.{AreBelow, IsListed}
+use Rattle.rl_hir.specs.Numbered.{listed_in}
+use Rattle.rl_order.proofs.NumberedOrders.{listed_below, numbers_below}
+use Rattle.rl_order.specs.Numbering.{orders_of}
+use Rattle.rl_runs.specs.Listed.{AreBelow, IsListed}
 
 -- The indices of a list.
 abbrev pub numbers : List InstructionId → List ℕ
@@ -66,8 +68,10 @@ end_unlisted s l h = elim (in_either (listed_in s.completed) (numbers s.current.
     never : length s.table < length s.table → ⊥
     never below = absurd (omega arith)
 
-pub listed_value : (s : State) (v : InstructionValue) (span : Option Span) → is_function_expression v ≡ false → IsListed s → IsListed (with_value s v span)
-listed_value s v span plain l = record {
+-- An instruction without an order that makes no function is appended.
+pub listed_plain : (s : State) (i : Instruction) → i.order.0 ≡ 0 → is_function_expression i.value ≡ false → IsListed s
+    → IsListed (plainly_pushed s i)
+listed_plain s i unnumbered plain l = record {
   completed = λ place default within. below_more (length s.table) _ _ longer (l.completed place default within);
   current = All-append (λ (id : InstructionId). id.0 < length (s.table ++ i ∷ [])) s.current.instructions (next_index s ∷ [])
       (below_more (length s.table) _ s.current.instructions longer l.current)
@@ -75,14 +79,11 @@ listed_value s v span plain l = record {
   counted = simp length-append (omega (arith, l.counted));
   once = subst (λ (indices : List ℕ). AreDistinct indices) pushed_last
       (distinct_push (all_listed s) (length s.table) l.once (end_unlisted s l));
-  unordered = All-push (λ (j : Instruction). j.order.0 ≡ 0) s.table i l.unordered refl;
+  unordered = All-push (λ (j : Instruction). j.order.0 ≡ 0) s.table i l.unordered unnumbered;
   no_functions = All-push (λ (j : Instruction). is_function_expression j.value ≡ false) s.table i l.no_functions plain;
   predecessors = l.predecessors;
 }
   where
-    i : Instruction
-    i = unordered (temporary s span) v span
-
     longer : length s.table ≤ length (s.table ++ i ∷ [])
     longer = simp length-append (omega arith)
 
@@ -92,6 +93,16 @@ listed_value s v span plain l = record {
         append_assoc (listed_in s.completed) (numbers s.current.instructions) (length s.table ∷ [])
         ∙ ap (λ (indices : List ℕ). listed_in s.completed ++ indices)
         (sym (map-append (λ (id : InstructionId). id.0) s.current.instructions (next_index s ∷ [])))
+
+-- Counters that change no list.
+
+pub listed_reserved : (s : State) → IsListed s → IsListed (reserved s)
+listed_reserved s l =
+    record { completed = l.completed; current = l.current; counted = l.counted; once = l.once; unordered = l.unordered; no_functions = l.no_functions; predecessors = l.predecessors }
+
+pub listed_temporary : (s : State) (span : Option Span) → IsListed s → IsListed (with_temporary s span)
+listed_temporary s span l =
+    record { completed = l.completed; current = l.current; counted = l.counted; once = l.once; unordered = l.unordered; no_functions = l.no_functions; predecessors = l.predecessors }
 
 pub orders_append : (xs ys : List BlockPair) → orders_of (xs ++ ys) ≡ orders_of xs + orders_of ys
 orders_append [] ys = omega arith
@@ -131,6 +142,25 @@ listed_completed s t next none l = record {
         ∙ append-nil (listed_in (s.completed ++ ended ∷ []))
         ∙ listed_append s.completed (ended ∷ [])
         ∙ ap (λ (indices : List ℕ). listed_in s.completed ++ indices) (append-nil (numbers s.current.instructions))
+
+-- An instruction under the innermost handler, and a value that goes into a fresh identifier.
+
+listed_under : (o : Option BlockId) (s : State) (i : Instruction) → i.order.0 ≡ 0 → is_function_expression i.value ≡ false → IsListed s
+    → IsListed (pushed_under o s i)
+listed_under None s i unnumbered plain l = listed_plain s i unnumbered plain l
+listed_under (Some handler) s i unnumbered plain l =
+    listed_completed (reserved (plainly_pushed s i)) (maybe_throw s.env.next_block handler i.span)
+    (new_block s.env.next_block s.current.kind) refl
+    (listed_reserved (plainly_pushed s i) (listed_plain s i unnumbered plain l))
+
+pub listed_pushed : (s : State) (i : Instruction) → i.order.0 ≡ 0 → is_function_expression i.value ≡ false → IsListed s
+    → IsListed (pushed s i)
+listed_pushed s i unnumbered plain l = listed_under (innermost s.handlers) s i unnumbered plain l
+
+pub listed_value : (s : State) (v : InstructionValue) (span : Option Span) → is_function_expression v ≡ false → IsListed s
+    → IsListed (with_value s v span)
+listed_value s v span plain l =
+    listed_pushed (with_temporary s span) (unordered (temporary s span) v span) refl plain (listed_temporary s span l)
 
 -- A builder that has neither blocks nor instructions.
 pub listed_none : (s : State) → s.completed ≡ [] → s.current.instructions ≡ [] → s.table ≡ [] → IsListed s

@@ -1,11 +1,11 @@
 -- Blocks under construction: the instructions that they list, orders and predecessors.
 use Rattle.std.specs.Prelude.{◌≡◌, ℕ, false, ◌+◌, ◌<◌, ◌++◌, List, [], All, length, map}
-use Rattle.rl_base.specs.Distinct.{AreDistinct}
 use Rattle.rl_base.specs.declared.ids.InstructionId.{InstructionId}
+use Rattle.rl_base.specs.Distinct.{AreDistinct}
 use Rattle.rl_builder.specs.Builder.{State}
 use Rattle.rl_builder.specs.Dropped.{is_function_expression}
-use Rattle.rl_order.specs.Numbering.{orders_of}
 use Rattle.rl_hir.specs.Numbered.{listed_in}
+use Rattle.rl_order.specs.Numbering.{orders_of}
 
 -- All indices are below `bound`.
 abbrev pub AreBelow : (bound : ℕ) → List InstructionId → Type 0

@@ -1,0 +1,9 @@
+pub mod Blocks
+pub mod Continuations
+pub mod Exits
+pub mod Facts
+pub mod Listed
+pub mod Moves
+pub mod ReadNotes
+pub mod Simulation
+pub mod StepNotes
