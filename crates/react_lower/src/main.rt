@@ -1,8 +1,9 @@
-//! Lowers the marked function of a unit to its graph.
+//! Lowers the marked function of a unit to its graph, or runs a function of it by its source and by its graph.
 #![tactic(auto)]
 
 use rl_base::streams::{StdIn, StdOut};
-use rl_unit::run::{arguments, run};
+use rl_commands::run::run;
+use rl_unit::run::arguments;
 use std::process::ExitCode;
 
 fn main(rt: HostRuntime) -> ExitCode {

@@ -1,5 +1,6 @@
 -- Outcomes of the bytes that were read, where the bytes that were left may not be known.
 use Rattle.std.proofs.Common.{◌≡◌, ℕ, List, Option, Some, None, IfSome, refl, sym, subst, take}
+use Rattle.std.proofs.lemmas.Option.{none-some, same_Some}
 use Rattle.std.specs.declared.vec.Vec.{Vec}
 use Rattle.std.specs.declared.alloc.Global.{Global}
 use Rattle.rl_syntax.specs.Limits.{IsTooLarge, most_read}
@@ -12,13 +13,40 @@ use Rattle.rl_unit.specs.declared.run.Outcome.{Outcome}
 use Rattle.rl_unit.specs.declared.run.Outcome.TheVariants as outcomes
 use Rattle.rl_unit.specs.declared.run.Status.{Status}
 use Rattle.rl_unit.specs.declared.run.Status.TheVariants.{Reported}
-use Rattle.rl_unit.proofs.Answering.{Writes, all_read, output_complete, within_bytes}
+use Rattle.rl_base.specs.declared.diagnostic.Diagnostic.{Diagnostic}
+use Rattle.rl_base.specs.declared.ids.NodeId.{NodeId}
+use Rattle.rl_unit.specs.Answers.{IsMalformed, IsPending, IsRefused, IsStopped}
+use Rattle.rl_unit.specs.Outcomes.{reported}
+use Rattle.rl_unit.specs.declared.unit.LowerError.{LowerError}
+use Rattle.rl_unit.specs.declared.unit.LowerError.TheVariants as errors
+use Rattle.rl_unit.proofs.Answering.{Writes, all_read, output_complete, within_bytes, writes_pending, writes_report, writes_stop}
 
 pub comes_result : (bytes : List ℕ) (l : Lowered) → LowersTo bytes l → ComesTo bytes (outcomes.Lowered l)
 comes_result bytes l lowers = record { source = lowers.0; spelled = lowers.1.spells; is_outcome = (lowers.1.rules, lowers.2) }
 
 pub comes_report : (bytes : List ℕ) (text : Vec ℕ Global) → Writes bytes Reported text.items → ComesTo bytes (outcomes.Reported text)
 comes_report bytes text writes = record { source = writes.source; spelled = writes.spelled; is_outcome = writes.is_output }
+
+-- The causes of an error, as `lower_unit` has them.
+pub record HasCauses (bytes : List ℕ) (e : LowerError) : Type 0 where
+  pub stopped : (said : Diagnostic) → e ≡ errors.Stopped said → IsStopped bytes said
+  pub refused : (said : List Diagnostic) → e ≡ errors.Refused said → IsRefused bytes said
+  pub pending : (node : NodeId) → e ≡ errors.Pending node → IsPending bytes node.0
+  pub too_large : e ≡ errors.TooLarge → IsTooLarge bytes
+  pub malformed : e ≡ errors.Malformed → IsMalformed bytes
+
+-- The report on an error is an outcome of the bytes, and an error without one a status of them.
+pub comes_error : (bytes : List ℕ) (e : LowerError) (text : Vec ℕ Global) → HasCauses bytes e → reported e ≡ Some text.items
+    → ComesTo bytes (outcomes.Reported text)
+comes_error bytes (errors.Pending node) text causes is =
+    comes_report bytes text (writes_pending bytes node.0 text.items (causes.pending node refl) (sym (same_Some _ _ is)))
+comes_error bytes (errors.Stopped said) text causes is =
+    comes_report bytes text (writes_stop bytes said text.items (causes.stopped said refl) (sym (same_Some _ _ is)))
+comes_error bytes (errors.Refused said) text causes is =
+    comes_report bytes text (writes_report bytes said text.items (causes.refused said refl) (sym (same_Some _ _ is)))
+comes_error bytes errors.TooLarge text causes is = absurd (none-some text.items is)
+comes_error bytes errors.Malformed text causes is = absurd (none-some text.items is)
+comes_error bytes errors.OutOfMemory text causes is = absurd (none-some text.items is)
 
 comes_known : (left : Option (List ℕ)) (bytes : List ℕ) (outcome : Outcome) → IfSome left (λ known. bytes ≡ known) → (IsTooLarge bytes → ⊥) → ComesTo bytes outcome → ComesToKnown left outcome
 comes_known None bytes outcome same small comes = record { source = comes.source; spelled = tt; within = tt; is_outcome = comes.is_outcome }

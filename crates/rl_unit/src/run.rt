@@ -5,7 +5,7 @@ ghost use Rattle.std.specs.Io.KnownBytes.{Keeps};
 ghost use Rattle.rl_base.specs.Faults.{Rose};
 ghost use Rattle.rl_base.specs.Diagnostics.{line_of};
 ghost use Rattle.rl_syntax.specs.Limits.{IsTooLarge};
-ghost use Rattle.rl_unit.specs.Outcomes.{ComesTo, ComesToKnown, outcome_status, outcome_text};
+ghost use Rattle.rl_unit.specs.Outcomes.{ComesTo, ComesToKnown, IsStatusOf, outcome_status, outcome_text, reported};
 ghost use Rattle.rl_unit.specs.Answers.{AnswersSteadily, Explains, HasRead, IsComplete, ReadsWhole, RefusesKnown, WritesKnown, exit_code, lines, output, pending_line};
 
 use crate::unit::{LowerError, lower_unit};
@@ -93,7 +93,7 @@ pub fn arguments(rt: &HostRuntime) -> Result<Vec<String>, Status>
 }
 
 /// True if `lower` is the one argument.
-fn is_command(words: &[String]) -> bool
+pub fn is_command(words: &[String]) -> bool
     ensures { IsTrue result ↔ (map string_bytes words.now ≡ codes "lower" ∷ []) }
 {
     match words {
@@ -112,12 +112,13 @@ pub enum Outcome {
     Reported(Vec<u8>),
 }
 
-/// The bytes that the program writes of a unit, with the status that says so.
+/// The bytes that a program writes of a unit, with the status that says so.
 #[derive(Drop)]
-struct Output {
+pub struct Output {
     /// Done or Reported.
-    status: Status,
-    text: Vec<u8>,
+    pub status: Status,
+    /// The bytes.
+    pub text: Vec<u8>,
 }
 
 /// The lines of diagnostics, in order.
@@ -197,6 +198,23 @@ fn listed(alloc: Global, lowered: &Lowered) -> Result<Vec<u8>, OutOfMemory>
     Ok(text)
 }
 
+/// The lines of the report on a unit that has no result: the line of a stop, those of the refusals, or that of the least node that the
+/// lowering does not cover. An error is the exit status of a program that has nothing to write: `Malformed`, `TooLarge` or
+/// `OutOfMemory`.
+pub fn report_of(alloc: Global, error: LowerError) -> Result<Vec<u8>, Status>
+    ensures reported { IfOk result (λ text. reported error ≡ Some text.items) }
+    ensures status { IfErr result (λ status. IsStatusOf error status) }
+{
+    match error {
+        LowerError::Pending(node) => Ok(pending_line(alloc, node)?),
+        LowerError::Stopped(stop) => Ok(stop_line(alloc, &stop)?),
+        LowerError::Refused(said) => Ok(report(alloc, said.as_slice())?),
+        LowerError::TooLarge => Err(Status::TooLarge),
+        LowerError::Malformed => Err(Status::Malformed),
+        LowerError::OutOfMemory => Err(Status::OutOfMemory),
+    }
+}
+
 /// Lowers the unit that the bytes spell.
 fn outcome_of(alloc: Global, bytes: &[u8]) -> Result<Outcome, Status>
     ensures comes { IfOk result (λ outcome. ComesTo bytes.now outcome) }
@@ -206,12 +224,10 @@ fn outcome_of(alloc: Global, bytes: &[u8]) -> Result<Outcome, Status>
 {
     match lower_unit(alloc, bytes) {
         Ok(lowered) => Ok(Outcome::Lowered(lowered)),
-        Err(LowerError::Pending(node)) => Ok(Outcome::Reported(pending_line(alloc, node)?)),
-        Err(LowerError::Stopped(stop)) => Ok(Outcome::Reported(stop_line(alloc, &stop)?)),
-        Err(LowerError::Refused(said)) => Ok(Outcome::Reported(report(alloc, said.as_slice())?)),
-        Err(LowerError::TooLarge) => Err(Status::TooLarge),
-        Err(LowerError::Malformed) => Err(Status::Malformed),
-        Err(LowerError::OutOfMemory) => Err(Status::OutOfMemory),
+        Err(error) => match report_of(alloc, error) {
+            Ok(text) => Ok(Outcome::Reported(text)),
+            Err(status) => Err(status),
+        },
     }
 }
 

@@ -159,8 +159,8 @@ fn lower_in(
     lower_function(alloc, &names, function)
 }
 
-/// Lowers the marked function of a unit that was read.
-fn lower_tree(alloc: Global, unit: &Unit) -> Result<Lowered, LowerError>
+/// Lowers the marked function of a unit that was read: `lower_unit`, for a caller that has other uses for the unit.
+pub fn lower_tree(alloc: Global, unit: &Unit) -> Result<Lowered, LowerError>
     requires read { IsRead (syntax unit.now.tree) }
     ensures lowered { IfOk result (λ l. IsUnitResult (syntax unit.now.tree) l) }
     ensures error { IfErr result (λ e. IsUnitError (syntax unit.now.tree) e) }

@@ -1,0 +1,4 @@
+pub mod Known
+pub mod Answering
+pub mod Words
+pub mod Comparing
