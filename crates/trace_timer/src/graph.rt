@@ -3,9 +3,10 @@
 ghost use Rattle.std.specs.Prelude.{◌≡◌, ◌<◌};
 
 use crate::answers::answers_of;
+use crate::times::Times;
 use anyhow::Result;
 use rl_base::error::OutOfMemory;
-use rl_base::ids::{BlockId, EvaluationOrder, IdentifierId, InstructionId};
+use rl_base::ids::{BlockId, EvaluationOrder, IdentifierId, InstructionId, TypeId};
 use rl_base::list::List;
 use rl_base::operator::BinaryOperator;
 use rl_base::steps::Steps;
@@ -13,13 +14,12 @@ use rl_base::text::Text;
 use rl_graph_run::run::run_graph;
 use rl_hir::blocks::{Blocks, GraphBlocks};
 use rl_hir::function::{
-    BasicBlock, BlockKind, Hir, HirFunction, Lowered, Param, ReactFunctionType,
+    BasicBlock, BlockKind, Hir, HirFunction, Identifier, Lowered, Param, ReactFunctionType,
 };
 use rl_hir::instruction::{Instruction, InstructionValue, NonLocalBinding, Place, PrimitiveValue};
 use rl_hir::terminal::{GotoVariant, ReturnVariant, Terminal, TerminalKind};
 use rl_machine::trace::{Trace, Value};
 use rl_trace::error::RunError;
-use rl_trace_text::write::write_trace;
 use std::alloc::Global;
 use std::marker::Brand;
 use std::sync::ledger::{Blank, Ledger};
@@ -121,6 +121,22 @@ fn blocks(alloc: Global) -> Result<GraphBlocks, OutOfMemory> {
     Ok(blocks)
 }
 
+/// Number of the identifiers: the parameter, the values of the instructions, and that of the function.
+const IDENTIFIERS: u32 = 6;
+
+/// The table of identifiers. A run looks up those that it lists in constant time. On `OutOfMemory` an allocation failed.
+fn identifiers(alloc: Global) -> Result<List<Identifier>, OutOfMemory> {
+    let mut identifiers = List::new(alloc);
+    for number in 0..IDENTIFIERS {
+        identifiers.push(Identifier {
+            name: None,
+            span: None,
+            type_id: TypeId(number),
+        })?;
+    }
+    Ok(identifiers)
+}
+
 /// A result whose marked function is the loop. On `OutOfMemory` an allocation failed.
 fn lowered(alloc: Global) -> Result<Lowered, OutOfMemory> {
     let mut params = List::new(alloc);
@@ -144,7 +160,7 @@ fn lowered(alloc: Global) -> Result<Lowered, OutOfMemory> {
     Ok(Lowered {
         function,
         inner: List::new(alloc),
-        identifiers: List::new(alloc),
+        identifiers: identifiers(alloc)?,
         pairs: List::new(alloc),
     })
 }
@@ -171,25 +187,14 @@ fn run_by<L: Ledger>(alloc: Global, turns: u32, blank: Blank) -> Result<Trace, R
     )
 }
 
-/// The text of a trace.
-fn text_of(alloc: Global, trace: &Trace) -> Result<Vec<u8>, RunError> {
-    let mut text = Vec::new(alloc);
-    write_trace(trace, &mut text)?;
-    Ok(text)
+/// The trace of so many turns.
+pub fn trace_of(alloc: Global, turns: u32) -> Result<Trace> {
+    Ok(run_by::<Brand>(alloc, turns, Blank::new(1))?)
 }
 
-/// Writes the trace of two turns.
-pub fn print_trace(rt: &HostRuntime) -> Result<()> {
-    let trace = run_by::<Brand>(rt.alloc(), 2, Blank::new(1))?;
-    let text = text_of(rt.alloc(), &trace)?;
-    let text = String::from_utf8(text)?;
-    println!(rt; "{text}")?;
-    Ok(())
-}
-
-/// Writes the number of events of so many turns, and of the shortest of `runs` runs the nanoseconds, with what it takes to make the graph
-/// and the answers. The longest duration without a run.
-pub fn print_times(rt: &HostRuntime, turns: u32, runs: u32) -> Result<()> {
+/// The number of events of so many turns, and of the shortest of `runs` runs the nanoseconds, with the time to make the graph and the
+/// answers. The longest duration without a run.
+pub fn times_of(rt: &HostRuntime, turns: u32, runs: u32) -> Result<Times> {
     let mut least = Duration::MAX;
     let mut events = 0;
     for _run in 0..runs {
@@ -198,7 +203,5 @@ pub fn print_times(rt: &HostRuntime, turns: u32, runs: u32) -> Result<()> {
         least = least.min(start.elapsed(rt)?);
         events = trace.events.len();
     }
-    let least = least.as_nanos();
-    println!(rt; "{events} {least}")?;
-    Ok(())
+    Ok(Times { events, least })
 }
