@@ -1,5 +1,5 @@
 #!/usr/bin/env python3
-"""Prints the files of specs/ that the clauses of `run`, `run_steady` and `lower_unit` rest on: those whose definitions they
+"""Prints the files of specs/ that the clauses of `run`, `run_steady`, `source_trace` and `lower_unit` rest on: those whose definitions they
 name, and those that these files use in turn. Behind them, the size of what must be read: files, lines of definitions, and the
 types of src/ that these name. Ends with status 1 where the table of docs/PROVED.md or the sizes of README.md are others;
 `--write` puts them there."""
@@ -7,7 +7,12 @@ import pathlib, re, sys
 
 TOP = pathlib.Path(__file__).resolve().parent.parent
 PROVED, README = TOP / "docs/PROVED.md", TOP / "README.md"
-STATEMENTS = {"crates/rl_unit/src/run.rt": ("run", "run_steady"), "crates/rl_unit/src/unit.rt": ("lower_unit",)}
+STATEMENTS = {
+    "crates/rl_unit/src/run.rt": ("run", "run_steady"),
+    "crates/rl_unit/src/unit.rt": ("lower_unit",),
+    "crates/rl_commands/src/run.rt": ("run",),
+    "crates/rl_commands/src/source_trace.rt": ("source_trace",),
+}
 USE = re.compile(r"^\s*(?:ghost |pub )?use Rattle\.(\w+)\.specs\.([\w.]+?)(?:\.\{([^}]*)\})?(?: as (\w+))?;?$", re.M)
 ROW = re.compile(r"^\| `(\w+)` \| ([A-Z]\w*(?:, [A-Z]\w*)*) \|$", re.M)
 SIZE = re.compile(r"N files of `specs/` with N lines of definitions, and N types of `src/` with N lines".replace("N", r"[\d,]+").replace(" ", r"\s+"))
@@ -30,8 +35,9 @@ def specs_in(text):
 
 
 def contract(text, function):
-    """The clauses of a function."""
-    return re.search(rf"^pub fn {function}\b.*?^\{{", text, re.M | re.S)[0].split(")", 1)[1]
+    """The clauses of a function, without their comments."""
+    clauses = re.search(rf"^pub fn {function}\b.*?^\{{", text, re.M | re.S)[0].split(")", 1)[1]
+    return re.sub(r"//.*", "", clauses)
 
 
 def trusted():
