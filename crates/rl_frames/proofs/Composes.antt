@@ -1,0 +1,88 @@
+-- The frames' clauses: what each makes of the runs of its holes.
+use Rattle.std.proofs.Common.{◌≡◌, ℕ, ◌+◌, length, Some, sym, ap, ◌∙◌, subst}
+use Rattle.rl_base.specs.declared.span.Span.{Span}
+use Rattle.rl_builder.specs.Builder.{State, completed_by, pushed}
+use Rattle.rl_frames.proofs.Ifs.{if_runs, if_then_runs}
+use Rattle.rl_frames.proofs.IfThenBlocks.{if_then_blocks}
+use Rattle.rl_frames.proofs.Logicals.{logical_runs}
+use Rattle.rl_frames.proofs.Loops.{while_runs}
+use Rattle.rl_frames.proofs.Sequences.{sequence_blocks, sequence_runs}
+use Rattle.rl_frames.proofs.Ternaries.{ternary_runs}
+use Rattle.rl_frames.proofs.ValueFrames.{logical_blocks, ternary_blocks}
+use Rattle.rl_frames.proofs.Wholes.{if_blocks, while_blocks}
+use Rattle.rl_frames.specs.Frames.{IfComposes, IfParts, LogicalComposes, LogicalParts, SequenceComposes, SequenceParts, TernaryComposes}
+use Rattle.rl_frames.specs.Frames.{TernaryParts, WhileComposes, WhileParts, if_ended, logical_after, logical_at, logical_ended}
+use Rattle.rl_frames.specs.Frames.{sequence_at, sequence_ended, ternary_after, ternary_at, ternary_ended, ternary_parted, while_ended}
+use Rattle.rl_frames.specs.Meanings.{chosen, connected, looped, selected}
+use Rattle.rl_frames.specs.Parts.{if_finished, loads, while_finished}
+use Rattle.rl_hir.specs.declared.instruction.Place.{Place}
+use Rattle.rl_hir.specs.declared.terminal.GotoVariant.TheVariants as gotos
+use Rattle.rl_hir.specs.declared.terminal.Terminal.{Terminal}
+use Rattle.rl_hir.specs.declared.terminal.TerminalKind.TheVariants as kinds
+use Rattle.rl_model.specs.Actions.{done}
+use Rattle.rl_runs.specs.Blocks.{PreservesBlocks}
+use Rattle.rl_runs.specs.Moves.{branch, ends_by, goto, last_hole, stored_in}
+use Rattle.rl_runs.specs.Simulation.{RunsExpression, RunsStatement}
+
+pub if_composes : (f : IfParts) (old new : State) (test : Place) → new ≡ if_ended f old test → IfComposes f old new test
+if_composes f old new test ended = record {
+  both = λ s s2 s3 span part other world dt dc da is gc ga gt rc ra rt.
+      let at : new ≡ if_finished old s.env.next_block (s.env.next_block + 1) s2.env.next_block test span = ended ∙ ap (λ (g : IfParts). if_ended g old test) is in
+      subst (λ (z : State). PreservesBlocks s z × RunsStatement world (chosen world dt dc da) s z) (sym at)
+      (if_blocks s s2 s3 old test span part other gc ga gt, if_runs s s2 s3 old test span part other gc.extends ga.extends gt.extends world dt dc da rc ra rt);
+  one = λ s s2 span part world dt dc is gc gt rc rt.
+      let at : new ≡ if_finished old s.env.next_block (s.env.next_block + 1) s.env.next_block test span = ended ∙ ap (λ (g : IfParts). if_ended g old test) is in
+      subst (λ (z : State). PreservesBlocks s z × RunsStatement world (chosen world dt dc done) s z) (sym at)
+      (if_then_blocks s s2 old test span part gc gt, if_then_runs s s2 old test span part gc.extends gt.extends world dt dc rc rt);
+}
+
+pub logical_composes : (f : LogicalParts) (old new : State) (value : Place) → new ≡ logical_ended f old value → LogicalComposes f old new value
+logical_composes f old new value ended = record {
+  both = λ s s2 span left part operator right_value world dl dr is br bl rr rl.
+      let at : new ≡ logical_ended (logical_after (logical_at s span operator left)) old value = ended ∙ ap (λ (g : LogicalParts). logical_ended g old value) is in
+      subst (λ (p : ℕ). PreservesBlocks s new × RunsExpression world (connected world operator dl dr) s new p) (sym (ap (λ (g : LogicalParts). g.place.identifier.0) is))
+      (subst (λ (z : State). PreservesBlocks s z × RunsExpression world (connected world operator dl dr) s z (length s.env.identifiers)) (sym at)
+      (logical_blocks s s2 old operator right_value value span left part br bl, logical_runs s s2 old operator right_value value span left part br.extends bl.extends world dl dr rr rl));
+}
+
+-- As the last call of a `Logical` says it.
+pub logical_finish : (f : LogicalParts) (old mid new : State) (value : Place) → mid ≡ pushed old (loads f.left value f.span)
+    → new ≡ completed_by mid (branch f.left f.consequent f.alternate f.behind.id.0 f.span) f.behind → LogicalComposes f old new value
+logical_finish f old mid new value loaded ended =
+    logical_composes f old new value (ended ∙ ap (λ (s : State). completed_by s (branch f.left f.consequent f.alternate f.behind.id.0 f.span) f.behind) loaded)
+
+pub ternary_composes : (f : TernaryParts) (old new : State) (test : Place) → new ≡ ternary_ended f old test → TernaryComposes f old new test
+ternary_composes f old new test ended = record {
+  both = λ s s2 s3 span part other consequent alternate world dt dc da is bc ba bt rc ra rt.
+      let at : new ≡ ternary_ended (ternary_after (ternary_parted (ternary_at s span) s2 consequent part)) old test = ended ∙ ap (λ (g : TernaryParts). ternary_ended g old test) is in
+      subst (λ (p : ℕ). PreservesBlocks s new × RunsExpression world (selected world dt dc da) s new p) (sym (ap (λ (g : TernaryParts). g.place.identifier.0) is))
+      (subst (λ (z : State). PreservesBlocks s z × RunsExpression world (selected world dt dc da) s z (length s.env.identifiers)) (sym at)
+      (ternary_blocks s s2 s3 old consequent alternate test span part other bc ba bt, ternary_runs s s2 s3 old consequent alternate test span part other bc.extends ba.extends bt.extends world dt dc da rc ra rt));
+}
+
+pub sequence_composes : (f : SequenceParts) (old new : State) (value : Place) (part : Span) → new ≡ sequence_ended f old value part → SequenceComposes f old new value
+sequence_composes f old new value part ended = record {
+  all = λ s span world d is b r.
+      let at : new ≡ sequence_ended (sequence_at s span) old value part = ended ∙ ap (λ (g : SequenceParts). sequence_ended g old value part) is in
+      subst (λ (p : ℕ). PreservesBlocks s new × RunsExpression world d s new p) (sym (ap (λ (g : SequenceParts). g.place.identifier.0) is))
+      (subst (λ (z : State). PreservesBlocks s z × RunsExpression world d s z (length s.env.identifiers)) (sym at)
+      (sequence_blocks s old value span part b, sequence_runs s old value span part b.extends world d r));
+}
+
+-- As the last call of a `SequenceFrame` says it.
+pub sequence_finish : (f : SequenceParts) (old mid shut new : State) (end : Terminal) (value : Place) (part : Span)
+    → mid ≡ stored_in old f.place value part → end ≡ goto f.behind.id.0 gotos.Break part → shut ≡ completed_by mid end f.outer
+    → new ≡ completed_by shut (ends_by (kinds.Sequence (record { 0 = f.block }) f.behind.id) (Some f.span)) f.behind
+    → SequenceComposes f old new value
+sequence_finish f old mid shut new end value part stored goes left ended =
+    sequence_composes f old new value part
+    (ended ∙ ap (λ (s : State). completed_by s (ends_by (kinds.Sequence (record { 0 = f.block }) f.behind.id) (Some f.span)) f.behind)
+    (left ∙ ap (λ (t : Terminal). completed_by mid t f.outer) goes ∙ ap (λ (s : State). last_hole s f.behind.id.0 gotos.Break part f.outer) stored))
+
+pub while_composes : (f : WhileParts) (old new : State) (value : Place) → new ≡ while_ended f old value → WhileComposes f old new value
+while_composes f old new value ended = record {
+  both = λ s s2 span part label world dt db is gb gt pt rb rt.
+      let at : new ≡ while_finished old s.env.next_block span value = ended ∙ ap (λ (g : WhileParts). while_ended g old value) is in
+      subst (λ (z : State). PreservesBlocks s z × RunsStatement world (looped world label dt db) s z) (sym at)
+      (while_blocks s s2 old label value span part gb gt pt, while_runs s s2 old label value span part gb.extends gt.extends world dt db rb rt);
+}

@@ -1,0 +1,99 @@
+-- The blocks that the complete blocks of constructs name.
+use Rattle.std.proofs.Common.{◌≡◌, ℕ, ◌+◌, ◌-◌, inl, inr, ◌++◌, List, [], ◌∷◌, length, take, Option, ap, ◌∙◌, subst, arith}
+use Rattle.rl_base.specs.declared.ids.BlockId.{BlockId}
+use Rattle.rl_base.specs.declared.span.Span.{Span}
+use Rattle.rl_builder.specs.Builder.{State, new_block, reserved}
+use Rattle.rl_builder.specs.declared.jumps.JumpScope.{JumpScope}
+use Rattle.rl_frames.specs.Parts.{if_begun, if_end, if_finished, while_begun, while_body, while_end, while_finished, while_scope}
+use Rattle.rl_hir.specs.declared.function.BlockKind.TheVariants as block
+use Rattle.rl_hir.specs.declared.instruction.Place.{Place}
+use Rattle.rl_hir.specs.declared.terminal.GotoVariant.TheVariants as gotos
+use Rattle.rl_runs.proofs.Holes.{front_added}
+use Rattle.rl_runs.proofs.Naming.{named_ended, named_goto, named_then, named_three, scope_targets}
+use Rattle.rl_runs.specs.Blocks.{IsNameSince, IsTarget, NamesSince}
+use Rattle.rl_runs.specs.Facts.{Extends}
+use Rattle.rl_runs.specs.Moves.{branch, goto, last_hole, next_hole, without_scope}
+
+-- An `if` statement.
+pub if_named : (s s2 s3 s4 : State) (test : Place) (span part other : Span) → Extends (if_begun s) s2
+    → Extends (next_hole s2 s.env.next_block gotos.Break part block.Block) s3
+    → Extends (last_hole s3 s.env.next_block gotos.Break other s.current) s4
+    → NamesSince (if_begun s) s2 → NamesSince (next_hole s2 s.env.next_block gotos.Break part block.Block) s3
+    → NamesSince (last_hole s3 s.env.next_block gotos.Break other s.current) s4
+    → NamesSince s (if_finished s4 s.env.next_block (s.env.next_block + 1) s2.env.next_block test span)
+if_named s s2 s3 s4 test span part other gc ga gt nc na nt =
+    named_ended s s4 (if_end s.env.next_block (s.env.next_block + 1) s2.env.next_block test span)
+    (new_block s.env.next_block block.Block) to_test
+    (named_three s (record { 0 = s.env.next_block + 1 }) (record { 0 = s2.env.next_block }) (record { 0 = s.env.next_block }) s4.env.next_block (omega arith) (omega (arith, gc.blocks, ga.blocks, gt.blocks)) (omega (arith, gc.blocks)) (omega (arith, ga.blocks, gt.blocks)) (omega arith) (omega (arith, gc.blocks, ga.blocks, gt.blocks)))
+  where
+    targets : (x : State) (next id : ℕ) → x.handlers ≡ s.handlers → x.scopes ≡ s.scopes → IsTarget x.handlers x.scopes id
+        → IsNameSince s next id
+    targets x next id handlers scopes to =
+        inr (subst (λ (l : List JumpScope). IsTarget s.handlers l id) scopes (subst (λ (l : List BlockId). IsTarget l x.scopes id) handlers to))
+
+    to_consequent : NamesSince s s2
+    to_consequent = named_then s (if_begun s) s2 (omega arith) gc.blocks (λ id to. inr to) (λ b one. inl one) nc
+
+    to_open : NamesSince s (next_hole s2 s.env.next_block gotos.Break part block.Block)
+    to_open =
+        named_ended s (reserved s2) (goto s.env.next_block gotos.Break part) (new_block s2.env.next_block block.Block)
+        (λ b one. elim (to_consequent b one) [ inl old ↦ inl old | inr own ↦ inr (λ id is. elim (own id is) [ inl since ↦ inl (since.0, omega (arith, since.1)) | inr to ↦ inr to ]) ])
+        (named_goto s s.env.next_block (s2.env.next_block + 1) gotos.Break part (omega arith) (omega (arith, gc.blocks)))
+
+    to_alternate : NamesSince s s3
+    to_alternate =
+        named_then s (next_hole s2 s.env.next_block gotos.Break part block.Block) s3 (omega (arith, gc.blocks)) ga.blocks
+        (λ id to. targets (next_hole s2 s.env.next_block gotos.Break part block.Block) s3.env.next_block id gc.handlers gc.scopes to) to_open na
+
+    to_shut : NamesSince s (last_hole s3 s.env.next_block gotos.Break other s.current)
+    to_shut =
+        named_ended s s3 (goto s.env.next_block gotos.Break other) s.current to_alternate
+        (named_goto s s.env.next_block s3.env.next_block gotos.Break other (omega arith) (omega (arith, gc.blocks, ga.blocks)))
+
+    to_test : NamesSince s s4
+    to_test =
+        named_then s (last_hole s3 s.env.next_block gotos.Break other s.current) s4 (omega (arith, gc.blocks, ga.blocks)) gt.blocks
+        (λ id to. targets (last_hole s3 s.env.next_block gotos.Break other s.current) s4.env.next_block id (ga.handlers ∙ gc.handlers) (ga.scopes ∙ gc.scopes) to) to_shut nt
+
+-- A `while` loop: its body may jump to the test and behind the loop.
+pub while_named : (s s2 s4 : State) (label : Option (List ℕ)) (test : Place) (span part : Span) → Extends (while_begun s label) s2
+    → Extends (while_body s2 s.env.next_block span s.current part) s4
+    → NamesSince (while_begun s label) s2 → NamesSince (while_body s2 s.env.next_block span s.current part) s4
+    → NamesSince s (while_finished s4 s.env.next_block span test)
+while_named s s2 s4 label test span part gb gt nb nt =
+    named_ended s s4 (branch test (s.env.next_block + 1 + 1) (s.env.next_block + 1) s.env.next_block span)
+    (new_block (s.env.next_block + 1) block.Block) to_test
+    (named_three s (record { 0 = s.env.next_block + 1 + 1 }) (record { 0 = s.env.next_block + 1 }) (record { 0 = s.env.next_block }) s4.env.next_block (omega arith) (omega (arith, gb.blocks, gt.blocks)) (omega arith) (omega (arith, gb.blocks, gt.blocks)) (omega arith) (omega (arith, gb.blocks, gt.blocks)))
+  where
+    tst : State
+    tst = while_body s2 s.env.next_block span s.current part
+
+    scopes_left : take (length s2.scopes - 1) s2.scopes ≡ s.scopes
+    scopes_left = ap (λ (x : List JumpScope). take (length x - 1) x) gb.scopes ∙ front_added s.scopes (while_scope s label)
+
+    in_body : (id : ℕ) → IsTarget s.handlers (s.scopes ++ while_scope s label ∷ []) id → IsNameSince s s2.env.next_block id
+    in_body id to = elim (scope_targets s.handlers s.scopes (while_scope s label) id to) [
+      | inl around ↦ inr around
+      | inr own ↦ elim own [
+        | inl e ↦ inl (omega (arith, e), omega (arith, e, gb.blocks))
+        | inr again ↦ (let same : record { 0 = s.env.next_block } ≡ again.0 = cc again.1 in let e : s.env.next_block ≡ id = ap (λ (x : BlockId). x.0) same ∙ again.2 in inl (omega (arith, e), omega (arith, e, gb.blocks)))
+      ]
+    ]
+
+    to_body : NamesSince s s2
+    to_body = named_then s (while_begun s label) s2 (omega arith) gb.blocks in_body (λ b one. inl one) nb
+
+    to_shut : NamesSince s (last_hole (without_scope s2) s.env.next_block gotos.Continue part s.current)
+    to_shut =
+        named_ended s (without_scope s2) (goto s.env.next_block gotos.Continue part) s.current to_body
+        (named_goto s s.env.next_block s2.env.next_block gotos.Continue part (omega arith) (omega (arith, gb.blocks)))
+
+    to_tst : NamesSince s (while_body s2 s.env.next_block span s.current part)
+    to_tst =
+        named_ended s (last_hole (without_scope s2) s.env.next_block gotos.Continue part s.current) (while_end s.env.next_block span)
+        (new_block s.env.next_block block.Loop) to_shut
+        (named_three s (record { 0 = s.env.next_block }) (record { 0 = s.env.next_block + 1 + 1 }) (record { 0 = s.env.next_block + 1 }) s2.env.next_block (omega arith) (omega (arith, gb.blocks)) (omega arith) (omega (arith, gb.blocks)) (omega arith) (omega (arith, gb.blocks)))
+
+    to_test : NamesSince s s4
+    to_test = named_then s (while_body s2 s.env.next_block span s.current part) s4 (omega (arith, gb.blocks)) gt.blocks
+        (λ id to. inr (subst (λ (l : List JumpScope). IsTarget s.handlers l id) scopes_left (subst (λ (l : List BlockId). IsTarget l (take (length s2.scopes - 1) s2.scopes) id) gb.handlers to))) to_tst nt

@@ -1,0 +1,297 @@
+-- The parts that frames hold between their calls, the states that the calls leave, and what a frame makes of the runs of its holes.
+use Rattle.std.specs.Prelude.{◌≡◌, ℕ, ◌+◌, Bool, true, false, Option, Some, None, unwrap_or}
+use Rattle.std.specs.Option.{option_map}
+use Rattle.rl_base.specs.declared.operator.LogicalOperator.{LogicalOperator}
+use Rattle.rl_base.specs.declared.span.Span.{Span}
+use Rattle.rl_builder.specs.Builder.{State, completed_by, new_block, placeholder, pushed}
+use Rattle.rl_builder.specs.declared.blocks.WipBlock.{WipBlock}
+use Rattle.rl_frames.specs.declared.if_frame.IfFrame.{IfFrame}
+use Rattle.rl_frames.specs.declared.logical.Logical.{Logical}
+use Rattle.rl_frames.specs.declared.sequence.SequenceFrame.{SequenceFrame}
+use Rattle.rl_frames.specs.declared.ternary.Ternary.{Ternary}
+use Rattle.rl_frames.specs.declared.while_frame.WhileFrame.{WhileFrame}
+use Rattle.rl_frames.specs.Meanings.{chosen, connected, looped, selected}
+use Rattle.rl_frames.specs.Parts.{if_begun, if_end, loads, logical_begun, logical_entered, logical_left, logical_place, sequence_begun}
+use Rattle.rl_frames.specs.Parts.{sequence_place, ternary_alternate, ternary_begun, ternary_place, while_begun}
+use Rattle.rl_hir.specs.declared.function.BlockKind.TheVariants as block
+use Rattle.rl_hir.specs.declared.instruction.Place.{Place}
+use Rattle.rl_hir.specs.declared.terminal.GotoVariant.TheVariants as gotos
+use Rattle.rl_hir.specs.declared.terminal.TerminalKind.TheVariants as kinds
+use Rattle.rl_machine.specs.declared.trace.Value.{Value}
+use Rattle.rl_machine.specs.Traces.{World}
+use Rattle.rl_model.specs.Actions.{Action, Label, done}
+use Rattle.rl_runs.specs.Blocks.{Passes, PreservesBlocks}
+use Rattle.rl_runs.specs.Moves.{block_id, branch, ends_by, last_hole, next_hole, stored_in, without_scope}
+use Rattle.rl_runs.specs.Simulation.{RunsExpression, RunsStatement}
+
+-- The parts of an `IfFrame`.
+pub record IfParts : Type 0 where
+  pub span : Span
+  pub behind : WipBlock
+  pub consequent : ℕ
+  pub alternate : ℕ
+  pub has_alternate : Bool
+  pub outer : Option WipBlock
+
+abbrev pub if_of : IfFrame → IfParts
+if_of f = record {
+  span = f.span;
+  behind = f.behind;
+  consequent = f.consequent.0;
+  alternate = f.alternate.0;
+  has_alternate = f.has_alternate;
+  outer = option_map (λ o. o.block) f.outer;
+}
+
+abbrev pub if_at : State → (span : Span) → (has_alternate : Bool) → IfParts
+if_at s span has_alternate = record {
+  span = span;
+  behind = new_block s.env.next_block block.Block;
+  consequent = s.env.next_block + 1;
+  alternate = s.env.next_block;
+  has_alternate = has_alternate;
+  outer = Some s.current;
+}
+
+abbrev pub if_shut : IfParts → IfParts
+if_shut f = record f { outer = None }
+
+abbrev pub if_alternate : IfParts → State → (part : Span) → State
+if_alternate f s part = last_hole s f.behind.id.0 gotos.Break part (unwrap_or f.outer placeholder)
+
+abbrev pub if_branched : Bool → IfParts → State → (part : Span) → State
+if_branched true f s part = next_hole s f.behind.id.0 gotos.Break part block.Block
+if_branched false f s part = if_alternate f s part
+
+abbrev pub if_consequent : IfParts → State → (part : Span) → State
+if_consequent f s part = if_branched f.has_alternate f s part
+
+abbrev pub if_parted : Bool → IfParts → State → IfParts
+if_parted true f s = record f { alternate = s.env.next_block }
+if_parted false f s = if_shut f
+
+abbrev pub if_after_consequent : IfParts → State → IfParts
+if_after_consequent f s = if_parted f.has_alternate f s
+
+abbrev pub if_ended : IfParts → State → (test : Place) → State
+if_ended f s test = completed_by s (if_end f.behind.id.0 f.consequent f.alternate test f.span) f.behind
+
+-- From any begin, and whatever the holes mean.
+pub record IfComposes (f : IfParts) (old new : State) (test : Place) : Type 0 where
+  pub both : (s s2 s3 : State) (span part other : Span) (world : World) (dt : Action Value) (dc da : Action (Unit {0}))
+      → f ≡ if_shut (if_after_consequent (if_at s span true) s2)
+      → PreservesBlocks (if_begun s) s2 → PreservesBlocks (if_consequent (if_at s span true) s2 part) s3
+      → PreservesBlocks (if_alternate (if_at s span true) s3 other) old
+      → RunsStatement world dc (if_begun s) s2 → RunsStatement world da (if_consequent (if_at s span true) s2 part) s3
+      → RunsExpression world dt (if_alternate (if_at s span true) s3 other) old test.identifier.0
+      → PreservesBlocks s new × RunsStatement world (chosen world dt dc da) s new
+  pub one : (s s2 : State) (span part : Span) (world : World) (dt : Action Value) (dc : Action (Unit {0}))
+      → f ≡ if_after_consequent (if_at s span false) s2
+      → PreservesBlocks (if_begun s) s2 → PreservesBlocks (if_consequent (if_at s span false) s2 part) old
+      → RunsStatement world dc (if_begun s) s2 → RunsExpression world dt (if_consequent (if_at s span false) s2 part) old test.identifier.0
+      → PreservesBlocks s new × RunsStatement world (chosen world dt dc done) s new
+
+-- The parts of a `Logical`.
+pub record LogicalParts : Type 0 where
+  pub span : Span
+  pub operator : LogicalOperator
+  pub place : Place
+  pub left : Place
+  pub behind : WipBlock
+  pub consequent : ℕ
+  pub alternate : ℕ
+  pub aside : Option (WipBlock × WipBlock)
+
+abbrev pub logical_of : Logical → LogicalParts
+logical_of f = record {
+  span = f.span;
+  operator = f.operator;
+  place = f.place;
+  left = f.left;
+  behind = f.behind;
+  consequent = f.consequent.0;
+  alternate = f.alternate.0;
+  aside = option_map (λ p. (p.0.block, p.1)) f.aside;
+}
+
+abbrev pub logical_at : State → (span : Span) → LogicalOperator → (left : Span) → LogicalParts
+logical_at s span operator left = record {
+  span = span;
+  operator = operator;
+  place = logical_place s span;
+  left = logical_left s left;
+  behind = new_block s.env.next_block s.current.kind;
+  consequent = s.env.next_block + 1 + 1;
+  alternate = (stored_in (logical_entered s span left) (logical_place s span) (logical_left s left) left).env.next_block;
+  aside = Some (s.current, new_block (s.env.next_block + 1) block.Value);
+}
+
+-- The blocks that were set aside; placeholders where none are.
+abbrev pub aside_of : LogicalParts → WipBlock × WipBlock
+aside_of f = unwrap_or f.aside (placeholder, placeholder)
+
+abbrev pub logical_righted : LogicalParts → State → (value : Place) → (part : Span) → State
+logical_righted f s value part =
+    completed_by (last_hole (stored_in s f.place value part) f.behind.id.0 gotos.Break part (aside_of f).0)
+    (ends_by (kinds.Logical f.operator (aside_of f).1.id f.behind.id) (Some f.span)) (aside_of f).1
+
+abbrev pub logical_after : LogicalParts → LogicalParts
+logical_after f = record f { aside = None }
+
+abbrev pub logical_ended : LogicalParts → State → (value : Place) → State
+logical_ended f s value =
+    completed_by (pushed s (loads f.left value f.span)) (branch f.left f.consequent f.alternate f.behind.id.0 f.span) f.behind
+
+-- From any begin, and whatever the holes mean.
+pub record LogicalComposes (f : LogicalParts) (old new : State) (value : Place) : Type 0 where
+  pub both : (s s2 : State) (span left part : Span) (operator : LogicalOperator) (right_value : Place) (world : World) (dl dr : Action Value)
+      → f ≡ logical_after (logical_at s span operator left)
+      → PreservesBlocks (logical_begun s span left) s2
+      → PreservesBlocks (logical_righted (logical_at s span operator left) s2 right_value part) old
+      → RunsExpression world dr (logical_begun s span left) s2 right_value.identifier.0
+      → RunsExpression world dl (logical_righted (logical_at s span operator left) s2 right_value part) old value.identifier.0
+      → PreservesBlocks s new × RunsExpression world (connected world operator dl dr) s new f.place.identifier.0
+
+-- The parts of a `Ternary`.
+pub record TernaryParts : Type 0 where
+  pub span : Span
+  pub place : Place
+  pub behind : WipBlock
+  pub consequent : ℕ
+  pub alternate : ℕ
+  pub aside : Option (WipBlock × WipBlock)
+
+abbrev pub ternary_of : Ternary → TernaryParts
+ternary_of f = record {
+  span = f.span;
+  place = f.place;
+  behind = f.behind;
+  consequent = f.consequent.0;
+  alternate = f.alternate.0;
+  aside = option_map (λ p. (p.0.block, p.1)) f.aside;
+}
+
+abbrev pub ternary_at : State → (span : Span) → TernaryParts
+ternary_at s span = record {
+  span = span;
+  place = ternary_place s span;
+  behind = new_block s.env.next_block s.current.kind;
+  consequent = s.env.next_block + 1 + 1;
+  alternate = s.env.next_block;
+  aside = Some (s.current, new_block (s.env.next_block + 1) block.Value);
+}
+
+abbrev pub ternary_consequent : TernaryParts → State → (value : Place) → (part : Span) → State
+ternary_consequent f s value part = ternary_alternate s f.behind.id.0 f.place value part
+
+abbrev pub ternary_parted : TernaryParts → State → (value : Place) → (part : Span) → TernaryParts
+ternary_parted f s value part = record f { alternate = (stored_in s f.place value part).env.next_block }
+
+-- The blocks that were set aside; placeholders where none are.
+abbrev pub ternary_aside : TernaryParts → WipBlock × WipBlock
+ternary_aside f = unwrap_or f.aside (placeholder, placeholder)
+
+abbrev pub ternary_alternated : TernaryParts → State → (value : Place) → (part : Span) → State
+ternary_alternated f s value part =
+    completed_by (last_hole (stored_in s f.place value part) f.behind.id.0 gotos.Break part (ternary_aside f).0)
+    (ends_by (kinds.Ternary (ternary_aside f).1.id f.behind.id) (Some f.span)) (ternary_aside f).1
+
+abbrev pub ternary_after : TernaryParts → TernaryParts
+ternary_after f = record f { aside = None }
+
+abbrev pub ternary_ended : TernaryParts → State → (test : Place) → State
+ternary_ended f s test = completed_by s (branch test f.consequent f.alternate f.behind.id.0 f.span) f.behind
+
+-- From any begin, and whatever the holes mean.
+pub record TernaryComposes (f : TernaryParts) (old new : State) (test : Place) : Type 0 where
+  pub both : (s s2 s3 : State) (span part other : Span) (consequent alternate : Place) (world : World) (dt dc da : Action Value)
+      → f ≡ ternary_after (ternary_parted (ternary_at s span) s2 consequent part)
+      → PreservesBlocks (ternary_begun s span) s2 → PreservesBlocks (ternary_consequent (ternary_at s span) s2 consequent part) s3
+      → PreservesBlocks (ternary_alternated (ternary_parted (ternary_at s span) s2 consequent part) s3 alternate other) old
+      → RunsExpression world dc (ternary_begun s span) s2 consequent.identifier.0
+      → RunsExpression world da (ternary_consequent (ternary_at s span) s2 consequent part) s3 alternate.identifier.0
+      → RunsExpression world dt (ternary_alternated (ternary_parted (ternary_at s span) s2 consequent part) s3 alternate other) old test.identifier.0
+      → PreservesBlocks s new × RunsExpression world (selected world dt dc da) s new f.place.identifier.0
+
+-- The parts of a `SequenceFrame`.
+pub record SequenceParts : Type 0 where
+  pub span : Span
+  pub place : Place
+  pub behind : WipBlock
+  pub block : ℕ
+  pub outer : WipBlock
+
+abbrev pub sequence_of : SequenceFrame → SequenceParts
+sequence_of f = record { span = f.span; place = f.place; behind = f.behind; block = f.block.0; outer = f.outer.block }
+
+abbrev pub sequence_at : State → (span : Span) → SequenceParts
+sequence_at s span = record {
+  span = span;
+  place = sequence_place s span;
+  behind = new_block s.env.next_block s.current.kind;
+  block = s.env.next_block + 1;
+  outer = s.current;
+}
+
+abbrev pub sequence_ended : SequenceParts → State → (value : Place) → (part : Span) → State
+sequence_ended f s value part =
+    completed_by (last_hole (stored_in s f.place value part) f.behind.id.0 gotos.Break part f.outer)
+    (ends_by (kinds.Sequence (record { 0 = f.block }) f.behind.id) (Some f.span)) f.behind
+
+-- From any begin, and whatever the hole means.
+pub record SequenceComposes (f : SequenceParts) (old new : State) (value : Place) : Type 0 where
+  pub all : (s : State) (span : Span) (world : World) (d : Action Value) → f ≡ sequence_at s span
+      → PreservesBlocks (sequence_begun s span) old → RunsExpression world d (sequence_begun s span) old value.identifier.0
+      → PreservesBlocks s new × RunsExpression world d s new f.place.identifier.0
+
+-- The parts of a `WhileFrame`.
+pub record WhileParts : Type 0 where
+  pub span : Span
+  pub behind : WipBlock
+  pub test : ℕ
+  pub body : ℕ
+  pub aside : Option (WipBlock × WipBlock)
+
+abbrev pub while_of : WhileFrame → WhileParts
+while_of f = record {
+  span = f.span;
+  behind = f.behind;
+  test = f.test.0;
+  body = f.body.0;
+  aside = option_map (λ p. (p.0.block, p.1)) f.aside;
+}
+
+abbrev pub while_at : State → (span : Span) → WhileParts
+while_at s span = record {
+  span = span;
+  behind = new_block (s.env.next_block + 1) block.Block;
+  test = s.env.next_block;
+  body = s.env.next_block + 1 + 1;
+  aside = Some (s.current, new_block s.env.next_block block.Loop);
+}
+
+-- The blocks that were set aside; placeholders where none are.
+abbrev pub while_aside : WhileParts → WipBlock × WipBlock
+while_aside f = unwrap_or f.aside (placeholder, placeholder)
+
+abbrev pub while_bodied : WhileParts → State → (part : Span) → State
+while_bodied f s part =
+    completed_by (last_hole (without_scope s) f.test gotos.Continue part (while_aside f).0)
+    (ends_by (kinds.While (block_id f.test) (block_id f.body) f.behind.id) (Some f.span)) (while_aside f).1
+
+abbrev pub while_after : WhileParts → WhileParts
+while_after f = record f { aside = None }
+
+abbrev pub while_ended : WhileParts → State → (value : Place) → State
+while_ended f s value = completed_by s (branch value f.body f.behind.id.0 f.test f.span) f.behind
+
+-- From any begin, and whatever the holes mean, if the test completes.
+pub record WhileComposes (f : WhileParts) (old new : State) (value : Place) : Type 0 where
+  pub both : (s s2 : State) (span part : Span) (label : Label) (world : World) (dt : Action Value) (db : Action (Unit {0}))
+      → f ≡ while_after (while_at s span)
+      → PreservesBlocks (while_begun s label) s2
+      → PreservesBlocks (while_bodied (while_at s span) s2 part) old
+      → Passes (while_bodied (while_at s span) s2 part) old
+      → RunsStatement world db (while_begun s label) s2
+      → RunsExpression world dt (while_bodied (while_at s span) s2 part) old value.identifier.0
+      → PreservesBlocks s new × RunsStatement world (looped world label dt db) s new

@@ -1,0 +1,9 @@
+//! Opening and closing of structured constructs.
+#![tactic(auto)]
+
+mod ends;
+pub mod if_frame;
+pub mod logical;
+pub mod sequence;
+pub mod ternary;
+pub mod while_frame;
