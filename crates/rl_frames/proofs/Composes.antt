@@ -2,6 +2,7 @@
 use Rattle.std.proofs.Common.{◌≡◌, ℕ, ◌+◌, length, Some, sym, ap, ◌∙◌, subst}
 use Rattle.rl_base.specs.declared.span.Span.{Span}
 use Rattle.rl_builder.specs.Builder.{State, completed_by, pushed}
+use Rattle.rl_frames.proofs.DoLoops.{do_while_runs}
 use Rattle.rl_frames.proofs.Ifs.{if_runs, if_then_runs}
 use Rattle.rl_frames.proofs.IfThenBlocks.{if_then_blocks}
 use Rattle.rl_frames.proofs.Logicals.{logical_runs}
@@ -9,11 +10,11 @@ use Rattle.rl_frames.proofs.Loops.{while_runs}
 use Rattle.rl_frames.proofs.Sequences.{sequence_blocks, sequence_runs}
 use Rattle.rl_frames.proofs.Ternaries.{ternary_runs}
 use Rattle.rl_frames.proofs.ValueFrames.{logical_blocks, ternary_blocks}
-use Rattle.rl_frames.proofs.Wholes.{if_blocks, while_blocks}
-use Rattle.rl_frames.specs.Frames.{IfComposes, IfParts, LogicalComposes, LogicalParts, SequenceComposes, SequenceParts, TernaryComposes}
+use Rattle.rl_frames.proofs.Wholes.{do_while_blocks, if_blocks, while_blocks}
+use Rattle.rl_frames.specs.Frames.{DoWhileComposes, IfComposes, IfParts, LogicalComposes, LogicalParts, SequenceComposes, SequenceParts, TernaryComposes}
 use Rattle.rl_frames.specs.Frames.{TernaryParts, WhileComposes, WhileParts, if_ended, logical_after, logical_at, logical_ended}
 use Rattle.rl_frames.specs.Frames.{sequence_at, sequence_ended, ternary_after, ternary_at, ternary_ended, ternary_parted, while_ended}
-use Rattle.rl_frames.specs.Meanings.{chosen, connected, looped, selected}
+use Rattle.rl_frames.specs.Meanings.{chosen, connected, do_looped, looped, selected}
 use Rattle.rl_frames.specs.Parts.{if_finished, loads, while_finished}
 use Rattle.rl_hir.specs.declared.instruction.Place.{Place}
 use Rattle.rl_hir.specs.declared.terminal.GotoVariant.TheVariants as gotos
@@ -85,4 +86,12 @@ while_composes f old new value ended = record {
       let at : new ≡ while_finished old s.env.next_block span value = ended ∙ ap (λ (g : WhileParts). while_ended g old value) is in
       subst (λ (z : State). PreservesBlocks s z × RunsStatement world (looped world label dt db) s z) (sym at)
       (while_blocks s s2 old label value span part gb gt pt, while_runs s s2 old label value span part gb.extends gt.extends world dt db rb rt);
+}
+
+pub do_while_composes : (f : WhileParts) (old new : State) (value : Place) → new ≡ while_ended f old value → DoWhileComposes f old new value
+do_while_composes f old new value ended = record {
+  both = λ s s2 span part label world dt db is gb gt rb rt.
+      let at : new ≡ while_finished old s.env.next_block span value = ended ∙ ap (λ (g : WhileParts). while_ended g old value) is in
+      subst (λ (z : State). PreservesBlocks s z × RunsStatement world (do_looped world label dt db) s z) (sym at)
+      (do_while_blocks s s2 old label value span part gb gt, do_while_runs s s2 old label value span part gb.extends gt.extends world dt db rb rt);
 }

@@ -1,7 +1,8 @@
 -- The meanings of statements of the source are those of constructs.
 use Rattle.std.proofs.Common.{◌≡◌, codes, ℕ, zero, suc, Bool, true, false, length, Some, None, refl, ap, ◌∙◌, List}
 use Rattle.rl_base.specs.declared.operator.LogicalOperator.TheVariants as logical
-use Rattle.rl_frames.specs.Meanings.{chosen, connected, front_ways, iterated, linked, looped, rounds, selected, while_turns}
+use Rattle.rl_frames.specs.Meanings.{again_tested, chosen, connected, do_looped, do_while_turns, front_ways, iterated, linked, looped}
+use Rattle.rl_frames.specs.Meanings.{rounds, selected, while_turns}
 use Rattle.rl_machine.specs.declared.trace.Answer.{Answer}
 use Rattle.rl_machine.specs.declared.trace.Value.{Value}
 use Rattle.rl_machine.specs.declared.trace.Value.TheVariants.{Text, Undefined}
@@ -48,6 +49,37 @@ while_meant scene own at condition body ways normal source answers =
     ap (λ (k : Cont). k source answers)
     (labeled_breakable own (loop (turn_while (holds scene condition) (body_of_loop own (exec scene None body)))) ways (λ end. normal))
     ∙ ap (λ (k : Cont). k source answers) (turns_meant scene own condition (exec scene None body) normal ways (suc (length answers)))
+
+-- Turns with their test behind the body.
+module _ (scene : Scene) (own : Label) (condition : Syntax) (body : Action (Unit {0})) (behind : Cont) (ways : Ways) where
+  abbrev nowhere : Cont
+  nowhere source answers = waiting
+
+  abbrev do_turn : Action Bool
+  do_turn = do
+    body_of_loop own body
+    holds scene condition
+
+  -- The test, with a continuation for the next turn.
+  abbrev then_tests : Cont → Cont
+  then_tests k = again_tested scene.world own (eval scene condition) ways k behind
+
+  do_turns_meant : (n : ℕ) → turns n do_turn (switch_ways own behind nowhere ways) (λ end. behind)
+      ≡ do_while_turns scene.world n own (eval scene condition) body ways behind
+  do_turns_meant zero = refl
+  do_turns_meant (suc n) =
+      ap (λ (again : Cont). body_of_loop own body (switch_ways own behind nowhere ways) (λ end. then_tests again)) (do_turns_meant n)
+      ∙ loop_body own body behind nowhere (then_tests (do_while_turns scene.world n own (eval scene condition) body ways behind)) ways
+
+-- A `do`-`while` loop under a label, or without one.
+pub do_while_meant : (scene : Scene) (own : Label) (at : At) (condition body : Syntax) (ways : Ways) (normal : Cont) (source : Store)
+    (answers : List Answer)
+    → labeled_by own (exec scene own (Node at word.Dowhile (Then body (Then condition End)))) ways (λ end. normal) source answers
+    ≡ do_looped scene.world own (eval scene condition) (exec scene None body) ways (λ end. normal) source answers
+do_while_meant scene own at condition body ways normal source answers =
+    ap (λ (k : Cont). k source answers)
+    (labeled_breakable own (loop (do_turn scene own condition (exec scene None body) normal ways)) ways (λ end. normal))
+    ∙ ap (λ (k : Cont). k source answers) (do_turns_meant scene own condition (exec scene None body) normal ways (suc (length answers)))
 
 -- Rounds, in the ways that the loop leaves to its body.
 module _ (scene : Scene) (own : Label) (head : Syntax) (body : Action (Unit {0})) (behind : Cont) (ways : Ways) (it v : Value) where

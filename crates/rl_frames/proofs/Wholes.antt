@@ -2,12 +2,16 @@
 use Rattle.std.proofs.Common.{ℕ, ◌+◌, List, Option, refl}
 use Rattle.rl_base.specs.declared.span.Span.{Span}
 use Rattle.rl_builder.specs.Builder.{State, ended_by}
+use Rattle.rl_frames.proofs.DoLives.{do_while_named}
+use Rattle.rl_frames.proofs.DoLoopBlocks.{do_while_ids, do_while_looped, do_while_settles, do_while_straight, do_while_used}
+use Rattle.rl_frames.proofs.DoLoops.{do_while_extends}
 use Rattle.rl_frames.proofs.IfBlocks.{if_ids, if_looped, if_settles, if_straight, if_used}
 use Rattle.rl_frames.proofs.Ifs.{if_extends}
 use Rattle.rl_frames.proofs.LoopBlocks.{while_ids, while_looped, while_settles, while_straight, while_used}
 use Rattle.rl_frames.proofs.Loops.{while_extends}
 use Rattle.rl_frames.proofs.Named.{if_named, while_named}
-use Rattle.rl_frames.specs.Parts.{if_begun, if_end, if_finished, while_begun, while_body, while_end, while_finished}
+use Rattle.rl_frames.specs.Parts.{do_while_body, do_while_end, if_begun, if_end, if_finished, while_begun, while_body, while_end}
+use Rattle.rl_frames.specs.Parts.{while_finished}
 use Rattle.rl_hir.specs.declared.function.BlockKind.TheVariants as block
 use Rattle.rl_hir.specs.declared.instruction.Place.{Place}
 use Rattle.rl_hir.specs.declared.terminal.GotoVariant.TheVariants as gotos
@@ -44,4 +48,18 @@ while_blocks s s2 s4 label test span part b t p = record {
   straight = while_straight s s2 s4 label test span part b.extends t.extends b.straight t.straight;
   settle = while_settles s s2 s4 label test span part b.extends t.extends b.straight t.straight b.settle t.settle;
   looped = while_looped s s2 s4 label test span part b.extends t.extends b.looped t.looped p;
+}
+
+pub do_while_blocks : (s s2 s4 : State) (label : Option (List ℕ)) (test : Place) (span part : Span)
+    → PreservesBlocks (while_begun s label) s2 → PreservesBlocks (do_while_body s2 s.env.next_block span s.current part) s4
+    → PreservesBlocks s (while_finished s4 s.env.next_block span test)
+do_while_blocks s s2 s4 label test span part b t = record {
+  extends = do_while_extends s s2 s4 label test span part b.extends t.extends;
+  ids = do_while_ids s s2 s4 label test span part b.extends t.extends b.ids t.ids;
+  used = do_while_used s s2 s4 label test span part b.extends t.extends b.used t.used;
+  named = do_while_named s s2 s4 label test span part b.extends t.extends b.named t.named;
+  ended = λ all. ends_more s4.completed (ended_by s4.current (branch test (s.env.next_block + 1 + 1) (s.env.next_block + 1) s.env.next_block span)) refl (t.ended (ends_more _ (ended_by s.current (do_while_end s.env.next_block span)) refl (ends_more s2.completed (ended_by s2.current (goto s.env.next_block gotos.Continue part)) refl (b.ended all))));
+  straight = do_while_straight s s2 s4 label test span part b.extends t.extends b.straight t.straight;
+  settle = do_while_settles s s2 s4 label test span part b.extends t.extends b.straight t.straight b.settle t.settle;
+  looped = do_while_looped s s2 s4 label test span part b.extends t.extends b.looped t.looped;
 }

@@ -5,12 +5,13 @@ use Rattle.rl_base.specs.declared.operator.LogicalOperator.{LogicalOperator}
 use Rattle.rl_base.specs.declared.span.Span.{Span}
 use Rattle.rl_builder.specs.Builder.{State, completed_by, new_block, placeholder, pushed}
 use Rattle.rl_builder.specs.declared.blocks.WipBlock.{WipBlock}
+use Rattle.rl_frames.specs.declared.do_while_frame.DoWhileFrame.{DoWhileFrame}
 use Rattle.rl_frames.specs.declared.if_frame.IfFrame.{IfFrame}
 use Rattle.rl_frames.specs.declared.logical.Logical.{Logical}
 use Rattle.rl_frames.specs.declared.sequence.SequenceFrame.{SequenceFrame}
 use Rattle.rl_frames.specs.declared.ternary.Ternary.{Ternary}
 use Rattle.rl_frames.specs.declared.while_frame.WhileFrame.{WhileFrame}
-use Rattle.rl_frames.specs.Meanings.{chosen, connected, looped, selected}
+use Rattle.rl_frames.specs.Meanings.{chosen, connected, do_looped, looped, selected}
 use Rattle.rl_frames.specs.Parts.{if_begun, if_end, loads, logical_begun, logical_entered, logical_left, logical_place, sequence_begun}
 use Rattle.rl_frames.specs.Parts.{sequence_place, ternary_alternate, ternary_begun, ternary_place, while_begun}
 use Rattle.rl_hir.specs.declared.function.BlockKind.TheVariants as block
@@ -295,3 +296,28 @@ pub record WhileComposes (f : WhileParts) (old new : State) (value : Place) : Ty
       → RunsStatement world db (while_begun s label) s2
       → RunsExpression world dt (while_bodied (while_at s span) s2 part) old value.identifier.0
       → PreservesBlocks s new × RunsStatement world (looped world label dt db) s new
+
+-- A `DoWhileFrame` has the parts of a `WhileFrame`.
+abbrev pub do_while_of : DoWhileFrame → WhileParts
+do_while_of f = record {
+  span = f.span;
+  behind = f.behind;
+  test = f.test.0;
+  body = f.body.0;
+  aside = option_map (λ p. (p.0.block, p.1)) f.aside;
+}
+
+abbrev pub do_while_bodied : WhileParts → State → (part : Span) → State
+do_while_bodied f s part =
+    completed_by (last_hole (without_scope s) f.test gotos.Continue part (while_aside f).0)
+    (ends_by (kinds.DoWhile (block_id f.body) (block_id f.test) f.behind.id) (Some f.span)) (while_aside f).1
+
+-- From any begin, and whatever the holes mean.
+pub record DoWhileComposes (f : WhileParts) (old new : State) (value : Place) : Type 0 where
+  pub both : (s s2 : State) (span part : Span) (label : Label) (world : World) (dt : Action Value) (db : Action (Unit {0}))
+      → f ≡ while_after (while_at s span)
+      → PreservesBlocks (while_begun s label) s2
+      → PreservesBlocks (do_while_bodied (while_at s span) s2 part) old
+      → RunsStatement world db (while_begun s label) s2
+      → RunsExpression world dt (do_while_bodied (while_at s span) s2 part) old value.identifier.0
+      → PreservesBlocks s new × RunsStatement world (do_looped world label dt db) s new

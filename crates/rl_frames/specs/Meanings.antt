@@ -29,6 +29,24 @@ abbrev pub looped : World → Label → Action Value → Action (Unit {0}) → A
 looped world own test body ways onward source answers =
     while_turns world (suc (length answers)) own test body ways (onward (tt {0})) source answers
 
+-- The test of a `do`-`while` loop under a label, or without one, behind its body.
+abbrev pub again_tested : World → Label → Action Value → Ways → (again behind : Cont) → Cont
+again_tested world own test ways again behind =
+    test (switch_ways own behind (λ source answers. waiting) ways)
+    (λ v source answers. tested (set_open world.opens) (truthy v) source answers again behind)
+
+-- At most so many turns of a `do`-`while` loop: each takes an answer at its end.
+abbrev pub do_while_turns : World → ℕ → Label → Action Value → Action (Unit {0}) → Ways → (behind : Cont) → Cont
+do_while_turns world zero own test body ways behind = λ source answers. waiting
+do_while_turns world (suc n) own test body ways behind =
+    body (loop_ways own (again_tested world own test ways (do_while_turns world n own test body ways behind) behind) behind ways)
+    (λ end. again_tested world own test ways (do_while_turns world n own test body ways behind) behind)
+
+-- A `do`-`while` loop.
+abbrev pub do_looped : World → Label → Action Value → Action (Unit {0}) → Action (Unit {0})
+do_looped world own test body ways onward source answers =
+    do_while_turns world (suc (length answers)) own test body ways (onward (tt {0})) source answers
+
 -- The test of a logical expression: its value is that of the left part, or that of the right part.
 abbrev pub decided : LogicalOperator → Changer → Value → Store → List Answer → (left right : Cont) → Trace
 decided logical.And change v source answers left right = tested change (truthy v) source answers right left

@@ -94,6 +94,14 @@ abbrev pub while_finished : State → (test : ℕ) → (span : Span) → (value 
 while_finished s test span value =
     completed_by s (branch value (test + 1 + 1) (test + 1) test span) (new_block (test + 1) block.Block)
 
+-- A `do`-`while` loop begins and ends as a `while` loop does. Its terminal leads to its body first.
+abbrev pub do_while_end : (test : ℕ) → Span → Terminal
+do_while_end test span = ends_by (kinds.DoWhile (block_id (test + 1 + 1)) (block_id test) (block_id (test + 1))) (Some span)
+
+abbrev pub do_while_body : State → (test : ℕ) → (span : Span) → (outer : WipBlock) → (part : Span) → State
+do_while_body s test span outer part =
+    completed_by (last_hole (without_scope s) test gotos.Continue part outer) (do_while_end test span) (new_block test block.Loop)
+
 -- A conditional expression: the blocks behind it and of its test are numbered, and the place of its value made.
 abbrev pub ternary_reserved : State → (span : Span) → State
 ternary_reserved s span = with_temporary (reserved (reserved s)) (Some span)

@@ -1,6 +1,7 @@
 //! Opening and closing of structured constructs.
 #![tactic(auto)]
 
+pub mod do_while_frame;
 mod ends;
 pub mod if_frame;
 pub mod logical;
