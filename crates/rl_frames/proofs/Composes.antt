@@ -1,17 +1,19 @@
 -- The frames' clauses: what each makes of the runs of its holes.
-use Rattle.std.proofs.Common.{◌≡◌, ℕ, ◌+◌, length, Some, sym, ap, ◌∙◌, subst}
+use Rattle.std.proofs.Common.{◌≡◌, ℕ, ◌+◌, List, length, Some, sym, ap, ◌∙◌, subst}
 use Rattle.rl_base.specs.declared.span.Span.{Span}
-use Rattle.rl_builder.specs.Builder.{State, completed_by, pushed}
+use Rattle.rl_builder.specs.Builder.{State, completed_by, pushed, with_scope}
+use Rattle.rl_builder.specs.declared.jumps.JumpScope.{JumpScope}
 use Rattle.rl_frames.proofs.DoLoops.{do_while_runs}
 use Rattle.rl_frames.proofs.Ifs.{if_runs, if_then_runs}
 use Rattle.rl_frames.proofs.IfThenBlocks.{if_then_blocks}
+use Rattle.rl_frames.proofs.LabelFrames.{label_blocks, label_runs}
 use Rattle.rl_frames.proofs.Logicals.{logical_runs}
 use Rattle.rl_frames.proofs.Loops.{while_runs}
 use Rattle.rl_frames.proofs.Sequences.{sequence_blocks, sequence_runs}
 use Rattle.rl_frames.proofs.Ternaries.{ternary_runs}
 use Rattle.rl_frames.proofs.ValueFrames.{logical_blocks, ternary_blocks}
 use Rattle.rl_frames.proofs.Wholes.{do_while_blocks, if_blocks, while_blocks}
-use Rattle.rl_frames.specs.Frames.{DoWhileComposes, IfComposes, IfParts, LogicalComposes, LogicalParts, SequenceComposes, SequenceParts, TernaryComposes}
+use Rattle.rl_frames.specs.Frames.{DoWhileComposes, IfComposes, IfParts, LabelComposes, LabelParts, LogicalComposes, LogicalParts, label_at, label_ended, SequenceComposes, SequenceParts, TernaryComposes}
 use Rattle.rl_frames.specs.Frames.{TernaryParts, WhileComposes, WhileParts, if_ended, logical_after, logical_at, logical_ended}
 use Rattle.rl_frames.specs.Frames.{sequence_at, sequence_ended, ternary_after, ternary_at, ternary_ended, ternary_parted, while_ended}
 use Rattle.rl_frames.specs.Meanings.{chosen, connected, do_looped, looped, selected}
@@ -20,9 +22,10 @@ use Rattle.rl_hir.specs.declared.instruction.Place.{Place}
 use Rattle.rl_hir.specs.declared.terminal.GotoVariant.TheVariants as gotos
 use Rattle.rl_hir.specs.declared.terminal.Terminal.{Terminal}
 use Rattle.rl_hir.specs.declared.terminal.TerminalKind.TheVariants as kinds
-use Rattle.rl_model.specs.Actions.{done}
+use Rattle.rl_model.specs.Actions.{done, labeled}
+use Rattle.rl_runs.proofs.Holes.{front_added}
 use Rattle.rl_runs.specs.Blocks.{PreservesBlocks}
-use Rattle.rl_runs.specs.Moves.{branch, ends_by, goto, last_hole, stored_in}
+use Rattle.rl_runs.specs.Moves.{block_id, branch, ends_by, goto, last_hole, stored_in, without_scope}
 use Rattle.rl_runs.specs.Simulation.{RunsExpression, RunsStatement}
 
 pub if_composes : (f : IfParts) (old new : State) (test : Place) → new ≡ if_ended f old test → IfComposes f old new test
@@ -95,3 +98,25 @@ do_while_composes f old new value ended = record {
       subst (λ (z : State). PreservesBlocks s z × RunsStatement world (do_looped world label dt db) s z) (sym at)
       (do_while_blocks s s2 old label value span part gb gt, do_while_runs s s2 old label value span part gb.extends gt.extends world dt db rb rt);
 }
+
+pub label_composes : (f : LabelParts) (old new : State) (part : Span) → new ≡ label_ended f old part → LabelComposes f old new
+label_composes f old new part ended = record {
+  all = λ s span own world d is b r.
+      let at : new ≡ label_ended (label_at s span) old part = ended ∙ ap (λ (g : LabelParts). label_ended g old part) is in
+      subst (λ (z : State). PreservesBlocks s z × RunsStatement world (labeled own d) s z) (sym at)
+      (label_blocks s old own span part b, label_runs s old own span part b.extends world d r);
+}
+
+-- The innermost scope was closed.
+pub closed_scope : (old mid : State) → (scope : JumpScope) × (old ≡ with_scope mid scope) → mid ≡ without_scope old
+closed_scope old mid last =
+    sym (ap without_scope last.1 ∙ ap (λ (l : List JumpScope). record mid { scopes = l }) (front_added mid.scopes last.0))
+
+-- As the last call of a `LabelFrame` says it.
+pub label_finish : (f : LabelParts) (old mid shut new : State) (end : Terminal) (part : Span)
+    → (scope : JumpScope) × (old ≡ with_scope mid scope) → end ≡ goto f.behind.id.0 gotos.Break part → shut ≡ completed_by mid end f.outer
+    → new ≡ completed_by shut (ends_by (kinds.Label (block_id f.block) f.behind.id) (Some f.span)) f.behind → LabelComposes f old new
+label_finish f old mid shut new end part closed goes left ended =
+    label_composes f old new part
+    (ended ∙ ap (λ (s : State). completed_by s (ends_by (kinds.Label (block_id f.block) f.behind.id) (Some f.span)) f.behind)
+    (left ∙ ap (λ (t : Terminal). completed_by mid t f.outer) goes ∙ ap (λ (s : State). last_hole s f.behind.id.0 gotos.Break part f.outer) (closed_scope old mid closed)))

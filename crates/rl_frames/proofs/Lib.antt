@@ -7,6 +7,7 @@ pub mod IfBlocks
 pub mod IfThenBlocks
 pub mod Ifs
 pub mod Iterations
+pub mod LabelFrames
 pub mod Links
 pub mod Lives
 pub mod Logicals

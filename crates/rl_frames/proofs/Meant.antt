@@ -7,7 +7,7 @@ use Rattle.rl_machine.specs.declared.trace.Answer.{Answer}
 use Rattle.rl_machine.specs.declared.trace.Value.{Value}
 use Rattle.rl_machine.specs.declared.trace.Value.TheVariants.{Text, Undefined}
 use Rattle.rl_machine.specs.Traces.{Cont, Store, ValueCont, fired, set_open, stepped, tested, truthy, waiting}
-use Rattle.rl_model.specs.Actions.{◌>>=◌, ◌>>◌, Action, Label, Ways, ask, body_of_loop, breakable, catching, chained, loop, next, turns}
+use Rattle.rl_model.specs.Actions.{◌>>=◌, ◌>>◌, Action, Label, Ways, ask, body_of_loop, breakable, catching, chained, labeled, loop, next, turns}
 use Rattle.rl_model.specs.Events.{fixed_key, get_iterator, load, next_of}
 use Rattle.rl_model.specs.Expressions.{eval}
 use Rattle.rl_model.specs.Patterns.{bind}
@@ -128,6 +128,13 @@ forof_meant scene (Some label) at head right body ways normal source answers = �
     eval scene right (front_ways (Some label) normal ways)
     (λ v before those. fired (set_open scene.world.opens) (get_iterator v) before those (λ a after rest. loop_meant scene (Some label) head (exec scene None body) normal ways a.value v after rest i) ways.throws)
     source answers
+
+-- A labelled statement that is no loop.
+pub label_meant : (scene : Scene) (own : Label) (at : At) (label : List ℕ) (body : Syntax) (ways : Ways) (normal : Cont)
+    (source : Store) (answers : List Answer)
+    → exec scene own (Node at word.Labeled (Then (Said label) (Then body End))) ways (λ end. normal) source answers
+    ≡ labeled label (exec scene (Some label) body) ways (λ end. normal) source answers
+label_meant scene own at label body ways normal source answers = refl
 
 -- A `try` statement without a `finally`.
 pub try_meant : (scene : Scene) (own : Label) (at there : At) (block param body : Syntax) (ways : Ways) (normal : Cont) (source : Store)

@@ -1,5 +1,5 @@
 -- The parts that frames hold between their calls, the states that the calls leave, and what a frame makes of the runs of its holes.
-use Rattle.std.specs.Prelude.{◌≡◌, ℕ, ◌+◌, Bool, true, false, Option, Some, None, unwrap_or}
+use Rattle.std.specs.Prelude.{◌≡◌, ℕ, ◌+◌, Bool, true, false, Option, Some, None, List, unwrap_or}
 use Rattle.std.specs.Option.{option_map}
 use Rattle.rl_base.specs.declared.operator.LogicalOperator.{LogicalOperator}
 use Rattle.rl_base.specs.declared.span.Span.{Span}
@@ -7,12 +7,13 @@ use Rattle.rl_builder.specs.Builder.{State, completed_by, new_block, placeholder
 use Rattle.rl_builder.specs.declared.blocks.WipBlock.{WipBlock}
 use Rattle.rl_frames.specs.declared.do_while_frame.DoWhileFrame.{DoWhileFrame}
 use Rattle.rl_frames.specs.declared.if_frame.IfFrame.{IfFrame}
+use Rattle.rl_frames.specs.declared.label_frame.LabelFrame.{LabelFrame}
 use Rattle.rl_frames.specs.declared.logical.Logical.{Logical}
 use Rattle.rl_frames.specs.declared.sequence.SequenceFrame.{SequenceFrame}
 use Rattle.rl_frames.specs.declared.ternary.Ternary.{Ternary}
 use Rattle.rl_frames.specs.declared.while_frame.WhileFrame.{WhileFrame}
 use Rattle.rl_frames.specs.Meanings.{chosen, connected, do_looped, looped, selected}
-use Rattle.rl_frames.specs.Parts.{if_begun, if_end, loads, logical_begun, logical_entered, logical_left, logical_place, sequence_begun}
+use Rattle.rl_frames.specs.Parts.{if_begun, if_end, label_begun, loads, logical_begun, logical_entered, logical_left, logical_place, sequence_begun}
 use Rattle.rl_frames.specs.Parts.{sequence_place, ternary_alternate, ternary_begun, ternary_place, while_begun}
 use Rattle.rl_hir.specs.declared.function.BlockKind.TheVariants as block
 use Rattle.rl_hir.specs.declared.instruction.Place.{Place}
@@ -20,7 +21,7 @@ use Rattle.rl_hir.specs.declared.terminal.GotoVariant.TheVariants as gotos
 use Rattle.rl_hir.specs.declared.terminal.TerminalKind.TheVariants as kinds
 use Rattle.rl_machine.specs.declared.trace.Value.{Value}
 use Rattle.rl_machine.specs.Traces.{World}
-use Rattle.rl_model.specs.Actions.{Action, Label, done}
+use Rattle.rl_model.specs.Actions.{Action, Label, done, labeled}
 use Rattle.rl_runs.specs.Blocks.{Passes, PreservesBlocks}
 use Rattle.rl_runs.specs.Moves.{block_id, branch, ends_by, last_hole, next_hole, stored_in, without_scope}
 use Rattle.rl_runs.specs.Simulation.{RunsExpression, RunsStatement}
@@ -321,3 +322,32 @@ pub record DoWhileComposes (f : WhileParts) (old new : State) (value : Place) : 
       → RunsStatement world db (while_begun s label) s2
       → RunsExpression world dt (do_while_bodied (while_at s span) s2 part) old value.identifier.0
       → PreservesBlocks s new × RunsStatement world (do_looped world label dt db) s new
+
+-- The parts of a `LabelFrame`.
+pub record LabelParts : Type 0 where
+  pub span : Span
+  pub behind : WipBlock
+  pub block : ℕ
+  pub outer : WipBlock
+
+abbrev pub label_of : LabelFrame → LabelParts
+label_of f = record { span = f.span; behind = f.behind; block = f.block.0; outer = f.outer.block }
+
+abbrev pub label_at : State → (span : Span) → LabelParts
+label_at s span = record {
+  span = span;
+  behind = new_block s.env.next_block block.Block;
+  block = s.env.next_block + 1;
+  outer = s.current;
+}
+
+abbrev pub label_ended : LabelParts → State → (part : Span) → State
+label_ended f s part =
+    completed_by (last_hole (without_scope s) f.behind.id.0 gotos.Break part f.outer)
+    (ends_by (kinds.Label (block_id f.block) f.behind.id) (Some f.span)) f.behind
+
+-- From any begin, and whatever the hole means.
+pub record LabelComposes (f : LabelParts) (old new : State) : Type 0 where
+  pub all : (s : State) (span : Span) (own : List ℕ) (world : World) (d : Action (Unit {0})) → f ≡ label_at s span
+      → PreservesBlocks (label_begun s own) old → RunsStatement world d (label_begun s own) old
+      → PreservesBlocks s new × RunsStatement world (labeled own d) s new

@@ -1,5 +1,5 @@
 -- The moves of each construct, as functions of the builder's states between its holes.
-use Rattle.std.specs.Prelude.{ℕ, ◌+◌, Bool, Option, Some, None, length}
+use Rattle.std.specs.Prelude.{ℕ, ◌+◌, Bool, Option, Some, None, List, length}
 use Rattle.rl_base.specs.declared.operator.LogicalOperator.{LogicalOperator}
 use Rattle.rl_base.specs.declared.span.Span.{Span}
 use Rattle.rl_builder.specs.Builder.{State, completed_by, entered, new_block, pushed, reserved, with_handler, with_scope, with_temporary}
@@ -150,6 +150,22 @@ abbrev pub sequence_finished : State → (behind : ℕ) → (kind : BlockKind) �
 sequence_finished s behind kind place value span part outer =
     completed_by (last_hole (stored_in s place value part) behind gotos.Break part outer) (sequence_end behind span)
     (new_block behind kind)
+
+-- A labelled statement that is no loop: the blocks behind it and of its body are numbered, and the hole of the body opens.
+abbrev pub label_scope : State → (own : List ℕ) → JumpScope
+label_scope s own = scope.Label own (block_id s.env.next_block)
+
+abbrev pub label_begun : State → (own : List ℕ) → State
+label_begun s own =
+    with_scope (entered (reserved (reserved s)) (new_block (s.env.next_block + 1) block.Block)) (label_scope s own)
+
+abbrev pub label_end : (behind : ℕ) → Span → Terminal
+label_end behind span = ends_by (kinds.Label (block_id (behind + 1)) (block_id behind)) (Some span)
+
+-- The hole of the body ends.
+abbrev pub label_finished : State → (behind : ℕ) → (span : Span) → (outer : WipBlock) → (part : Span) → State
+label_finished s behind span outer part =
+    completed_by (last_hole (without_scope s) behind gotos.Break part outer) (label_end behind span) (new_block behind block.Block)
 
 -- A `try` statement: the block behind it is numbered, and the place that takes the value of a throw declared.
 abbrev pub try_bound : State → Option Place → Span → State

@@ -4,6 +4,7 @@
 pub mod do_while_frame;
 mod ends;
 pub mod if_frame;
+pub mod label_frame;
 pub mod logical;
 pub mod sequence;
 pub mod ternary;
