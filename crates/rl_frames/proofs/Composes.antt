@@ -1,7 +1,8 @@
 -- The frames' clauses: what each makes of the runs of its holes.
 use Rattle.std.proofs.Common.{◌≡◌, ℕ, ◌+◌, List, length, Some, sym, ap, ◌∙◌, subst}
+use Rattle.rl_base.specs.declared.ids.BlockId.{BlockId}
 use Rattle.rl_base.specs.declared.span.Span.{Span}
-use Rattle.rl_builder.specs.Builder.{State, completed_by, pushed, with_scope}
+use Rattle.rl_builder.specs.Builder.{State, completed_by, pushed, with_handler, with_scope}
 use Rattle.rl_builder.specs.declared.jumps.JumpScope.{JumpScope}
 use Rattle.rl_frames.proofs.DoLoops.{do_while_runs}
 use Rattle.rl_frames.proofs.Ifs.{if_runs, if_then_runs}
@@ -12,20 +13,25 @@ use Rattle.rl_frames.proofs.Loops.{while_runs}
 use Rattle.rl_frames.proofs.Sequences.{sequence_blocks, sequence_runs}
 use Rattle.rl_frames.proofs.Ternaries.{ternary_runs}
 use Rattle.rl_frames.proofs.ValueFrames.{logical_blocks, ternary_blocks}
+use Rattle.rl_frames.proofs.Tries.{try_runs}
+use Rattle.rl_frames.proofs.TryBlocks.{try_blocks}
 use Rattle.rl_frames.proofs.Wholes.{do_while_blocks, if_blocks, while_blocks}
-use Rattle.rl_frames.specs.Frames.{DoWhileComposes, IfComposes, IfParts, LabelComposes, LabelParts, LogicalComposes, LogicalParts, label_at, label_ended, SequenceComposes, SequenceParts, TernaryComposes}
-use Rattle.rl_frames.specs.Frames.{TernaryParts, WhileComposes, WhileParts, if_ended, logical_after, logical_at, logical_ended}
+use Rattle.rl_frames.specs.Frames.{DoWhileComposes, IfComposes, IfParts, LabelComposes, LabelParts, LogicalComposes, LogicalParts}
+use Rattle.rl_frames.specs.Frames.{SequenceComposes, SequenceParts, TernaryComposes, TernaryParts, TryComposes, TryParts, WhileComposes}
+use Rattle.rl_frames.specs.Frames.{WhileParts, if_ended, label_at, label_ended, logical_after, logical_at, logical_ended}
 use Rattle.rl_frames.specs.Frames.{sequence_at, sequence_ended, ternary_after, ternary_at, ternary_ended, ternary_parted, while_ended}
 use Rattle.rl_frames.specs.Meanings.{chosen, connected, do_looped, looped, selected}
-use Rattle.rl_frames.specs.Parts.{if_finished, loads, while_finished}
+use Rattle.rl_frames.specs.Frames.{try_after, try_at, try_ended}
+use Rattle.rl_frames.specs.Parts.{if_finished, loads, try_end, while_finished}
 use Rattle.rl_hir.specs.declared.instruction.Place.{Place}
 use Rattle.rl_hir.specs.declared.terminal.GotoVariant.TheVariants as gotos
 use Rattle.rl_hir.specs.declared.terminal.Terminal.{Terminal}
 use Rattle.rl_hir.specs.declared.terminal.TerminalKind.TheVariants as kinds
-use Rattle.rl_model.specs.Actions.{done, labeled}
+use Rattle.rl_model.specs.Actions.{catching, done, labeled}
 use Rattle.rl_runs.proofs.Holes.{front_added}
+use Rattle.rl_runs.proofs.Preserving.{blocks_then}
 use Rattle.rl_runs.specs.Blocks.{PreservesBlocks}
-use Rattle.rl_runs.specs.Moves.{block_id, branch, ends_by, goto, last_hole, stored_in, without_scope}
+use Rattle.rl_runs.specs.Moves.{block_id, branch, ends_by, goto, last_hole, stored_in, without_handler, without_scope}
 use Rattle.rl_runs.specs.Simulation.{RunsExpression, RunsStatement}
 
 pub if_composes : (f : IfParts) (old new : State) (test : Place) → new ≡ if_ended f old test → IfComposes f old new test
@@ -120,3 +126,25 @@ label_finish f old mid shut new end part closed goes left ended =
     label_composes f old new part
     (ended ∙ ap (λ (s : State). completed_by s (ends_by (kinds.Label (block_id f.block) f.behind.id) (Some f.span)) f.behind)
     (left ∙ ap (λ (t : Terminal). completed_by mid t f.outer) goes ∙ ap (λ (s : State). last_hole s f.behind.id.0 gotos.Break part f.outer) (closed_scope old mid closed)))
+
+pub try_composes : (f : TryParts) (old new : State) (part : Span) → new ≡ try_ended f old part → TryComposes f old new
+try_composes f old new other ended = record {
+  both = λ z s s2 span part binding world db dh is bz position pairs fresh bh bb rh rb.
+      let at : new ≡ try_ended (try_after (try_at s span binding) s2) old other = ended ∙ ap (λ (g : TryParts). try_ended g old other) is in
+      subst (λ (y : State). PreservesBlocks z y × RunsStatement world (catching db dh) z y) (sym at)
+      (blocks_then z s _ bz (try_blocks s s2 old binding span part other bh bb), try_runs z s s2 old binding span part other bz.extends bh.extends bb.extends position pairs fresh world db dh rh rb);
+}
+
+-- The innermost handler was closed.
+pub closed_handler : (old mid : State) → (handler : BlockId) × (old ≡ with_handler mid handler) → mid ≡ without_handler old
+closed_handler old mid last =
+    sym (ap without_handler last.1 ∙ ap (λ (l : List BlockId). record mid { handlers = l }) (front_added mid.handlers last.0))
+
+-- As the last call of a `TryFrame` says it.
+pub try_finish : (f : TryParts) (old mid shut new : State) (end : Terminal) (part : Span)
+    → (handler : BlockId) × (old ≡ with_handler mid handler) → end ≡ goto f.behind.id.0 gotos.Try part → shut ≡ completed_by mid end f.outer
+    → new ≡ completed_by shut (try_end f.behind.id.0 f.handler f.body f.binding f.span) f.behind → TryComposes f old new
+try_finish f old mid shut new end part closed goes left ended =
+    try_composes f old new part
+    (ended ∙ ap (λ (s : State). completed_by s (try_end f.behind.id.0 f.handler f.body f.binding f.span) f.behind)
+    (left ∙ ap (λ (t : Terminal). completed_by mid t f.outer) goes ∙ ap (λ (s : State). last_hole s f.behind.id.0 gotos.Try part f.outer) (closed_handler old mid closed)))

@@ -19,6 +19,7 @@ pub mod Sequences
 pub mod Stepped
 pub mod Ternaries
 pub mod Tries
+pub mod TryBlocks
 pub mod Unread
 pub mod ValueBlocks
 pub mod ValueFrames

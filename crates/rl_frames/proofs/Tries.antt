@@ -1,11 +1,11 @@
 -- The runs of a `try` statement.
-use Rattle.std.proofs.Common.{◌≡◌, ℕ, ◌-◌, ◌<◌, ◌≤◌, inl, List, [], ◌∷◌, length, take, Option, Some, None, refl}
+use Rattle.std.proofs.Common.{◌≡◌, ℕ, ◌-◌, ◌<◌, inl, List, [], ◌∷◌, length, take, Option, Some, None, refl}
 use Rattle.std.proofs.Common.{sym, ap, ◌∙◌, subst, arith}
 use Rattle.rl_base.specs.declared.ids.BlockId.{BlockId}
 use Rattle.rl_base.specs.declared.span.Span.{Span}
 use Rattle.rl_builder.specs.Builder.{State, innermost, new_block, reserved}
 use Rattle.rl_builder.specs.declared.blocks.WipBlock.{WipBlock}
-use Rattle.rl_frames.specs.Parts.{try_begun, try_bound, try_end, try_finished, try_handler}
+use Rattle.rl_frames.specs.Parts.{IsFreshBinding, try_begun, try_bound, try_end, try_finished, try_handler}
 use Rattle.rl_hir.specs.declared.function.BlockKind.TheVariants as block
 use Rattle.rl_hir.specs.declared.function.Pair.{Pair}
 use Rattle.rl_hir.specs.declared.instruction.InstructionKind.TheVariants as variables
@@ -34,28 +34,23 @@ use Rattle.rl_runs.specs.Moves.{block_id, goto, last_hole, without_handler}
 use Rattle.rl_runs.specs.Simulation.{RunsHandler, RunsStatement}
 
 -- The declaration of the place does nothing.
-bound_extends : (x : State) (binding : Option Place) (span : Span) → Extends x (try_bound x binding span)
-bound_extends x None span = extends_refl x
-bound_extends x (Some place) span = extends_value x (values.DeclareLocal variables.Catch place) (Some span)
+bound_extends : (x : State) (binding : Option Place) → Extends x (try_bound x binding)
+bound_extends x None = extends_refl x
+bound_extends x (Some place) = extends_value x (values.DeclareLocal variables.Catch place) place.span
 
-bound_runs : (x : State) (binding : Option Place) (span : Span) (c : Code) (store : Store) (notes : Notes) (answers : List Answer)
-    (t : Trace) → IsContainedIn (try_bound x binding span) c
-    → TracesFrom c (try_bound x binding span) store notes answers t → TracesFrom c x store notes answers t
-bound_runs x None span c store notes answers t cover rest = rest
-bound_runs x (Some place) span c store notes answers t cover rest =
-    computes_on x (values.DeclareLocal variables.Catch place) (Some span) c store notes answers t Undefined [] refl cover rest
-
--- The place is a temporary that was made for the statement.
-abbrev pub IsFreshBinding : Option Place → State → State → Type 0
-IsFreshBinding None z s = Unit {0}
-IsFreshBinding (Some place) z s = (length z.env.identifiers ≤ place.identifier.0) × (place.identifier.0 < length s.env.identifiers)
+bound_runs : (x : State) (binding : Option Place) (c : Code) (store : Store) (notes : Notes) (answers : List Answer)
+    (t : Trace) → IsContainedIn (try_bound x binding) c
+    → TracesFrom c (try_bound x binding) store notes answers t → TracesFrom c x store notes answers t
+bound_runs x None c store notes answers t cover rest = rest
+bound_runs x (Some place) c store notes answers t cover rest =
+    computes_on x (values.DeclareLocal variables.Catch place) place.span c store notes answers t Undefined [] refl cover rest
 
 module _ (z s s2 s4 : State) (binding : Option Place) (span part other : Span) where
   abbrev pub f : ℕ
   f = s.env.next_block
 
   abbrev pub s1 : State
-  s1 = try_bound (reserved s) binding span
+  s1 = try_bound (reserved s) binding
 
   abbrev pub hd : ℕ
   hd = s1.env.next_block
@@ -80,22 +75,22 @@ module _ (z s s2 s4 : State) (binding : Option Place) (span part other : Span) w
   abbrev pub finished : State
   finished = try_finished s4 f hd body binding span s1.current other
 
-  module _ (gz : Extends z s) (position : s.current ≡ z.current) (pairs : s.env.pairs ≡ z.env.pairs) (fresh : IsFreshBinding binding z s) (gh : Extends (try_begun (try_bound (reserved s) binding span)) s2) (gb : Extends (try_handler s2 s.env.next_block (try_bound (reserved s) binding span).env.next_block part) s4) where
-    one_extends : Extends s s1
-    one_extends = extends_then (extends_reserved s) (bound_extends (reserved s) binding span)
+  module _ (gz : Extends z s) (gh : Extends (try_begun (try_bound (reserved s) binding)) s2) (gb : Extends (try_handler s2 s.env.next_block (try_bound (reserved s) binding).env.next_block part) s4) where
+    pub one_extends : Extends s s1
+    one_extends = extends_then (extends_reserved s) (bound_extends (reserved s) binding)
 
     handler_extends : Extends (reserved s1) sa
     handler_extends =
         aside (reserved s1) s2 (new_block hd block.Catch) s1.scopes s2.scopes s1.handlers s2.handlers (goto f gotos.Break part)
         gh.scopes gh.handlers gh
 
-    first_extends : Extends s1 (reserved sa)
+    pub first_extends : Extends s1 (reserved sa)
     first_extends = extends_then (extends_reserved s1) (extends_then handler_extends (extends_reserved sa))
 
     handlers_left : take (length s4.handlers - 1) s4.handlers ≡ sa.handlers
     handlers_left = ap (λ (x : List BlockId). take (length x - 1) x) gb.handlers ∙ front_added sa.handlers (block_id hd)
 
-    block_extends : Extends (reserved sa) s5
+    pub block_extends : Extends (reserved sa) s5
     block_extends =
         aside (reserved sa) s4 (new_block body block.Block) sa.scopes s4.scopes s3.handlers (take (length s4.handlers - 1) s4.handlers)
         (goto f gotos.Try other) gb.scopes handlers_left gb
@@ -109,11 +104,11 @@ module _ (z s s2 s4 : State) (binding : Option Place) (span part other : Span) w
     pub try_extends : Extends z finished
     try_extends = extends_then within_extends (extends_then block_extends last_extends)
 
-    pub try_runs : (world : World) (db : Action (Unit {0})) (dh : Value → Action (Unit {0}))
-        → RunsHandler world dh (try_begun (try_bound (reserved s) binding span)) s2 (bound binding)
-        → RunsStatement world db (try_handler s2 s.env.next_block (try_bound (reserved s) binding span).env.next_block part) s4
+    pub try_runs : s.current ≡ z.current → s.env.pairs ≡ z.env.pairs → IsFreshBinding binding z s → (world : World) (db : Action (Unit {0})) (dh : Value → Action (Unit {0}))
+        → RunsHandler world dh (try_begun (try_bound (reserved s) binding)) s2 (bound binding)
+        → RunsStatement world db (try_handler s2 s.env.next_block (try_bound (reserved s) binding).env.next_block part) s4
         → RunsStatement world (catching db dh) z finished
-    try_runs world db dh rh rb = record { runs = run_it }
+    try_runs position pairs fresh world db dh rh rb = record { runs = run_it }
       where
         run_it : (c : Code) → IsContainedIn finished c → HasSoundNames z → SharesVariables c.ident world c.world
             → (ways : Ways) (normal : Cont) (source store : Store) (notes : Notes) (answers : List Answer) → Agrees c.ident source store
@@ -123,7 +118,7 @@ module _ (z s s2 s4 : State) (binding : Option Place) (span part other : Span) w
             → TracesFrom c z store notes answers (catching db dh ways (λ end. normal) source answers)
         run_it c cover sound shares ways normal source store notes answers a throws jumps onward =
             subst (λ (w : WipBlock). TracesAt c w.id.0 (length w.instructions) store notes answers (catching db dh ways (λ end. normal) source answers)) position
-            (bound_runs (reserved s) binding span c store notes answers _ cover1
+            (bound_runs (reserved s) binding c store notes answers _ cover1
             (goes_on s5 (try_end f hd body binding span) (new_block f block.Block) c (block_id body)
             ((block_id hd, Catches (bound binding)) ∷ (block_id f, Catches (bound binding)) ∷ []) store notes answers _ refl cover
             (use_statement (record ways { throws = handled }) normal rb cover4 (gh.sound sound0) shares (inside_refl (between s3 s4)) throws3 jumps3 (since_start a)
@@ -163,7 +158,7 @@ module _ (z s s2 s4 : State) (binding : Option Place) (span part other : Span) w
             sound0 = one_extends.sound (gz.sound sound)
 
             f_below : f < hd
-            f_below = omega (arith, (bound_extends (reserved s) binding span).blocks)
+            f_below = omega (arith, (bound_extends (reserved s) binding).blocks)
 
             less : Inside (between z finished) (between s3 s4)
             less = record {

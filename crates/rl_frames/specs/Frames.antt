@@ -3,7 +3,7 @@ use Rattle.std.specs.Prelude.{◌≡◌, ℕ, ◌+◌, Bool, true, false, Option
 use Rattle.std.specs.Option.{option_map}
 use Rattle.rl_base.specs.declared.operator.LogicalOperator.{LogicalOperator}
 use Rattle.rl_base.specs.declared.span.Span.{Span}
-use Rattle.rl_builder.specs.Builder.{State, completed_by, new_block, placeholder, pushed}
+use Rattle.rl_builder.specs.Builder.{State, completed_by, new_block, placeholder, pushed, reserved}
 use Rattle.rl_builder.specs.declared.blocks.WipBlock.{WipBlock}
 use Rattle.rl_frames.specs.declared.do_while_frame.DoWhileFrame.{DoWhileFrame}
 use Rattle.rl_frames.specs.declared.if_frame.IfFrame.{IfFrame}
@@ -11,20 +11,23 @@ use Rattle.rl_frames.specs.declared.label_frame.LabelFrame.{LabelFrame}
 use Rattle.rl_frames.specs.declared.logical.Logical.{Logical}
 use Rattle.rl_frames.specs.declared.sequence.SequenceFrame.{SequenceFrame}
 use Rattle.rl_frames.specs.declared.ternary.Ternary.{Ternary}
+use Rattle.rl_frames.specs.declared.try_frame.TryFrame.{TryFrame}
 use Rattle.rl_frames.specs.declared.while_frame.WhileFrame.{WhileFrame}
 use Rattle.rl_frames.specs.Meanings.{chosen, connected, do_looped, looped, selected}
 use Rattle.rl_frames.specs.Parts.{if_begun, if_end, label_begun, loads, logical_begun, logical_entered, logical_left, logical_place, sequence_begun}
 use Rattle.rl_frames.specs.Parts.{sequence_place, ternary_alternate, ternary_begun, ternary_place, while_begun}
+use Rattle.rl_frames.specs.Parts.{IsFreshBinding, try_bound, try_end, try_handler, try_started}
 use Rattle.rl_hir.specs.declared.function.BlockKind.TheVariants as block
 use Rattle.rl_hir.specs.declared.instruction.Place.{Place}
 use Rattle.rl_hir.specs.declared.terminal.GotoVariant.TheVariants as gotos
 use Rattle.rl_hir.specs.declared.terminal.TerminalKind.TheVariants as kinds
 use Rattle.rl_machine.specs.declared.trace.Value.{Value}
+use Rattle.rl_machine.specs.Ends.{bound}
 use Rattle.rl_machine.specs.Traces.{World}
-use Rattle.rl_model.specs.Actions.{Action, Label, done, labeled}
+use Rattle.rl_model.specs.Actions.{Action, Label, catching, done, labeled}
 use Rattle.rl_runs.specs.Blocks.{Passes, PreservesBlocks}
-use Rattle.rl_runs.specs.Moves.{block_id, branch, ends_by, last_hole, next_hole, stored_in, without_scope}
-use Rattle.rl_runs.specs.Simulation.{RunsExpression, RunsStatement}
+use Rattle.rl_runs.specs.Moves.{block_id, branch, ends_by, last_hole, next_hole, stored_in, without_handler, without_scope}
+use Rattle.rl_runs.specs.Simulation.{RunsExpression, RunsHandler, RunsStatement}
 
 -- The parts of an `IfFrame`.
 pub record IfParts : Type 0 where
@@ -351,3 +354,54 @@ pub record LabelComposes (f : LabelParts) (old new : State) : Type 0 where
   pub all : (s : State) (span : Span) (own : List ℕ) (world : World) (d : Action (Unit {0})) → f ≡ label_at s span
       → PreservesBlocks (label_begun s own) old → RunsStatement world d (label_begun s own) old
       → PreservesBlocks s new × RunsStatement world (labeled own d) s new
+
+-- The parts of a `TryFrame`.
+pub record TryParts : Type 0 where
+  pub span : Span
+  pub behind : WipBlock
+  pub binding : Option Place
+  pub handler : ℕ
+  pub body : ℕ
+  pub outer : WipBlock
+
+abbrev pub try_of : TryFrame → TryParts
+try_of f = record {
+  span = f.span;
+  behind = f.behind;
+  binding = f.binding;
+  handler = f.handler.0;
+  body = f.body.0;
+  outer = f.outer.block;
+}
+
+abbrev pub try_at : State → (span : Span) → (binding : Option Place) → TryParts
+try_at s span binding = record {
+  span = span;
+  behind = new_block s.env.next_block block.Block;
+  binding = binding;
+  handler = (try_bound (reserved s) binding).env.next_block;
+  body = (try_bound (reserved s) binding).env.next_block;
+  outer = (try_bound (reserved s) binding).current;
+}
+
+abbrev pub try_caught : TryParts → State → (part : Span) → State
+try_caught f s part = try_handler s f.behind.id.0 f.handler part
+
+abbrev pub try_after : TryParts → State → TryParts
+try_after f s = record f { body = s.env.next_block }
+
+abbrev pub try_ended : TryParts → State → (part : Span) → State
+try_ended f s part =
+    completed_by (last_hole (without_handler s) f.behind.id.0 gotos.Try part f.outer)
+    (try_end f.behind.id.0 f.handler f.body f.binding f.span) f.behind
+
+-- From any begin, and whatever the holes mean, if the place was made for the statement just before.
+pub record TryComposes (f : TryParts) (old new : State) : Type 0 where
+  pub both : (z s s2 : State) (span part : Span) (binding : Option Place) (world : World) (db : Action (Unit {0})) (dh : Value → Action (Unit {0}))
+      → f ≡ try_after (try_at s span binding) s2
+      → PreservesBlocks z s → s.current ≡ z.current → s.env.pairs ≡ z.env.pairs → IsFreshBinding binding z s
+      → PreservesBlocks (try_started s binding) s2
+      → PreservesBlocks (try_caught (try_at s span binding) s2 part) old
+      → RunsHandler world dh (try_started s binding) s2 (bound binding)
+      → RunsStatement world db (try_caught (try_at s span binding) s2 part) old
+      → PreservesBlocks z new × RunsStatement world (catching db dh) z new

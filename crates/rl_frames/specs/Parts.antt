@@ -1,5 +1,5 @@
 -- The moves of each construct, as functions of the builder's states between its holes.
-use Rattle.std.specs.Prelude.{ℕ, ◌+◌, Bool, Option, Some, None, List, length}
+use Rattle.std.specs.Prelude.{ℕ, ◌+◌, ◌<◌, ◌≤◌, Bool, Option, Some, None, List, length}
 use Rattle.rl_base.specs.declared.operator.LogicalOperator.{LogicalOperator}
 use Rattle.rl_base.specs.declared.span.Span.{Span}
 use Rattle.rl_builder.specs.Builder.{State, completed_by, entered, new_block, pushed, reserved, with_handler, with_scope, with_temporary}
@@ -168,13 +168,21 @@ label_finished s behind span outer part =
     completed_by (last_hole (without_scope s) behind gotos.Break part outer) (label_end behind span) (new_block behind block.Block)
 
 -- A `try` statement: the block behind it is numbered, and the place that takes the value of a throw declared.
-abbrev pub try_bound : State → Option Place → Span → State
-try_bound s None span = s
-try_bound s (Some place) span = with_value s (values.DeclareLocal variables.Catch place) (Some span)
+abbrev pub try_bound : State → Option Place → State
+try_bound s None = s
+try_bound s (Some place) = with_value s (values.DeclareLocal variables.Catch place) place.span
+
+-- The place is a temporary that was made for the statement, between these states.
+abbrev pub IsFreshBinding : Option Place → State → State → Type 0
+IsFreshBinding None z s = Unit {0}
+IsFreshBinding (Some place) z s = (length z.env.identifiers ≤ place.identifier.0) × (place.identifier.0 < length s.env.identifiers)
 
 -- The block of the handler is numbered, and its hole opens.
 abbrev pub try_begun : State → State
 try_begun s = entered (reserved s) (new_block s.env.next_block block.Catch)
+
+abbrev pub try_started : State → Option Place → State
+try_started s binding = try_begun (try_bound (reserved s) binding)
 
 -- The hole of the handler ends, and that of the block opens.
 abbrev pub try_handler : State → (behind handler : ℕ) → (part : Span) → State

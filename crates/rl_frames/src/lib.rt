@@ -8,4 +8,5 @@ pub mod label_frame;
 pub mod logical;
 pub mod sequence;
 pub mod ternary;
+pub mod try_frame;
 pub mod while_frame;
