@@ -1,9 +1,10 @@
 -- The numbers of blocks, types, identifiers and instructions that constructs add, together.
-use Rattle.std.proofs.Common.{◌≡◌, ℕ, ◌+◌, ◌≤◌, List, length-append, Option, Some, arith}
+use Rattle.std.proofs.Common.{◌≡◌, ℕ, ◌+◌, ◌≤◌, List, length-append, Option, Some, None, arith}
 use Rattle.rl_base.specs.declared.operator.LogicalOperator.{LogicalOperator}
 use Rattle.rl_base.specs.declared.span.Span.{Span}
-use Rattle.rl_builder.specs.Builder.{State}
+use Rattle.rl_builder.specs.Builder.{State, reserved}
 use Rattle.rl_frames.specs.Parts.{if_begun, if_finished, loads, logical_begun, logical_entered, logical_finished, logical_left}
+use Rattle.rl_frames.specs.Parts.{do_while_body, label_begun, label_finished, try_bound, try_finished, try_handler, try_started}
 use Rattle.rl_frames.specs.Parts.{logical_place, logical_right, while_begun, while_body, while_finished}
 use Rattle.rl_hir.specs.declared.function.BlockKind.TheVariants as block
 use Rattle.rl_hir.specs.declared.instruction.InstructionKind.TheVariants as kind
@@ -26,6 +27,25 @@ pub while_size : (s s2 s4 : State) (label : Option (List ℕ)) (test : Place) (s
     → size_of s2 ≤ size_of (while_begun s label) + m → size_of s4 ≤ size_of (while_body s2 s.env.next_block span s.current part) + n
     → size_of (while_finished s4 s.env.next_block span test) ≤ size_of s + (3 + m + n)
 while_size s s2 s4 label test span part m n a b = omega (arith, a, b)
+
+pub do_while_size : (s s2 s4 : State) (label : Option (List ℕ)) (test : Place) (span part : Span) (m n : ℕ)
+    → size_of s2 ≤ size_of (while_begun s label) + m
+    → size_of s4 ≤ size_of (do_while_body s2 s.env.next_block span s.current part) + n
+    → size_of (while_finished s4 s.env.next_block span test) ≤ size_of s + (3 + m + n)
+do_while_size s s2 s4 label test span part m n a b = omega (arith, a, b)
+
+pub label_size : (s s2 : State) (label : List ℕ) (span part : Span) (m : ℕ) → size_of s2 ≤ size_of (label_begun s label) + m
+    → size_of (label_finished s2 s.env.next_block span s.current part) ≤ size_of s + (2 + m)
+label_size s s2 label span part m a = omega (arith, a)
+
+bound_size : (x : State) (binding : Option Place) → size_of (try_bound x binding) ≤ size_of x + 4
+bound_size x None = omega arith
+bound_size x (Some place) = size_value x (values.DeclareLocal kind.Catch place) place.span
+
+pub try_size : (s s2 s4 : State) (binding : Option Place) (span part other : Span) (m n : ℕ) → size_of s2 ≤ size_of (try_started s binding) + m
+    → size_of s4 ≤ size_of (try_handler s2 s.env.next_block (try_bound (reserved s) binding).env.next_block part) + n
+    → size_of (try_finished s4 s.env.next_block (try_bound (reserved s) binding).env.next_block s2.env.next_block binding span (try_bound (reserved s) binding).current other) ≤ size_of s + (7 + m + n)
+try_size s s2 s4 binding span part other m n a b = omega (arith, a, b, bound_size (reserved s) binding)
 
 pub logical_size : (s s2 s4 : State) (operator : LogicalOperator) (right_value left_value : Place) (span left part : Span)
     (alternate m n : ℕ) → size_of s2 ≤ size_of (logical_begun s span left) + m

@@ -2,6 +2,7 @@ pub mod Composes
 pub mod DoLives
 pub mod DoLoopBlocks
 pub mod DoLoops
+pub mod DoNotes
 pub mod FrameSizes
 pub mod IfBlocks
 pub mod IfThenBlocks
