@@ -1,4 +1,4 @@
--- What logical and conditional expressions preserve of the blocks.
+-- The parts of the blocks that logical and conditional expressions keep, as one record.
 use Rattle.std.proofs.Common.{◌≡◌, ℕ, ◌+◌, inl, inr, [], ◌∷◌, Some, refl}
 use Rattle.rl_base.specs.declared.operator.LogicalOperator.{LogicalOperator}
 use Rattle.rl_base.specs.declared.operator.LogicalOperator.TheVariants as logical

@@ -1,4 +1,4 @@
--- What constructs keep of the blocks, as one record.
+-- The parts of the blocks that constructs keep, as one record.
 use Rattle.std.proofs.Common.{ℕ, ◌+◌, List, Option, refl}
 use Rattle.rl_base.specs.declared.span.Span.{Span}
 use Rattle.rl_builder.specs.Builder.{State, ended_by}
