@@ -3,7 +3,7 @@
 ghost use Rattle.std.specs.Prelude.{◌≡◌, IfOk};
 ghost use Rattle.rl_grammar.specs.Fields.{maybe};
 ghost use Rattle.rl_ast.specs.TargetViews.{seen_assignment_target_property};
-ghost use Rattle.rl_model.specs.Expressions.{assign_to as to_target, first_piece as first_of, later_pieces as later_of};
+ghost use Rattle.rl_model.specs.Expressions.{assign_to as to_target};
 ghost use Rattle.rl_source_expressions.specs.Targets.{array_assigned, defaulted, object_assigned};
 ghost use Rattle.rl_source_stack.specs.Controls.{from_normal, trace_of};
 ghost use Rattle.rl_source_stack.specs.Frames.{assign_rest};
@@ -30,33 +30,13 @@ use rl_machine::trace::Value;
 use rl_names::names::Meaning;
 use rl_source_shapes::names::store_global_event;
 use rl_source_shapes::pieces::{array_event, have_keys, is_plain_rest, object_event};
-use rl_source_stack::apart::{Apart, Target, Targets};
+use rl_source_stack::apart::{Apart, Target, Targets, first_piece, later_pieces};
 use rl_source_stack::behind::Behind;
 use rl_source_stack::control::Control;
 use rl_source_stack::property::{Property, Use};
 use rl_source_stack::run::Run;
 use rl_source_stack::stack::{Frame, Receiving};
 use rl_trace::value::Val;
-
-/// The first of the pieces that are left. Undefined where none is left.
-pub fn first_piece<'b>(pieces: &'b [Value]) -> Val<'b>
-    ensures { shown result ≡ first_of pieces.entry.now }
-{
-    match pieces {
-        [] => Val::Undefined,
-        [piece, _pieces @ ..] => Val::of(piece),
-    }
-}
-
-/// The pieces behind the first one.
-pub fn later_pieces<'b>(pieces: &'b [Value]) -> &'b [Value]
-    ensures { result.now ≡ later_of pieces.entry.now }
-{
-    match pieces {
-        [] => pieces,
-        [_piece, pieces @ ..] => pieces,
-    }
-}
 
 /// Stores a value in a name, and goes on behind a target. On `OutOfMemory`, an allocation failed.
 fn assign_name<'b>(

@@ -1,4 +1,8 @@
-//! Values that are taken apart: patterns, targets and their parts.
+//! Values that are taken apart: patterns, targets and their parts, and the pieces that they take.
+
+ghost use Rattle.std.specs.Prelude.{◌≡◌};
+ghost use Rattle.rl_model.specs.Expressions as values;
+ghost use Rattle.rl_trace.specs.Values.{shown};
 
 use rl_grammar::sort::{
     AssignmentTargetElementTrees, AssignmentTargetMaybeDefaultTree, AssignmentTargetPropertyTrees,
@@ -6,6 +10,8 @@ use rl_grammar::sort::{
     BindingPatternMaybeDefaultTree, BindingPatternTree, BindingPropertyTree, BindingPropertyTrees,
     BindingRestElementTree, IdentifierReferenceTree,
 };
+use rl_machine::trace::Value;
+use rl_trace::value::Val;
 
 /// A pattern, or a part of one, that takes a value.
 #[derive(Clone, Copy)]
@@ -70,4 +76,24 @@ pub enum Apart<'b> {
         /// The rest.
         rest: Option<AssignmentTargetRestTree<'b>>,
     },
+}
+
+/// The first of the pieces that are left; Undefined where none is left.
+pub fn first_piece(pieces: &[Value]) -> Val<'_>
+    ensures { shown result ≡ values.first_piece pieces.now }
+{
+    match pieces.split_first() {
+        Some((first, _)) => Val::of(first),
+        None => Val::Undefined,
+    }
+}
+
+/// The pieces behind the first one.
+pub fn later_pieces(pieces: &[Value]) -> &[Value]
+    ensures { result.now ≡ values.later_pieces pieces.now }
+{
+    match pieces.split_first() {
+        Some((_, rest)) => rest,
+        None => pieces,
+    }
 }

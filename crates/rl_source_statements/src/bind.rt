@@ -2,7 +2,6 @@
 
 ghost use Rattle.std.specs.Prelude.{◌≡◌, ◌&&◌, IfOk};
 ghost use Rattle.rl_grammar.specs.Fields.{maybe};
-ghost use Rattle.rl_model.specs.Expressions as values;
 ghost use Rattle.rl_model.specs.Expressions.{eval, or_default};
 ghost use Rattle.rl_model.specs.Patterns as patterns;
 ghost use Rattle.rl_model.specs.Shapes as shapes;
@@ -29,7 +28,7 @@ use rl_grammar::sort::{
 };
 use rl_machine::trace::Value;
 use rl_source_shapes::pieces::{array_event, have_keys, is_plain_rest, object_event};
-use rl_source_stack::apart::{Apart, Binding, Bindings};
+use rl_source_stack::apart::{Apart, Binding, Bindings, first_piece, later_pieces};
 use rl_source_stack::behind::{Behind, Following};
 use rl_source_stack::control::Control;
 use rl_source_stack::events::binary_event;
@@ -55,26 +54,6 @@ pub fn value_or_default<'b>(
         Val::Undefined,
     )?;
     run.ask_value(event)
-}
-
-/// The first of the pieces that are left; Undefined where none is left.
-pub fn first_piece(pieces: &[Value]) -> Val<'_>
-    ensures { shown result ≡ values.first_piece pieces.now }
-{
-    match pieces.split_first() {
-        Some((first, _)) => Val::of(first),
-        None => Val::Undefined,
-    }
-}
-
-/// The pieces behind the first one.
-pub fn later_pieces(pieces: &[Value]) -> &[Value]
-    ensures { result.now ≡ values.later_pieces pieces.now }
-{
-    match pieces.split_first() {
-        Some((_, rest)) => rest,
-        None => pieces,
-    }
 }
 
 /// Gives a value to an array pattern. On `OutOfMemory`, an allocation failed.

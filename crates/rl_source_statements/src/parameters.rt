@@ -11,7 +11,7 @@ ghost use Rattle.rl_trace.specs.Values.{shown};
 ghost use Rattle.rl_source_statements.specs.Starts.{called};
 ghost use Rattle.rl_syntax.specs.Syntax.{syntax};
 
-use crate::bind::{bind_the_rest, first_piece, later_pieces, value_or_default};
+use crate::bind::{bind_the_rest, value_or_default};
 use crate::execute::evaluate_for;
 use rl_ast::function::{
     ArrowBody, arrow_body_view, formal_parameter_view, formal_parameters_view, function_body_view,
@@ -23,7 +23,7 @@ use rl_grammar::sort::{
 };
 use rl_hir::terminal::ReturnVariant;
 use rl_machine::trace::Value;
-use rl_source_stack::apart::Binding;
+use rl_source_stack::apart::{Binding, first_piece, later_pieces};
 use rl_source_stack::behind::Following;
 use rl_source_stack::control::Control;
 use rl_source_stack::run::Run;
