@@ -23,7 +23,7 @@ use rl_semantic::semantic::Semantic;
 use rl_source_scene::entities::entities_of;
 use rl_source_scene::functions::function_view;
 use rl_source_scene::shared::symbols_of;
-use rl_source_scene::spaced::spaced_texts;
+use rl_source_scene::spaced::spaced_flags;
 use rl_source_stack::texts::JsxTexts;
 use rl_syntax::numbered::Numbered;
 use rl_trace::error::RunError;
@@ -65,7 +65,7 @@ fn run_function_in(
     let world = world_of(alloc, &names, functions, function)?;
     let kept = symbols_of(alloc, world.keeps.as_slice())?;
     let entities = entities_of(alloc, unit)?;
-    let spaced = spaced_texts(alloc, function)?;
+    let spaced = spaced_flags(alloc, function)?;
     let texts = JsxTexts {
         entities: &entities,
         spaced: spaced.as_slice(),

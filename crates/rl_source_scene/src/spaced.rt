@@ -1,6 +1,8 @@
 //! The texts of JSX in a function that keep their spaces.
 
-ghost use Rattle.std.specs.Prelude.{◌≡◌, ◌||◌, ◌++◌, ◌∷◌, [], if◌then◌else◌, map, IfOk, OnOk};
+ghost use Rattle.std.specs.Prelude.{◌≡◌, ℕ, ◌||◌, ◌++◌, ◌∷◌, [], if◌then◌else◌, map, IfOk, OnOk};
+ghost use Rattle.rl_code.specs.Flags.{flag_at};
+ghost use Rattle.rl_model.specs.Code.{contains};
 ghost use Rattle.rl_model.specs.JsxText.{is_fbt_tag, kept_texts, kept_texts_among, texts_kept_by};
 ghost use Rattle.rl_source_stack.specs.Texts.{numbers_of};
 ghost use Rattle.rl_source_scene.specs.Elements as spec;
@@ -9,6 +11,7 @@ ghost use Rattle.rl_syntax.specs.Syntax.{Node, pieces_of, syntax};
 use crate::elements::{element_parts, is_fbt_tag};
 use rl_base::error::OutOfMemory;
 use rl_base::ids::NodeId;
+use rl_code::numbers::flags_of;
 use rl_code::parts::{function_parts, is_function};
 use rl_syntax::numbered::{At, Numbered};
 use rl_syntax::word::Word;
@@ -112,7 +115,7 @@ fn push_among(out: &mut Vec<NodeId>, inside: bool, trees: &[Numbered]) -> Result
 /// The texts of JSX in a function that keep their spaces, by their nodes: those among the children of an `fbt` or `fbs` element. On
 /// `OutOfMemory`, an allocation failed. It takes time that is linear in the nodes of the function.
 #[tactic(auto, using(crate::proofs::Keeping::of_function))]
-pub fn spaced_texts(alloc: Global, function: &Numbered) -> Result<Vec<NodeId>, OutOfMemory>
+fn spaced_texts(alloc: Global, function: &Numbered) -> Result<Vec<NodeId>, OutOfMemory>
     ensures { IfOk result (λ nodes. numbers_of nodes.items ≡ texts_kept_by (syntax function.now)) }
 {
     let mut nodes = Vec::new(alloc);
@@ -124,4 +127,25 @@ pub fn spaced_texts(alloc: Global, function: &Numbered) -> Result<Vec<NodeId>, O
         }
         None => Ok(nodes),
     }
+}
+
+/// The numbers of nodes, in order. On `OutOfMemory`, an allocation failed.
+fn numbers_in(alloc: Global, nodes: &[NodeId]) -> Result<Vec<u32>, OutOfMemory>
+    ensures { IfOk result (λ numbers. numbers.items ≡ numbers_of nodes.now) }
+{
+    let mut numbers = Vec::new(alloc);
+    'nodes: for node in nodes {
+        numbers.push(node.0)?;
+    }
+    Ok(numbers)
+}
+
+/// Flags by node: those of the texts of JSX in a function that keep their spaces are set. On `OutOfMemory`, an allocation failed. It takes
+/// time that is linear in the nodes of the function and in the number of the last one.
+pub fn spaced_flags(alloc: Global, function: &Numbered) -> Result<Vec<bool>, OutOfMemory>
+    ensures { IfOk result (λ flags. (node : ℕ) → flag_at flags.items node ≡ contains (texts_kept_by (syntax function.now)) node) }
+{
+    let nodes = spaced_texts(alloc, function)?;
+    let numbers = numbers_in(alloc, nodes.as_slice())?;
+    flags_of(alloc, &numbers)
 }

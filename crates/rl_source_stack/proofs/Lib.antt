@@ -1,5 +1,4 @@
 pub mod Asks
 pub mod Goings
-pub mod SpacedTexts
 pub mod Stacks
 pub mod WrittenScenes

@@ -12,7 +12,7 @@ use Rattle.rl_model.specs.Units.{names_of}
 use Rattle.rl_names.specs.Seen.{seen}
 use Rattle.rl_names.specs.declared.names.FunctionNames.{FunctionNames}
 use Rattle.rl_source_stack.specs.Scenes.{scene_of, written}
-use Rattle.rl_source_stack.specs.Texts.{numbers_of}
+use Rattle.rl_source_stack.specs.Texts.{keeps_spaces}
 use Rattle.rl_source_stack.specs.declared.texts.JsxTexts.{JsxTexts}
 use Rattle.rl_syntax.specs.Syntax.{Syntax}
 
@@ -21,11 +21,11 @@ pub scene_written : (u function : Syntax) (names : FunctionNames) (texts : JsxTe
     → seen names ≡ names_of u
     → world ≡ world_of (names_of u) (length (symbols_in u)) (names_of u).declared (marked u) function
     → ((name : List ℕ) → entity_value texts.entities.now name ≡ entity_of u name)
-    → numbers_of texts.spaced.now ≡ texts_kept_by function
+    → ((node : ℕ) → keeps_spaces texts node ≡ contains (texts_kept_by function) node)
     → scene_of names texts world ≡ written_scene u function
 scene_written u function names texts world names_are world_is entities_are spaced_are = λ i.
     written (names_are i) (world_is i)
-    (λ node text. if contains (spaced_are i) node
+    (λ node text. if spaced_are node i
     then Some (decode_jsx_entities (λ name. entities_are name i) text)
     else trim_jsx_text (decode_jsx_entities (λ name. entities_are name i) text))
     (λ text. decode_jsx_entities (λ name. entities_are name i) text)

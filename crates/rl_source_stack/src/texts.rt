@@ -1,8 +1,7 @@
 //! The texts of JSX in a function of a unit.
 
 ghost use Rattle.std.specs.Prelude.{◌≡◌, IfOk};
-ghost use Rattle.rl_model.specs.Code.{contains};
-ghost use Rattle.rl_source_stack.specs.Texts.{attribute_text_by, child_text_by, numbers_of};
+ghost use Rattle.rl_source_stack.specs.Texts.{attribute_text_by, child_text_by, keeps_spaces};
 
 use rl_atoms::entity_table::EntityTable;
 use rl_base::error::OutOfMemory;
@@ -12,21 +11,25 @@ use rl_jsx::entities::decode_jsx_entities;
 use rl_jsx::trim::trim_jsx_text;
 use std::alloc::Global;
 
-/// Entities of a unit, and nodes of a function, by which the texts of JSX are read.
+/// Entities of a unit, and texts of a function, by which the texts of JSX are read.
 #[derive(Clone, Copy)]
 pub struct JsxTexts<'b> {
     /// The entities of the unit.
     pub entities: &'b EntityTable,
-    /// The nodes of the texts that keep their spaces: those among the children of an `fbt` or `fbs` element.
-    pub spaced: &'b [NodeId],
+    /// For each node, true of a text that keeps its spaces: one among the children of an `fbt` or `fbs` element. Nodes past its end are
+    /// none.
+    pub spaced: &'b [bool],
 }
 
 impl<'b> JsxTexts<'b> {
     /// True of a text that keeps its spaces.
     fn is_spaced(&self, node: NodeId) -> bool
-        ensures { result ≡ contains (numbers_of self.now.spaced.now) node.0 }
+        ensures { result ≡ keeps_spaces self.now node.0 }
     {
-        self.spaced.contains(&node)
+        match self.spaced.get(node.0 as usize) {
+            Some(flag) => *flag,
+            None => false,
+        }
     }
 
     /// The text that an attribute gives. On `OutOfMemory`, an allocation failed.

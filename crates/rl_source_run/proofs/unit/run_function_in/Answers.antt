@@ -1,6 +1,7 @@
 use Rattle.std.proofs.Common.{◌≡◌, IfOk, length, ap, subst, ◌∙◌}
 use Rattle.rl_ast.specs.FunctionNodes.{seen_function_node}
 use Rattle.rl_bindings.specs.Tables.{symbols_in}
+use Rattle.rl_code.specs.Flags.{flag_at}
 use Rattle.rl_model.specs.Functions.{run_function}
 use Rattle.rl_model.specs.Marked.{marked}
 use Rattle.rl_model.specs.Scenes.{written_scene}
@@ -10,7 +11,6 @@ use Rattle.rl_resolver.specs.declared.resolver.ScopeResolver.{ScopeResolver}
 use Rattle.rl_semantic.specs.declared.semantic.Semantic.{Semantic}
 use Rattle.rl_source_run.proofs.UnitRuns.{world_made}
 use Rattle.rl_source_stack.proofs.WrittenScenes.{scene_written}
-use Rattle.rl_source_stack.specs.Texts.{numbers_of}
 use Rattle.rl_syntax.specs.Syntax.{Syntax, syntax}
 use Rattle.rl_worlds.proofs.UnitTables.{names_are}
 use Rattle.rl_source_run.proofs.unit.run_function_in.Goals as goal
@@ -40,6 +40,6 @@ returns c =
     c.in_ok-world.world.keeps.items c.as_slice.result.now c.in_ok-kept.kept.items c.as_slice-4.result.now names_same count_same
     (c.in_ok-world.ensures.opens (marked u) c.requires.functions) (c.in_ok-world.ensures.keeps (marked u) c.requires.functions)
     c.in_ok-kept.ensures c.as_slice.ensures.value c.as_slice-3.ensures.value c.as_slice-4.ensures.value)
-    c.in_ok-entities.ensures (ap numbers_of c.as_slice-2.ensures.value ∙ c.in_ok-spaced.ensures))
+    c.in_ok-entities.ensures (λ node. ap (λ flags. flag_at flags node) c.as_slice-2.ensures.value ∙ c.in_ok-spaced.ensures node))
     ∙ ap (λ g. run_function (written_scene u f) g c.args.inputs.start.now c.args.inputs.arguments.now c.args.inputs.answers.now)
     c.function_view.ensures) c.run_in.ensures
