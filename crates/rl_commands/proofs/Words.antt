@@ -4,7 +4,7 @@ use Rattle.rl_commands.specs.Traced.{AreWords}
 use Rattle.rl_trace_text.specs.RunWords.{AreOnlyArguments, SpellArguments}
 use Rattle.rl_trace_text.specs.declared.words.Arguments.{Arguments}
 
--- What words spell, where these are the words of `trace`.
+-- The arguments that words spell, where these are the words of `trace`.
 
 pub trace_found : (words : List (List ℕ)) (function start args answers : List ℕ)
     → words ≡ codes "trace" ∷ function ∷ start ∷ args ∷ answers ∷ [] → (o : Option Arguments)

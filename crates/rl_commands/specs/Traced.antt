@@ -57,7 +57,7 @@ pub record IsTraced (u : Syntax) (l : Lowered) (a : Arguments) (text : List ℕ)
   pub runs_source : source_trace_of u (node_of l a.function) a.start a.args a.answers ≡ Some source
   pub runs_graph : graph_trace_of l (id_of a.function) a.start a.args a.answers ≡ Some graph
   pub compared : IsCompared source graph text
-  -- where the function is orderly, they are
+  -- An orderly function has the same trace by both.
   pub same : is_orderly u (node_of l a.function) ≡ true → source ≡ graph
 
 -- The lines of a unit that was lowered.

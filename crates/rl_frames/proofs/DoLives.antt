@@ -92,7 +92,7 @@ module _ {K : Type 0} (key_of : Instruction → Option K) (s s2 s4 : State) (lab
       (terminal_met (last_hole (without_scope s2) s.env.next_block gotos.Continue part s.current) (do_while_end s.env.next_block span) (new_block s.env.next_block block.Loop) c (cover_test c cover))
       (or_left (same_id (block_id (s.env.next_block + 1 + 1)) (block_id (s.env.next_block + 1 + 1))) false (same_self (block_id (s.env.next_block + 1 + 1))))
 
-  -- Where the body is reached, so is the test: by its end, or by a `continue` in it.
+  -- A test is reached where its body is: by its end, or by a `continue` in it.
   abbrev pub ComesToTest : Type 0
   ComesToTest = (c : Code) → IsContainedIn whole c → (entry : ℕ) → IsLedTo c entry (s.env.next_block + 1 + 1)
       → IsLedTo c entry s.env.next_block

@@ -36,7 +36,7 @@ module _ (world : World) (s s4 : State) (dt : Action Value) (dc da : Action (Uni
   pub if_last : Extends s4 last
   if_last = extends_completed s4 (if_end behind consequent alternate test span) (new_block behind block.Block) (λ none. refl)
 
-  -- What each branch does from its block.
+  -- The runs of each branch from its block.
   abbrev pub Branches : Code → ℕ → Action (Unit {0}) → Type 0
   Branches c id d =
       (ways : Ways) (normal : Cont) (source store : Store) (notes : Notes) (answers : List Answer) (source1 store1 : Store)
@@ -156,7 +156,7 @@ module _ (s s2 s3 s4 : State) (test : Place) (span part other : Span) where
             (same_jumps c (between s finished) store notes answers s opened ways.breaks ways.continues open_scopes jumps) t
             (λ source2 store2 notes2 answers2 t2 u2. hole_goes s3 n gotos.Break other s.current c store2 notes2 answers2 _ (contained_closed c cover) (onward.goes source2 store2 notes2 answers2 t2))
 
--- One branch: the block behind the statement stands for the other.
+-- A single branch: the block behind the statement stands for the other.
 module _ (s s2 s4 : State) (test : Place) (span part : Span) where
   abbrev pub m : ℕ
   m = s.env.next_block

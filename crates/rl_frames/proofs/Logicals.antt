@@ -99,7 +99,7 @@ module _ (s s2 s4 : State) (operator : LogicalOperator) (right_value left_value 
   abbrev pub sr : State
   sr = stored_in s2 place right_value part
 
-  -- Where the terminal stands, and in the test.
+  -- Facts of the block in which the terminal stands, and of the test.
   abbrev pub shut : State
   shut = last_hole sr f gotos.Break part s.current
 
@@ -227,7 +227,7 @@ module _ (s s2 s4 : State) (operator : LogicalOperator) (right_value left_value 
             sound_entered : HasSoundNames sc
             sound_entered = first_extends.sound sound
 
-            -- What comes behind the right part, and behind the consequent.
+            -- Continuations behind the right part, and behind the consequent.
             moved_right : length (with_temporary s2 (Some part)).env.identifiers ≡ length s2.env.identifiers + 1
             moved_right = simp length-append (omega arith)
 

@@ -61,7 +61,7 @@ module _ (s s2 s3 s4 : State) (consequent_value alternate_value test : Place) (s
   abbrev pub sr : State
   sr = stored_in s3 place alternate_value other
 
-  -- Where the terminal stands, and in the test.
+  -- Facts of the block in which the terminal stands, and of the test.
   abbrev pub shut : State
   shut = last_hole sr f gotos.Break other s.current
 

@@ -216,7 +216,7 @@ module _ (s s2 s4 : State) (binding : Option Place) (span part other : Span) whe
     all_straight =
         straight_then s s1 last (omega (arith, f_below)) (omega (arith, bh.extends.blocks, bb.extends.blocks)) to_bound_straight bound_straight
 
-    -- What is contained with the whole.
+    -- States that are contained with the whole.
     cover5 : (c : Code) → IsContainedIn last c → IsContainedIn s5 c
     cover5 c cover =
         contained_before (extends_completed s5 (try_end f hd body binding span) (new_block f block.Block) (λ none. refl)) cover

@@ -129,7 +129,7 @@ and_assoc : (a b c : Bool) → (a && b) && c ≡ a && (b && c)
 and_assoc true b c = refl
 and_assoc false b c = refl
 
--- What the builder comes to from a later state it comes to from an earlier one.
+-- Builders come from an earlier state to all that they come to from a later one.
 pub goes_before : (old mid finished : State) → mid.entry ≡ old.entry → old.env.next_block ≤ mid.env.next_block
     → NamesOwn old mid → GoesOn mid finished → GoesOn old finished
 goes_before old mid finished same counted own goes = record {

@@ -243,7 +243,7 @@ returned_smaller _ expression is = absurd (cc)
 pub ruleset smaller =
     (two_smaller, last_smaller, both_smaller, fourth_smaller, opening_smaller, statements_smaller, returned_smaller)
 
--- One more name, by whether it is the one that is counted.
+-- Counts of one more name, by whether it is the one that is counted.
 single_by : (b once : Bool) (x : List ℕ) (xs : List (List ℕ)) (more fewer : Bool) → more ≡ nat_le (length xs) 0
     → fewer ≡ nat_le (length xs) 1
     → (if b then (if once then false else more) else (if once then more else fewer))

@@ -22,7 +22,7 @@ use std::alloc::Global;
 pub enum Look {
     /// The tag, the children and the attributes of an element.
     Element,
-    /// One part.
+    /// A single part.
     Part(Part),
     /// The value of an attribute.
     Attribute,

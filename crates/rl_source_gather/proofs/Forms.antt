@@ -1,4 +1,4 @@
--- What the kind of a tree says of its word.
+-- Words of trees, by their kinds.
 use Rattle.std.proofs.Common.{◌≡◌, true, false, None, refl, true≢false}
 use Rattle.rl_grammar.specs.Grammar.{each, fits}
 use Rattle.rl_grammar.specs.declared.kind.Field.TheVariants as field

@@ -14,7 +14,7 @@ use Rattle.rl_syntax.specs.Syntax.{Node, Flag, Pieces, End, Then, syntax}
 use Rattle.rl_trace.specs.Shared.{ident_of}
 use Rattle.rl_trace.specs.declared.shared.Numbers.TheVariants as numbers
 
--- Where variables are symbols, the start store has them by their own numbers.
+-- Start stores have variables that are symbols by their own numbers.
 pub set_begun : (start : List Assignment) (store : Store) → set_by (ident_of numbers.Own) (λ symbol. true) start store ≡ set_all start store
 set_begun [] store = refl
 set_begun (a ∷ start) store = set_begun start (set store a.symbol.0 a.value)

@@ -17,7 +17,7 @@ use Rattle.rl_source_run.specs.declared.drive.Ended.TheVariants as ended
 use Rattle.rl_source_run.specs.declared.source.Inputs.{Inputs}
 use Rattle.rl_source_run.specs.declared.source.Surroundings.{Surroundings}
 
--- What a run does last.
+-- The last step of a run.
 abbrev pub last_of : Ended → Control
 last_of (ended.Returned variant v) = control.Returned variant v
 last_of (ended.Threw v) = control.Threw v

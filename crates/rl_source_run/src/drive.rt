@@ -25,7 +25,7 @@ use rl_source_statements::execute::{execute, execute_block};
 use rl_source_statements::loops::{make_turn, run_body_of_loop, take_head};
 use rl_trace::value::Val;
 
-/// How a run has ended.
+/// Endings of a run.
 #[derive(Clone, Copy)]
 pub enum Ended<'b> {
     /// The function has returned.
@@ -36,7 +36,7 @@ pub enum Ended<'b> {
     Waiting,
 }
 
-/// One step of a run. On `OutOfMemory`, an allocation failed.
+/// Makes one step of a run. On `OutOfMemory`, an allocation failed.
 fn advance<'b>(run: &mut Run<'b>, control: Control<'b>) -> Result<Control<'b>, OutOfMemory>
     ensures { IfOk result (λ c. trace_of c (state_of run.new) ≡ trace_of control.entry (state_of run.old)) }
 {

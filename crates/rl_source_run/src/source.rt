@@ -30,18 +30,18 @@ use rl_trace::progress::Progress;
 use rl_trace::shared::{Numbers, Shared};
 use std::alloc::Global;
 
-/// What a run depends on beside the function and what it is given.
+/// Surroundings of a run: all that it depends on beside the function and its inputs.
 #[derive(Clone, Copy)]
 pub struct Surroundings<'b> {
     /// The names of the unit.
     pub names: FunctionNames<'b>,
-    /// What the texts of JSX in the function depend on.
+    /// The entities and nodes by which the texts of JSX in the function are read.
     pub texts: JsxTexts<'b>,
     /// The variables that the function shares with others. Variables are symbols, whatever its numbers of symbols are.
     pub shared: Shared<'b>,
 }
 
-/// What a run is given.
+/// Inputs of a run.
 #[derive(Clone, Copy)]
 pub struct Inputs<'b> {
     /// The values of variables before the run. Later ones count, and variables without one are Undefined.

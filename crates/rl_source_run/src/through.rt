@@ -1,4 +1,4 @@
-//! What is done in the innermost frame: with a value, with the pieces of one, behind a statement, and with what leaves it.
+//! Steps of a run in its innermost frame: with a value, with the pieces of one, behind a statement, and with what leaves it.
 
 ghost use Rattle.std.specs.Prelude.{◌≡◌, IfOk};
 ghost use Rattle.rl_source_stack.specs.Controls.{trace_of};

@@ -18,7 +18,7 @@ impl RowFacts for KnownFacts<'_> {
     ghost facts = { λ known. facts_in known.facts };
 
     fn local(&self, reference: ReferenceId, name: &Text) -> Option<SymbolId> {
-        // a local variable does not depend on the name, which the clause asks for
+        // The clause names both parts of the reference; a local variable is found by its number alone.
         let _name = name;
         self.facts.variables.local(reference)
     }
