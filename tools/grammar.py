@@ -16,7 +16,8 @@ class Field:
 
 @dataclasses.dataclass
 class Line:
-    """A kind of node of a sort (`word` and `fields`), or another sort that the sort takes in (`inner`)."""
+    """A kind of node of a sort (`word` and `fields`), or another sort that the sort takes in (`inner`). `marks` are the conditions under
+    which the lowering covers it, none if it always does; it is None of a line that does not say so."""
 
     sort: str
     variant: str
@@ -24,18 +25,20 @@ class Line:
     fields: list[Field]
     inner: str | None
     meaning: str
+    marks: list[str] | None = None
 
 
 @dataclasses.dataclass
 class Grammar:
     """The lines of each sort; the sorts and the title of each module; what each sort and each field is, fields by their name or
-    by WORD.NAME; and the words that make a scope."""
+    by WORD.NAME; what each condition of a mark is; and the words that make a scope."""
 
     sorts: dict[str, list[Line]]
     modules: dict[str, list[str]]
     titles: dict[str, str]
     meanings: dict[str, str]
     fields: dict[str, str]
+    conditions: dict[str, str]
     scopes: list[str]
 
     def field_meaning(self, line, field):
@@ -45,6 +48,11 @@ class Grammar:
     def words(self):
         """All words, in the order of the table."""
         return list(dict.fromkeys(line.word for lines in self.sorts.values() for line in lines if line.word))
+
+    def covered(self):
+        """The conditions of each word that the lowering covers, in the order of the table of words."""
+        marked = {line.word: line.marks for lines in self.sorts.values() for line in lines if line.marks is not None}
+        return {word: marked[word] for word in self.words() if word in marked}
 
     def is_struct(self, sort):
         """True of a sort of one kind of node."""
@@ -66,21 +74,24 @@ def line_of(text):
     sort, variant, word, *rest = row.split()
     if word == "=":
         return Line(sort, variant, None, [], rest[0], meaning.strip())
-    return Line(sort, variant, word, [field_of(it) for it in rest], None, meaning.strip())
+    marks = [it[1:] for it in rest if it[0] == "+"]
+    fields = [field_of(it) for it in rest if it[0] != "+"]
+    return Line(sort, variant, word, fields, None, meaning.strip(), [it for it in marks if it] if marks else None)
 
 
 def read_grammar():
-    """The table; it ends the script where a sort has one word twice, a word is spelled otherwise than in letters, or something
-    has no meaning."""
-    grammar = Grammar({}, {}, {}, {}, {}, [])
+    """The table; it ends the script where a sort has one word twice, a word is spelled otherwise than in letters or has marks in two
+    lines, or something has no meaning."""
+    grammar = Grammar({}, {}, {}, {}, {}, {}, [])
+    named = {"@": grammar.meanings, ".": grammar.fields, "+": grammar.conditions}
     module = None
     for text in (pathlib.Path(__file__).resolve().parent / "grammar.txt").read_text().splitlines():
         if text.startswith("== "):
             module, _, title = text[3:].partition(" ")
             grammar.titles[module], grammar.modules[module] = title, []
-        elif text[:1] in ("@", "."):
+        elif text[:1] in named:
             name, _, meaning = text[1:].partition(" ")
-            (grammar.meanings if text[0] == "@" else grammar.fields)[name] = meaning.strip()
+            named[text[0]][name] = meaning.strip()
         elif text.startswith("!scopes "):
             grammar.scopes = text.split()[1:]
         elif text.strip() and not text.startswith("#"):
@@ -107,3 +118,6 @@ def check(grammar):
     for line in itertools.chain(*grammar.sorts.values()):
         assert line.meaning, f"{line.variant} of {line.sort} has no meaning"
         assert all(grammar.field_meaning(line, field) for field in line.fields), f"a field of {line.word} has no meaning"
+        assert all(name in grammar.conditions for name in line.marks or []), f"a condition of {line.word} has no meaning"
+    marked = [line.word for line in itertools.chain(*grammar.sorts.values()) if line.marks is not None]
+    assert len(marked) == len(set(marked)), "a word has marks in two lines"

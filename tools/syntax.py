@@ -1,6 +1,7 @@
 #!/usr/bin/env python3
 """Writes the files that are a line a kind of node from tools/grammar.txt: words, the table of the grammar, sorts, views, their
-definitions, and the table in docs/NOTATION.md. `python3 tools/syntax.py` writes them into the repository; run `rt fmt` behind it.
+definitions, what the lowering covers, and the tables in docs/NOTATION.md and README.md. `python3 tools/syntax.py` writes them into the
+repository; run `rt fmt` behind it.
 `python3 tools/syntax.py --check` says whether they are up to date, spaces and line breaks aside."""
 import itertools
 import pathlib
@@ -357,7 +358,32 @@ def view_spec(module):
     return "\n".join(line for line in lines if line) + "\n\n" + body
 
 
-# The table in docs/NOTATION.md.
+# The words that the lowering covers.
+
+
+def covered_file():
+    conditions = sorted({name for marks in GRAMMAR.covered().values() for name in marks})
+    arms = [f"        Word::{camel(word)} => {' && '.join(f'{name}(parts)' for name in marks) or 'true'}," for word, marks in GRAMMAR.covered().items()]
+    return filled("covered_words.rt", {"NOTE": NOTE, "CONDITIONS": ", ".join(conditions), "ARMS": "\n".join(arms)})
+
+
+def covered_spec():
+    conditions = sorted({name for marks in GRAMMAR.covered().values() for name in marks})
+    clauses = [f"covers word.{camel(word)} parts = {' && '.join(f'{name} parts' for name in marks) or 'true'}" for word, marks in GRAMMAR.covered().items()]
+    return filled("CoveredWords.antt", {"NOTE": NOTE, "CONDITIONS": ", ".join(conditions), "CLAUSES": "\n".join(clauses)})
+
+
+def covered_table():
+    """The covered words that have no condition in one line, and a row for those of each condition."""
+    free = ", ".join(f"`{word}`" for word, marks in GRAMMAR.covered().items() if not marks)
+    alike = {}
+    for word, marks in GRAMMAR.covered().items():
+        alike.setdefault(tuple(marks), []).append(f"`{word}`")
+    rows = [f"| {', '.join(words)} | {' and '.join(GRAMMAR.conditions[name] for name in marks)} |" for marks, words in alike.items() if marks]
+    return "\n".join(["| Nodes | Covered where |", "|---|---|", f"| {free} | always |", *rows]) + "\n"
+
+
+# The tables in docs/NOTATION.md and README.md.
 
 
 def notation_rows(sort):
@@ -378,9 +404,12 @@ def notation_tables():
     return "\n\n".join(tables) + "\n"
 
 
-def notation_file():
-    text = (ROOT / "docs/NOTATION.md").read_text()
-    return re.sub(r"(?s)(<!-- grammar -->\n).*?(<!-- end -->)", lambda m: m[1] + notation_tables() + m[2], text)
+def page(path, tables):
+    """The page with each table between the line of its name and the next line `<!-- end -->`."""
+    text = (ROOT / path).read_text()
+    for name, table in tables.items():
+        text = re.sub(rf"(?s)(<!-- {name} -->\n).*?(<!-- end -->)", lambda m: m[1] + table + m[2], text)
+    return text
 
 
 def files():
@@ -388,7 +417,9 @@ def files():
     out = {"crates/rl_syntax/src/word.rt": word_file(), "crates/rl_syntax/src/word_table.rt": table_file(), "crates/rl_syntax/specs/Words.antt": words_spec(),
            "crates/rl_grammar/src/kind.rt": kind_file(), "crates/rl_grammar/src/expression_rules.rt": rules_files()[0], "crates/rl_grammar/src/rules.rt": rules_files()[1],
            "crates/rl_grammar/src/sort.rt": sort_file(),
-           "crates/rl_grammar/specs/Rules.antt": rules_spec(), "crates/rl_grammar/proofs/FewFields.antt": rules_proof(), "docs/NOTATION.md": notation_file()}
+           "crates/rl_grammar/specs/Rules.antt": rules_spec(), "crates/rl_grammar/proofs/FewFields.antt": rules_proof(),
+           "crates/rl_promises/src/covered_words.rt": covered_file(), "crates/rl_promises/specs/CoveredWords.antt": covered_spec(), "docs/NOTATION.md": page("docs/NOTATION.md", {"grammar": notation_tables(), "covered": covered_table()}),
+           "README.md": page("README.md", {"covered": covered_table()})}
     for module in GRAMMAR.modules:
         if views_of(module):
             out[f"crates/rl_ast/src/{module}.rt"] = view_file(module)

@@ -1,6 +1,5 @@
 -- The parts of small units on which the definitions are tried, and what the definitions say of their marked functions.
-use Rattle.std.proofs.Common.{ℕ, ◌+◌, true, false, Option, List, [], ◌∷◌, map, codes}
-use Rattle.rl_base.specs.declared.diagnostic.Diagnostic.{Diagnostic}
+use Rattle.std.proofs.Common.{ℕ, ◌+◌, true, false, List, [], ◌∷◌, map, codes}
 use Rattle.rl_base.specs.declared.span.Span.{Span}
 use Rattle.rl_machine.specs.declared.trace.Answer.{Answer}
 use Rattle.rl_machine.specs.declared.trace.AnswerKind.{AnswerKind}
@@ -10,11 +9,9 @@ use Rattle.rl_machine.specs.declared.trace.Trace.{Trace}
 use Rattle.rl_machine.specs.declared.trace.Value.{Value}
 use Rattle.rl_machine.specs.declared.trace.Value.TheVariants as value
 use Rattle.rl_model.specs.Events.{call, global}
-use Rattle.rl_model.specs.Rows.{refusals_of, stop_of}
 use Rattle.rl_model.specs.Functions.{run_function}
 use Rattle.rl_model.specs.Marked.{marked}
 use Rattle.rl_model.specs.Scenes.{written_scene}
-use Rattle.rl_model.specs.Units.{names_of}
 use Rattle.rl_syntax.specs.Syntax.{Syntax, Node, Listed, Said, Flag, Absent, Pieces, End, Then, is_reference, nodes, nodes_of, one_if, pieces_of, references, scopes}
 use Rattle.rl_syntax.specs.Words.{makes_scope}
 use Rattle.rl_syntax.specs.declared.word.Word.{Word}
@@ -68,16 +65,9 @@ unit statements = numbered 0 0 0 (node 0 word.Unit (Listed End ∷ node 1 word.P
 abbrev pub unit_of : Syntax → Syntax
 unit_of f = unit (node 2 word.Expr (f ∷ []) ∷ [])
 
--- The trace, the refusals and the stop of the marked function of a unit.
-
+-- The trace of the marked function of a unit.
 abbrev pub trace_of : Syntax → List Assignment → List Value → List Answer → Trace
 trace_of u start arguments answers = run_function (written_scene u (marked u)) (marked u) start arguments answers
-
-abbrev pub refusals_in : Syntax → List Diagnostic
-refusals_in u = refusals_of (names_of u) (marked u)
-
-abbrev pub stop_in : Syntax → Option Diagnostic
-stop_in u = stop_of (names_of u) (marked u)
 
 abbrev pub given : (number : ℕ) → Value
 given number = value.Given number

@@ -1,14 +1,8 @@
--- The definitions, tried on a small function: its runs and those of its graph, its calls, its fields and its pairs.
-use Rattle.std.proofs.Common.{◌≡◌, ◌<◌, false, ℕ, Some, None, List, [], ◌∷◌, codes, length, refl, lit<}
-use Rattle.std.proofs.lemmas.List.Elements.{All-cons, All-nil}
-use Rattle.rl_bindings.specs.Tables.{symbols_in}
+-- The definitions, tried on a small function: its runs and those of its graph.
+use Rattle.std.proofs.Common.{◌≡◌, false, ℕ, Some, None, List, [], ◌∷◌, codes, refl}
 use Rattle.rl_hir.specs.Blocks.{Pair as BlockPair}
-use Rattle.rl_hir.specs.Identifiers.{named_identifier}
-use Rattle.rl_hir.specs.Pairs.{pair}
 use Rattle.rl_hir.specs.declared.function.BlockKind.TheVariants as kinds
 use Rattle.rl_hir.specs.declared.function.HirFunction.{HirFunction}
-use Rattle.rl_hir.specs.declared.function.Identifier.{Identifier}
-use Rattle.rl_hir.specs.declared.function.Pair.{Pair}
 use Rattle.rl_hir.specs.declared.function.Param.TheVariants as params
 use Rattle.rl_hir.specs.declared.function.ReactFunctionType.TheVariants as types
 use Rattle.rl_hir.specs.declared.instruction.Instruction.{Instruction}
@@ -26,13 +20,7 @@ use Rattle.rl_machine.specs.declared.trace.AnswerKind.TheVariants.{Yes, Throw}
 use Rattle.rl_machine.specs.declared.trace.Ending.TheVariants as ending
 use Rattle.rl_machine.specs.declared.trace.Trace.{Trace}
 use Rattle.rl_model.proofs.ExampleUnits.{answer, calls, called, function, given, loads, name, node, span, trace_of, unit_of}
-use Rattle.rl_model.specs.Fields.{HasFieldsOf, HaveSymbolsOf, IsGiven, IsNamedPair, name_at}
-use Rattle.rl_model.specs.Calls.{calls_in, calls_of, graph_calls, live_calls_in}
 use Rattle.rl_model.specs.Runs.{function_trace, graph_of, trace_by}
-use Rattle.rl_model.specs.Size.{function_size}
-use Rattle.rl_model.specs.Marked.{marked}
-use Rattle.rl_model.specs.Units.{names_of}
-use Rattle.rl_names.specs.declared.parameters.Parameter.{Parameter}
 use Rattle.rl_syntax.specs.Syntax.{Syntax}
 use Rattle.rl_syntax.specs.declared.word.Word.TheVariants as word
 
@@ -40,7 +28,7 @@ use Rattle.rl_syntax.specs.declared.word.Word.TheVariants as word
 abbrev source : Syntax
 source = function (codes "x" ∷ []) (node 11 word.Return (called 12 (name 13 (codes "f")) (name 14 (codes "x") ∷ []) ∷ []) ∷ [])
 
-abbrev unit : Syntax
+abbrev pub unit : Syntax
 unit = unit_of source
 
 -- Its graph.
@@ -51,7 +39,7 @@ place identifier = record { identifier = record { 0 = identifier }; span = None 
 abbrev instruction : (identifier : ℕ) → InstructionValue → Instruction
 instruction identifier v = record { order = record { 0 = identifier }; lvalue = place identifier; value = v; span = Some (span 12) }
 
-abbrev graph : HirFunction (List BlockPair)
+abbrev pub graph : HirFunction (List BlockPair)
 graph = record {
   span = Some (span 3);
   name = None;
@@ -121,46 +109,3 @@ none_in_a_row = refl
 -- A run that finds no answer is not stuck.
 waits_for_an_answer : (stuck : Trace) → trace_by stuck no_world graph [] [] (given 1 ∷ []) [] ≡ record { events = []; ending = ending.Waiting }
 waits_for_an_answer stuck = refl
-
--- The call is held by the table and by the block.
-table_calls : calls_of graph.instructions ≡ calls_in (marked unit)
-table_calls = refl
-
-block_calls : graph_calls graph.instructions graph.body.blocks ≡ live_calls_in (marked unit)
-block_calls = refl
-
--- Three instructions and a block.
-size : function_size graph ≡ 4
-size = refl
-
-fields : HasFieldsOf (names_of unit) (marked unit) graph
-fields = record { span = refl; name = refl; fn_type = refl; is_async = refl; generator = refl; directives = refl; params = refl; context = refl }
-
--- The parameter is symbol 0 and identifier 0.
-abbrev identifiers : List Identifier
-identifiers = named_identifier (codes "x") (span 6) 0 ∷ record { name = None; span = None; type_id = record { 0 = 1 } } ∷ []
-
-abbrev pairs : List Pair
-pairs = pair 0 0 ∷ []
-
-abbrev parameter : Parameter
-parameter = record { symbol = record { 0 = 0 }; name = codes "x"; declaration = span 6 }
-
-is_given : IsGiven identifiers pairs 0 0 parameter
-is_given = record { paired = refl; known = refl }
-
-is_named : IsNamedPair (names_of unit) identifiers (pair 0 0)
-is_named = record { at = span 6; declared = refl; index = 0; named = refl }
-
-abbrev IsOfUnit : Pair → Type 0
-IsOfUnit p = p.symbol.0 < length (symbols_in unit)
-
-of_unit : HaveSymbolsOf unit pairs
-of_unit = All-cons IsOfUnit (pair 0 0) [] (lit< tt) (All-nil IsOfUnit)
-
--- An identifier without a name, and one past the end of the list, have none.
-unnamed : name_at identifiers 1 ≡ None
-unnamed = refl
-
-past_the_end : name_at identifiers 2 ≡ None
-past_the_end = refl

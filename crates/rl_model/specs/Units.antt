@@ -1,8 +1,6 @@
--- Well-formed units, their names, and the first node of the marked function that the lowering does not cover.
-use Rattle.std.specs.Prelude.{◌≡◌, ℕ, Option, None, List}
-use Rattle.rl_ast.specs.Marked.{first}
+-- Well-formed units and their names.
+use Rattle.std.specs.Prelude.{◌≡◌, ℕ, None, List}
 use Rattle.rl_ast.specs.Units.{Spells}
-use Rattle.rl_model.specs.Covered.{uncovered_in}
 use Rattle.rl_names.specs.Names.{Names, function_names}
 use Rattle.rl_model.specs.Marked.{marked}
 use Rattle.rl_semantic.specs.Rules.{least_broken}
@@ -16,7 +14,3 @@ pub record IsUnit (bytes : List ℕ) (u : Syntax) : Type 0 where
 -- The names of a unit, in the lowering of its marked function.
 abbrev pub names_of : (u : Syntax) → Names
 names_of u = function_names u (marked u)
-
--- The least id of a node of the marked function that the lowering does not cover; None if it covers the whole function.
-abbrev pub pending : (u : Syntax) → Option ℕ
-pending u = first (uncovered_in (marked u))

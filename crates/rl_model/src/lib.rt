@@ -1,5 +1,2 @@
-//! The model of JavaScript functions: the nodes that the lowering covers. The meaning of the source and the promises of a result stand
-//! in specs/.
+//! The model of JavaScript functions: the meaning of the source and of graphs, in specs/, and no functions.
 #![tactic(auto)]
-
-pub mod covered;

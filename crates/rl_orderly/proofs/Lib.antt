@@ -6,4 +6,3 @@ pub mod Gathering
 pub mod Using
 pub mod Repeating
 pub mod Whole
-pub mod Alike

@@ -1,0 +1,142 @@
+-- The counted nodes of covered code: calls, constructions and awaits, each counted by itself.
+use Rattle.std.proofs.Common.{◌≡◌, ℕ, Bool, true, false, true≢false, if◌then◌else◌, List, [], ◌∷◌, ◌++◌, refl, sym, ap, ◌∙◌, arith, append_assoc}
+use Rattle.std.specs.List.{AllByRecursion}
+use Rattle.rl_grammar.specs.Grammar.{every, fits}
+use Rattle.rl_grammar.specs.declared.kind.Field.TheVariants as field
+use Rattle.rl_grammar.specs.declared.kind.Kind.TheVariants as kind
+use Rattle.rl_grammar.proofs.Viewing.{four_fit, rest_fit, six_fit, two_fit}
+use Rattle.rl_ast.specs.FunctionTrees.{is_function as fits_function}
+use Rattle.rl_model.specs.Code.{code, code_among, flat}
+use Rattle.rl_model.specs.Counted.{Counted, counted_at}
+use Rattle.rl_names.specs.Functions.{body_in, params_in}
+use Rattle.rl_promises.proofs.CoveredForms.{ParamNode, params_form, params_of}
+use Rattle.rl_promises.specs.Covered.{IsCovered, IsCoveredFunction, covers}
+use Rattle.rl_promises.specs.Tallies.{IsHeldKind, held_word, is_among, tallied, tallied_among}
+use Rattle.rl_promises.specs.Tallies.IsHeldKind.{Calls, Constructions, Awaits}
+use Rattle.rl_syntax.specs.Syntax.{Syntax, Node, Listed, Said, Pieces, End, Then}
+use Rattle.rl_syntax.specs.declared.numbered.At.{At}
+use Rattle.rl_syntax.specs.declared.word.Word.{Word}
+use Rattle.rl_syntax.specs.declared.word.Word.TheVariants as word
+
+-- Facts of each counted node of a list, by recursion.
+
+pub each_weaker : (P Q : Counted → Type 0) → ((key : Counted) → P key → Q key) → (keys : List Counted) → AllByRecursion P keys
+    → AllByRecursion Q keys
+each_weaker P Q f [] h = tt
+each_weaker P Q f (key ∷ keys) h = (f key h.0, each_weaker P Q f keys h.1)
+
+pub each_append : (P : Counted → Type 0) (xs ys : List Counted) → AllByRecursion P xs → AllByRecursion P ys
+    → AllByRecursion P (xs ++ ys)
+each_append P [] ys h k = k
+each_append P (x ∷ xs) ys h k = (h.0, each_append P xs ys h.1 k)
+
+pub each_both : (P : Counted → Type 0) (xs ys : List Counted) → AllByRecursion P (xs ++ ys)
+    → AllByRecursion P xs × AllByRecursion P ys
+each_both P [] ys h = (tt, h)
+each_both P (x ∷ xs) ys h = (let rest = each_both P xs ys h.1 in ((h.0, rest.0), rest.1))
+
+pub flat_append : {A B : Type 0} (f : A → List B) (xs ys : List A) → flat f (xs ++ ys) ≡ flat f xs ++ flat f ys
+flat_append f [] ys = refl
+flat_append f (x ∷ xs) ys = ap (λ (l : List _). f x ++ l) (flat_append f xs ys) ∙ sym (append_assoc (f x) (flat f xs) (flat f ys))
+
+-- The counted node of a node by itself.
+pub record IsOwn (at : At) (w : Word) (key : Counted) : Type 0 where
+  pub kind : IsHeldKind key.kinds
+  pub place : at.span ≡ key.span
+  pub word : is_among key.kinds (held_word w) ≡ true
+
+-- Of a covered node itself a call, a construction or an `await` is counted.
+pub own_counted : (methods : List ℕ) (at : At) (w : Word) (parts : Pieces) → covers w parts ≡ true
+    → AllByRecursion (IsOwn at w) (counted_at methods (Node at w parts))
+own_counted methods at word.Call parts covered = (record { kind = Calls; place = refl; word = refl }, tt)
+own_counted methods at word.New parts covered = (record { kind = Constructions; place = refl; word = refl }, tt)
+own_counted methods at word.Await parts covered = (record { kind = Awaits; place = refl; word = refl }, tt)
+own_counted methods at word.Element parts covered = absurd (true≢false (sym covered))
+own_counted methods at word.Fragment parts covered = absurd (true≢false (sym covered))
+own_counted methods at word.Arrow parts covered = absurd (true≢false (sym covered))
+own_counted methods at word.Fundecl parts covered = absurd (true≢false (sym covered))
+own_counted methods at word.Method parts covered = absurd (true≢false (sym covered))
+own_counted methods at word.Get parts covered = absurd (true≢false (sym covered))
+own_counted methods at word.Set parts covered = absurd (true≢false (sym covered))
+own_counted methods at word.Assign parts covered = absurd (true≢false (sym covered))
+own_counted methods at word.Funexpr parts covered = absurd (true≢false (sym covered))
+own_counted methods at _ parts covered = tt
+
+-- The code of a node that is no function and no instantiation: itself, and that of its parts.
+pub by_tests : (methods : List ℕ) (P : Counted → Type 0) (node : Syntax) (no_code function instantiate : Bool)
+    (names first among : List Syntax) → function ≡ false → instantiate ≡ false
+    → AllByRecursion P (counted_at methods node) → AllByRecursion P (flat (counted_at methods) among)
+    → AllByRecursion P (flat (counted_at methods)
+    (if no_code then [] else node ∷ (if function then names else if instantiate then first else among)))
+by_tests methods P node true function instantiate names first among plain whole own rest = tt
+by_tests methods P node false true instantiate names first among plain whole own rest = absurd (true≢false plain)
+by_tests methods P node false false true names first among plain whole own rest = absurd (true≢false whole)
+by_tests methods P node false false false names first among plain whole own rest = each_append P (counted_at methods node)
+    (flat (counted_at methods) among) own rest
+
+-- The directives of a body are texts, without code.
+abbrev pub HasTexts : Syntax → Type 0
+HasTexts (Node at word.Body (Then directives (Then (Listed statements) End))) = code directives ≡ []
+HasTexts _ = Unit {0}
+
+texts_none : (texts : Pieces) → every kind.Text texts ≡ true → code_among texts ≡ []
+texts_none End fit = refl
+texts_none (Then (Said text) texts) fit = texts_none texts (rest_fit kind.Text (Then (Said text) texts) (Said text) texts refl fit)
+texts_none (Then _ texts) fit = absurd (cc)
+
+directives_none : (directives : Syntax) → fits (field.Many kind.Text) directives ≡ true → code directives ≡ []
+directives_none (Listed texts) fit = texts_none texts fit
+directives_none _ fit = absurd (cc)
+
+arrow_texts : (body : Syntax) → fits (field.One kind.ArrowBody) body ≡ true → HasTexts body
+arrow_texts (Node at word.Body (Then directives (Then (Listed statements) End))) fit =
+    directives_none directives (two_fit _ directives (Listed statements) refl (field.Many kind.Text) (field.Many kind.Statement) fit).0
+arrow_texts _ fit = tt
+
+body_texts : (body : Syntax) → fits (field.Maybe kind.FunctionBody) body ≡ true → HasTexts body
+body_texts (Node at word.Body (Then directives (Then (Listed statements) End))) fit =
+    directives_none directives (two_fit _ directives (Listed statements) refl (field.Many kind.Text) (field.Many kind.Statement) fit).0
+body_texts _ fit = tt
+
+-- Parameters hold no counted node.
+pub record CountsNone (params : Syntax) : Type 0 where
+  pub code : (methods : List ℕ) → flat (counted_at methods) (code params) ≡ []
+  pub tally : (key : Counted) → tallied key params ≡ 0
+
+params_none : (methods : List ℕ) (ps : List ParamNode) → flat (counted_at methods) (code_among (params_of ps) ++ []) ≡ []
+params_none methods [] = refl
+params_none methods (p ∷ ps) = params_none methods ps
+
+params_untallied : (key : Counted) (ps : List ParamNode) → tallied_among key (params_of ps) ≡ 0
+params_untallied key [] = refl
+params_untallied key (p ∷ ps) = let rest : tallied_among key (params_of ps) ≡ 0 = params_untallied key ps in omega (arith, rest)
+
+params_counted : (params : Syntax) → fits (field.One kind.FormalParameters) params ≡ true → IsCovered params → CountsNone params
+params_counted params fit covered =
+    let form = params_form params fit covered in
+    record {
+      code = λ methods. ap (λ (s : Syntax). flat (counted_at methods) (code s)) form.2 ∙ params_none methods form.1;
+      tally = λ key.
+          let none : tallied_among key (params_of form.1) ≡ 0 = params_untallied key form.1 in
+          ap (tallied key) form.2 ∙ omega (arith, none);
+    }
+
+-- The parts of a function: its parameters count no node, and its directives are texts.
+pub record IsParted (f : Syntax) : Type 0 where
+  pub params : CountsNone (params_in f)
+  pub texts : HasTexts (body_in f)
+
+pub parted : (f : Syntax) → IsCoveredFunction f → fits_function f ≡ true → IsParted f
+parted (Node at word.Arrow (Then marked (Then is_async (Then params (Then body End))))) covered fit =
+    let fits_all = four_fit _ marked is_async params body refl (field.One kind.Flag) (field.One kind.Flag)
+    (field.One kind.FormalParameters) (field.One kind.ArrowBody) fit in
+    record { params = params_counted params fits_all.2 covered.1.1.0; texts = arrow_texts body fits_all.3 }
+parted (Node at word.Fundecl (Then marked (Then is_async (Then generator (Then name (Then params (Then body End))))))) covered fit =
+    let fits_all = six_fit _ marked is_async generator name params body refl (field.One kind.Flag) (field.One kind.Flag)
+    (field.One kind.Flag) (field.Maybe kind.BindingIdentifier) (field.One kind.FormalParameters) (field.Maybe kind.FunctionBody) fit in
+    record { params = params_counted params fits_all.4 covered.1.1.1.1.0; texts = body_texts body fits_all.5 }
+parted (Node at word.Arrow _) covered fit =
+    record { params = record { code = λ methods. refl; tally = λ key. refl }; texts = tt }
+parted (Node at word.Fundecl _) covered fit =
+    record { params = record { code = λ methods. refl; tally = λ key. refl }; texts = tt }
+parted _ covered fit = absurd covered

@@ -1,0 +1,177 @@
+-- Each counted node of a covered function is one that a run may reach, or a node of a dead part.
+use Rattle.std.proofs.Common.{◌≡◌, ◌⊎◌, inl, inr, ℕ, Bool, true, false, true≢false, if◌then◌else◌, Option, Some, None, List, [], ◌++◌, All, Contains, refl, sym, ap, ◌∙◌, subst, arith, append-nil}
+use Rattle.std.specs.List.{AllByRecursion}
+use Rattle.std.proofs.lemmas.List.Elements.{All-contains_itself, All-from_recursion, Contains-append_left, Contains-append_right, recursion_from_All}
+use Rattle.rl_ast.specs.FunctionTrees.{is_function as fits_function}
+use Rattle.rl_model.specs.Code.{code, code_among, code_of, flat, is_function, is_instantiate, is_no_code}
+use Rattle.rl_model.specs.Counted.{Counted, counted_at, counted_in, method_at}
+use Rattle.rl_model.specs.Dead.{dead_among, dead_in, dead_parts, lives}
+use Rattle.rl_names.specs.Functions.{body_in, params_in}
+use Rattle.rl_promises.proofs.CountedCode.{HasTexts, IsOwn, IsParted, by_tests, each_append, each_both, each_weaker, flat_append, own_counted, parted}
+use Rattle.rl_promises.proofs.CoveredWorlds.{body_covered, no_instantiate, plain_word}
+use Rattle.rl_promises.specs.Covered.{AreCovered, IsCovered, IsCoveredFunction}
+use Rattle.rl_promises.specs.Held.{dead_nodes}
+use Rattle.rl_promises.specs.Live.{Held, LivesOn, held_among, held_as, held_at, held_in, live_all, live_in, live_in_body}
+use Rattle.rl_promises.specs.Tallies.{held_word, is_among}
+use Rattle.rl_syntax.specs.Syntax.{Syntax, Node, Listed, Said, Count, Flag, Absent, Pieces, End, Then}
+use Rattle.rl_syntax.specs.declared.numbered.At.{At}
+use Rattle.rl_syntax.specs.declared.word.Word.{Word}
+use Rattle.rl_syntax.specs.declared.word.Word.TheVariants as word
+
+lives_left : (xs ys : List Held) (key : Counted) → LivesOn xs key → LivesOn (xs ++ ys) key
+lives_left xs ys key l =
+    record { held = l.held; there = Contains-append_left xs ys l.held l.there; span = l.span; word = l.word }
+
+lives_right : (xs ys : List Held) (key : Counted) → LivesOn ys key → LivesOn (xs ++ ys) key
+lives_right xs ys key l =
+    record { held = l.held; there = Contains-append_right xs ys l.held l.there; span = l.span; word = l.word }
+
+-- A counted node by itself.
+own_lives : (at : At) (w : Word) (key : Counted) → IsOwn at w key → LivesOn (held_at w at) key
+own_lives at w key own = by_word (held_word w) own.word
+  where
+    by_word : (o : Option (List ℕ)) → is_among key.kinds o ≡ true → LivesOn (held_as o at.span) key
+    by_word None none = absurd (true≢false (sym none))
+    by_word (Some text) among =
+        record { held = record { word = text; span = at.span }; there = (0, omega arith, refl); span = own.place; word = among }
+
+-- The counted node is in dead code, or one of these nodes.
+abbrev IsEither : (D : Counted → Type 0) → List Held → Counted → Type 0
+IsEither D nodes key = D key ⊎ LivesOn nodes key
+
+either_left : (D : Counted → Type 0) (xs ys : List Held) (key : Counted) → IsEither D xs key → IsEither D (xs ++ ys) key
+either_left D xs ys key h = elim h [ inl dead ↦ inl dead | inr live ↦ inr (lives_left xs ys key live) ]
+
+either_right : (D : Counted → Type 0) (xs ys : List Held) (key : Counted) → IsEither D ys key → IsEither D (xs ++ ys) key
+either_right D xs ys key h = elim h [ inl dead ↦ inl dead | inr live ↦ inr (lives_right xs ys key live) ]
+
+module _ (methods : List ℕ) where
+  abbrev keys_of : List Syntax → List Counted
+  keys_of nodes = flat (counted_at methods) nodes
+
+  -- The counted nodes of covered code are among the nodes of its tree.
+
+  mutual
+    all_held : (s : Syntax) → IsCovered s → AllByRecursion (LivesOn (held_in s)) (keys_of (code s))
+    all_held (Node at w parts) covered =
+        by_tests methods (LivesOn (held_in (Node at w parts))) (Node at w parts) (is_no_code w parts) (is_function w) (is_instantiate w) _ _
+        (code_among parts) (plain_word w parts covered.0) (no_instantiate w parts covered.0)
+        (each_weaker _ _ (λ key own. lives_left (held_at w at) (held_among parts) key (own_lives at w key own))
+        (counted_at methods (Node at w parts)) (own_counted methods at w parts covered.0))
+        (each_weaker _ _ (lives_right (held_at w at) (held_among parts)) (keys_of (code_among parts)) (all_held_among parts covered.1))
+    all_held (Listed parts) covered = all_held_among parts covered
+    all_held (Said text) covered = tt
+    all_held (Count number) covered = tt
+    all_held (Flag flag) covered = tt
+    all_held Absent covered = tt
+
+    all_held_among : (parts : Pieces) → AreCovered parts → AllByRecursion (LivesOn (held_among parts)) (keys_of (code_among parts))
+    all_held_among End covered = tt
+    all_held_among (Then part parts) covered =
+        subst (AllByRecursion (LivesOn (held_in part ++ held_among parts)))
+        (sym (flat_append (counted_at methods) (code part) (code_among parts)))
+        (each_append _ (keys_of (code part)) (keys_of (code_among parts))
+        (each_weaker _ _ (lives_left (held_in part) (held_among parts)) (keys_of (code part)) (all_held part covered.0))
+        (each_weaker _ _ (lives_right (held_in part) (held_among parts)) (keys_of (code_among parts)) (all_held_among parts covered.1)))
+
+  -- Parts in a row.
+  keys_in_row : (P : Counted → Type 0) (xs ys : List Syntax) → AllByRecursion P (keys_of xs) → AllByRecursion P (keys_of ys)
+      → AllByRecursion P (keys_of (xs ++ ys))
+  keys_in_row P xs ys h k =
+      subst (AllByRecursion P) (sym (flat_append (counted_at methods) xs ys)) (each_append P (keys_of xs) (keys_of ys) h k)
+
+  keys_apart : (P : Counted → Type 0) (xs ys : List Syntax) → AllByRecursion P (keys_of (xs ++ ys))
+      → AllByRecursion P (keys_of xs) × AllByRecursion P (keys_of ys)
+  keys_apart P xs ys h =
+      each_both P (keys_of xs) (keys_of ys) (subst (AllByRecursion P) (flat_append (counted_at methods) xs ys) h)
+
+  dead_code : (statements : Pieces) → flat code (dead_among false statements) ≡ code_among statements
+  dead_code End = refl
+  dead_code (Then s statements) = ap (λ (l : List Syntax). code s ++ l) (dead_code statements)
+
+  module _ (D : Counted → Type 0) where
+    -- The counted nodes in dead parts of a statement.
+    abbrev AreDead : List Syntax → Type 0
+    AreDead parts = AllByRecursion D (keys_of (flat code parts))
+
+    dead_apart : (xs ys : List Syntax) → AreDead (xs ++ ys) → AreDead xs × AreDead ys
+    dead_apart xs ys dead =
+        keys_apart D (flat code xs) (flat code ys) (subst (λ (l : List Syntax). AllByRecursion D (keys_of l)) (flat_append code xs ys) dead)
+
+    -- The counted nodes of a statement, of which those of dead parts are known.
+    abbrev AreEither : List Held → List Syntax → Type 0
+    AreEither nodes parts = AllByRecursion (IsEither D nodes) (keys_of parts)
+
+    held_either : (s : Syntax) → IsCovered s → AreEither (held_in s) (code s)
+    held_either s covered = each_weaker (LivesOn (held_in s)) (IsEither D (held_in s)) (λ key l. inr l) (keys_of (code s)) (all_held s covered)
+
+    -- A test, and the two statements that it chooses from.
+    if_lives : (condition consequent alternate : Syntax) → AreEither (held_in condition) (code condition)
+        → AreEither (live_in consequent) (code consequent) → AreEither (live_in alternate) (code alternate)
+        → AreEither (held_in condition ++ live_in consequent ++ live_in alternate)
+        (code condition ++ (code consequent ++ (code alternate ++ [])))
+    if_lives condition consequent alternate test one other =
+        let first : List Held = held_in condition ++ live_in consequent in
+        keys_in_row _ (code condition) (code consequent ++ (code alternate ++ []))
+        (each_weaker _ _ (λ key h. either_left D first (live_in alternate) key (either_left D (held_in condition) (live_in consequent) key h))
+        (keys_of (code condition)) test)
+        (keys_in_row _ (code consequent) (code alternate ++ [])
+        (each_weaker _ _ (λ key h. either_left D first (live_in alternate) key (either_right D (held_in condition) (live_in consequent) key h))
+        (keys_of (code consequent)) one)
+        (subst (AreEither (first ++ live_in alternate)) (sym (append-nil (code alternate)))
+        (each_weaker _ _ (either_right D first (live_in alternate)) (keys_of (code alternate)) other)))
+
+    mutual
+      statement_lives : (s : Syntax) → IsCovered s → AreDead (dead_in None s) → AreEither (live_in s) (code s)
+      statement_lives (Node at word.Block (Then (Listed statements) End)) covered dead =
+          subst (AreEither (live_all statements)) (sym (append-nil (code_among statements))) (statements_live statements covered.1.0 dead)
+      statement_lives (Node at word.If (Then condition (Then consequent (Then alternate End)))) covered dead =
+          let apart = dead_apart (dead_in None consequent) (dead_in None alternate) dead in
+          if_lives condition consequent alternate (held_either condition covered.1.0)
+          (statement_lives consequent covered.1.1.0 apart.0) (statement_lives alternate covered.1.1.1.0 apart.1)
+      statement_lives s covered dead = held_either s covered
+
+      statements_live : (statements : Pieces) → AreCovered statements → AreDead (dead_among true statements)
+          → AreEither (live_all statements) (code_among statements)
+      statements_live End covered dead = tt
+      statements_live (Then s statements) covered dead =
+          let apart = dead_apart (dead_in None s) (dead_among (lives None s).outs.falls statements) dead in
+          keys_in_row (IsEither D (live_all (Then s statements))) (code s) (code_among statements)
+          (each_weaker _ _ (either_left D (live_in s) (if (lives None s).outs.falls then live_all statements else [])) (keys_of (code s))
+          (statement_lives s covered.0 apart.0))
+          (each_weaker _ _ (either_right D (live_in s) (if (lives None s).outs.falls then live_all statements else []))
+          (keys_of (code_among statements))
+          (by_end (statements_live statements covered.1) (lives None s).outs.falls apart.1))
+        where
+          by_end : (AreDead (dead_among true statements) → AreEither (live_all statements) (code_among statements)) → (falls : Bool)
+              → AreDead (dead_among falls statements) → AreEither (if falls then live_all statements else []) (code_among statements)
+          by_end live true dead = live dead
+          by_end live false dead = each_weaker D (IsEither D []) (λ key d. inl d) (keys_of (code_among statements))
+              (subst (λ (l : List Syntax). AllByRecursion D (keys_of l)) (dead_code statements) dead)
+
+    body_lives : (body : Syntax) → IsCovered body → HasTexts body → AreDead (dead_parts body) → AreEither (live_in_body body) (code body)
+    body_lives (Node at word.Body (Then directives (Then (Listed statements) End))) covered texts dead =
+        subst (AreEither (live_all statements))
+        (sym (ap (λ (l : List Syntax). l ++ (code_among statements ++ [])) texts ∙ append-nil (code_among statements)))
+        (statements_live statements covered.1.1.0 dead)
+    body_lives body covered texts dead = held_either body covered
+
+-- Each counted node of a covered function is a node of a dead part, or one of the nodes of its body that a run may reach.
+pub counted_lives : (f : Syntax) → IsCoveredFunction f → fits_function f ≡ true
+    → All (λ key. Contains (dead_nodes f) key ⊎ LivesOn (live_in_body (body_in f)) key) (counted_in f)
+counted_lives f covered fit =
+    All-from_recursion Either (counted_in f)
+    (subst (AllByRecursion Either) (sym (flat_append (counted_at methods) (code (params_in f)) (code (body_in f))))
+    (each_append Either (flat (counted_at methods) (code (params_in f))) (flat (counted_at methods) (code (body_in f)))
+    (subst (AllByRecursion Either) (sym (parts.params.code methods)) tt)
+    (body_lives methods (Contains (dead_nodes f)) (body_in f) (body_covered f covered) parts.texts
+    (recursion_from_All (Contains (dead_nodes f)) (dead_nodes f) (All-contains_itself (dead_nodes f))))))
+  where
+    methods : List ℕ
+    methods = flat method_at (code_of f)
+
+    parts : IsParted f
+    parts = parted f covered fit
+
+    Either : Counted → Type 0
+    Either key = Contains (dead_nodes f) key ⊎ LivesOn (live_in_body (body_in f)) key

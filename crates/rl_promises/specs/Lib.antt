@@ -1,0 +1,11 @@
+pub mod Conditions
+pub mod Covered
+pub mod CoveredWords
+pub mod Fields
+pub mod Headline
+pub mod Held
+pub mod HeldNodes
+pub mod Live
+pub mod Rows
+pub mod Size
+pub mod Tallies

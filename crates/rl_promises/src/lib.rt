@@ -1,0 +1,6 @@
+//! The nodes that the lowering covers, and the promises of a result. The promises stand in specs/.
+#![tactic(auto)]
+
+mod conditions;
+pub mod covered;
+mod covered_words;
