@@ -4,12 +4,11 @@ use Rattle.rl_base.specs.declared.ids.BlockId.{BlockId}
 use Rattle.rl_base.specs.declared.span.Span.{Span}
 use Rattle.rl_builder.specs.Builder.{State, completed_by, pushed, with_handler, with_scope}
 use Rattle.rl_builder.specs.declared.jumps.JumpScope.{JumpScope}
-use Rattle.rl_frames.proofs.DoLoops.{do_while_runs}
 use Rattle.rl_frames.proofs.Ifs.{if_runs, if_then_runs}
 use Rattle.rl_frames.proofs.IfThenBlocks.{if_then_blocks}
 use Rattle.rl_frames.proofs.LabelFrames.{label_blocks, label_runs}
 use Rattle.rl_frames.proofs.Logicals.{logical_runs}
-use Rattle.rl_frames.proofs.Loops.{while_runs}
+use Rattle.rl_frames.proofs.Loops.{do_while_runs, while_runs}
 use Rattle.rl_frames.proofs.Sequences.{sequence_blocks, sequence_runs}
 use Rattle.rl_frames.proofs.Ternaries.{ternary_runs}
 use Rattle.rl_frames.proofs.ValueFrames.{logical_blocks, ternary_blocks}
@@ -46,12 +45,15 @@ if_composes f old new test ended = record {
       (if_then_blocks s s2 old test span part gc gt, if_then_runs s s2 old test span part gc.extends gt.extends world dt dc rc rt);
 }
 
-pub logical_composes : (f : LogicalParts) (old new : State) (value : Place) → new ≡ logical_ended f old value → LogicalComposes f old new value
+pub logical_composes : (f : LogicalParts) (old new : State) (value : Place) → new ≡ logical_ended f old value
+    → LogicalComposes f old new value
 logical_composes f old new value ended = record {
   both = λ s s2 span left part operator right_value world dl dr is br bl rr rl.
       let at : new ≡ logical_ended (logical_after (logical_at s span operator left)) old value = ended ∙ ap (λ (g : LogicalParts). logical_ended g old value) is in
-      subst (λ (p : ℕ). PreservesBlocks s new × RunsExpression world (connected world operator dl dr) s new p) (sym (ap (λ (g : LogicalParts). g.place.identifier.0) is))
-      (subst (λ (z : State). PreservesBlocks s z × RunsExpression world (connected world operator dl dr) s z (length s.env.identifiers)) (sym at)
+      subst (λ (p : ℕ). PreservesBlocks s new × RunsExpression world (connected world operator dl dr) s new p)
+      (sym (ap (λ (g : LogicalParts). g.place.identifier.0) is))
+      (subst (λ (z : State). PreservesBlocks s z × RunsExpression world (connected world operator dl dr) s z (length s.env.identifiers))
+      (sym at)
       (logical_blocks s s2 old operator right_value value span left part br bl, logical_runs s s2 old operator right_value value span left part br.extends bl.extends world dl dr rr rl));
 }
 
@@ -59,18 +61,21 @@ logical_composes f old new value ended = record {
 pub logical_finish : (f : LogicalParts) (old mid new : State) (value : Place) → mid ≡ pushed old (loads f.left value f.span)
     → new ≡ completed_by mid (branch f.left f.consequent f.alternate f.behind.id.0 f.span) f.behind → LogicalComposes f old new value
 logical_finish f old mid new value loaded ended =
-    logical_composes f old new value (ended ∙ ap (λ (s : State). completed_by s (branch f.left f.consequent f.alternate f.behind.id.0 f.span) f.behind) loaded)
+    logical_composes f old new value
+    (ended ∙ ap (λ (s : State). completed_by s (branch f.left f.consequent f.alternate f.behind.id.0 f.span) f.behind) loaded)
 
 pub ternary_composes : (f : TernaryParts) (old new : State) (test : Place) → new ≡ ternary_ended f old test → TernaryComposes f old new test
 ternary_composes f old new test ended = record {
   both = λ s s2 s3 span part other consequent alternate world dt dc da is bc ba bt rc ra rt.
       let at : new ≡ ternary_ended (ternary_after (ternary_parted (ternary_at s span) s2 consequent part)) old test = ended ∙ ap (λ (g : TernaryParts). ternary_ended g old test) is in
-      subst (λ (p : ℕ). PreservesBlocks s new × RunsExpression world (selected world dt dc da) s new p) (sym (ap (λ (g : TernaryParts). g.place.identifier.0) is))
+      subst (λ (p : ℕ). PreservesBlocks s new × RunsExpression world (selected world dt dc da) s new p)
+      (sym (ap (λ (g : TernaryParts). g.place.identifier.0) is))
       (subst (λ (z : State). PreservesBlocks s z × RunsExpression world (selected world dt dc da) s z (length s.env.identifiers)) (sym at)
       (ternary_blocks s s2 s3 old consequent alternate test span part other bc ba bt, ternary_runs s s2 s3 old consequent alternate test span part other bc.extends ba.extends bt.extends world dt dc da rc ra rt));
 }
 
-pub sequence_composes : (f : SequenceParts) (old new : State) (value : Place) (part : Span) → new ≡ sequence_ended f old value part → SequenceComposes f old new value
+pub sequence_composes : (f : SequenceParts) (old new : State) (value : Place) (part : Span) → new ≡ sequence_ended f old value part
+    → SequenceComposes f old new value
 sequence_composes f old new value part ended = record {
   all = λ s span world d is b r.
       let at : new ≡ sequence_ended (sequence_at s span) old value part = ended ∙ ap (λ (g : SequenceParts). sequence_ended g old value part) is in
@@ -87,7 +92,8 @@ pub sequence_finish : (f : SequenceParts) (old mid shut new : State) (end : Term
 sequence_finish f old mid shut new end value part stored goes left ended =
     sequence_composes f old new value part
     (ended ∙ ap (λ (s : State). completed_by s (ends_by (kinds.Sequence (record { 0 = f.block }) f.behind.id) (Some f.span)) f.behind)
-    (left ∙ ap (λ (t : Terminal). completed_by mid t f.outer) goes ∙ ap (λ (s : State). last_hole s f.behind.id.0 gotos.Break part f.outer) stored))
+    (left ∙ ap (λ (t : Terminal). completed_by mid t f.outer) goes
+    ∙ ap (λ (s : State). last_hole s f.behind.id.0 gotos.Break part f.outer) stored))
 
 pub while_composes : (f : WhileParts) (old new : State) (value : Place) → new ≡ while_ended f old value → WhileComposes f old new value
 while_composes f old new value ended = record {
@@ -125,14 +131,18 @@ pub label_finish : (f : LabelParts) (old mid shut new : State) (end : Terminal) 
 label_finish f old mid shut new end part closed goes left ended =
     label_composes f old new part
     (ended ∙ ap (λ (s : State). completed_by s (ends_by (kinds.Label (block_id f.block) f.behind.id) (Some f.span)) f.behind)
-    (left ∙ ap (λ (t : Terminal). completed_by mid t f.outer) goes ∙ ap (λ (s : State). last_hole s f.behind.id.0 gotos.Break part f.outer) (closed_scope old mid closed)))
+    (left ∙ ap (λ (t : Terminal). completed_by mid t f.outer) goes
+    ∙ ap (λ (s : State). last_hole s f.behind.id.0 gotos.Break part f.outer) (closed_scope old mid closed)))
 
 pub try_composes : (f : TryParts) (old new : State) (part : Span) → new ≡ try_ended f old part → TryComposes f old new
 try_composes f old new other ended = record {
   both = λ z s s2 span part binding world db dh is bz position pairs fresh bh bb rh rb.
       let at : new ≡ try_ended (try_after (try_at s span binding) s2) old other = ended ∙ ap (λ (g : TryParts). try_ended g old other) is in
-      subst (λ (y : State). PreservesBlocks z y × RunsStatement world (catching db dh) z y) (sym at)
-      (blocks_then z s _ bz (try_blocks s s2 old binding span part other bh bb), try_runs z s s2 old binding span part other bz.extends bh.extends bb.extends position pairs fresh world db dh rh rb);
+      subst (λ (y : State). PreservesBlocks z y × RunsStatement world (catching db dh) z y) (sym at) (
+        blocks_then z s _ bz
+            (try_blocks s s2 old binding span part other bh bb),
+        try_runs z s s2 old binding span part other bz.extends bh.extends bb.extends position pairs fresh world db dh rh rb,
+      );
 }
 
 -- The innermost handler was closed.
@@ -147,4 +157,5 @@ pub try_finish : (f : TryParts) (old mid shut new : State) (end : Terminal) (par
 try_finish f old mid shut new end part closed goes left ended =
     try_composes f old new part
     (ended ∙ ap (λ (s : State). completed_by s (try_end f.behind.id.0 f.handler f.body f.binding f.span) f.behind)
-    (left ∙ ap (λ (t : Terminal). completed_by mid t f.outer) goes ∙ ap (λ (s : State). last_hole s f.behind.id.0 gotos.Try part f.outer) (closed_handler old mid closed)))
+    (left ∙ ap (λ (t : Terminal). completed_by mid t f.outer) goes
+    ∙ ap (λ (s : State). last_hole s f.behind.id.0 gotos.Try part f.outer) (closed_handler old mid closed)))

@@ -70,7 +70,8 @@ module _ (s s2 s3 s4 : State) (test : Place) (span part other : Span) where
       if_ids =
           ids_ended s4 (if_end n (n + 1) s2.env.next_block test span) (new_block n block.Block) (ids_then closed_ids it)
           (inr (omega arith))
-          (λ c. free_then n it (free_aside s1 s3 (n + 1) n (goto n gotos.Break other) (first n (omega arith) (omega arith) c) (λ e. omega arith) inside))
+          (λ c. free_then n it (free_aside s1 s3 (n + 1) n (goto n gotos.Break other) (first n (omega arith) (omega arith) c)
+          (λ e. omega arith) inside))
 
     -- Each block is used.
     pub if_used : AreUsed (if_begun s) s2 → AreUsed (next_hole s2 s.env.next_block gotos.Break part block.Block) s3
@@ -117,8 +118,12 @@ module _ (s s2 s3 s4 : State) (test : Place) (span part other : Span) where
           → Settling (last_hole s3 s.env.next_block gotos.Break other s.current) s4 → Settling s last
       if_settles tc ta tt1 c cover own below jumps old behind =
           settle_completed s4 (if_end n (n + 1) s2.env.next_block test span) (new_block n block.Block) c
-          (settles_tests c s4.current.id.0 (length s4.current.instructions) (if_end n (n + 1) s2.env.next_block test span) test.identifier.0 (record { 0 = n + 1 }) (record { 0 = s2.env.next_block }) (record { 0 = n }) (terminal_met s4 (if_end n (n + 1) s2.env.next_block test span) (new_block n block.Block) c cover) refl)
-          (tt1 c cover4 (notes_back c s shut s4 last own (omega (arith, within.blocks)) (omega arith) last_straight) below_shut jumps_shut (settle_aside s s3 (new_block (n + 1) block.Block) (goto n gotos.Break other) c refl branches (settle_goto s3 n gotos.Break other s.current c cover_shut behind) old))
+          (settles_tests c s4.current.id.0 (length s4.current.instructions) (if_end n (n + 1) s2.env.next_block test span) test.identifier.0
+          (record { 0 = n + 1 }) (record { 0 = s2.env.next_block }) (record { 0 = n })
+          (terminal_met s4 (if_end n (n + 1) s2.env.next_block test span) (new_block n block.Block) c cover) refl)
+          (tt1 c cover4 (notes_back c s shut s4 last own (omega (arith, within.blocks)) (omega arith) last_straight) below_shut jumps_shut
+          (settle_aside s s3 (new_block (n + 1) block.Block) (goto n gotos.Break other) c refl branches
+          (settle_goto s3 n gotos.Break other s.current c cover_shut behind) old))
           (empty_settles c n)
         where
           cover4 : IsContainedIn s4 c
@@ -158,7 +163,8 @@ module _ (s s2 s3 s4 : State) (test : Place) (span part other : Span) where
           branches start =
               ta c cover3 (notes_back c s open_ s3 last own (omega (arith, gc.blocks)) gt.blocks shut_straight) below_open
               (by_scopes open_ gc.scopes)
-              (λ here. settle_completed (reserved s2) (goto n gotos.Break part) (new_block s2.env.next_block block.Block) c (settle_goto (reserved s2) n gotos.Break part (new_block s2.env.next_block block.Block) c cover_open behind)
+              (λ here. settle_completed (reserved s2) (goto n gotos.Break part) (new_block s2.env.next_block block.Block) c
+              (settle_goto (reserved s2) n gotos.Break part (new_block s2.env.next_block block.Block) c cover_open behind)
               (tc c cover2 (notes_back c s begun s2 last own (omega arith) (omega (arith, ga.blocks, gt.blocks)) open_straight) (λ id m. (let small : id < n = below id m in omega (arith, small))) jumps start)
               (empty_settles c s2.env.next_block))
 

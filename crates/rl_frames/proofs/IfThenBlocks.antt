@@ -57,7 +57,8 @@ module _ (s s2 s4 : State) (test : Place) (span part : Span) where
     all_ids : PreservesIds s last
     all_ids =
         ids_ended s4 (if_end n (n + 1) n test span) (new_block n block.Block) (ids_then closed_ids bt.ids) (inr (omega arith))
-        (λ c. free_then n bt.ids (free_aside s1 s2 (n + 1) n (goto n gotos.Break part) (first n (omega arith) (omega arith) c) (λ e. omega (arith, e)) bc.ids))
+        (λ c. free_then n bt.ids
+        (free_aside s1 s2 (n + 1) n (goto n gotos.Break part) (first n (omega arith) (omega arith) c) (λ e. omega (arith, e)) bc.ids))
 
     -- Each block is used.
     all_used : AreUsed s last
@@ -93,7 +94,9 @@ module _ (s s2 s4 : State) (test : Place) (span part : Span) where
     all_named : NamesSince s last
     all_named =
         named_ended s s4 (if_end n (n + 1) n test span) (new_block n block.Block) to_test
-        (named_three s (block_id (n + 1)) (block_id n) (block_id n) s4.env.next_block (omega arith) (omega (arith, bc.extends.blocks, bt.extends.blocks)) (omega arith) (omega (arith, bc.extends.blocks, bt.extends.blocks)) (omega arith) (omega (arith, bc.extends.blocks, bt.extends.blocks)))
+        (named_three s (block_id (n + 1)) (block_id n) (block_id n) s4.env.next_block (omega arith)
+        (omega (arith, bc.extends.blocks, bt.extends.blocks)) (omega arith) (omega (arith, bc.extends.blocks, bt.extends.blocks))
+        (omega arith) (omega (arith, bc.extends.blocks, bt.extends.blocks)))
 
     -- Straight notes.
 
@@ -139,9 +142,14 @@ module _ (s s2 s4 : State) (test : Place) (span part : Span) where
         settles : Settling s last
         settles c cover own below jumps old behind =
             settle_completed s4 (if_end n (n + 1) n test span) (new_block n block.Block) c
-            (settles_tests c s4.current.id.0 (length s4.current.instructions) (if_end n (n + 1) n test span) test.identifier.0 (block_id (n + 1)) (block_id n) (block_id n) (terminal_met s4 (if_end n (n + 1) n test span) (new_block n block.Block) c cover) refl)
-            (bt.settle c (cover4 c cover) (notes_back c s shut s4 last own (omega (arith, bc.extends.blocks)) (omega arith) last_straight) below_shut (subst (λ (l : List JumpScope). JumpsSettle c l) (sym bc.extends.scopes) jumps)
-            (settle_aside s s2 (new_block (n + 1) block.Block) (goto n gotos.Break part) c refl branch (settle_goto s2 n gotos.Break part s.current c (cover_shut c cover) behind) old))
+            (settles_tests c s4.current.id.0 (length s4.current.instructions) (if_end n (n + 1) n test span) test.identifier.0
+            (block_id (n + 1)) (block_id n) (block_id n)
+            (terminal_met s4 (if_end n (n + 1) n test span) (new_block n block.Block) c cover) refl)
+            (bt.settle c (cover4 c cover)
+            (notes_back c s shut s4 last own (omega (arith, bc.extends.blocks)) (omega arith) last_straight) below_shut
+            (subst (λ (l : List JumpScope). JumpsSettle c l) (sym bc.extends.scopes) jumps)
+            (settle_aside s s2 (new_block (n + 1) block.Block) (goto n gotos.Break part) c refl branch
+            (settle_goto s2 n gotos.Break part s.current c (cover_shut c cover) behind) old))
             (empty_settles c n)
           where
             below_begun : StraightBelow begun

@@ -59,15 +59,24 @@ module _ (world : World) (s s4 : State) (dt : Action Value) (dc da : Action (Uni
           → Follows c (between s last) store notes answers behind 0 normal
           → TracesFrom c s store notes answers (chosen world dt dc da ways (λ end. normal) source answers)
       run_it c cover sound shares ways normal source store notes answers a throws jumps onward =
-          subst (λ (w : WipBlock). TracesAt c w.id.0 (length w.instructions) store notes answers (chosen world dt dc da ways (λ end. normal) source answers)) position
-          (use_expression ways (λ v after rest. tested (set_open world.opens) (truthy v) after rest (dc ways (λ end. normal)) (da ways (λ end. normal))) rt (contained_before if_last cover) (g.sound sound) shares (inside g if_last)
+          subst (λ (w : WipBlock). TracesAt c w.id.0 (length w.instructions) store notes answers
+          (chosen world dt dc da ways (λ end. normal) source answers)) position
+          (use_expression ways (λ v after rest. tested (set_open world.opens) (truthy v) after rest (dc ways (λ end. normal))
+          (da ways (λ end. normal))) rt (contained_before if_last cover) (g.sound sound) shares (inside g if_last)
           (same_throws c (between s last) store notes answers s closed ways.throws g.handlers throws) (since_start a)
           (λ v source1 store1 notes1 answers1 t u is.
           steps_on c s4.current.id.0 (length s4.current.instructions) store1 notes1 answers1
           (Ends (if_end behind consequent alternate test span)) _
           (terminal_met s4 (if_end behind consequent alternate test span) (new_block behind block.Block) c cover)
-          (subst (λ (w : Value). Eventually c (λ stuck next. tested (changer c) (truthy w) store1 answers1 (at next (block_id consequent) (noted notes1 (block_id behind) Passes)) (at next (block_id alternate) (noted notes1 (block_id behind) Passes))) (tested (set_open world.opens) (truthy v) source1 answers1 (dc ways (λ end. normal)) (da ways (λ end. normal)))) (sym is)
-          (tests_come c world cover.names.one shares (truthy v) answers1 (λ next. at next (block_id consequent) (noted notes1 (block_id behind) Passes)) (λ next. at next (block_id alternate) (noted notes1 (block_id behind) Passes)) (dc ways (λ end. normal)) (da ways (λ end. normal)) t.agrees
+          (subst (λ (w : Value). Eventually c
+          (λ stuck next. tested (changer c) (truthy w) store1 answers1
+          (at next (block_id consequent) (noted notes1 (block_id behind) Passes))
+          (at next (block_id alternate) (noted notes1 (block_id behind) Passes)))
+          (tested (set_open world.opens) (truthy v) source1 answers1 (dc ways (λ end. normal)) (da ways (λ end. normal)))) (sym is)
+          (tests_come c world cover.names.one shares (truthy v) answers1
+          (λ next. at next (block_id consequent) (noted notes1 (block_id behind) Passes))
+          (λ next. at next (block_id alternate) (noted notes1 (block_id behind) Passes)) (dc ways (λ end. normal))
+          (da ways (λ end. normal)) t.agrees
           (λ source2 store2 rest after. first c cover sound shares ways normal source store notes answers source2 store2 _ rest throws jumps onward (since_noted (block_id behind) Passes fresh (omega (arith, made, gt.blocks)) (since_then (inside_refl (between s last)) t.later (after.since (between s last)))))
           (λ source2 store2 rest after. second c cover sound shares ways normal source store notes answers source2 store2 _ rest throws jumps onward (since_noted (block_id behind) Passes fresh (omega (arith, made, gt.blocks)) (since_then (inside_refl (between s last)) t.later (after.since (between s last)))))))))
 
@@ -94,7 +103,8 @@ module _ (s s2 s3 s4 : State) (test : Place) (span part other : Span) where
     pub close_extends : Extends s closed
     close_extends =
         extends_then (extends_then (extends_reserved s) (extends_reserved (reserved s)))
-        (aside (reserved (reserved s)) s3 (new_block (n + 1) block.Block) s.scopes s3.scopes s.handlers s3.handlers (goto n gotos.Break other) within.scopes within.handlers within)
+        (aside (reserved (reserved s)) s3 (new_block (n + 1) block.Block) s.scopes s3.scopes s.handlers s3.handlers
+        (goto n gotos.Break other) within.scopes within.handlers within)
       where
         within : Extends (if_begun s) s3
         within = extends_then gc (extends_then open_extends ga)
@@ -120,7 +130,8 @@ module _ (s s2 s3 s4 : State) (test : Place) (span part other : Span) where
         contained_closed : (c : Code) → IsContainedIn finished c → IsContainedIn closed c
         contained_closed c cover =
             contained_before gt
-            (contained_before (extends_completed s4 (if_end n (n + 1) s2.env.next_block test span) (new_block n block.Block) (λ none. refl)) cover)
+            (contained_before (extends_completed s4 (if_end n (n + 1) s2.env.next_block test span) (new_block n block.Block)
+            (λ none. refl)) cover)
 
         contained_third : (c : Code) → IsContainedIn finished c → IsContainedIn s3 c
         contained_third c cover = contained_hole s3 n gotos.Break other s.current c (contained_closed c cover)
@@ -138,8 +149,16 @@ module _ (s s2 s3 s4 : State) (test : Place) (span part other : Span) where
             → TracesAt c (n + 1) 0 store1 notes1 answers1 (dc ways (λ end. normal) source1 answers1)
         consequent c cover sound shares ways normal source store notes answers source1 store1 notes1 answers1 throws jumps onward t =
             use_statement ways normal rc (contained_before open_extends (contained_opened c cover)) sound shares
-            (record { identifier = omega arith; identifiers = omega (arith, ga.identifiers, gt.identifiers); block = omega arith; blocks = omega (arith, ga.blocks, gt.blocks) }) throws jumps t
-            (λ source2 store2 notes2 answers2 t2 u2. hole_goes (reserved s2) n gotos.Break part (new_block s2.env.next_block block.Block) c store2 notes2 answers2 _ (contained_opened c cover) (onward.goes source2 store2 notes2 answers2 t2))
+            (record {
+              identifier = omega arith;
+              identifiers = omega
+                  (arith, ga.identifiers, gt.identifiers);
+              block = omega arith;
+              blocks = omega (arith, ga.blocks, gt.blocks);
+            }) throws jumps t
+            (λ source2 store2 notes2 answers2 t2 u2. hole_goes (reserved s2) n gotos.Break part
+            (new_block s2.env.next_block block.Block) c store2 notes2 answers2 _ (contained_opened c cover)
+            (onward.goes source2 store2 notes2 answers2 t2))
 
         alternate : (c : Code) → IsContainedIn finished c → HasSoundNames s → SharesVariables c.ident world c.world
             → (ways : Ways) (normal : Cont) (source store : Store) (notes : Notes) (answers : List Answer) (source1 store1 : Store)
@@ -151,10 +170,17 @@ module _ (s s2 s3 s4 : State) (test : Place) (span part other : Span) where
             → TracesAt c s2.env.next_block 0 store1 notes1 answers1 (da ways (λ end. normal) source1 answers1)
         alternate c cover sound shares ways normal source store notes answers source1 store1 notes1 answers1 throws jumps onward t =
             use_statement ways normal ra (contained_third c cover) (open_extends.sound (gc.sound sound)) shares
-            (record { identifier = omega (arith, gc.identifiers); identifiers = omega (arith, gt.identifiers); block = omega (arith, gc.blocks); blocks = omega (arith, gt.blocks) })
+            (record {
+              identifier = omega (arith, gc.identifiers);
+              identifiers = omega (arith, gt.identifiers);
+              block = omega
+                  (arith, gc.blocks);
+              blocks = omega (arith, gt.blocks);
+            })
             (same_throws c (between s finished) store notes answers s opened ways.throws open_handlers throws)
             (same_jumps c (between s finished) store notes answers s opened ways.breaks ways.continues open_scopes jumps) t
-            (λ source2 store2 notes2 answers2 t2 u2. hole_goes s3 n gotos.Break other s.current c store2 notes2 answers2 _ (contained_closed c cover) (onward.goes source2 store2 notes2 answers2 t2))
+            (λ source2 store2 notes2 answers2 t2 u2. hole_goes s3 n gotos.Break other s.current c store2 notes2 answers2 _
+            (contained_closed c cover) (onward.goes source2 store2 notes2 answers2 t2))
 
 -- A single branch: the block behind the statement stands for the other.
 module _ (s s2 s4 : State) (test : Place) (span part : Span) where
@@ -171,7 +197,8 @@ module _ (s s2 s4 : State) (test : Place) (span part : Span) where
     shut_extends : Extends s shut
     shut_extends =
         extends_then (extends_then (extends_reserved s) (extends_reserved (reserved s)))
-        (aside (reserved (reserved s)) s2 (new_block (m + 1) block.Block) s.scopes s2.scopes s.handlers s2.handlers (goto m gotos.Break part) gc.scopes gc.handlers gc)
+        (aside (reserved (reserved s)) s2 (new_block (m + 1) block.Block) s.scopes s2.scopes s.handlers s2.handlers
+        (goto m gotos.Break part) gc.scopes gc.handlers gc)
 
     pub if_then_extends : Extends s ended
     if_then_extends =
@@ -200,5 +227,12 @@ module _ (s s2 s4 : State) (test : Place) (span part : Span) where
             → TracesAt c (m + 1) 0 store1 notes1 answers1 (dc ways (λ end. normal) source1 answers1)
         consequent c cover sound shares ways normal source store notes answers source1 store1 notes1 answers1 throws jumps onward t =
             use_statement ways normal rc (contained_hole s2 m gotos.Break part s.current c (contained_shut c cover)) sound shares
-            (record { identifier = omega arith; identifiers = omega (arith, gt.identifiers); block = omega arith; blocks = omega (arith, gt.blocks) }) throws jumps t
-            (λ source2 store2 notes2 answers2 t2 u2. hole_goes s2 m gotos.Break part s.current c store2 notes2 answers2 _ (contained_shut c cover) (onward.goes source2 store2 notes2 answers2 t2))
+            (record {
+              identifier = omega arith;
+              identifiers = omega (arith, gt.identifiers);
+              block = omega arith;
+              blocks = omega
+                  (arith, gt.blocks);
+            }) throws jumps t
+            (λ source2 store2 notes2 answers2 t2 u2. hole_goes s2 m gotos.Break part s.current c store2 notes2 answers2 _
+            (contained_shut c cover) (onward.goes source2 store2 notes2 answers2 t2))

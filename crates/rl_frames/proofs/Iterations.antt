@@ -1,5 +1,6 @@
 -- The runs of a `for`-`of` loop.
-use Rattle.std.proofs.Common.{◌≡◌, ℕ, zero, suc, ◌+◌, ◌-◌, ◌<◌, ◌≤◌, inl, inr, true, false, List, [], ◌∷◌, length, length-append, take, Option, Some, refl, sym, ap, ◌∙◌, subst, arith}
+use Rattle.std.proofs.Common.{◌≡◌, ℕ, zero, suc, ◌+◌, ◌-◌, ◌<◌, ◌≤◌, inl, inr, true, false, List, [], ◌∷◌, length, length-append, take}
+use Rattle.std.proofs.Common.{Option, Some, refl, sym, ap, ◌∙◌, subst, arith}
 use Rattle.rl_base.specs.declared.span.Span.{Span}
 use Rattle.rl_builder.specs.Builder.{State, innermost, new_block, pushed, reserved, with_temporary}
 use Rattle.rl_builder.specs.Temporaries.{temporary, unordered}
@@ -20,11 +21,16 @@ use Rattle.rl_machine.specs.Traces.{Cont, Store, World, fired, set, set_open, st
 use Rattle.rl_model.specs.Actions.{Action, Label, Ways}
 use Rattle.rl_model.specs.Events.{get_iterator, next_of}
 use Rattle.rl_runs.proofs.Events.{fired_comes, steps_come}
-use Rattle.rl_runs.proofs.Holes.{aside, contained_hole, contained_stacked, front_added, hole_goes, same_throws, use_expression, use_statement}
+use Rattle.rl_runs.proofs.Holes.{aside, contained_hole, contained_stacked, front_added, hole_goes, same_throws, use_expression}
+use Rattle.rl_runs.proofs.Holes.{use_statement}
 use Rattle.rl_runs.proofs.Jumping.{jumps_in_loop}
-use Rattle.rl_runs.proofs.Moves.{catches, contained_before, extends_completed, extends_pushed, extends_reserved, extends_then, extends_value, goes_behind, goes_on, inside, instruction_met, push_runs, terminal_met, thrown_comes, value_free}
-use Rattle.rl_runs.proofs.Steps.{inside_refl, follows_then, jumps_then, noted_other, noted_same, set_other, set_same, since_noted, since_set, since_start, since_then, steps_on, throws_then}
-use Rattle.rl_runs.specs.Continuations.{Agrees, Eventually, Follows, Inside, IsBehind, IsOutside, Jumps, Range, SharesVariables, Since, Throws, TracesAt, TracesFrom, between}
+use Rattle.rl_runs.proofs.Moves.{catches, contained_before, extends_completed, extends_pushed, extends_reserved, extends_then}
+use Rattle.rl_runs.proofs.Moves.{extends_value, goes_behind, goes_on, inside, instruction_met, push_runs, terminal_met, thrown_comes}
+use Rattle.rl_runs.proofs.Moves.{value_free}
+use Rattle.rl_runs.proofs.Steps.{inside_refl, follows_then, jumps_then, noted_other, noted_same, set_other, set_same, since_noted}
+use Rattle.rl_runs.proofs.Steps.{since_set, since_start, since_then, steps_on, throws_then}
+use Rattle.rl_runs.specs.Continuations.{Agrees, Eventually, Follows, Inside, IsBehind, IsOutside, Jumps, Range, SharesVariables, Since}
+use Rattle.rl_runs.specs.Continuations.{Throws, TracesAt, TracesFrom, between}
 use Rattle.rl_runs.specs.Exits.{loop_ways, switch_ways}
 use Rattle.rl_runs.specs.Facts.{Extends, HasSoundNames, IsContainedIn, Nobody}
 use Rattle.rl_runs.specs.Moves.{block_id, branch, goto, without_scope}
@@ -41,8 +47,10 @@ pub record IsRound (c : Code) (r : Range) (store : Store) (notes : Notes) (answe
 
 -- A part runs that changes neither.
 round_then : {c : Code} {r : Range} {store : Store} {notes : Notes} {answers : List Answer} {behind init test iterator collection : ℕ} {it v : Value} {source1 store1 : Store} {notes1 : Notes} {answers1 : List Answer} {r1 : Range} {source2 store2 : Store} {notes2 : Notes} {answers2 : List Answer}
-    → IsRound c r store notes answers behind init test iterator collection it v source1 store1 notes1 answers1 → Inside r r1 → Since c r1 store1 notes1 answers1 source2 store2 notes2 answers2
-    → Nobody c.ident iterator → Nobody c.ident collection → IsOutside r1.identifier r1.identifiers iterator → IsOutside r1.identifier r1.identifiers collection
+    → IsRound c r store notes answers behind init test iterator collection it v source1 store1 notes1 answers1 → Inside r r1
+    → Since c r1 store1 notes1 answers1 source2 store2 notes2 answers2
+    → Nobody c.ident iterator → Nobody c.ident collection → IsOutside r1.identifier r1.identifiers iterator
+    → IsOutside r1.identifier r1.identifiers collection
     → IsOutside r1.block r1.blocks init → IsOutside r1.block r1.blocks test → IsOutside r1.block r1.blocks behind
     → IsRound c r store notes answers behind init test iterator collection it v source2 store2 notes2 answers2
 round_then {c} {r} {store} {notes} {answers} {behind} {init} {test} {iterator} {collection} q part u free_i free_c out_i out_c out_init out_test out_behind = record {
@@ -105,13 +113,18 @@ module _ (s s2 s3 s5 : State) (label : Label) (collection test : Place) (span le
 
   module _ (gb : Extends (forof_begun s label) s2) (gr : Extends (forof_body s2 s.env.next_block s.current part) s3) (gp : Extends (forof_next s3 s.env.next_block collection span left) s5) where
     scopes_left : take (length s2.scopes - 1) s2.scopes ≡ s.scopes
-    scopes_left = ap (λ (x : List JumpScope). take (length x - 1) x) gb.scopes ∙ front_added s.scopes (scope.Loop label (block_id i) (block_id f))
+    scopes_left =
+        ap (λ (x : List JumpScope). take (length x - 1) x) gb.scopes ∙ front_added s.scopes (scope.Loop label (block_id i) (block_id f))
 
     first_extends : Extends s s1
-    first_extends = extends_then (extends_then (extends_reserved s) (extends_reserved (reserved s))) (extends_then (extends_reserved (reserved (reserved s))) (extends_reserved (reserved (reserved (reserved s)))))
+    first_extends =
+        extends_then (extends_then (extends_reserved s) (extends_reserved (reserved s)))
+        (extends_then (extends_reserved (reserved (reserved s))) (extends_reserved (reserved (reserved (reserved s)))))
 
     aside_extends : Extends s1 shut
-    aside_extends = aside s1 s2 (new_block l block.Block) s0.scopes (take (length s2.scopes - 1) s2.scopes) s.handlers s2.handlers (goto i gotos.Continue part) scopes_left gb.handlers gb
+    aside_extends =
+        aside s1 s2 (new_block l block.Block) s0.scopes (take (length s2.scopes - 1) s2.scopes) s.handlers s2.handlers
+        (goto i gotos.Continue part) scopes_left gb.handlers gb
 
     init_extends : Extends s3 si
     init_extends = extends_completed s3 (forof_end f span) (new_block i block.Loop) (λ none. refl)
@@ -155,18 +168,29 @@ module _ (s s2 s3 s5 : State) (label : Label) (collection test : Place) (span le
     abbrev R : Range
     R = between s finished
 
-    pub forof_runs : (world : World) (dr : Action Value) (dp : Value → Action (Unit {0})) (db : Action (Unit {0})) → RunsStatement world db (forof_begun s label) s2
+    pub forof_runs : (world : World) (dr : Action Value) (dp : Value → Action (Unit {0})) (db : Action (Unit {0}))
+        → RunsStatement world db (forof_begun s label) s2
         → RunsExpression world dr (forof_body s2 s.env.next_block s.current part) s3 collection.identifier.0
-        → RunsPattern world dp (forof_next s3 s.env.next_block collection span left) s5 (length (forof_test s3 s.env.next_block collection span).env.identifiers)
+        → RunsPattern world dp (forof_next s3 s.env.next_block collection span left) s5
+        (length (forof_test s3 s.env.next_block collection span).env.identifiers)
         → RunsStatement world (iterated world label dr dp db) s finished
     forof_runs world dr dp db rb rr rp = record { runs = run_it }
       where
-        run_it : (c : Code) → IsContainedIn finished c → HasSoundNames s → SharesVariables c.ident world c.world → (ways : Ways) (normal : Cont) (source store : Store) (notes : Notes) (answers : List Answer) → Agrees c.ident source store
-            → Throws c R store notes answers (innermost s.handlers) ways.throws → Jumps c R store notes answers s.scopes ways.breaks ways.continues → Follows c R store notes answers f 0 normal
+        run_it : (c : Code) → IsContainedIn finished c → HasSoundNames s → SharesVariables c.ident world c.world
+            → (ways : Ways) (normal : Cont) (source store : Store) (notes : Notes) (answers : List Answer) → Agrees c.ident source store
+            → Throws c R store notes answers (innermost s.handlers) ways.throws
+            → Jumps c R store notes answers s.scopes ways.breaks ways.continues → Follows c R store notes answers f 0 normal
             → TracesFrom c s store notes answers (iterated world label dr dp db ways (λ end. normal) source answers)
         run_it c cover sound shares ways normal source store notes answers a throws jumps onward =
-            use_expression (front_ways label normal ways) (λ v after rest. fired (set_open world.opens) (get_iterator v) after rest (λ a e r. rounds world (suc (length r)) label a.value v dp db ways normal e r) ways.throws) rr cover3 (shut_extends.sound sound) shares (inside shut_extends (extends_then init_extends (extends_then open_extends (extends_then test_extends (extends_then next_extends (extends_then gp last_extends)))))) (same_throws c R store notes answers s shut ways.throws shut_extends.handlers throws) (since_start a)
-            (λ v source1 store1 notes1 answers1 t1 u1 is. goes_on s3 (forof_end f span) (new_block i block.Loop) c (block_id i) ((block_id i, X) ∷ (block_id t, X) ∷ (block_id f, X) ∷ []) store1 notes1 answers1 _ refl cover_i
+            use_expression (front_ways label normal ways)
+            (λ v after rest. fired (set_open world.opens) (get_iterator v) after rest
+            (λ a e r. rounds world (suc (length r)) label a.value v dp db ways normal e r) ways.throws) rr cover3
+            (shut_extends.sound sound) shares
+            (inside shut_extends (extends_then init_extends
+            (extends_then open_extends (extends_then test_extends (extends_then next_extends (extends_then gp last_extends))))))
+            (same_throws c R store notes answers s shut ways.throws shut_extends.handlers throws) (since_start a)
+            (λ v source1 store1 notes1 answers1 t1 u1 is. goes_on s3 (forof_end f span) (new_block i block.Loop) c (block_id i)
+            ((block_id i, X) ∷ (block_id t, X) ∷ (block_id f, X) ∷ []) store1 notes1 answers1 _ refl cover_i
             (from_init v source1 store1 notes1 answers1 t1 is))
           where
             X : Note
@@ -194,13 +218,15 @@ module _ (s s2 s3 s5 : State) (label : Label) (collection test : Place) (span le
             cover_s = contained_before gr cover3
 
             cover2 : IsContainedIn s2 c
-            cover2 = contained_stacked s2 (take (length s2.scopes - 1) s2.scopes) s2.handlers c (λ none. none) (contained_hole (without_scope s2) i gotos.Continue part s.current c cover_s)
+            cover2 = contained_stacked s2 (take (length s2.scopes - 1) s2.scopes) s2.handlers c (λ none. none)
+                (contained_hole (without_scope s2) i gotos.Continue part s.current c cover_s)
 
             iterator_free : Nobody c.ident iterator
             iterator_free = value_free si (values.GetIterator collection) (Some span) c cover_o (right_extends.sound sound)
 
             next_free : Nobody c.ident next_id
-            next_free = value_free st (values.IteratorNext (temporary si (Some span)) collection) (Some left) c cover_n (tested_extends.sound sound)
+            next_free =
+                value_free st (values.IteratorNext (temporary si (Some span)) collection) (Some left) c cover_n (tested_extends.sound sound)
 
             collection_free : Nobody c.ident collection.identifier.0
             collection_free = rr.free c cover3 (shut_extends.sound sound)
@@ -224,10 +250,26 @@ module _ (s s2 s3 s5 : State) (label : Label) (collection test : Place) (span le
             blocks_end = omega (arith, gb.blocks, gr.blocks, open_extends.blocks, next_extends.blocks, gp.blocks)
 
             body_part : Inside R (between s0 s2)
-            body_part = record { identifier = omega arith; identifiers = omega (arith, gr.identifiers, open_extends.identifiers, next_extends.identifiers, gp.identifiers); block = omega arith; blocks = omega (arith, gr.blocks, open_extends.blocks, next_extends.blocks, gp.blocks) }
+            body_part =
+                record {
+                  identifier = omega arith;
+                  identifiers = omega
+                      (arith, gr.identifiers, open_extends.identifiers, next_extends.identifiers, gp.identifiers);
+                  block = omega arith;
+                  blocks =
+                      omega (arith, gr.blocks, open_extends.blocks, next_extends.blocks, gp.blocks);
+                }
 
             next_part : Inside R (between sn s5)
-            next_part = record { identifier = omega (arith, tested_extends.identifiers, next_extends.identifiers); identifiers = omega arith; block = omega (arith, tested_extends.blocks, next_extends.blocks); blocks = omega arith }
+            next_part =
+                record {
+                  identifier = omega
+                      (arith, tested_extends.identifiers, next_extends.identifiers);
+                  identifiers = omega arith;
+                  block =
+                      omega (arith, tested_extends.blocks, next_extends.blocks);
+                  blocks = omega arith;
+                }
 
             in_body : ℕ → Value → Value → Ways
             in_body n it v = loop_ways label (rounds world n label it v dp db ways normal) normal ways
@@ -237,64 +279,139 @@ module _ (s s2 s3 s5 : State) (label : Label) (collection test : Place) (span le
             in_head = switch_ways label normal (λ after rest. waiting) ways
 
             -- From the init, once the iterator is there.
-            onto : (it v : Value) (n : ℕ) → ((source6 store6 : Store) (notes6 : Notes) (answers6 : List Answer) → IsRound c R store notes answers f i t iterator collection.identifier.0 it v source6 store6 notes6 answers6 → length answers6 < n → TracesAt c t 0 store6 notes6 answers6 (rounds world n label it v dp db ways normal source6 answers6))
-                → (source6 store6 : Store) (notes6 : Notes) (answers6 : List Answer) → IsRound c R store notes answers f i t iterator collection.identifier.0 it v source6 store6 notes6 answers6 → length answers6 < n
+            onto : (it v : Value) (n : ℕ)
+                → ((source6 store6 : Store) (notes6 : Notes) (answers6 : List Answer)
+                → IsRound c R store notes answers f i t iterator collection.identifier.0 it v source6 store6 notes6 answers6
+                → length answers6 < n
+                → TracesAt c t 0 store6 notes6 answers6 (rounds world n label it v dp db ways normal source6 answers6))
+                → (source6 store6 : Store) (notes6 : Notes) (answers6 : List Answer)
+                → IsRound c R store notes answers f i t iterator collection.identifier.0 it v source6 store6 notes6 answers6
+                → length answers6 < n
                 → TracesAt c i 0 store6 notes6 answers6 (rounds world n label it v dp db ways normal source6 answers6)
             onto it v n next source6 store6 notes6 answers6 q less =
-                push_runs (with_temporary si (Some span)) opens c store6 store6 notes6 answers6 _ (λ stuck k place. ap (λ (o : Option Note). opened stuck c o (get_iterator (store6 collection.identifier.0)) iterator k k i place store6 notes6 answers6) q.at_init) cover_o
-                (hole_goes so t gotos.Break span (new_block t block.Loop) c store6 notes6 answers6 _ cover_t (next source6 store6 notes6 answers6 q less))
+                push_runs (with_temporary si (Some span)) opens c store6 store6 notes6 answers6 _
+                (λ stuck k place. ap (λ (o : Option Note). opened stuck c o
+                (get_iterator (store6 collection.identifier.0)) iterator k k i place store6 notes6 answers6) q.at_init) cover_o
+                (hole_goes so t gotos.Break span (new_block t block.Loop) c store6 notes6 answers6 _ cover_t
+                (next source6 store6 notes6 answers6 q less))
 
             -- The body, and the rounds behind it.
-            round : (it v : Value) (n : ℕ) → ((source6 store6 : Store) (notes6 : Notes) (answers6 : List Answer) → IsRound c R store notes answers f i t iterator collection.identifier.0 it v source6 store6 notes6 answers6 → length answers6 < n → TracesAt c t 0 store6 notes6 answers6 (rounds world n label it v dp db ways normal source6 answers6))
-                → (source6 store6 : Store) (notes6 : Notes) (answers6 : List Answer) → IsRound c R store notes answers f i t iterator collection.identifier.0 it v source6 store6 notes6 answers6 → length answers6 < n
-                → TracesAt c l 0 store6 notes6 answers6 (db (in_body n it v) (λ end. rounds world n label it v dp db ways normal) source6 answers6)
+            round : (it v : Value) (n : ℕ)
+                → ((source6 store6 : Store) (notes6 : Notes) (answers6 : List Answer)
+                → IsRound c R store notes answers f i t iterator collection.identifier.0 it v source6 store6 notes6 answers6
+                → length answers6 < n
+                → TracesAt c t 0 store6 notes6 answers6 (rounds world n label it v dp db ways normal source6 answers6))
+                → (source6 store6 : Store) (notes6 : Notes) (answers6 : List Answer)
+                → IsRound c R store notes answers f i t iterator collection.identifier.0 it v source6 store6 notes6 answers6
+                → length answers6 < n
+                → TracesAt c l 0 store6 notes6 answers6
+                (db (in_body n it v) (λ end. rounds world n label it v dp db ways normal) source6 answers6)
             round it v n next source6 store6 notes6 answers6 q less =
-                use_statement (in_body n it v) (rounds world n label it v dp db ways normal) rb cover2 (first_extends.sound sound) shares (inside_refl (between s0 s2)) (throws_then (innermost s.handlers) ways.throws body_part q.since.later throws) jumps2 (since_start q.since.agrees)
-                (λ source7 store7 notes7 answers7 u7 w7. hole_goes (without_scope s2) i gotos.Continue part s.current c store7 notes7 answers7 _ cover_s (onto it v n next source7 store7 notes7 answers7 (on u7) (omega (arith, u7.later.fewer, less))))
+                use_statement (in_body n it v) (rounds world n label it v dp db ways normal) rb cover2 (first_extends.sound sound) shares
+                (inside_refl (between s0 s2)) (throws_then (innermost s.handlers) ways.throws body_part q.since.later throws) jumps2
+                (since_start q.since.agrees)
+                (λ source7 store7 notes7 answers7 u7 w7. hole_goes
+                (without_scope s2) i gotos.Continue part s.current c store7 notes7 answers7 _ cover_s
+                (onto it v n next source7 store7 notes7 answers7 (on u7) (omega (arith, u7.later.fewer, less))))
               where
-                on : {source7 store7 : Store} {notes7 : Notes} {answers7 : List Answer} → Since c (between s0 s2) store6 notes6 answers6 source7 store7 notes7 answers7 → IsRound c R store notes answers f i t iterator collection.identifier.0 it v source7 store7 notes7 answers7
-                on u = round_then q body_part u iterator_free collection_free (inr (omega (arith, collection_late, collection_made))) (inr collection_late) (inl (omega arith)) (inl (omega arith)) (inl (omega arith))
+                on : {source7 store7 : Store} {notes7 : Notes} {answers7 : List Answer}
+                    → Since c (between s0 s2) store6 notes6 answers6 source7 store7 notes7 answers7
+                    → IsRound c R store notes answers f i t iterator collection.identifier.0 it v source7 store7 notes7 answers7
+                on u = round_then q body_part u iterator_free collection_free (inr (omega (arith, collection_late, collection_made)))
+                    (inr collection_late) (inl (omega arith)) (inl (omega arith)) (inl (omega arith))
 
                 jumps2 : Jumps c (between s0 s2) store6 notes6 answers6 s0.scopes (in_body n it v).breaks (in_body n it v).continues
                 jumps2 =
                     jumps_in_loop label (block_id i) (block_id f) (rounds world n label it v dp db ways normal) normal ways s.scopes
-                    (record { goes = λ source7 store7 notes7 answers7 u7. onto it v n next source7 store7 notes7 answers7 (on u7) (omega (arith, u7.later.fewer, less)) })
+                    (record {
+                      goes = λ source7 store7 notes7 answers7 u7. onto it v n next source7 store7 notes7 answers7 (on u7)
+                          (omega (arith, u7.later.fewer, less));
+                    })
                     (follows_then body_part q.since.later onward)
                     (jumps_then body_part q.since.later jumps)
 
             -- At most n rounds, from the test.
-            again : (it v : Value) (n : ℕ) (source6 store6 : Store) (notes6 : Notes) (answers6 : List Answer) → IsRound c R store notes answers f i t iterator collection.identifier.0 it v source6 store6 notes6 answers6 → length answers6 < n
+            again : (it v : Value) (n : ℕ) (source6 store6 : Store) (notes6 : Notes) (answers6 : List Answer)
+                → IsRound c R store notes answers f i t iterator collection.identifier.0 it v source6 store6 notes6 answers6
+                → length answers6 < n
                 → TracesAt c t 0 store6 notes6 answers6 (rounds world n label it v dp db ways normal source6 answers6)
             again it v zero source6 store6 notes6 answers6 q less = absurd (omega (arith, less))
             again it v (suc n) source6 store6 notes6 answers6 q less =
                 steps_on c t 0 store6 notes6 answers6 (Runs steps) _ (instruction_met (with_temporary st (Some left)) steps c cover_n)
-                (subst (λ (o : Option Note). Eventually c (λ stuck next. step_to stuck c (exit_at o) (next_of (store6 iterator) (store6 collection.identifier.0)) next_id next t 0 store6 notes6 answers6) (rounds world (suc n) label it v dp db ways normal source6 answers6)) (sym q.at_test)
-                (subst (λ (w : Value). Eventually c (λ stuck next. stepped (changer c) (next_of w (store6 collection.identifier.0)) store6 answers6 (λ y later rest. next t 1 (set later next_id y) notes6 rest) (λ later rest. next f 0 later notes6 rest) (caught stuck (c.catcher t) notes6 next)) (rounds world (suc n) label it v dp db ways normal source6 answers6)) (sym q.has_iterator)
-                (subst (λ (w : Value). Eventually c (λ stuck next. stepped (changer c) (next_of it w) store6 answers6 (λ y later rest. next t 1 (set later next_id y) notes6 rest) (λ later rest. next f 0 later notes6 rest) (caught stuck (c.catcher t) notes6 next)) (rounds world (suc n) label it v dp db ways normal source6 answers6)) (sym q.has_collection)
-                (steps_come c world cover.names.one shares (next_of it v) answers6 (λ next y later rest. next t 1 (set later next_id y) notes6 rest) (λ next later rest. next f 0 later notes6 rest) (λ stuck next. caught stuck (c.catcher t) notes6 next)
-                (λ y. dp y in_head (λ end. db (in_body n it v) (λ end. rounds world n label it v dp db ways normal))) normal ways.throws q.since.agrees
-                (λ y source7 store7 rest after. goes_behind (innermost st.handlers) (with_temporary st (Some left)) steps c (set store7 next_id y) notes6 rest _ refl cover_n
+                (subst (λ (o : Option Note). Eventually c
+                (λ stuck next. step_to stuck c (exit_at o)
+                (next_of (store6 iterator) (store6 collection.identifier.0)) next_id next t 0 store6 notes6 answers6)
+                (rounds world (suc n) label it v dp db ways normal source6 answers6)) (sym q.at_test)
+                (subst (λ (w : Value). Eventually c
+                (λ stuck next. stepped (changer c) (next_of w (store6 collection.identifier.0)) store6 answers6
+                (λ y later rest. next t 1 (set later next_id y) notes6 rest) (λ later rest. next f 0 later notes6 rest)
+                (caught stuck (c.catcher t) notes6 next)) (rounds world (suc n) label it v dp db ways normal source6 answers6))
+                (sym q.has_iterator)
+                (subst (λ (w : Value). Eventually c
+                (λ stuck next. stepped (changer c) (next_of it w) store6 answers6
+                (λ y later rest. next t 1 (set later next_id y) notes6 rest) (λ later rest. next f 0 later notes6 rest)
+                (caught stuck (c.catcher t) notes6 next)) (rounds world (suc n) label it v dp db ways normal source6 answers6))
+                (sym q.has_collection)
+                (steps_come c world cover.names.one shares (next_of it v) answers6
+                (λ next y later rest. next t 1 (set later next_id y) notes6 rest) (λ next later rest. next f 0 later notes6 rest)
+                (λ stuck next. caught stuck (c.catcher t) notes6 next)
+                (λ y. dp y in_head (λ end. db (in_body n it v)
+                (λ end. rounds world n label it v dp db ways normal))) normal ways.throws q.since.agrees
+                (λ y source7 store7 rest after. goes_behind (innermost st.handlers) (with_temporary st (Some left)) steps c
+                (set store7 next_id y) notes6 rest _ refl cover_n
                 (taken (again it v n) y source7 store7 rest (behind source7 store7 rest after) (omega (arith, after.fewer, less))))
-                (λ source7 store7 rest after. onward.goes source7 store7 notes6 rest (since_then (inside_refl R) q.since.later (after.since R)))
-                (λ w source7 store7 rest after. subst (λ (o : Option ℕ). Eventually c (λ stuck next. caught stuck o notes6 next w store7 rest) (ways.throws w source7 rest)) (sym (catches (innermost st.handlers) (with_temporary st (Some left)) steps c refl cover_n))
-                (thrown_comes (innermost st.handlers) c R store notes answers ways.throws w source7 store7 notes6 rest (same_throws c R store notes answers s st ways.throws tested_extends.handlers throws) (since_then (inside_refl R) q.since.later (after.since R))))))))
+                (λ source7 store7 rest after. onward.goes source7 store7 notes6 rest
+                (since_then (inside_refl R) q.since.later (after.since R)))
+                (λ w source7 store7 rest after. subst
+                (λ (o : Option ℕ). Eventually c (λ stuck next. caught stuck o notes6 next w store7 rest) (ways.throws w source7 rest))
+                (sym (catches (innermost st.handlers) (with_temporary st (Some left)) steps c refl cover_n))
+                (thrown_comes (innermost st.handlers) c R store notes answers ways.throws w source7 store7 notes6 rest
+                (same_throws c R store notes answers s st ways.throws tested_extends.handlers throws)
+                (since_then (inside_refl R) q.since.later (after.since R))))))))
               where
                 -- Behind the answer.
-                behind : (source7 store7 : Store) (rest : List Answer) → IsBehind c store6 notes6 answers6 source7 store7 rest → IsRound c R store notes answers f i t iterator collection.identifier.0 it v source7 store7 notes6 rest
-                behind source7 store7 rest after = round_then q (record { identifier = omega (arith, tested_extends.identifiers, next_extends.identifiers, gp.identifiers); identifiers = omega arith; block = omega (arith, tested_extends.blocks, next_extends.blocks, gp.blocks); blocks = omega arith }) (after.since (between finished finished)) iterator_free collection_free (inl (omega (arith, iterator_made, next_made, ids_end))) (inl (omega (arith, collection_made, iterator_made, next_made, ids_end))) (inl (omega (arith, blocks_end))) (inl (omega (arith, blocks_end))) (inl (omega (arith, blocks_end)))
+                behind : (source7 store7 : Store) (rest : List Answer) → IsBehind c store6 notes6 answers6 source7 store7 rest
+                    → IsRound c R store notes answers f i t iterator collection.identifier.0 it v source7 store7 notes6 rest
+                behind source7 store7 rest after =
+                    round_then q (record {
+                      identifier = omega
+                          (arith, tested_extends.identifiers, next_extends.identifiers, gp.identifiers);
+                      identifiers = omega arith;
+                      block =
+                          omega (arith, tested_extends.blocks, next_extends.blocks, gp.blocks);
+                      blocks = omega arith;
+                    })
+                    (after.since (between finished finished)) iterator_free collection_free
+                    (inl (omega (arith, iterator_made, next_made, ids_end)))
+                    (inl (omega (arith, collection_made, iterator_made, next_made, ids_end))) (inl (omega (arith, blocks_end)))
+                    (inl (omega (arith, blocks_end))) (inl (omega (arith, blocks_end)))
 
                 -- The assignment of the next value, and the body.
-                taken : ((source8 store8 : Store) (notes8 : Notes) (answers8 : List Answer) → IsRound c R store notes answers f i t iterator collection.identifier.0 it v source8 store8 notes8 answers8 → length answers8 < n → TracesAt c t 0 store8 notes8 answers8 (rounds world n label it v dp db ways normal source8 answers8))
-                    → (y : Value) (source7 store7 : Store) (rest : List Answer) → IsRound c R store notes answers f i t iterator collection.identifier.0 it v source7 store7 notes6 rest → length rest < n
-                    → TracesFrom c sn (set store7 next_id y) notes6 rest (dp y in_head (λ end. db (in_body n it v) (λ end. rounds world n label it v dp db ways normal)) source7 rest)
+                taken : ((source8 store8 : Store) (notes8 : Notes) (answers8 : List Answer)
+                    → IsRound c R store notes answers f i t iterator collection.identifier.0 it v source8 store8 notes8 answers8
+                    → length answers8 < n
+                    → TracesAt c t 0 store8 notes8 answers8 (rounds world n label it v dp db ways normal source8 answers8))
+                    → (y : Value) (source7 store7 : Store) (rest : List Answer)
+                    → IsRound c R store notes answers f i t iterator collection.identifier.0 it v source7 store7 notes6 rest
+                    → length rest < n
+                    → TracesFrom c sn (set store7 next_id y) notes6 rest
+                    (dp y in_head (λ end. db (in_body n it v) (λ end. rounds world n label it v dp db ways normal)) source7 rest)
                 taken next y source7 store7 rest q7 less7 =
-                    rp.runs c cover5 (next_extends.sound (tested_extends.sound sound)) shares next_free next_made in_head (db (in_body n it v) (λ end. rounds world n label it v dp db ways normal)) y source7 (set store7 next_id y) notes6 rest q8.since.agrees (set_same store7 next_id y)
-                    (throws_then (innermost sn.handlers) ways.throws next_part q8.since.later (same_throws c R store notes answers s sn ways.throws handlers_next throws))
+                    rp.runs c cover5 (next_extends.sound (tested_extends.sound sound)) shares next_free next_made in_head
+                    (db (in_body n it v) (λ end. rounds world n label it v dp db ways normal)) y source7
+                    (set store7 next_id y) notes6 rest q8.since.agrees (set_same store7 next_id y)
+                    (throws_then (innermost sn.handlers) ways.throws next_part q8.since.later
+                    (same_throws c R store notes answers s sn ways.throws handlers_next throws))
                     (record {
                       goes = λ source9 store9 notes9 answers9 u9.
                           let q9 = round_then q8 next_part u9 iterator_free collection_free (inl (omega (arith, iterator_made, next_extends.identifiers))) (inl (omega (arith, collection_made, iterator_made, next_extends.identifiers))) (inl below_i) (inl below_t) (inl below_f) in
-                          steps_on c s5.current.id.0 (length s5.current.instructions) store9 notes9 answers9 (Ends (branch test l f f span)) _ (terminal_met s5 (branch test l f f span) (new_block f block.Block) c cover)
-                          (subst (λ (o : Option Note). Eventually c (λ stuck next. branched stuck c (choice_at o) test.identifier.0 (block_id l) (block_id f) next next notes9 store9 answers9) (db (in_body n it v) (λ end. rounds world n label it v dp db ways normal) source9 answers9)) (sym q9.at_behind)
+                          steps_on c s5.current.id.0 (length s5.current.instructions) store9 notes9 answers9
+                          (Ends (branch test l f f span)) _ (terminal_met s5 (branch test l f f span) (new_block f block.Block) c cover)
+                          (subst (λ (o : Option Note). Eventually c
+                          (λ stuck next. branched stuck c (choice_at o) test.identifier.0 (block_id l)
+                          (block_id f) next next notes9 store9 answers9)
+                          (db (in_body n it v) (λ end. rounds world n label it v dp db ways normal) source9 answers9))
+                          (sym q9.at_behind)
                           (round it v n next source9 store9 notes9 answers9 q9 (omega (arith, u9.later.fewer, less7))));
                     })
                   where
@@ -310,9 +427,11 @@ module _ (s s2 s3 s5 : State) (label : Label) (collection test : Place) (span le
                     below_f : f < sn.env.next_block
                     below_f = omega (arith, aside_extends.blocks, gr.blocks, open_extends.blocks, next_extends.blocks)
 
-                    q8 : IsRound c R store notes answers f i t iterator collection.identifier.0 it v source7 (set store7 next_id y) notes6 rest
+                    q8 : IsRound c R store notes answers f i t iterator collection.identifier.0 it v source7
+                        (set store7 next_id y) notes6 rest
                     q8 = record {
-                      since = since_set next_id y next_free (omega (arith, tested_extends.identifiers)) (omega (arith, next_made, ids_end)) q7.since;
+                      since = since_set next_id y next_free (omega (arith, tested_extends.identifiers))
+                          (omega (arith, next_made, ids_end)) q7.since;
                       has_iterator = (let ne : iterator ≡ next_id → ⊥ = λ e. omega (arith, e, iterator_made) in set_other store7 next_id iterator y ne) ∙ q7.has_iterator;
                       has_collection = (let ne : collection.identifier.0 ≡ next_id → ⊥ = λ e. omega (arith, e, iterator_made, collection_made) in set_other store7 next_id collection.identifier.0 y ne) ∙ q7.has_collection;
                       at_init = q7.at_init;
@@ -321,18 +440,40 @@ module _ (s s2 s3 s5 : State) (label : Label) (collection test : Place) (span le
                     }
 
             -- In the init, with the loop noted.
-            from_init : (v : Value) (source1 store1 : Store) (notes1 : Notes) (answers1 : List Answer) → Since c R store notes answers source1 store1 notes1 answers1 → store1 collection.identifier.0 ≡ v
-                → TracesAt c i 0 store1 (noted (noted (noted notes1 (block_id i) X) (block_id t) X) (block_id f) X) answers1 (fired (set_open world.opens) (get_iterator v) source1 answers1 (λ it e r. rounds world (suc (length r)) label it.value v dp db ways normal e r) ways.throws)
+            from_init : (v : Value) (source1 store1 : Store) (notes1 : Notes) (answers1 : List Answer)
+                → Since c R store notes answers source1 store1 notes1 answers1 → store1 collection.identifier.0 ≡ v
+                → TracesAt c i 0 store1 (noted (noted (noted notes1 (block_id i) X) (block_id t) X) (block_id f) X) answers1
+                (fired (set_open world.opens) (get_iterator v) source1 answers1
+                (λ it e r. rounds world (suc (length r)) label it.value v dp db ways normal e r) ways.throws)
             from_init v source1 store1 notes1 answers1 t1 is =
                 steps_on c i 0 store1 notes2 answers1 (Runs opens) _ (instruction_met (with_temporary si (Some span)) opens c cover_o)
-                (subst (λ (o : Option Note). Eventually c (λ stuck next. opened stuck c o (get_iterator (store1 collection.identifier.0)) iterator next next i 0 store1 notes2 answers1) (fired (set_open world.opens) (get_iterator v) source1 answers1 (λ it e r. rounds world (suc (length r)) label it.value v dp db ways normal e r) ways.throws)) (sym at_i)
-                (subst (λ (w : Value). Eventually c (λ stuck next. fired (changer c) (get_iterator w) store1 answers1 (λ it later rest. next i 1 (set later iterator it.value) notes3 rest) (caught stuck (c.catcher i) notes3 next)) (fired (set_open world.opens) (get_iterator v) source1 answers1 (λ it e r. rounds world (suc (length r)) label it.value v dp db ways normal e r) ways.throws)) (sym is)
-                (fired_comes c world cover.names.one shares (get_iterator v) answers1 (λ next it later rest. next i 1 (set later iterator it.value) notes3 rest) (λ stuck next. caught stuck (c.catcher i) notes3 next) (λ it e r. rounds world (suc (length r)) label it.value v dp db ways normal e r) ways.throws t1.agrees
-                (λ it source4 store4 rest after. goes_behind (innermost si.handlers) (with_temporary si (Some span)) opens c (set store4 iterator it.value) notes3 rest _ refl cover_o
+                (subst (λ (o : Option Note). Eventually c
+                (λ stuck next. opened stuck c o
+                (get_iterator (store1 collection.identifier.0)) iterator next next i 0 store1 notes2 answers1)
+                (fired (set_open world.opens) (get_iterator v) source1 answers1
+                (λ it e r. rounds world (suc (length r)) label it.value v dp db ways normal e r) ways.throws)) (sym at_i)
+                (subst (λ (w : Value). Eventually c
+                (λ stuck next. fired (changer c) (get_iterator w) store1 answers1
+                (λ it later rest. next i 1 (set later iterator it.value) notes3 rest) (caught stuck (c.catcher i) notes3 next))
+                (fired (set_open world.opens) (get_iterator v) source1 answers1
+                (λ it e r. rounds world (suc (length r)) label it.value v dp db ways normal e r) ways.throws)) (sym is)
+                (fired_comes c world cover.names.one shares (get_iterator v) answers1
+                (λ next it later rest. next i 1 (set later iterator it.value) notes3 rest)
+                (λ stuck next. caught stuck (c.catcher i) notes3 next)
+                (λ it e r. rounds world (suc (length r)) label it.value v dp db ways normal e r) ways.throws t1.agrees
+                (λ it source4 store4 rest after. goes_behind (innermost si.handlers) (with_temporary si (Some span)) opens c
+                (set store4 iterator it.value) notes3 rest _ refl cover_o
                 (hole_goes so t gotos.Break span (new_block t block.Loop) c (set store4 iterator it.value) notes3 rest _ cover_t
-                (again it.value v (suc (length rest)) source4 (set store4 iterator it.value) notes3 rest (begins it.value source4 store4 rest (since_then (inside_refl R) since3.later (after.since R)) ((after.since (between finished finished)).later.temporaries collection.identifier.0 collection_free (inl (omega (arith, collection_made, iterator_made, next_made, ids_end))) ∙ is)) (omega arith))))
-                (λ w source4 store4 rest after. subst (λ (o : Option ℕ). Eventually c (λ stuck next. caught stuck o notes3 next w store4 rest) (ways.throws w source4 rest)) (sym (catches (innermost si.handlers) (with_temporary si (Some span)) opens c refl cover_o))
-                (thrown_comes (innermost si.handlers) c R store notes answers ways.throws w source4 store4 notes3 rest (same_throws c R store notes answers s si ways.throws right_extends.handlers throws) (since_then (inside_refl R) since3.later (after.since R)))))))
+                (again it.value v (suc (length rest)) source4 (set store4 iterator it.value) notes3 rest
+                (begins it.value source4 store4 rest (since_then (inside_refl R) since3.later (after.since R))
+                ((after.since (between finished finished)).later.temporaries collection.identifier.0 collection_free
+                (inl (omega (arith, collection_made, iterator_made, next_made, ids_end))) ∙ is)) (omega arith))))
+                (λ w source4 store4 rest after. subst
+                (λ (o : Option ℕ). Eventually c (λ stuck next. caught stuck o notes3 next w store4 rest) (ways.throws w source4 rest))
+                (sym (catches (innermost si.handlers) (with_temporary si (Some span)) opens c refl cover_o))
+                (thrown_comes (innermost si.handlers) c R store notes answers ways.throws w source4 store4 notes3 rest
+                (same_throws c R store notes answers s si ways.throws right_extends.handlers throws)
+                (since_then (inside_refl R) since3.later (after.since R)))))))
               where
                 notes2 : Notes
                 notes2 = noted (noted (noted notes1 (block_id i) X) (block_id t) X) (block_id f) X
@@ -343,19 +484,29 @@ module _ (s s2 s3 s5 : State) (label : Label) (collection test : Place) (span le
                 at_i : notes2 i ≡ Some X
                 at_i =
                     let ne : i ≡ f → ⊥ = λ e. omega (arith, e) in let ne1 : i ≡ t → ⊥ = λ e. omega (arith, e) in
-                    noted_other (noted (noted notes1 (block_id i) X) (block_id t) X) (block_id f) i X ne ∙ noted_other (noted notes1 (block_id i) X) (block_id t) i X ne1 ∙ noted_same notes1 (block_id i) X
+                    noted_other (noted (noted notes1 (block_id i) X) (block_id t) X) (block_id f) i X ne
+                    ∙ noted_other (noted notes1 (block_id i) X) (block_id t) i X ne1 ∙ noted_same notes1 (block_id i) X
 
                 since3 : Since c R store notes answers source1 store1 notes3 answers1
-                since3 = since_noted (block_id i) (Iterates (block_id f) true) (omega arith) (omega (arith, blocks_end)) (since_noted (block_id f) X (omega arith) (omega (arith, blocks_end)) (since_noted (block_id t) X (omega arith) (omega (arith, blocks_end)) (since_noted (block_id i) X (omega arith) (omega (arith, blocks_end)) t1)))
+                since3 = since_noted (block_id i) (Iterates (block_id f) true) (omega arith) (omega (arith, blocks_end))
+                    (since_noted (block_id f) X (omega arith) (omega (arith, blocks_end))
+                    (since_noted (block_id t) X (omega arith) (omega (arith, blocks_end))
+                    (since_noted (block_id i) X (omega arith) (omega (arith, blocks_end)) t1)))
 
-                begins : (it : Value) (source4 store4 : Store) (rest : List Answer) → Since c R store notes answers source4 store4 notes3 rest → store4 collection.identifier.0 ≡ v → IsRound c R store notes answers f i t iterator collection.identifier.0 it v source4 (set store4 iterator it) notes3 rest
+                begins : (it : Value) (source4 store4 : Store) (rest : List Answer)
+                    → Since c R store notes answers source4 store4 notes3 rest → store4 collection.identifier.0 ≡ v
+                    → IsRound c R store notes answers f i t iterator collection.identifier.0 it v source4
+                    (set store4 iterator it) notes3 rest
                 begins it source4 store4 rest u has = record {
-                  since = since_set iterator it iterator_free (omega (arith, right_extends.identifiers)) (omega (arith, iterator_made, next_made, ids_end)) u;
+                  since = since_set iterator it iterator_free (omega (arith, right_extends.identifiers))
+                      (omega (arith, iterator_made, next_made, ids_end)) u;
                   has_iterator = set_same store4 iterator it;
                   has_collection = (let ne : collection.identifier.0 ≡ iterator → ⊥ = λ e. omega (arith, e, collection_made) in set_other store4 iterator collection.identifier.0 it ne) ∙ has;
                   at_init = noted_same notes2 (block_id i) (Iterates (block_id f) true);
                   at_test =
                       let ne : t ≡ i → ⊥ = λ e. omega (arith, e) in let ne1 : t ≡ f → ⊥ = λ e. omega (arith, e) in
-                      noted_other notes2 (block_id i) t (Iterates (block_id f) true) ne ∙ noted_other (noted (noted notes1 (block_id i) X) (block_id t) X) (block_id f) t X ne1 ∙ noted_same (noted notes1 (block_id i) X) (block_id t) X;
+                      noted_other notes2 (block_id i) t (Iterates (block_id f) true) ne
+                      ∙ noted_other (noted (noted notes1 (block_id i) X) (block_id t) X) (block_id f) t X ne1
+                      ∙ noted_same (noted notes1 (block_id i) X) (block_id t) X;
                   at_behind = let ne : f ≡ i → ⊥ = λ e. omega (arith, e) in noted_other notes2 (block_id i) f (Iterates (block_id f) true) ne ∙ noted_same (noted (noted notes1 (block_id i) X) (block_id t) X) (block_id f) X;
                 }

@@ -79,10 +79,13 @@ module _ (s s2 : State) (label : List ℕ) (span part : Span) where
         run_it c cover sound shares ways normal source store notes answers a throws jumps onward =
             goes_on shut (label_end f span) (new_block f block.Block) c (block_id (f + 1))
             ((block_id f, PassesOn) ∷ []) store notes answers _ refl cover
-            (use_statement (label_ways label normal (λ after rest. waiting) ways) normal rd cover2 (first_extends.sound sound) shares in_hole throws
+            (use_statement (label_ways label normal (λ after rest. waiting) ways) normal rd cover2
+            (first_extends.sound sound) shares in_hole throws
             (jumps_in_label label (block_id f) normal (λ after rest. waiting) ways s.scopes onward jumps)
             (since_noted (block_id f) PassesOn (omega arith) (omega (arith, g.blocks)) (since_start a))
-            (λ source1 store1 notes1 answers1 t u. hole_goes (without_scope s2) f gotos.Break part s.current c store1 notes1 answers1 _ cover_shut (onward.goes source1 store1 notes1 answers1 t)))
+            (λ source1 store1 notes1 answers1 t u. hole_goes
+            (without_scope s2) f gotos.Break part s.current c store1 notes1 answers1 _ cover_shut
+            (onward.goes source1 store1 notes1 answers1 t)))
           where
             cover_shut : IsContainedIn shut c
             cover_shut = contained_before last_extends cover
@@ -122,7 +125,9 @@ module _ (x s2 : State) (own : List ℕ) (span part : Span) where
     all_extends : Extends x last
     all_extends =
         extends_then (extends_then (extends_reserved x) (extends_reserved (reserved x)))
-        (extends_then (aside r s2 (new_block (n + 1) block.Block) opened.scopes (take (length s2.scopes - 1) s2.scopes) x.handlers s2.handlers (goto n gotos.Break part) scopes_left b.extends.handlers b.extends)
+        (extends_then (aside r s2 (new_block (n + 1) block.Block) opened.scopes
+        (take (length s2.scopes - 1) s2.scopes) x.handlers s2.handlers
+        (goto n gotos.Break part) scopes_left b.extends.handlers b.extends)
         (extends_completed closed (label_end n span) (new_block n block.Block) (λ none. refl)))
 
     first : (id : ℕ) → n ≤ id → id < n + 1 + 1 → UniqueIds x.completed x.current.id.0 n
@@ -132,7 +137,8 @@ module _ (x s2 : State) (own : List ℕ) (span part : Span) where
     all_ids : PreservesIds x last
     all_ids =
         ids_ended closed (label_end n span) (new_block n block.Block)
-        (ids_aside r sr (n + 1) (goto n gotos.Break part) (ids_counted x.completed x.current.id.0 n (n + 1 + 1) (omega arith)) (inr (omega arith)) (first (n + 1) (omega arith) (omega arith)) b.ids)
+        (ids_aside r sr (n + 1) (goto n gotos.Break part) (ids_counted x.completed x.current.id.0 n (n + 1 + 1) (omega arith))
+        (inr (omega arith)) (first (n + 1) (omega arith) (omega arith)) b.ids)
         (inr (omega arith))
         (λ c. free_aside r sr (n + 1) n (goto n gotos.Break part) (first n (omega arith) (omega arith) c) (λ e. omega (arith, e)) b.ids)
 
@@ -168,7 +174,8 @@ module _ (x s2 : State) (own : List ℕ) (span part : Span) where
     all_named : NamesSince x last
     all_named =
         named_ended x closed (label_end n span) (new_block n block.Block) to_closed
-        (named_two x (block_id (n + 1)) (block_id n) sr.env.next_block (omega arith) (omega (arith, b.extends.blocks)) (omega arith) (omega (arith, b.extends.blocks)))
+        (named_two x (block_id (n + 1)) (block_id n) sr.env.next_block (omega arith) (omega (arith, b.extends.blocks)) (omega arith)
+        (omega (arith, b.extends.blocks)))
 
     closed_straight : StraightSince sr last
     closed_straight =
@@ -187,7 +194,8 @@ module _ (x s2 : State) (own : List ℕ) (span part : Span) where
     cover_body : (c : Code) → IsContainedIn last c → IsContainedIn s2 c
     cover_body c cover =
         contained_stacked s2 (take (length s2.scopes - 1) s2.scopes) s2.handlers c (λ none. none)
-        (contained_hole sr n gotos.Break part x.current c (contained_before (extends_completed closed (label_end n span) (new_block n block.Block) (λ none. refl)) cover))
+        (contained_hole sr n gotos.Break part x.current c
+        (contained_before (extends_completed closed (label_end n span) (new_block n block.Block) (λ none. refl)) cover))
 
     pub label_blocks : PreservesBlocks x last
     label_blocks = record {
@@ -195,7 +203,8 @@ module _ (x s2 : State) (own : List ℕ) (span part : Span) where
       ids = all_ids;
       used = all_used;
       named = all_named;
-      ended = λ all. ends_more closed.completed (ended_by x.current (label_end n span)) refl (ends_more sr.completed (ended_by sr.current (goto n gotos.Break part)) refl (b.ended all));
+      ended = λ all. ends_more closed.completed (ended_by x.current (label_end n span)) refl
+          (ends_more sr.completed (ended_by sr.current (goto n gotos.Break part)) refl (b.ended all));
       straight = all_straight;
       settle = settles;
       looped = λ c cover entry old.
@@ -259,13 +268,16 @@ module _ (x s2 : State) (own : List ℕ) (span part : Span) where
       pub label_comes : Passes (label_begun x own) s2 → (c : Code) → IsContainedIn last c → (entry : ℕ)
           → IsLedTo c entry (x.env.next_block + 1) → IsLedTo c entry x.env.next_block
       label_comes passes c cover entry led =
-          Leads s2.current.id.0 (length s2.current.instructions) (goto n gotos.Break part) (block_id n) (passes c (cover_body c cover) entry led)
-          (terminal_met sr (goto n gotos.Break part) x.current c (contained_before (extends_completed closed (label_end n span) (new_block n block.Block) (λ none. refl)) cover))
+          Leads s2.current.id.0 (length s2.current.instructions) (goto n gotos.Break part) (block_id n)
+          (passes c (cover_body c cover) entry led)
+          (terminal_met sr (goto n gotos.Break part) x.current c
+          (contained_before (extends_completed closed (label_end n span) (new_block n block.Block) (λ none. refl)) cover))
           (or_left (same_id (block_id n) (block_id n)) false (same_self (block_id n)))
 
       -- The statement completes where its body does, or where a `break` in it leads behind the statement.
       pub label_lives : (live : List K) (one left : Bool)
-          → (left ≡ true → (c : Code) → IsContainedIn last c → (entry : ℕ) → IsLedTo c entry (x.env.next_block + 1) → IsLedTo c entry x.env.next_block)
+          → (left ≡ true → (c : Code) → IsContainedIn last c → (entry : ℕ) → IsLedTo c entry (x.env.next_block + 1)
+          → IsLedTo c entry x.env.next_block)
           → Lives key_of live one (label_begun x own) s2 → Lives key_of live left x last
       label_lives live one left comes l = record {
         onward = λ is c cover entry led. comes is c cover entry (at_hole c cover entry led);

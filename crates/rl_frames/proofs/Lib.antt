@@ -1,8 +1,4 @@
 pub mod Composes
-pub mod DoLives
-pub mod DoLoopBlocks
-pub mod DoLoops
-pub mod DoNotes
 pub mod FrameSizes
 pub mod IfBlocks
 pub mod IfThenBlocks
@@ -13,15 +9,16 @@ pub mod Links
 pub mod Lives
 pub mod Logicals
 pub mod LoopBlocks
+pub mod LoopLives
+pub mod LoopNotes
+pub mod LoopStates
 pub mod Loops
 pub mod Meant
 pub mod Named
 pub mod Sequences
-pub mod Stepped
 pub mod Ternaries
 pub mod Tries
 pub mod TryBlocks
-pub mod Unread
 pub mod ValueBlocks
 pub mod ValueFrames
 pub mod ValueLives

@@ -43,22 +43,33 @@ decides : (c : Code) (world : World) (one : AreOne c.ident) (shares : SharesVari
     (operator : LogicalOperator)
     (test : ℕ) (v : Value) (source store : Store) (notes : Notes) (answers : List Answer) (consequent alternate : BlockId)
     (k_left k_right : Cont) → store test ≡ v → Agrees c.ident source store
-    → ((source1 store1 : Store) (rest : List Answer) → IsBehind c store notes answers source1 store1 rest → TracesAt c consequent.0 0 store1 notes rest (k_left source1 rest))
-    → ((source1 store1 : Store) (rest : List Answer) → IsBehind c store notes answers source1 store1 rest → TracesAt c alternate.0 0 store1 notes rest (k_right source1 rest))
+    → ((source1 store1 : Store) (rest : List Answer) → IsBehind c store notes answers source1 store1 rest
+    → TracesAt c consequent.0 0 store1 notes rest (k_left source1 rest))
+    → ((source1 store1 : Store) (rest : List Answer) → IsBehind c store notes answers source1 store1 rest
+    → TracesAt c alternate.0 0 store1 notes rest (k_right source1 rest))
     → Eventually c (λ stuck next. branched stuck c (choice (Connects operator)) test consequent alternate next next notes store answers)
     (decided operator (set_open world.opens) v source answers k_left k_right)
 decides c world one shares logical.And test v source store notes answers consequent alternate k_left k_right is a left right =
-    subst (λ (w : Value). Eventually c (λ stuck next. tested (changer c) (truthy w) store answers (at next alternate notes) (at next consequent notes)) (tested (set_open world.opens) (truthy v) source answers k_right k_left))
+    subst (λ (w : Value). Eventually c
+    (λ stuck next. tested (changer c) (truthy w) store answers (at next alternate notes) (at next consequent notes))
+    (tested (set_open world.opens) (truthy v) source answers k_right k_left))
     (sym is)
-    (tests_come c world one shares (truthy v) answers (λ next. at next alternate notes) (λ next. at next consequent notes) k_right k_left a right left)
+    (tests_come c world one shares (truthy v) answers (λ next. at next alternate notes)
+    (λ next. at next consequent notes) k_right k_left a right left)
 decides c world one shares logical.Or test v source store notes answers consequent alternate k_left k_right is a left right =
-    subst (λ (w : Value). Eventually c (λ stuck next. tested (changer c) (truthy w) store answers (at next consequent notes) (at next alternate notes)) (tested (set_open world.opens) (truthy v) source answers k_left k_right))
+    subst (λ (w : Value). Eventually c
+    (λ stuck next. tested (changer c) (truthy w) store answers (at next consequent notes) (at next alternate notes))
+    (tested (set_open world.opens) (truthy v) source answers k_left k_right))
     (sym is)
-    (tests_come c world one shares (truthy v) answers (λ next. at next consequent notes) (λ next. at next alternate notes) k_left k_right a left right)
+    (tests_come c world one shares (truthy v) answers (λ next. at next consequent notes)
+    (λ next. at next alternate notes) k_left k_right a left right)
 decides c world one shares logical.Coalesce test v source store notes answers consequent alternate k_left k_right is a left right =
-    subst (λ (w : Value). Eventually c (λ stuck next. tested (changer c) (nullish w) store answers (at next alternate notes) (at next consequent notes)) (tested (set_open world.opens) (nullish v) source answers k_right k_left))
+    subst (λ (w : Value). Eventually c
+    (λ stuck next. tested (changer c) (nullish w) store answers (at next alternate notes) (at next consequent notes))
+    (tested (set_open world.opens) (nullish v) source answers k_right k_left))
     (sym is)
-    (tests_come c world one shares (nullish v) answers (λ next. at next alternate notes) (λ next. at next consequent notes) k_right k_left a right left)
+    (tests_come c world one shares (nullish v) answers (λ next. at next alternate notes)
+    (λ next. at next consequent notes) k_right k_left a right left)
 
 -- No counter fell.
 pub record Below (s s1 : State) : Type 0 where
@@ -117,12 +128,15 @@ module _ (s s2 s4 : State) (operator : LogicalOperator) (right_value left_value 
     first_extends : Extends s s1
     first_extends =
         extends_then (extends_reserved s)
-        (extends_then (extends_reserved (reserved s)) (extends_then (extends_temporary (reserved (reserved s)) (Some span)) (extends_temporary (with_temporary (reserved (reserved s)) (Some span)) (Some left))))
+        (extends_then (extends_reserved (reserved s))
+        (extends_then (extends_temporary (reserved (reserved s)) (Some span))
+        (extends_temporary (with_temporary (reserved (reserved s)) (Some span)) (Some left))))
 
     consequent_extends : Extends sc sd
     consequent_extends =
         extends_then (extends_value sc (values.StoreLocal kind.Const place tested_place) (Some left))
-        (extends_then (extends_reserved sm) (extends_completed (reserved sm) (goto f gotos.Break left) (new_block sm.env.next_block block.Value) (λ none. refl)))
+        (extends_then (extends_reserved sm)
+        (extends_completed (reserved sm) (goto f gotos.Break left) (new_block sm.env.next_block block.Value) (λ none. refl)))
 
     right_extends : Extends s2 sr
     right_extends = extends_value s2 (values.StoreLocal kind.Const place right_value) (Some part)
@@ -164,7 +178,8 @@ module _ (s s2 s4 : State) (operator : LogicalOperator) (right_value left_value 
 
     pub logical_runs : (world : World) (dl dr : Action Value)
         → RunsExpression world dr (logical_begun s span left) s2 right_value.identifier.0
-        → RunsExpression world dl (logical_right s2 s.env.next_block (logical_place s span) operator span s.current right_value part) s4 left_value.identifier.0
+        → RunsExpression world dl
+        (logical_right s2 s.env.next_block (logical_place s span) operator span s.current right_value part) s4 left_value.identifier.0
         → RunsExpression world (connected world operator dl dr) s finished (length s.env.identifiers)
     logical_runs world dl dr rr rl = record {
       fresh = omega arith;
@@ -181,9 +196,12 @@ module _ (s s2 s4 : State) (operator : LogicalOperator) (right_value left_value 
         run_it c cover sound shares ways k source store notes answers a throws onward =
             goes_on shut (logical_end f operator span) (new_block (f + 1) block.Value) c (block_id (f + 1))
             ((block_id (f + 1), Connects operator) ∷ (block_id f, Connects operator) ∷ []) store notes answers _ refl cover_left
-            (use_expression ways (λ v e r. decided operator (set_open world.opens) v e r (k v) (dr ways k)) rl cover4 (left_extends.sound sound) shares (inside left_extends (extends_then (extends_pushed s4 (loads tested_place left_value span)) last_extends))
+            (use_expression ways (λ v e r. decided operator (set_open world.opens) v e r (k v) (dr ways k)) rl cover4
+            (left_extends.sound sound) shares
+            (inside left_extends (extends_then (extends_pushed s4 (loads tested_place left_value span)) last_extends))
             (same_throws c (between s finished) store notes answers s sl ways.throws left_extends.handlers throws)
-            (since_noted (block_id f) (Connects operator) (omega arith) (omega (arith, last_blocks)) (since_noted (block_id (f + 1)) (Connects operator) (omega arith) (omega (arith, last_blocks)) (since_start a)))
+            (since_noted (block_id f) (Connects operator) (omega arith) (omega (arith, last_blocks))
+            (since_noted (block_id (f + 1)) (Connects operator) (omega arith) (omega (arith, last_blocks)) (since_start a)))
             decide)
           where
             m : ℕ
@@ -235,34 +253,71 @@ module _ (s s2 s4 : State) (operator : LogicalOperator) (right_value left_value 
             moved_left = simp length-append (omega arith)
 
             behind_right : Below s2 finished
-            behind_right = record { identifiers = omega (arith, right_extends.identifiers, end_extends.identifiers); blocks = omega (arith, right_extends.blocks, end_extends.blocks) }
+            behind_right =
+                record {
+                  identifiers = omega (arith, right_extends.identifiers, end_extends.identifiers);
+                  blocks = omega
+                      (arith, right_extends.blocks, end_extends.blocks);
+                }
 
             right_fits : length s2.env.identifiers < length finished.env.identifiers
             right_fits =
-                omega (arith, moved_right, (extends_pushed (with_temporary s2 (Some part)) (unordered (temporary s2 (Some part)) (values.StoreLocal kind.Const place right_value) (Some part))).identifiers, end_extends.identifiers)
+                omega (
+                  arith,
+                  moved_right,
+                  (extends_pushed (with_temporary s2 (Some part))
+                      (unordered (temporary s2 (Some part)) (values.StoreLocal kind.Const place right_value)
+                      (Some part))).identifiers,
+                  end_extends.identifiers,
+                )
 
             left_fits : length sc.env.identifiers < length finished.env.identifiers
             left_fits =
-                omega (arith, moved_left, (extends_pushed (with_temporary sc (Some left)) (unordered (temporary sc (Some left)) (values.StoreLocal kind.Const place tested_place) (Some left))).identifiers, gr.identifiers, right_fits)
+                omega (
+                  arith,
+                  moved_left,
+                  (extends_pushed (with_temporary sc (Some left))
+                      (unordered (temporary sc (Some left)) (values.StoreLocal kind.Const place tested_place)
+                      (Some left))).identifiers,
+                  gr.identifiers,
+                  right_fits,
+                )
 
             less : Inside (between s finished) (between sd s2)
-            less = record { identifier = omega (arith, two, consequent_extends.identifiers); identifiers = behind_right.identifiers; block = omega (arith, consequent_extends.blocks); blocks = behind_right.blocks }
+            less = record {
+              identifier = omega
+                  (arith, two, consequent_extends.identifiers);
+              identifiers = behind_right.identifiers;
+              block =
+                  omega (arith, consequent_extends.blocks);
+              blocks = behind_right.blocks;
+            }
 
             -- From behind the terminal and the left part to where it was tested.
             decide : (v : Value) (source4 store4 : Store) (notes4 : Notes) (answers4 : List Answer)
                 → Since c (between s finished) store notes answers source4 store4 notes4 answers4
                 → Since c (between sl s4) store notes1 answers source4 store4 notes4 answers4 → store4 left_value.identifier.0 ≡ v
-                → TracesAt c s4.current.id.0 (length s4.current.instructions) store4 notes4 answers4 (decided operator (set_open world.opens) v source4 answers4 (k v) (dr ways k))
+                → TracesAt c s4.current.id.0 (length s4.current.instructions) store4 notes4 answers4
+                (decided operator (set_open world.opens) v source4 answers4 (k v) (dr ways k))
             decide v source4 store4 notes4 answers4 t u is =
                 push_runs s4 (loads tested_place left_value span) c store4 store5 notes4 answers4 _ (λ stuck next place. refl) cover5
-                (steps_on c s5.current.id.0 (length s5.current.instructions) store5 notes4 answers4 (Ends (branch tested_place (f + 1 + 1) alternate f span)) _ (terminal_met s5 (branch tested_place (f + 1 + 1) alternate f span) (new_block f s.current.kind) c cover)
-                (subst (λ (o : Option Note). Eventually c (λ stuck next. branched stuck c (choice_at o) (m + 1) (block_id (f + 1 + 1)) (block_id alternate) next next notes4 store5 answers4) (decided operator (set_open world.opens) v source4 answers4 (k v) (dr ways k))) (sym mark)
-                (decides c world cover.names.one shares operator (m + 1) v source4 store5 notes4 answers4 (block_id (f + 1 + 1)) (block_id alternate) (k v) (dr ways k) (set_same store4 (m + 1) (store4 left_value.identifier.0) ∙ is) since5.agrees
+                (steps_on c s5.current.id.0 (length s5.current.instructions) store5 notes4 answers4
+                (Ends (branch tested_place (f + 1 + 1) alternate f span)) _
+                (terminal_met s5 (branch tested_place (f + 1 + 1) alternate f span) (new_block f s.current.kind) c cover)
+                (subst (λ (o : Option Note). Eventually c
+                (λ stuck next. branched stuck c (choice_at o) (m + 1) (block_id (f + 1 + 1))
+                (block_id alternate) next next notes4 store5 answers4)
+                (decided operator (set_open world.opens) v source4 answers4 (k v) (dr ways k))) (sym mark)
+                (decides c world cover.names.one shares operator (m + 1) v source4 store5 notes4 answers4 (block_id (f + 1 + 1))
+                (block_id alternate) (k v) (dr ways k) (set_same store4 (m + 1) (store4 left_value.identifier.0) ∙ is) since5.agrees
                 (λ source6 store6 rest after.
                 stores_on sc place tested_place left f v k cover_moved sound_entered free (omega arith) (omega (arith, two)) left_fits
-                (λ store7 trace rest1. hole_goes (reserved sm) f gotos.Break left (new_block sm.env.next_block block.Value) c store7 notes4 rest trace cover_begun rest1) onward
+                (λ store7 trace rest1. hole_goes (reserved sm) f gotos.Break left
+                (new_block sm.env.next_block block.Value) c store7 notes4 rest trace cover_begun rest1) onward
                 (since_then (inside_refl (between s finished)) since5.later (after.since (between s finished)))
-                ((after.since (between finished finished)).later.temporaries (m + 1) (nobody (m + 1) (omega arith) (omega arith) c cover sound) (inl (omega (arith, last_identifiers))) ∙ set_same store4 (m + 1) (store4 left_value.identifier.0) ∙ is))
+                ((after.since (between finished finished)).later.temporaries (m + 1)
+                (nobody (m + 1) (omega arith) (omega arith) c cover sound) (inl (omega (arith, last_identifiers)))
+                ∙ set_same store4 (m + 1) (store4 left_value.identifier.0) ∙ is))
                 (λ source6 store6 rest after.
                 use_expression ways k rr cover2 (consequent_extends.sound sound_entered) shares less
                 (same_throws c (between s finished) store notes answers s sd ways.throws consequent_extends.handlers throws)
@@ -311,7 +366,8 @@ module _ (s s2 s4 : State) (operator : LogicalOperator) (right_value left_value 
         cover_begun : IsContainedIn sd c
         cover_begun =
             contained_before gr
-            (contained_before right_extends (contained_hole sr f gotos.Break part s.current c (contained_before terminal_extends cover_left)))
+            (contained_before right_extends
+            (contained_hole sr f gotos.Break part s.current c (contained_before terminal_extends cover_left)))
 
         cover_moved : IsContainedIn sm c
         cover_moved =
@@ -337,4 +393,5 @@ module _ (s s2 s4 : State) (operator : LogicalOperator) (right_value left_value 
         at_moved : IsLedTo c entry sm.current.id.0
         at_moved =
             passes_pushed (with_temporary sc (Some left))
-            (unordered (temporary sc (Some left)) (values.StoreLocal kind.Const place tested_place) (Some left)) c cover_moved entry at_consequent
+            (unordered (temporary sc (Some left)) (values.StoreLocal kind.Const place tested_place)
+            (Some left)) c cover_moved entry at_consequent

@@ -7,7 +7,8 @@ use Rattle.rl_machine.specs.declared.trace.Answer.{Answer}
 use Rattle.rl_machine.specs.declared.trace.Value.{Value}
 use Rattle.rl_machine.specs.declared.trace.Value.TheVariants.{Text, Undefined}
 use Rattle.rl_machine.specs.Traces.{Cont, Store, ValueCont, fired, set_open, stepped, tested, truthy, waiting}
-use Rattle.rl_model.specs.Actions.{◌>>=◌, ◌>>◌, Action, Label, Ways, ask, body_of_loop, breakable, catching, chained, labeled, loop, next, turns}
+use Rattle.rl_model.specs.Actions.{◌>>=◌, ◌>>◌, Action, Label, Ways, ask, body_of_loop, breakable, catching, chained, labeled, loop, next}
+use Rattle.rl_model.specs.Actions.{turns}
 use Rattle.rl_model.specs.Events.{fixed_key, get_iterator, load, next_of}
 use Rattle.rl_model.specs.Expressions.{eval}
 use Rattle.rl_model.specs.Patterns.{bind}
@@ -35,9 +36,12 @@ module _ (scene : Scene) (own : Label) (condition : Syntax) (body : Action (Unit
       ≡ while_turns scene.world n own (eval scene condition) body ways behind
   turns_meant zero = refl
   turns_meant (suc n) =
-      ap (λ (again : Cont). eval scene condition (switch_ways own behind astray ways) (λ v source answers. tested (set_open scene.world.opens) (truthy v) source answers (body_of_loop own body (switch_ways own behind astray ways) (λ end. again)) behind))
+      ap (λ (again : Cont). eval scene condition (switch_ways own behind astray ways)
+      (λ v source answers. tested (set_open scene.world.opens) (truthy v) source answers
+      (body_of_loop own body (switch_ways own behind astray ways) (λ end. again)) behind))
       (turns_meant n)
-      ∙ ap (λ (k : Cont). eval scene condition (switch_ways own behind astray ways) (λ v source answers. tested (set_open scene.world.opens) (truthy v) source answers k behind))
+      ∙ ap (λ (k : Cont). eval scene condition (switch_ways own behind astray ways)
+      (λ v source answers. tested (set_open scene.world.opens) (truthy v) source answers k behind))
       (loop_body own body behind astray (while_turns scene.world n own (eval scene condition) body ways behind) ways)
 
 -- A `while` loop under a label, or without one.
@@ -105,7 +109,8 @@ module _ (scene : Scene) (own : Label) (head : Syntax) (body : Action (Unit {0})
       ≡ rounds scene.world n own it v (take_head scene head) body ways behind
   rounds_meant zero = refl
   rounds_meant (suc n) =
-      ap (λ (again : Cont). before (λ y. take_head scene head y within (λ end. body_of_loop own body within (λ end. again)))) (rounds_meant n)
+      ap (λ (again : Cont). before (λ y. take_head scene head y within (λ end. body_of_loop own body within (λ end. again))))
+      (rounds_meant n)
       ∙ ap (λ (k : Cont). before (λ y. take_head scene head y within (λ end. k)))
       (loop_body own body behind unknown (rounds scene.world n own it v (take_head scene head) body ways behind) ways)
 
@@ -118,15 +123,18 @@ module _ (scene : Scene) (own : Label) (head : Syntax) (body : Action (Unit {0})
 -- A `for`-`of` loop under a label, or without one.
 pub forof_meant : (scene : Scene) (own : Label) (at : At) (head right body : Syntax) (ways : Ways) (normal : Cont) (source : Store)
     (answers : List Answer)
-    → labeled_by own (exec scene own (Node at word.Forof (Then (Flag false) (Then head (Then right (Then body End)))))) ways (λ end. normal) source answers
+    → labeled_by own (exec scene own (Node at word.Forof (Then (Flag false) (Then head (Then right (Then body End)))))) ways
+    (λ end. normal) source answers
     ≡ iterated scene.world own (eval scene right) (take_head scene head) (exec scene None body) ways (λ end. normal) source answers
 forof_meant scene None at head right body ways normal source answers = λ i.
     eval scene right ways
-    (λ v before those. fired (set_open scene.world.opens) (get_iterator v) before those (λ a after rest. loop_meant scene None head (exec scene None body) normal ways a.value v after rest i) ways.throws)
+    (λ v before those. fired (set_open scene.world.opens) (get_iterator v) before those
+    (λ a after rest. loop_meant scene None head (exec scene None body) normal ways a.value v after rest i) ways.throws)
     source answers
 forof_meant scene (Some label) at head right body ways normal source answers = λ i.
     eval scene right (front_ways (Some label) normal ways)
-    (λ v before those. fired (set_open scene.world.opens) (get_iterator v) before those (λ a after rest. loop_meant scene (Some label) head (exec scene None body) normal ways a.value v after rest i) ways.throws)
+    (λ v before those. fired (set_open scene.world.opens) (get_iterator v) before those
+    (λ a after rest. loop_meant scene (Some label) head (exec scene None body) normal ways a.value v after rest i) ways.throws)
     source answers
 
 -- A labelled statement that is no loop.
@@ -139,7 +147,8 @@ label_meant scene own at label body ways normal source answers = refl
 -- A `try` statement without a `finally`.
 pub try_meant : (scene : Scene) (own : Label) (at there : At) (block param body : Syntax) (ways : Ways) (normal : Cont) (source : Store)
     (answers : List Answer)
-    → exec scene own (Node at word.Try (Then block (Then (Node there word.Catch (Then param (Then body End))) (Then Absent End)))) ways (λ end. normal) source answers
+    → exec scene own (Node at word.Try (Then block (Then (Node there word.Catch (Then param (Then body End))) (Then Absent End)))) ways
+    (λ end. normal) source answers
     ≡ catching (exec scene None block) (λ v. do bind scene true param v; exec scene None body) ways (λ end. normal) source answers
 try_meant scene own at there block param body ways normal source answers = refl
 

@@ -132,7 +132,14 @@ module _ (s s2 : State) (value : Place) (span part : Span) where
             fits = omega (arith, value_made s2 (values.StoreLocal variables.Const place value) (Some part))
 
             in_hole : Inside (between s finished) (between begun s2)
-            in_hole = record { identifier = omega (arith, two); identifiers = omega (arith, fits); block = omega arith; blocks = omega (arith, moved_extends.blocks) }
+            in_hole =
+                record {
+                  identifier = omega (arith, two);
+                  identifiers = omega (arith, fits);
+                  block = omega arith;
+                  blocks = omega
+                      (arith, moved_extends.blocks);
+                }
 
 -- The blocks of a hole that is set aside, to which the block in front goes on.
 module _ (x sr : State) (span part : Span) (kind : BlockKind) (last_kind : BlockKind) where
@@ -155,7 +162,8 @@ module _ (x sr : State) (span part : Span) (kind : BlockKind) (last_kind : Block
     all_extends : Extends x last
     all_extends =
         extends_then (extends_then (extends_reserved x) (extends_reserved (reserved x)))
-        (extends_then (aside r sr (new_block (n + 1) kind) x.scopes sr.scopes x.handlers sr.handlers (goto n gotos.Break part) b.extends.scopes b.extends.handlers b.extends)
+        (extends_then (aside r sr (new_block (n + 1) kind) x.scopes sr.scopes x.handlers sr.handlers
+        (goto n gotos.Break part) b.extends.scopes b.extends.handlers b.extends)
         (extends_completed closed (sequence_end n span) (new_block n last_kind) (λ none. refl)))
 
     first : (id : ℕ) → n ≤ id → id < n + 1 + 1 → UniqueIds x.completed x.current.id.0 n
@@ -165,7 +173,8 @@ module _ (x sr : State) (span part : Span) (kind : BlockKind) (last_kind : Block
     all_ids : PreservesIds x last
     all_ids =
         ids_ended closed (sequence_end n span) (new_block n last_kind)
-        (ids_aside r sr (n + 1) (goto n gotos.Break part) (ids_counted x.completed x.current.id.0 n (n + 1 + 1) (omega arith)) (inr (omega arith)) (first (n + 1) (omega arith) (omega arith)) b.ids)
+        (ids_aside r sr (n + 1) (goto n gotos.Break part) (ids_counted x.completed x.current.id.0 n (n + 1 + 1) (omega arith))
+        (inr (omega arith)) (first (n + 1) (omega arith) (omega arith)) b.ids)
         (inr (omega arith))
         (λ c. free_aside r sr (n + 1) n (goto n gotos.Break part) (first n (omega arith) (omega arith) c) (λ e. omega (arith, e)) b.ids)
 
@@ -192,7 +201,8 @@ module _ (x sr : State) (span part : Span) (kind : BlockKind) (last_kind : Block
     all_named : NamesSince x last
     all_named =
         named_ended x closed (sequence_end n span) (new_block n last_kind) to_closed
-        (named_two x (block_id (n + 1)) (block_id n) sr.env.next_block (omega arith) (omega (arith, b.extends.blocks)) (omega arith) (omega (arith, b.extends.blocks)))
+        (named_two x (block_id (n + 1)) (block_id n) sr.env.next_block (omega arith) (omega (arith, b.extends.blocks)) (omega arith)
+        (omega (arith, b.extends.blocks)))
 
     closed_straight : StraightSince sr last
     closed_straight =
@@ -214,13 +224,15 @@ module _ (x sr : State) (span part : Span) (kind : BlockKind) (last_kind : Block
       ids = all_ids;
       used = all_used;
       named = all_named;
-      ended = λ all. ends_more closed.completed (ended_by x.current (sequence_end n span)) refl (ends_more sr.completed (ended_by sr.current (goto n gotos.Break part)) refl (b.ended all));
+      ended = λ all. ends_more closed.completed (ended_by x.current (sequence_end n span)) refl
+          (ends_more sr.completed (ended_by sr.current (goto n gotos.Break part)) refl (b.ended all));
       straight = all_straight;
       settle = settles;
       looped = λ c cover entry old.
           looped_ended (IsLedTo c entry) closed (sequence_end n span) (new_block n last_kind) (λ led. tt)
           (looped_ended (IsLedTo c entry) sr (goto n gotos.Break part) x.current (λ led. tt)
-          (b.looped c (contained_hole sr n gotos.Break part x.current c (contained_before (extends_completed closed (sequence_end n span) (new_block n last_kind) (λ none. refl)) cover)) entry old));
+          (b.looped c (contained_hole sr n gotos.Break part x.current c
+          (contained_before (extends_completed closed (sequence_end n span) (new_block n last_kind) (λ none. refl)) cover)) entry old));
     }
       where
         settles : Settling x last
@@ -274,4 +286,5 @@ pub sequence_blocks : (s s2 : State) (value : Place) (span part : Span) → Pres
 sequence_blocks s s2 value span part b =
     blocks_then s (with_temporary s (Some span)) _ (blocks_temporary s (Some span))
     (aside_blocks (with_temporary s (Some span)) (stored_in s2 (sequence_place s span) value part) span part block.Sequence s.current.kind
-    (blocks_then (sequence_begun s span) s2 _ b (blocks_value s2 (values.StoreLocal variables.Const (sequence_place s span) value) (Some part))))
+    (blocks_then (sequence_begun s span) s2 _ b
+    (blocks_value s2 (values.StoreLocal variables.Const (sequence_place s span) value) (Some part))))

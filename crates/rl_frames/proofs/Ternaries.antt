@@ -49,17 +49,17 @@ module _ (s s2 s3 s4 : State) (consequent_value alternate_value test : Place) (s
   sc = ternary_begun s span
 
   abbrev pub sm : State
-  sm = stored_in s2 place consequent_value part
+  sm = stored_in s2 place consequent_value span
 
   abbrev pub alternate : ℕ
   alternate = sm.env.next_block
 
   -- In the alternate, and behind it.
   abbrev pub sd : State
-  sd = ternary_alternate s2 f place consequent_value part
+  sd = ternary_alternate s2 f place consequent_value span part
 
   abbrev pub sr : State
-  sr = stored_in s3 place alternate_value other
+  sr = stored_in s3 place alternate_value span
 
   -- Facts of the block in which the terminal stands, and of the test.
   abbrev pub shut : State
@@ -72,7 +72,7 @@ module _ (s s2 s3 s4 : State) (consequent_value alternate_value test : Place) (s
   finished = ternary_finished s4 f alternate s.current.kind span test
 
   module _ (gc : Extends (ternary_begun s span) s2)
-      (ga : Extends (ternary_alternate s2 s.env.next_block (ternary_place s span) consequent_value part) s3)
+      (ga : Extends (ternary_alternate s2 s.env.next_block (ternary_place s span) consequent_value span part) s3)
       (gt : Extends (ternary_test s3 s.env.next_block (ternary_place s span) alternate_value span other s.current) s4) where
     first_extends : Extends s s1
     first_extends =
@@ -80,7 +80,7 @@ module _ (s s2 s3 s4 : State) (consequent_value alternate_value test : Place) (s
         (extends_then (extends_reserved (reserved s)) (extends_temporary (reserved (reserved s)) (Some span)))
 
     moved_extends : Extends s2 sm
-    moved_extends = extends_value s2 (values.StoreLocal variables.Const place consequent_value) (Some part)
+    moved_extends = extends_value s2 (values.StoreLocal variables.Const place consequent_value) (Some span)
 
     open_extends : Extends sm sd
     open_extends =
@@ -88,7 +88,7 @@ module _ (s s2 s3 s4 : State) (consequent_value alternate_value test : Place) (s
         (extends_completed (reserved sm) (goto f gotos.Break part) (new_block sm.env.next_block block.Value) (λ none. refl))
 
     right_extends : Extends s3 sr
-    right_extends = extends_value s3 (values.StoreLocal variables.Const place alternate_value) (Some other)
+    right_extends = extends_value s3 (values.StoreLocal variables.Const place alternate_value) (Some span)
 
     within : Extends sc sr
     within = extends_then gc (extends_then moved_extends (extends_then open_extends (extends_then ga right_extends)))
@@ -126,8 +126,10 @@ module _ (s s2 s3 s4 : State) (consequent_value alternate_value test : Place) (s
 
     pub ternary_runs : (world : World) (dt dc da : Action Value)
         → RunsExpression world dc (ternary_begun s span) s2 consequent_value.identifier.0
-        → RunsExpression world da (ternary_alternate s2 s.env.next_block (ternary_place s span) consequent_value part) s3 alternate_value.identifier.0
-        → RunsExpression world dt (ternary_test s3 s.env.next_block (ternary_place s span) alternate_value span other s.current) s4 test.identifier.0
+        → RunsExpression world da
+        (ternary_alternate s2 s.env.next_block (ternary_place s span) consequent_value span part) s3 alternate_value.identifier.0
+        → RunsExpression world dt
+        (ternary_test s3 s.env.next_block (ternary_place s span) alternate_value span other s.current) s4 test.identifier.0
         → RunsExpression world (selected world dt dc da) s finished (length s.env.identifiers)
     ternary_runs world dt dc da rc ra rt = record {
       fresh = omega arith;
@@ -145,9 +147,11 @@ module _ (s s2 s3 s4 : State) (consequent_value alternate_value test : Place) (s
         run_it c cover sound shares ways k source store notes answers a throws onward =
             goes_on shut (ternary_end f span) (new_block (f + 1) block.Value) c (block_id (f + 1))
             ((block_id (f + 1), Chooses) ∷ (block_id f, Chooses) ∷ []) store notes answers _ refl cover_test
-            (use_expression ways (λ v e r. tested (set_open world.opens) (truthy v) e r (dc ways k) (da ways k)) rt cover4 (test_extends.sound sound) shares (inside test_extends last_extends)
+            (use_expression ways (λ v e r. tested (set_open world.opens) (truthy v) e r (dc ways k) (da ways k)) rt cover4
+            (test_extends.sound sound) shares (inside test_extends last_extends)
             (same_throws c (between s finished) store notes answers s sl ways.throws test_extends.handlers throws)
-            (since_noted (block_id f) Chooses (omega arith) (omega (arith, last_blocks)) (since_noted (block_id (f + 1)) Chooses (omega arith) (omega (arith, last_blocks)) (since_start a)))
+            (since_noted (block_id f) Chooses (omega arith) (omega (arith, last_blocks))
+            (since_noted (block_id (f + 1)) Chooses (omega arith) (omega (arith, last_blocks)) (since_start a)))
             decide)
           where
             last_blocks : f + 1 < finished.env.next_block
@@ -194,43 +198,75 @@ module _ (s s2 s3 s4 : State) (consequent_value alternate_value test : Place) (s
 
             right_fits : length s3.env.identifiers < length finished.env.identifiers
             right_fits =
-                omega (arith, value_made s3 (values.StoreLocal variables.Const place alternate_value) (Some other), end_extends.identifiers)
+                omega (arith, value_made s3 (values.StoreLocal variables.Const place alternate_value) (Some span), end_extends.identifiers)
 
             left_fits : length s2.env.identifiers < length finished.env.identifiers
             left_fits =
-                omega (arith, value_made s2 (values.StoreLocal variables.Const place consequent_value) (Some part), ga.identifiers, right_fits)
+                omega (
+                  arith,
+                  value_made s2 (values.StoreLocal variables.Const place consequent_value)
+                      (Some span),
+                  ga.identifiers,
+                  right_fits,
+                )
 
             in_consequent : Inside (between s finished) (between sc s2)
-            in_consequent = record { identifier = omega (arith, two); identifiers = omega (arith, left_fits); block = omega arith; blocks = omega (arith, moved_extends.blocks, open_extends.blocks, ga.blocks, right_extends.blocks, end_extends.blocks) }
+            in_consequent =
+                record {
+                  identifier = omega (arith, two);
+                  identifiers = omega (arith, left_fits);
+                  block = omega arith;
+                  blocks = omega
+                      (arith, moved_extends.blocks, open_extends.blocks, ga.blocks, right_extends.blocks, end_extends.blocks);
+                }
 
             in_alternate : Inside (between s finished) (between sd s3)
-            in_alternate = record { identifier = omega (arith, two, gc.identifiers, moved_extends.identifiers, open_extends.identifiers); identifiers = omega (arith, right_fits); block = omega (arith, gc.blocks, moved_extends.blocks, open_extends.blocks); blocks = omega (arith, right_extends.blocks, end_extends.blocks) }
+            in_alternate =
+                record {
+                  identifier = omega
+                      (arith, two, gc.identifiers, moved_extends.identifiers, open_extends.identifiers);
+                  identifiers =
+                      omega (arith, right_fits);
+                  block = omega (arith, gc.blocks, moved_extends.blocks, open_extends.blocks);
+                  blocks =
+                      omega (arith, right_extends.blocks, end_extends.blocks);
+                }
 
             -- From behind the terminal and the test to where it was tested.
             decide : (v : Value) (source4 store4 : Store) (notes4 : Notes) (answers4 : List Answer)
                 → Since c (between s finished) store notes answers source4 store4 notes4 answers4
                 → Since c (between sl s4) store notes1 answers source4 store4 notes4 answers4 → store4 test.identifier.0 ≡ v
-                → TracesAt c s4.current.id.0 (length s4.current.instructions) store4 notes4 answers4 (tested (set_open world.opens) (truthy v) source4 answers4 (dc ways k) (da ways k))
+                → TracesAt c s4.current.id.0 (length s4.current.instructions) store4 notes4 answers4
+                (tested (set_open world.opens) (truthy v) source4 answers4 (dc ways k) (da ways k))
             decide v source4 store4 notes4 answers4 t u is =
                 steps_on c s4.current.id.0 (length s4.current.instructions) store4 notes4 answers4
                 (Ends (branch test (f + 1 + 1) alternate f span)) _
                 (terminal_met s4 (branch test (f + 1 + 1) alternate f span) (new_block f s.current.kind) c cover)
-                (subst (λ (o : Option Note). Eventually c (λ stuck next. branched stuck c (choice_at o) test.identifier.0 (block_id (f + 1 + 1)) (block_id alternate) next next notes4 store4 answers4) (tested (set_open world.opens) (truthy v) source4 answers4 (dc ways k) (da ways k))) (sym mark)
-                (subst (λ (w : Value). Eventually c (λ stuck next. tested (changer c) (truthy w) store4 answers4 (at next (block_id (f + 1 + 1)) notes4) (at next (block_id alternate) notes4)) (tested (set_open world.opens) (truthy v) source4 answers4 (dc ways k) (da ways k))) (sym is)
-                (tests_come c world cover.names.one shares (truthy v) answers4 (λ next. at next (block_id (f + 1 + 1)) notes4) (λ next. at next (block_id alternate) notes4) (dc ways k) (da ways k) t.agrees
+                (subst (λ (o : Option Note). Eventually c
+                (λ stuck next. branched stuck c (choice_at o) test.identifier.0 (block_id (f + 1 + 1))
+                (block_id alternate) next next notes4 store4 answers4)
+                (tested (set_open world.opens) (truthy v) source4 answers4 (dc ways k) (da ways k))) (sym mark)
+                (subst (λ (w : Value). Eventually c
+                (λ stuck next. tested (changer c) (truthy w) store4 answers4 (at next (block_id (f + 1 + 1)) notes4)
+                (at next (block_id alternate) notes4))
+                (tested (set_open world.opens) (truthy v) source4 answers4 (dc ways k) (da ways k))) (sym is)
+                (tests_come c world cover.names.one shares (truthy v) answers4 (λ next. at next (block_id (f + 1 + 1)) notes4)
+                (λ next. at next (block_id alternate) notes4) (dc ways k) (da ways k) t.agrees
                 (λ source5 store5 rest after.
                 use_expression ways k rc cover2 sound_entered shares in_consequent throws
                 (since_then (inside_refl (between s finished)) t.later (after.since (between s finished)))
                 (λ w source6 store6 notes6 answers6 t6 u6 is6.
-                stores_on s2 place consequent_value part f w k cover_moved (gc.sound sound_entered) free (omega arith)
+                stores_on s2 place consequent_value span f w k cover_moved (gc.sound sound_entered) free (omega arith)
                 (omega (arith, two, gc.identifiers)) left_fits
-                (λ store7 trace rest1. hole_goes (reserved sm) f gotos.Break part (new_block sm.env.next_block block.Value) c store7 notes6 answers6 trace cover_open rest1) onward t6 is6))
+                (λ store7 trace rest1. hole_goes (reserved sm) f gotos.Break part
+                (new_block sm.env.next_block block.Value) c store7 notes6 answers6 trace cover_open rest1) onward t6 is6))
                 (λ source5 store5 rest after.
                 use_expression ways k ra cover3 sound_open shares in_alternate
-                (same_throws c (between s finished) store notes answers s sd ways.throws (open_extends.handlers ∙ moved_extends.handlers ∙ gc.handlers) throws)
+                (same_throws c (between s finished) store notes answers s sd ways.throws
+                (open_extends.handlers ∙ moved_extends.handlers ∙ gc.handlers) throws)
                 (since_then (inside_refl (between s finished)) t.later (after.since (between s finished)))
                 (λ w source6 store6 notes6 answers6 t6 u6 is6.
-                stores_on s3 place alternate_value other f w k cover_right (ga.sound sound_open) free (omega arith)
+                stores_on s3 place alternate_value span f w k cover_right (ga.sound sound_open) free (omega arith)
                 (omega (arith, two, gc.identifiers, moved_extends.identifiers, open_extends.identifiers, ga.identifiers)) right_fits
                 (λ store7 trace rest1. hole_goes sr f gotos.Break other s.current c store7 notes6 answers6 trace cover_shut rest1) onward t6 is6)))))
               where

@@ -104,7 +104,8 @@ module _ (z s s2 s4 : State) (binding : Option Place) (span part other : Span) w
     pub try_extends : Extends z finished
     try_extends = extends_then within_extends (extends_then block_extends last_extends)
 
-    pub try_runs : s.current ≡ z.current → s.env.pairs ≡ z.env.pairs → IsFreshBinding binding z s → (world : World) (db : Action (Unit {0})) (dh : Value → Action (Unit {0}))
+    pub try_runs : s.current ≡ z.current → s.env.pairs ≡ z.env.pairs → IsFreshBinding binding z s
+        → (world : World) (db : Action (Unit {0})) (dh : Value → Action (Unit {0}))
         → RunsHandler world dh (try_begun (try_bound (reserved s) binding)) s2 (bound binding)
         → RunsStatement world db (try_handler s2 s.env.next_block (try_bound (reserved s) binding).env.next_block part) s4
         → RunsStatement world (catching db dh) z finished
@@ -117,12 +118,16 @@ module _ (z s s2 s4 : State) (binding : Option Place) (span part other : Span) w
             → Follows c (between z finished) store notes answers f 0 normal
             → TracesFrom c z store notes answers (catching db dh ways (λ end. normal) source answers)
         run_it c cover sound shares ways normal source store notes answers a throws jumps onward =
-            subst (λ (w : WipBlock). TracesAt c w.id.0 (length w.instructions) store notes answers (catching db dh ways (λ end. normal) source answers)) position
+            subst (λ (w : WipBlock). TracesAt c w.id.0 (length w.instructions) store notes answers
+            (catching db dh ways (λ end. normal) source answers)) position
             (bound_runs (reserved s) binding c store notes answers _ cover1
             (goes_on s5 (try_end f hd body binding span) (new_block f block.Block) c (block_id body)
             ((block_id hd, Catches (bound binding)) ∷ (block_id f, Catches (bound binding)) ∷ []) store notes answers _ refl cover
-            (use_statement (record ways { throws = handled }) normal rb cover4 (gh.sound sound0) shares (inside_refl (between s3 s4)) throws3 jumps3 (since_start a)
-            (λ source2 store2 notes2 answers2 t2 u2. hole_goes (without_handler s4) f gotos.Try other s1.current c store2 notes2 answers2 _ cover5 (onward.goes source2 store2 notes2 answers2 (before t2))))))
+            (use_statement (record ways { throws = handled }) normal rb cover4 (gh.sound sound0) shares
+            (inside_refl (between s3 s4)) throws3 jumps3 (since_start a)
+            (λ source2 store2 notes2 answers2 t2 u2. hole_goes
+            (without_handler s4) f gotos.Try other s1.current c store2 notes2 answers2 _ cover5
+            (onward.goes source2 store2 notes2 answers2 (before t2))))))
           where
             handled : ValueCont
             handled = λ v. dh v ways (λ end. normal)
@@ -186,12 +191,18 @@ module _ (z s s2 s4 : State) (binding : Option Place) (span part other : Span) w
                 (jumps_then less start.later jumps)
 
             -- The handler takes the value of a throw.
-            taken : (b : Option Place) → IsFreshBinding b z s → (v : Value) (source2 store2 : Store) (notes2 : Notes) (answers2 : List Answer)
+            taken : (b : Option Place) → IsFreshBinding b z s
+                → (v : Value) (source2 store2 : Store) (notes2 : Notes) (answers2 : List Answer)
                 → Since c (between z finished) store notes answers source2 store2 notes2 answers2
-                → Since c (between z finished) store notes answers source2 (set_where (bound b) store2 v) notes2 answers2 × Holds (bound b) (set_where (bound b) store2 v) v
+                → Since c (between z finished) store notes answers source2 (set_where (bound b) store2 v) notes2 answers2 × Holds (bound b)
+                (set_where (bound b) store2 v) v
             taken None made v source2 store2 notes2 answers2 t = (t, tt)
-            taken (Some place) made v source2 store2 notes2 answers2 t =
-                (since_set place.identifier.0 v (nobody_fresh z (length s.env.identifiers) c.ident place.identifier.0 sound names made.0 made.1) made.0 (omega (arith, made.1, one_extends.identifiers, first_extends.identifiers, block_extends.identifiers)) t, set_same store2 place.identifier.0 v)
+            taken (Some place) made v source2 store2 notes2 answers2 t = (
+              since_set place.identifier.0 v
+                  (nobody_fresh z (length s.env.identifiers) c.ident place.identifier.0 sound names made.0 made.1) made.0
+                  (omega (arith, made.1, one_extends.identifiers, first_extends.identifiers, block_extends.identifiers)) t,
+              set_same store2 place.identifier.0 v,
+            )
               where
                 names : CoversNames z.env.pairs (length s.env.identifiers) c.ident
                 names = subst (λ (l : List Pair). CoversNames l (length s.env.identifiers) c.ident) pairs cover_s.names
@@ -207,8 +218,10 @@ module _ (z s s2 s4 : State) (binding : Option Place) (span part other : Span) w
               goes = λ v source2 store2 notes2 answers2 t2.
                   let at = taken binding fresh v source2 store2 notes2 answers2 (before t2) in
                   rh.runs c cover2 sound0 shares ways normal v source2 (set_where (bound binding) store2 v) notes2 answers2 at.0.agrees at.1
-                  (throws_then (innermost s0.handlers) ways.throws less0 at.0.later (same_throws c (between z finished) store notes answers z s0 ways.throws same0.handlers throws))
-                  (jumps_then less0 at.0.later (same_jumps c (between z finished) store notes answers z s0 ways.breaks ways.continues same0.scopes jumps))
+                  (throws_then (innermost s0.handlers) ways.throws less0 at.0.later
+                  (same_throws c (between z finished) store notes answers z s0 ways.throws same0.handlers throws))
+                  (jumps_then less0 at.0.later
+                  (same_jumps c (between z finished) store notes answers z s0 ways.breaks ways.continues same0.scopes jumps))
                   (record { goes = λ source4 store4 notes4 answers4 u. hole_goes s2 f gotos.Break part s1.current c store4 notes4 answers4 _ cover_a (onward.goes source4 store4 notes4 answers4 (since_then less0 at.0.later u)) });
             }
               where

@@ -109,7 +109,8 @@ module _ (s s2 s4 : State) (binding : Option Place) (span part other : Span) whe
     counted = ids_counted s1.completed s1.current.id.0 hd (hd + 1) (omega arith)
 
     free_behind : UniqueIds s.completed s.current.id.0 f → IsFree s1.completed s1.current.id.0 (hd + 1) f
-    free_behind c = free_then f counted (free_then f one.ids (free_fresh s.completed s.current.id.0 f (f + 1) f c (omega arith) (omega arith)))
+    free_behind c =
+        free_then f counted (free_then f one.ids (free_fresh s.completed s.current.id.0 f (f + 1) f c (omega arith) (omega arith)))
 
     all_ids : PreservesIds s last
     all_ids =
@@ -130,7 +131,8 @@ module _ (s s2 s4 : State) (binding : Option Place) (span part other : Span) whe
     ]
       where
         of_handler : IsCurrentOrCompleted s2 id → IsCurrentOrCompleted s4 id
-        of_handler there = inr (bb.extends.completed id (ended_there (reserved s2) (goto f gotos.Break part) (new_block body block.Block) id there))
+        of_handler there =
+            inr (bb.extends.completed id (ended_there (reserved s2) (goto f gotos.Break part) (new_block body block.Block) id there))
 
         in_holes : hd ≤ id → IsCurrentOrCompleted s4 id
         in_holes over = elim (below_or id (hd + 1)) [
@@ -179,7 +181,9 @@ module _ (s s2 s4 : State) (binding : Option Place) (span part other : Span) whe
     all_named : NamesSince s last
     all_named =
         named_ended s s5 (try_end f hd body binding span) (new_block f block.Block) to_shut
-        (named_three s (block_id body) (block_id hd) (block_id f) s4.env.next_block (omega (arith, f_below, bh.extends.blocks)) (omega (arith, bb.extends.blocks)) (omega (arith, f_below)) (omega (arith, bh.extends.blocks, bb.extends.blocks)) (omega arith) (omega (arith, f_below, bh.extends.blocks, bb.extends.blocks)))
+        (named_three s (block_id body) (block_id hd) (block_id f) s4.env.next_block (omega (arith, f_below, bh.extends.blocks))
+        (omega (arith, bb.extends.blocks)) (omega (arith, f_below)) (omega (arith, bh.extends.blocks, bb.extends.blocks)) (omega arith)
+        (omega (arith, f_below, bh.extends.blocks, bb.extends.blocks)))
 
     -- Straight notes.
     calm : (id : ℕ) → LeavesStraight (leaving (try_end f hd body binding span).kind) id → ⊥
@@ -214,7 +218,8 @@ module _ (s s2 s4 : State) (binding : Option Place) (span part other : Span) whe
 
     all_straight : StraightSince s last
     all_straight =
-        straight_then s s1 last (omega (arith, f_below)) (omega (arith, bh.extends.blocks, bb.extends.blocks)) to_bound_straight bound_straight
+        straight_then s s1 last (omega (arith, f_below))
+        (omega (arith, bh.extends.blocks, bb.extends.blocks)) to_bound_straight bound_straight
 
     -- States that are contained with the whole.
     cover5 : (c : Code) → IsContainedIn last c → IsContainedIn s5 c
@@ -246,7 +251,8 @@ module _ (s s2 s4 : State) (binding : Option Place) (span part other : Span) whe
     all_settles : Settling s last
     all_settles c cover mine below jumps old behind =
         settle_completed s5 (try_end f hd body binding span) (new_block f block.Block) c (goes first_settles)
-        (λ here. settle_completed (without_handler s4) (goto f gotos.Try other) s1.current c end4 hole4 (λ place within. old1 here s1.current.id.0 place (inr (record { named = refl; within = within }))))
+        (λ here. settle_completed (without_handler s4) (goto f gotos.Try other) s1.current c end4 hole4
+        (λ place within. old1 here s1.current.id.0 place (inr (record { named = refl; within = within }))))
         (empty_settles c f)
       where
         goes : Settles c body 0 → Settles c s1.current.id.0 (length s1.current.instructions)
@@ -272,7 +278,9 @@ module _ (s s2 s4 : State) (binding : Option Place) (span part other : Span) whe
 
         old1 : PointsSettle c s1
         old1 =
-            one.settle c (cover1 c cover) (notes_back c s (reserved s) s1 last mine (omega arith) (omega (arith, bh.extends.blocks, bb.extends.blocks)) bound_straight)
+            one.settle c (cover1 c cover)
+            (notes_back c s (reserved s) s1 last mine (omega arith)
+            (omega (arith, bh.extends.blocks, bb.extends.blocks)) bound_straight)
             (λ id m. (let small : id < f = below id m in omega (arith, small))) jumps old
 
         -- Before the handler, if the block is reached at a point that settles.
@@ -284,11 +292,14 @@ module _ (s s2 s4 : State) (binding : Option Place) (span part other : Span) whe
 
         hole4 : PointsSettle c s4
         hole4 =
-            bb.settle c (cover4 c cover) (notes_back c s s3 s4 last mine (omega (arith, f_below, bh.extends.blocks)) (omega arith) block_straight)
+            bb.settle c (cover4 c cover)
+            (notes_back c s s3 s4 last mine (omega (arith, f_below, bh.extends.blocks)) (omega arith) block_straight)
             below3 (by_scopes s3 (bh.extends.scopes ∙ one.extends.scopes))
             (λ there. settle_completed (reserved s2) (goto f gotos.Break part) (new_block body block.Block) c
             (settle_goto s2 f gotos.Break part s1.current c (cover_a c cover) behind)
-            (bh.settle c (cover2 c cover) (notes_back c s s0 s2 last mine (omega (arith, f_below)) (omega (arith, bb.extends.blocks)) handler_straight) below0 (by_scopes s0 one.extends.scopes) (begins there))
+            (bh.settle c (cover2 c cover)
+            (notes_back c s s0 s2 last mine (omega (arith, f_below)) (omega (arith, bb.extends.blocks)) handler_straight) below0
+            (by_scopes s0 one.extends.scopes) (begins there))
             (empty_settles c body))
 
         first_settles : Settles c body 0
@@ -309,7 +320,9 @@ module _ (s s2 s4 : State) (binding : Option Place) (span part other : Span) whe
       ids = all_ids;
       used = all_used;
       named = all_named;
-      ended = λ all. ends_more s5.completed (ended_by s1.current (try_end f hd body binding span)) refl (ends_more s4.completed (ended_by s4.current (goto f gotos.Try other)) refl (bb.ended (ends_more s2.completed (ended_by s2.current (goto f gotos.Break part)) refl (bh.ended (one.ended all)))));
+      ended = λ all. ends_more s5.completed (ended_by s1.current (try_end f hd body binding span)) refl
+          (ends_more s4.completed (ended_by s4.current (goto f gotos.Try other)) refl
+          (bb.ended (ends_more s2.completed (ended_by s2.current (goto f gotos.Break part)) refl (bh.ended (one.ended all)))));
       straight = all_straight;
       settle = all_settles;
       looped = λ c cover entry old.
@@ -340,25 +353,31 @@ module _ (s s2 s4 : State) (binding : Option Place) (span part other : Span) whe
       pub handler_comes : Passes (try_started s binding) s2 → (c : Code) → IsContainedIn last c → (entry : ℕ)
           → IsLedTo c entry (try_bound (reserved s) binding).env.next_block → IsLedTo c entry s.env.next_block
       handler_comes passes c cover entry led =
-          Leads s2.current.id.0 (length s2.current.instructions) (goto f gotos.Break part) (block_id f) (passes c (cover2 c cover) entry led)
+          Leads s2.current.id.0 (length s2.current.instructions) (goto f gotos.Break part) (block_id f)
+          (passes c (cover2 c cover) entry led)
           (terminal_met s2 (goto f gotos.Break part) s1.current c (cover_a c cover))
           (or_left (same_id (block_id f) (block_id f)) false (same_self (block_id f)))
 
       -- With a handler to which throws come.
       pub try_lives : (in_block in_handler : List K) (first second left : Bool)
-          → ((c : Code) → IsContainedIn last c → (entry : ℕ) → IsLedTo c entry s2.env.next_block → IsLedTo c entry (try_bound (reserved s) binding).env.next_block)
-          → (left ≡ true → (c : Code) → IsContainedIn last c → (entry : ℕ) → IsLedTo c entry s2.env.next_block → IsLedTo c entry s.env.next_block)
+          → ((c : Code) → IsContainedIn last c → (entry : ℕ) → IsLedTo c entry s2.env.next_block
+          → IsLedTo c entry (try_bound (reserved s) binding).env.next_block)
+          → (left ≡ true → (c : Code) → IsContainedIn last c → (entry : ℕ) → IsLedTo c entry s2.env.next_block
+          → IsLedTo c entry s.env.next_block)
           → Lives key_of in_handler first (try_started s binding) s2
           → Lives key_of in_block second (try_handler s2 s.env.next_block (try_bound (reserved s) binding).env.next_block part) s4
           → Lives key_of (in_block ++ in_handler) left s last
       try_lives in_block in_handler first second left caught comes lh lb = record {
         onward = λ is c cover entry led. comes is c cover entry (at_body c cover entry led);
-        stands = λ c cover entry led. All-append (Stands key_of c entry) in_block in_handler (lb.stands c (cover4 c cover) entry (at_body c cover entry led)) (lh.stands c (cover2 c cover) entry (caught c cover entry (at_body c cover entry led)));
+        stands = λ c cover entry led. All-append (Stands key_of c entry) in_block in_handler
+            (lb.stands c (cover4 c cover) entry (at_body c cover entry led))
+            (lh.stands c (cover2 c cover) entry (caught c cover entry (at_body c cover entry led)));
       }
 
       -- With a handler to which none comes.
       pub try_lives_calm : (in_block : List K) (second left : Bool)
-          → (left ≡ true → (c : Code) → IsContainedIn last c → (entry : ℕ) → IsLedTo c entry s2.env.next_block → IsLedTo c entry s.env.next_block)
+          → (left ≡ true → (c : Code) → IsContainedIn last c → (entry : ℕ) → IsLedTo c entry s2.env.next_block
+          → IsLedTo c entry s.env.next_block)
           → Lives key_of in_block second (try_handler s2 s.env.next_block (try_bound (reserved s) binding).env.next_block part) s4
           → Lives key_of in_block left s last
       try_lives_calm in_block second left comes lb = record {

@@ -84,7 +84,8 @@ module _ (x sm sr s5 : State) (kind : TerminalKind) (test : Place) (span part ot
     shuts : Extends x shut
     shuts =
         extends_then reserves
-        (aside r sr (new_block (n + 1 + 1) block.Value) x.scopes sr.scopes x.handlers sr.handlers (goto n gotos.Break other) within.scopes within.handlers within)
+        (aside r sr (new_block (n + 1 + 1) block.Value) x.scopes sr.scopes x.handlers sr.handlers
+        (goto n gotos.Break other) within.scopes within.handlers within)
 
     tests : Extends shut tested
     tests = extends_completed shut (ends_by kind (Some span)) (new_block (n + 1) block.Value) (λ none. to.uncaught)
@@ -123,7 +124,8 @@ module _ (x sm sr s5 : State) (kind : TerminalKind) (test : Place) (span part ot
     all_ids : PreservesIds x last
     all_ids =
         ids_ended s5 end_branch (new_block n last_kind) (ids_then tested_ids b3.ids) (inr (omega arith))
-        (λ c. free_then n b3.ids (free_ended shut (ends_by kind (Some span)) (n + 1) n (free_shut n (omega arith) (omega arith) c) (λ e. omega (arith, e))))
+        (λ c. free_then n b3.ids
+        (free_ended shut (ends_by kind (Some span)) (n + 1) n (free_shut n (omega arith) (omega arith) c) (λ e. omega (arith, e))))
 
     -- Each block is used.
 
@@ -191,7 +193,10 @@ module _ (x sm sr s5 : State) (kind : TerminalKind) (test : Place) (span part ot
     all_named : NamesSince x last
     all_named =
         named_ended x s5 end_branch (new_block n last_kind) to_test
-        (named_three x (block_id (n + 1 + 1)) (block_id sm.env.next_block) (block_id n) s5.env.next_block (omega arith) (omega (arith, b1.extends.blocks, b2.extends.blocks, b3.extends.blocks)) (omega (arith, b1.extends.blocks)) (omega (arith, b2.extends.blocks, b3.extends.blocks)) (omega arith) (omega (arith, b1.extends.blocks, b2.extends.blocks, b3.extends.blocks)))
+        (named_three x (block_id (n + 1 + 1)) (block_id sm.env.next_block) (block_id n) s5.env.next_block (omega arith)
+        (omega (arith, b1.extends.blocks, b2.extends.blocks, b3.extends.blocks)) (omega (arith, b1.extends.blocks))
+        (omega (arith, b2.extends.blocks, b3.extends.blocks)) (omega arith)
+        (omega (arith, b1.extends.blocks, b2.extends.blocks, b3.extends.blocks)))
 
     -- Straight notes.
 
@@ -263,7 +268,8 @@ module _ (x sm sr s5 : State) (kind : TerminalKind) (test : Place) (span part ot
       looped = λ c cover entry old.
           looped_ended (IsLedTo c entry) s5 end_branch (new_block n last_kind) (λ led. tt)
           (b3.looped c (cover5 c cover) entry
-          (looped_ended (IsLedTo c entry) shut (ends_by kind (Some span)) (new_block (n + 1) block.Value) (λ led. no_loops (IsLedTo c entry))
+          (looped_ended (IsLedTo c entry) shut (ends_by kind (Some span)) (new_block (n + 1) block.Value)
+          (λ led. no_loops (IsLedTo c entry))
           (looped_ended (IsLedTo c entry) sr (goto n gotos.Break other) x.current (λ led. tt)
           (b2.looped c (cover_second c cover) entry
           (looped_ended (IsLedTo c entry) (reserved sm) (goto n gotos.Break part) (new_block sm.env.next_block block.Value) (λ led. tt)
@@ -273,8 +279,12 @@ module _ (x sm sr s5 : State) (kind : TerminalKind) (test : Place) (span part ot
         settles : Settling x last
         settles c cover own below jumps old behind =
             settle_completed s5 end_branch (new_block n last_kind) c
-            (settles_reads c s5.current.id.0 (length s5.current.instructions) end_branch test.identifier.0 (block_id (n + 1 + 1)) (block_id sm.env.next_block) (block_id n) (terminal_met s5 end_branch (new_block n last_kind) c cover) refl (λ noted. absurd (not_noted noted)))
-            (b3.settle c (cover5 c cover) (notes_back c x tested s5 last own (omega (arith, b1.extends.blocks, b2.extends.blocks)) (omega arith) last_straight) below_tested (by_scopes tested within.scopes) in_tested)
+            (settles_reads c s5.current.id.0 (length s5.current.instructions) end_branch test.identifier.0 (block_id (n + 1 + 1))
+            (block_id sm.env.next_block) (block_id n) (terminal_met s5 end_branch (new_block n last_kind) c cover) refl
+            (λ noted. absurd (not_noted noted)))
+            (b3.settle c (cover5 c cover)
+            (notes_back c x tested s5 last own (omega (arith, b1.extends.blocks, b2.extends.blocks))
+            (omega arith) last_straight) below_tested (by_scopes tested within.scopes) in_tested)
             (empty_settles c n)
           where
             -- No straight note is left at the block behind.
@@ -303,15 +313,21 @@ module _ (x sm sr s5 : State) (kind : TerminalKind) (test : Place) (span part ot
             branches : PointsSettle c begun → PointsSettle c sr
             branches start =
                 b2.settle c (cover_second c cover)
-                (notes_back c x open_ sr last own (omega (arith, b1.extends.blocks)) (omega (arith, b3.extends.blocks)) second_straight) below_open
+                (notes_back c x open_ sr last own (omega (arith, b1.extends.blocks))
+                (omega (arith, b3.extends.blocks)) second_straight) below_open
                 (by_scopes open_ b1.extends.scopes)
-                (λ here. settle_completed (reserved sm) (goto n gotos.Break part) (new_block sm.env.next_block block.Value) c (settle_goto (reserved sm) n gotos.Break part (new_block sm.env.next_block block.Value) c (cover_open c cover) behind)
-                (b1.settle c (cover_first c cover) (notes_back c x begun sm last own (omega arith) (omega (arith, b2.extends.blocks, b3.extends.blocks)) open_straight) below_begun jumps start)
+                (λ here. settle_completed (reserved sm) (goto n gotos.Break part) (new_block sm.env.next_block block.Value) c
+                (settle_goto (reserved sm) n gotos.Break part (new_block sm.env.next_block block.Value) c (cover_open c cover) behind)
+                (b1.settle c (cover_first c cover)
+                (notes_back c x begun sm last own (omega arith)
+                (omega (arith, b2.extends.blocks, b3.extends.blocks)) open_straight) below_begun jumps start)
                 (empty_settles c sm.env.next_block))
 
             in_tested : PointsSettle c tested
             in_tested here =
                 settle_completed shut (ends_by kind (Some span)) (new_block (n + 1) block.Value) c
-                (settles_goes c x.current.id.0 (length x.current.instructions) (ends_by kind (Some span)) (block_id (n + 1)) to.marks (terminal_met shut (ends_by kind (Some span)) (new_block (n + 1) block.Value) c (cover_tested c cover)) to.leads here)
-                (settle_aside r sr (new_block (n + 1 + 1) block.Value) (goto n gotos.Break other) c refl branches (settle_goto sr n gotos.Break other x.current c (cover_shut c cover) behind) old)
+                (settles_goes c x.current.id.0 (length x.current.instructions) (ends_by kind (Some span)) (block_id (n + 1)) to.marks
+                (terminal_met shut (ends_by kind (Some span)) (new_block (n + 1) block.Value) c (cover_tested c cover)) to.leads here)
+                (settle_aside r sr (new_block (n + 1 + 1) block.Value) (goto n gotos.Break other) c refl branches
+                (settle_goto sr n gotos.Break other x.current c (cover_shut c cover) behind) old)
                 (empty_settles c (n + 1))

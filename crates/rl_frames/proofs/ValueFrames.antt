@@ -61,15 +61,21 @@ ternary_leads behind = record {
 pub logical_blocks : (s s2 s4 : State) (operator : LogicalOperator) (right_value left_value : Place) (span left part : Span)
     → PreservesBlocks (logical_begun s span left) s2
     → PreservesBlocks (logical_right s2 s.env.next_block (logical_place s span) operator span s.current right_value part) s4
-    → PreservesBlocks s (logical_finished s4 s.env.next_block (stored_in (logical_entered s span left) (logical_place s span) (logical_left s left) left).env.next_block (logical_left s left) s.current.kind span left_value)
+    → PreservesBlocks s (logical_finished s4 s.env.next_block
+    (stored_in (logical_entered s span left) (logical_place s span) (logical_left s left) left).env.next_block
+    (logical_left s left) s.current.kind span left_value)
 logical_blocks s s2 s4 operator right_value left_value span left part b2 b3 =
     blocks_then s x _
-    (blocks_then s (with_temporary s (Some span)) x (blocks_temporary s (Some span)) (blocks_temporary (with_temporary s (Some span)) (Some left)))
-    (value_blocks x (stored_in (logical_entered s span left) (logical_place s span) (logical_left s left) left) (stored_in s2 (logical_place s span) right_value part) _
+    (blocks_then s (with_temporary s (Some span)) x (blocks_temporary s (Some span))
+    (blocks_temporary (with_temporary s (Some span)) (Some left)))
+    (value_blocks x (stored_in (logical_entered s span left) (logical_place s span) (logical_left s left) left)
+    (stored_in s2 (logical_place s span) right_value part) _
     (kinds.Logical operator (block_id (s.env.next_block + 1)) (block_id s.env.next_block))
     (logical_left s left) span left part s.current.kind (logical_leads operator s.env.next_block)
-    (blocks_value (logical_entered s span left) (values.StoreLocal variables.Const (logical_place s span) (logical_left s left)) (Some left))
-    (blocks_then (logical_begun s span left) s2 _ b2 (blocks_value s2 (values.StoreLocal variables.Const (logical_place s span) right_value) (Some part)))
+    (blocks_value (logical_entered s span left) (values.StoreLocal variables.Const (logical_place s span) (logical_left s left))
+    (Some left))
+    (blocks_then (logical_begun s span left) s2 _ b2
+    (blocks_value s2 (values.StoreLocal variables.Const (logical_place s span) right_value) (Some part)))
     (blocks_then _ s4 _ b3 (blocks_pushed s4 (loads (logical_left s left) left_value span))))
   where
     x : State
@@ -77,14 +83,18 @@ logical_blocks s s2 s4 operator right_value left_value span left part b2 b3 =
 
 pub ternary_blocks : (s s2 s3 s4 : State) (consequent_value alternate_value test : Place) (span part other : Span)
     → PreservesBlocks (ternary_begun s span) s2
-    → PreservesBlocks (ternary_alternate s2 s.env.next_block (ternary_place s span) consequent_value part) s3
+    → PreservesBlocks (ternary_alternate s2 s.env.next_block (ternary_place s span) consequent_value span part) s3
     → PreservesBlocks (ternary_test s3 s.env.next_block (ternary_place s span) alternate_value span other s.current) s4
-    → PreservesBlocks s (ternary_finished s4 s.env.next_block (stored_in s2 (ternary_place s span) consequent_value part).env.next_block s.current.kind span test)
+    → PreservesBlocks s (ternary_finished s4 s.env.next_block
+    (stored_in s2 (ternary_place s span) consequent_value span).env.next_block s.current.kind span test)
 ternary_blocks s s2 s3 s4 consequent_value alternate_value test span part other b1 b2 b3 =
     blocks_then s (with_temporary s (Some span)) _ (blocks_temporary s (Some span))
-    (value_blocks (with_temporary s (Some span)) (stored_in s2 (ternary_place s span) consequent_value part) (stored_in s3 (ternary_place s span) alternate_value other) s4
+    (value_blocks (with_temporary s (Some span)) (stored_in s2 (ternary_place s span) consequent_value span)
+    (stored_in s3 (ternary_place s span) alternate_value span) s4
     (kinds.Ternary (block_id (s.env.next_block + 1)) (block_id s.env.next_block)) test span part other s.current.kind
     (ternary_leads s.env.next_block)
-    (blocks_then (ternary_begun s span) s2 _ b1 (blocks_value s2 (values.StoreLocal variables.Const (ternary_place s span) consequent_value) (Some part)))
-    (blocks_then (ternary_alternate s2 s.env.next_block (ternary_place s span) consequent_value part) s3 _ b2 (blocks_value s3 (values.StoreLocal variables.Const (ternary_place s span) alternate_value) (Some other)))
+    (blocks_then (ternary_begun s span) s2 _ b1
+    (blocks_value s2 (values.StoreLocal variables.Const (ternary_place s span) consequent_value) (Some span)))
+    (blocks_then (ternary_alternate s2 s.env.next_block (ternary_place s span) consequent_value span part) s3 _ b2
+    (blocks_value s3 (values.StoreLocal variables.Const (ternary_place s span) alternate_value) (Some span)))
     b3)

@@ -1,4 +1,5 @@
--- Live instructions of logical and conditional expressions, of sequences and of an `if` without an alternate stand in blocks that are reached.
+-- Live instructions of logical and conditional expressions, of sequences and of an `if` without an alternate stand in blocks that are
+-- reached.
 use Rattle.std.proofs.Common.{◌≡◌, ℕ, ◌+◌, ◌++◌, Bool, true, List, [], ◌∷◌, length, Option, refl}
 use Rattle.std.specs.List.{list_any}
 use Rattle.std.proofs.lemmas.List.Elements.{All-append}
@@ -38,19 +39,25 @@ module _ {K : Type 0} (key_of : Instruction → Option K) where
       → Extends (next_hole sm x.env.next_block gotos.Break part block.Value) sr
       → Extends (last_hole sr x.env.next_block gotos.Break other x.current)
       (completed_by (last_hole sr x.env.next_block gotos.Break other x.current) end (new_block (x.env.next_block + 1) block.Value))
-      → Extends (completed_by (last_hole sr x.env.next_block gotos.Break other x.current) end (new_block (x.env.next_block + 1) block.Value)) s5
+      → Extends (completed_by (last_hole sr x.env.next_block gotos.Break other x.current) end
+      (new_block (x.env.next_block + 1) block.Value)) s5
       → Lives key_of in_first true (entered (reserved (reserved (reserved x))) (new_block (x.env.next_block + 1 + 1) block.Value)) sm
       → Lives key_of in_second true (next_hole sm x.env.next_block gotos.Break part block.Value) sr
-      → Lives key_of in_test true (completed_by (last_hole sr x.env.next_block gotos.Break other x.current) end (new_block (x.env.next_block + 1) block.Value)) s5
-      → Lives key_of (in_test ++ (in_first ++ in_second)) true x (completed_by s5 (branch test (x.env.next_block + 1 + 1) sm.env.next_block x.env.next_block span) (new_block x.env.next_block last_kind))
+      → Lives key_of in_test true
+      (completed_by (last_hole sr x.env.next_block gotos.Break other x.current) end (new_block (x.env.next_block + 1) block.Value)) s5
+      → Lives key_of (in_test ++ (in_first ++ in_second)) true x
+      (completed_by s5 (branch test (x.env.next_block + 1 + 1) sm.env.next_block x.env.next_block span)
+      (new_block x.env.next_block last_kind))
   value_lives x sm sr s5 end test span part other last_kind in_first in_second in_test leads g2 gt g3 l1 l2 l3 = record {
     onward = λ is c cover entry led.
         Leads sm.current.id.0 (length sm.current.instructions) (goto n gotos.Break part) (block_id n)
         (l1.onward refl c (cover_first c cover) entry (at_first c cover entry led))
         (terminal_met (reserved sm) (goto n gotos.Break part) (new_block sm.env.next_block block.Value) c (cover_open c cover))
         (to_first (block_id n) []);
-    stands = λ c cover entry led. All-append (Stands key_of c entry) in_test (in_first ++ in_second) (l3.stands c (cover5 c cover) entry (at_test c cover entry led))
-        (All-append (Stands key_of c entry) in_first in_second (l1.stands c (cover_first c cover) entry (at_first c cover entry led)) (l2.stands c (cover_second c cover) entry (at_second c cover entry led)));
+    stands = λ c cover entry led. All-append (Stands key_of c entry) in_test (in_first ++ in_second)
+        (l3.stands c (cover5 c cover) entry (at_test c cover entry led))
+        (All-append (Stands key_of c entry) in_first in_second (l1.stands c (cover_first c cover) entry (at_first c cover entry led))
+        (l2.stands c (cover_second c cover) entry (at_second c cover entry led)));
   }
     where
       n : ℕ
@@ -108,7 +115,8 @@ module _ {K : Type 0} (key_of : Instruction → Option K) where
       → Extends (last_hole sr x.env.next_block gotos.Break part x.current)
       (completed_by (last_hole sr x.env.next_block gotos.Break part x.current) end (new_block x.env.next_block last_kind))
       → Lives key_of live completes (entered (reserved (reserved x)) (new_block (x.env.next_block + 1) kind)) sr
-      → Lives key_of live completes x (completed_by (last_hole sr x.env.next_block gotos.Break part x.current) end (new_block x.env.next_block last_kind))
+      → Lives key_of live completes x
+      (completed_by (last_hole sr x.env.next_block gotos.Break part x.current) end (new_block x.env.next_block last_kind))
   aside_lives x sr end part kind last_kind live completes leads ge l = record {
     onward = λ is c cover entry led.
         Leads sr.current.id.0 (length sr.current.instructions) (goto n gotos.Break part) (block_id n)

@@ -9,17 +9,20 @@ use Rattle.rl_frames.specs.declared.do_while_frame.DoWhileFrame.{DoWhileFrame}
 use Rattle.rl_frames.specs.declared.if_frame.IfFrame.{IfFrame}
 use Rattle.rl_frames.specs.declared.label_frame.LabelFrame.{LabelFrame}
 use Rattle.rl_frames.specs.declared.logical.Logical.{Logical}
+use Rattle.rl_frames.specs.declared.loop_parts.LoopParts.{LoopParts}
 use Rattle.rl_frames.specs.declared.sequence.SequenceFrame.{SequenceFrame}
 use Rattle.rl_frames.specs.declared.ternary.Ternary.{Ternary}
 use Rattle.rl_frames.specs.declared.try_frame.TryFrame.{TryFrame}
 use Rattle.rl_frames.specs.declared.while_frame.WhileFrame.{WhileFrame}
 use Rattle.rl_frames.specs.Meanings.{chosen, connected, do_looped, looped, selected}
-use Rattle.rl_frames.specs.Parts.{if_begun, if_end, label_begun, loads, logical_begun, logical_entered, logical_left, logical_place, sequence_begun}
+use Rattle.rl_frames.specs.Parts.{if_begun, if_end, label_begun, loads, logical_begun, logical_entered, logical_left, logical_place}
+use Rattle.rl_frames.specs.Parts.{sequence_begun}
 use Rattle.rl_frames.specs.Parts.{sequence_place, ternary_alternate, ternary_begun, ternary_place, while_begun}
 use Rattle.rl_frames.specs.Parts.{IsFreshBinding, try_bound, try_end, try_handler, try_started}
 use Rattle.rl_hir.specs.declared.function.BlockKind.TheVariants as block
 use Rattle.rl_hir.specs.declared.instruction.Place.{Place}
 use Rattle.rl_hir.specs.declared.terminal.GotoVariant.TheVariants as gotos
+use Rattle.rl_hir.specs.declared.terminal.TerminalKind.{TerminalKind}
 use Rattle.rl_hir.specs.declared.terminal.TerminalKind.TheVariants as kinds
 use Rattle.rl_machine.specs.declared.trace.Value.{Value}
 use Rattle.rl_machine.specs.Ends.{bound}
@@ -149,7 +152,8 @@ logical_ended f s value =
 
 -- From any begin, and whatever the holes mean.
 pub record LogicalComposes (f : LogicalParts) (old new : State) (value : Place) : Type 0 where
-  pub both : (s s2 : State) (span left part : Span) (operator : LogicalOperator) (right_value : Place) (world : World) (dl dr : Action Value)
+  pub both : (s s2 : State) (span left part : Span) (operator : LogicalOperator) (right_value : Place) (world : World)
+      (dl dr : Action Value)
       → f ≡ logical_after (logical_at s span operator left)
       → PreservesBlocks (logical_begun s span left) s2
       → PreservesBlocks (logical_righted (logical_at s span operator left) s2 right_value part) old
@@ -187,10 +191,10 @@ ternary_at s span = record {
 }
 
 abbrev pub ternary_consequent : TernaryParts → State → (value : Place) → (part : Span) → State
-ternary_consequent f s value part = ternary_alternate s f.behind.id.0 f.place value part
+ternary_consequent f s value part = ternary_alternate s f.behind.id.0 f.place value f.span part
 
 abbrev pub ternary_parted : TernaryParts → State → (value : Place) → (part : Span) → TernaryParts
-ternary_parted f s value part = record f { alternate = (stored_in s f.place value part).env.next_block }
+ternary_parted f s value part = record f { alternate = (stored_in s f.place value f.span).env.next_block }
 
 -- The blocks that were set aside; placeholders where none are.
 abbrev pub ternary_aside : TernaryParts → WipBlock × WipBlock
@@ -198,7 +202,7 @@ ternary_aside f = unwrap_or f.aside (placeholder, placeholder)
 
 abbrev pub ternary_alternated : TernaryParts → State → (value : Place) → (part : Span) → State
 ternary_alternated f s value part =
-    completed_by (last_hole (stored_in s f.place value part) f.behind.id.0 gotos.Break part (ternary_aside f).0)
+    completed_by (last_hole (stored_in s f.place value f.span) f.behind.id.0 gotos.Break part (ternary_aside f).0)
     (ends_by (kinds.Ternary (ternary_aside f).1.id f.behind.id) (Some f.span)) (ternary_aside f).1
 
 abbrev pub ternary_after : TernaryParts → TernaryParts
@@ -215,7 +219,8 @@ pub record TernaryComposes (f : TernaryParts) (old new : State) (test : Place) :
       → PreservesBlocks (ternary_alternated (ternary_parted (ternary_at s span) s2 consequent part) s3 alternate other) old
       → RunsExpression world dc (ternary_begun s span) s2 consequent.identifier.0
       → RunsExpression world da (ternary_consequent (ternary_at s span) s2 consequent part) s3 alternate.identifier.0
-      → RunsExpression world dt (ternary_alternated (ternary_parted (ternary_at s span) s2 consequent part) s3 alternate other) old test.identifier.0
+      → RunsExpression world dt
+      (ternary_alternated (ternary_parted (ternary_at s span) s2 consequent part) s3 alternate other) old test.identifier.0
       → PreservesBlocks s new × RunsExpression world (selected world dt dc da) s new f.place.identifier.0
 
 -- The parts of a `SequenceFrame`.
@@ -249,7 +254,7 @@ pub record SequenceComposes (f : SequenceParts) (old new : State) (value : Place
       → PreservesBlocks (sequence_begun s span) old → RunsExpression world d (sequence_begun s span) old value.identifier.0
       → PreservesBlocks s new × RunsExpression world d s new f.place.identifier.0
 
--- The parts of a `WhileFrame`.
+-- The parts of a loop, which a `WhileFrame` and a `DoWhileFrame` hold.
 pub record WhileParts : Type 0 where
   pub span : Span
   pub behind : WipBlock
@@ -257,14 +262,17 @@ pub record WhileParts : Type 0 where
   pub body : ℕ
   pub aside : Option (WipBlock × WipBlock)
 
-abbrev pub while_of : WhileFrame → WhileParts
-while_of f = record {
+abbrev pub loop_of : LoopParts → WhileParts
+loop_of f = record {
   span = f.span;
   behind = f.behind;
   test = f.test.0;
   body = f.body.0;
   aside = option_map (λ p. (p.0.block, p.1)) f.aside;
 }
+
+abbrev pub while_of : WhileFrame → WhileParts
+while_of f = loop_of f.parts
 
 abbrev pub while_at : State → (span : Span) → WhileParts
 while_at s span = record {
@@ -279,10 +287,13 @@ while_at s span = record {
 abbrev pub while_aside : WhileParts → WipBlock × WipBlock
 while_aside f = unwrap_or f.aside (placeholder, placeholder)
 
+-- The hole of the body ends, and that of the test opens behind a terminal of this kind.
+abbrev pub loop_bodied : WhileParts → TerminalKind → State → (part : Span) → State
+loop_bodied f kind s part =
+    completed_by (last_hole (without_scope s) f.test gotos.Continue part (while_aside f).0) (ends_by kind (Some f.span)) (while_aside f).1
+
 abbrev pub while_bodied : WhileParts → State → (part : Span) → State
-while_bodied f s part =
-    completed_by (last_hole (without_scope s) f.test gotos.Continue part (while_aside f).0)
-    (ends_by (kinds.While (block_id f.test) (block_id f.body) f.behind.id) (Some f.span)) (while_aside f).1
+while_bodied f s part = loop_bodied f (kinds.While (block_id f.test) (block_id f.body) f.behind.id) s part
 
 abbrev pub while_after : WhileParts → WhileParts
 while_after f = record f { aside = None }
@@ -301,20 +312,11 @@ pub record WhileComposes (f : WhileParts) (old new : State) (value : Place) : Ty
       → RunsExpression world dt (while_bodied (while_at s span) s2 part) old value.identifier.0
       → PreservesBlocks s new × RunsStatement world (looped world label dt db) s new
 
--- A `DoWhileFrame` has the parts of a `WhileFrame`.
 abbrev pub do_while_of : DoWhileFrame → WhileParts
-do_while_of f = record {
-  span = f.span;
-  behind = f.behind;
-  test = f.test.0;
-  body = f.body.0;
-  aside = option_map (λ p. (p.0.block, p.1)) f.aside;
-}
+do_while_of f = loop_of f.parts
 
 abbrev pub do_while_bodied : WhileParts → State → (part : Span) → State
-do_while_bodied f s part =
-    completed_by (last_hole (without_scope s) f.test gotos.Continue part (while_aside f).0)
-    (ends_by (kinds.DoWhile (block_id f.body) (block_id f.test) f.behind.id) (Some f.span)) (while_aside f).1
+do_while_bodied f s part = loop_bodied f (kinds.DoWhile (block_id f.body) (block_id f.test) f.behind.id) s part
 
 -- From any begin, and whatever the holes mean.
 pub record DoWhileComposes (f : WhileParts) (old new : State) (value : Place) : Type 0 where
@@ -397,7 +399,8 @@ try_ended f s part =
 
 -- From any begin, and whatever the holes mean, if the place was made for the statement just before.
 pub record TryComposes (f : TryParts) (old new : State) : Type 0 where
-  pub both : (z s s2 : State) (span part : Span) (binding : Option Place) (world : World) (db : Action (Unit {0})) (dh : Value → Action (Unit {0}))
+  pub both : (z s s2 : State) (span part : Span) (binding : Option Place) (world : World) (db : Action (Unit {0}))
+      (dh : Value → Action (Unit {0}))
       → f ≡ try_after (try_at s span binding) s2
       → PreservesBlocks z s → s.current ≡ z.current → s.env.pairs ≡ z.env.pairs → IsFreshBinding binding z s
       → PreservesBlocks (try_started s binding) s2

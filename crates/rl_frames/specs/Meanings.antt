@@ -22,7 +22,8 @@ while_turns world zero own test body ways behind = λ source answers. waiting
 while_turns world (suc n) own test body ways behind =
     test (switch_ways own behind (λ source answers. waiting) ways)
     (λ v source answers. tested (set_open world.opens) (truthy v) source answers
-    (body (loop_ways own (while_turns world n own test body ways behind) behind ways) (λ end. while_turns world n own test body ways behind)) behind)
+    (body (loop_ways own (while_turns world n own test body ways behind) behind ways)
+    (λ end. while_turns world n own test body ways behind)) behind)
 
 -- A `while` loop.
 abbrev pub looped : World → Label → Action Value → Action (Unit {0}) → Action (Unit {0})
@@ -71,7 +72,8 @@ rounds world zero own iterator collection pattern body ways behind = λ source a
 rounds world (suc n) own iterator collection pattern body ways behind = λ source answers.
     stepped (set_open world.opens) (next_of iterator collection) source answers
     (λ v. pattern v (switch_ways own behind (λ source answers. waiting) ways)
-    (λ end. body (loop_ways own (rounds world n own iterator collection pattern body ways behind) behind ways) (λ end. rounds world n own iterator collection pattern body ways behind)))
+    (λ end. body (loop_ways own (rounds world n own iterator collection pattern body ways behind) behind ways)
+    (λ end. rounds world n own iterator collection pattern body ways behind)))
     behind ways.throws
 
 -- The ways that a label leaves to what a loop under it runs once, in front.

@@ -51,7 +51,8 @@ logical_entered s span left = entered (reserved (logical_reserved s span left)) 
 abbrev pub logical_begun : State → (span left : Span) → State
 logical_begun s span left =
     next_hole
-    (stored_in (logical_entered s span left) (logical_place s span) (logical_left s left) left) s.env.next_block gotos.Break left block.Value
+    (stored_in (logical_entered s span left) (logical_place s span)
+    (logical_left s left) left) s.env.next_block gotos.Break left block.Value
 
 abbrev pub logical_end : (behind : ℕ) → LogicalOperator → Span → Terminal
 logical_end behind operator span = ends_by (kinds.Logical operator (block_id (behind + 1)) (block_id behind)) (Some span)
@@ -84,10 +85,13 @@ while_begun s label =
 abbrev pub while_end : (test : ℕ) → Span → Terminal
 while_end test span = ends_by (kinds.While (block_id test) (block_id (test + 1 + 1)) (block_id (test + 1))) (Some span)
 
--- The hole of the body ends, and that of the test opens.
+-- The hole of the body ends, and that of the test opens behind the loop's terminal.
+abbrev pub loop_body : State → (test : ℕ) → (end : Terminal) → (outer : WipBlock) → (part : Span) → State
+loop_body s test end outer part =
+    completed_by (last_hole (without_scope s) test gotos.Continue part outer) end (new_block test block.Loop)
+
 abbrev pub while_body : State → (test : ℕ) → (span : Span) → (outer : WipBlock) → (part : Span) → State
-while_body s test span outer part =
-    completed_by (last_hole (without_scope s) test gotos.Continue part outer) (while_end test span) (new_block test block.Loop)
+while_body s test span outer part = loop_body s test (while_end test span) outer part
 
 -- The hole of the test ends.
 abbrev pub while_finished : State → (test : ℕ) → (span : Span) → (value : Place) → State
@@ -99,8 +103,7 @@ abbrev pub do_while_end : (test : ℕ) → Span → Terminal
 do_while_end test span = ends_by (kinds.DoWhile (block_id (test + 1 + 1)) (block_id test) (block_id (test + 1))) (Some span)
 
 abbrev pub do_while_body : State → (test : ℕ) → (span : Span) → (outer : WipBlock) → (part : Span) → State
-do_while_body s test span outer part =
-    completed_by (last_hole (without_scope s) test gotos.Continue part outer) (do_while_end test span) (new_block test block.Loop)
+do_while_body s test span outer part = loop_body s test (do_while_end test span) outer part
 
 -- A conditional expression: the blocks behind it and of its test are numbered, and the place of its value made.
 abbrev pub ternary_reserved : State → (span : Span) → State
@@ -114,8 +117,8 @@ abbrev pub ternary_begun : State → (span : Span) → State
 ternary_begun s span = entered (reserved (ternary_reserved s span)) (new_block (s.env.next_block + 1 + 1) block.Value)
 
 -- The hole of the consequent ends with its value, and that of the alternate opens.
-abbrev pub ternary_alternate : State → (behind : ℕ) → (place value : Place) → (part : Span) → State
-ternary_alternate s behind place value part = next_hole (stored_in s place value part) behind gotos.Break part block.Value
+abbrev pub ternary_alternate : State → (behind : ℕ) → (place value : Place) → (span part : Span) → State
+ternary_alternate s behind place value span part = next_hole (stored_in s place value span) behind gotos.Break part block.Value
 
 abbrev pub ternary_end : (behind : ℕ) → Span → Terminal
 ternary_end behind span = ends_by (kinds.Ternary (block_id (behind + 1)) (block_id behind)) (Some span)
@@ -123,7 +126,7 @@ ternary_end behind span = ends_by (kinds.Ternary (block_id (behind + 1)) (block_
 -- The hole of the alternate ends with its value, and that of the test opens.
 abbrev pub ternary_test : State → (behind : ℕ) → (place value : Place) → (span part : Span) → (outer : WipBlock) → State
 ternary_test s behind place value span part outer =
-    completed_by (last_hole (stored_in s place value part) behind gotos.Break part outer) (ternary_end behind span)
+    completed_by (last_hole (stored_in s place value span) behind gotos.Break part outer) (ternary_end behind span)
     (new_block (behind + 1) block.Value)
 
 -- The hole of the test ends with its value.

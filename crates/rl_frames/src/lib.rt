@@ -6,6 +6,7 @@ mod ends;
 pub mod if_frame;
 pub mod label_frame;
 pub mod logical;
+mod loop_parts;
 pub mod sequence;
 pub mod ternary;
 pub mod try_frame;

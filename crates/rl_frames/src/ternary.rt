@@ -63,7 +63,8 @@ impl Ternary {
         })
     }
 
-    /// Ends the hole of the consequent with its value, and opens that of the alternate. On `OutOfMemory` an allocation failed.
+    /// Ends the hole of the consequent, whose span is `part`, with its value, and opens that of the alternate. On `OutOfMemory` an
+    /// allocation failed.
     pub fn consequent<U: ReadsUnit, B>(
         &mut self,
         b: &mut HirBuilder<'_, U, B>,
@@ -78,14 +79,15 @@ impl Ternary {
         ensures state { OnOk result (state_of U.tables b.new ≡ branched (ternary_of self.old) (state_of U.tables b.old) value part) }
         ensures frame { OnOk result (ternary_of self.new ≡ ternary_parted (ternary_of self.old) (state_of U.tables b.old) value part) }
     {
-        store_in(b, self.place, value, part)?;
+        store_in(b, self.place, value, self.span)?;
         let next = b.reserve(BlockKind::Value)?;
         self.alternate = next.id;
         b.terminate_with_continuation(goto(self.behind.id, GotoVariant::Break, part), next)?;
         Ok(())
     }
 
-    /// Ends the hole of the alternate with its value, and opens that of the test. On `OutOfMemory` an allocation failed.
+    /// Ends the hole of the alternate, whose span is `part`, with its value, and opens that of the test. On `OutOfMemory` an
+    /// allocation failed.
     pub fn alternate<U: ReadsUnit, B>(
         &mut self,
         b: &mut HirBuilder<'_, U, B>,
@@ -101,7 +103,7 @@ impl Ternary {
         ensures state { OnOk result (state_of U.tables b.new ≡ joined (ternary_of self.old) (state_of U.tables b.old) value part) }
         ensures frame { OnOk result (ternary_of self.new ≡ ternary_after (ternary_of self.old)) }
     {
-        store_in(b, self.place, value, part)?;
+        store_in(b, self.place, value, self.span)?;
         let end = goto(self.behind.id, GotoVariant::Break, part);
         match self.aside.take() {
             Some((outer, test)) => {

@@ -34,8 +34,11 @@ pub asks_on : {c : Code} {r : Range} {store : Store} {notes : Notes} {answers : 
     → TracesFrom c x store1 notes1 answers1 (fired (set_open world.opens) event source1 answers1 k h)
 asks_on {c} {r} {store} {notes} {answers} world x value span event landing k h {source1} {store1} {notes1} {answers1} acts cover shares throws t onward =
     steps_on c x.current.id.0 (length x.current.instructions) store1 notes1 answers1 (Runs i) _ (instruction_met y i c cover)
-    (by_act (fired_comes c world cover.names.one shares event answers1 (λ next a store2 rest. next x.current.id.0 (length x.current.instructions + 1) (landed landing a store2) notes1 rest) (λ stuck next. caught stuck (c.catcher x.current.id.0) notes1 next) k h t.agrees
-    (λ a source2 store2 rest after. goes_behind (innermost x.handlers) y i c (landed landing a store2) notes1 rest (k a source2 rest) refl cover
+    (by_act (fired_comes c world cover.names.one shares event answers1
+    (λ next a store2 rest. next x.current.id.0 (length x.current.instructions + 1) (landed landing a store2) notes1 rest)
+    (λ stuck next. caught stuck (c.catcher x.current.id.0) notes1 next) k h t.agrees
+    (λ a source2 store2 rest after. goes_behind (innermost x.handlers) y i c (landed landing a store2) notes1 rest
+    (k a source2 rest) refl cover
     (onward a source2 store2 rest (since_then (inside_refl r) t.later (after.since r)) (after.since r)))
     (λ v source2 store2 rest after. throws_at v source2 store2 rest (since_then (inside_refl r) t.later (after.since r)))))
   where
@@ -53,11 +56,18 @@ asks_on {c} {r} {store} {notes} {answers} world x value span event landing k h {
         (thrown_comes (innermost x.handlers) c r store notes answers h v source2 store2 notes1 rest throws w)
 
     by_act : {tr : Trace}
-        → Eventually c (λ stuck next. fired (changer c) event store1 answers1 (λ a store2 rest. next x.current.id.0 (length x.current.instructions + 1) (landed landing a store2) notes1 rest) (caught stuck (c.catcher x.current.id.0) notes1 next)) tr
-        → Eventually c (λ stuck next. executed stuck c (act (length x.env.identifiers) value store1) next next x.current.id.0 (length x.current.instructions) store1 notes1 answers1) tr
+        → Eventually c (λ stuck next. fired (changer c) event store1 answers1
+        (λ a store2 rest. next x.current.id.0 (length x.current.instructions + 1) (landed landing a store2) notes1 rest)
+        (caught stuck (c.catcher x.current.id.0) notes1 next)) tr
+        → Eventually c (λ stuck next. executed stuck c (act (length x.env.identifiers) value store1) next next x.current.id.0
+        (length x.current.instructions) store1 notes1 answers1) tr
     by_act comes = record {
-      by =
-          (comes.by.0, λ stuck steps enough. ap (λ a. executed stuck c a (walk stuck c steps) (walk stuck c steps) x.current.id.0 (length x.current.instructions) store1 notes1 answers1) acts ∙ comes.by.1 stuck steps enough);
+      by = (
+        comes.by.0,
+        λ stuck steps enough. ap
+            (λ a. executed stuck c a (walk stuck c steps) (walk stuck c steps) x.current.id.0
+            (length x.current.instructions) store1 notes1 answers1) acts ∙ comes.by.1 stuck steps enough,
+      );
     }
 
 -- The value that an event gives goes into a fresh identifier.

@@ -143,7 +143,11 @@ ids_aside {completed0} {current0} {next0} s s2 w t y own f u = record {
     | inr e ↦ inr (subst (λ (z : ℕ). IsOwn current0 next0 z) (sym e) (mine s2.current.id.0 u.own))
   ];
   own = y.own;
-  distinct = λ c. distinct_ended s2.completed s2.current.id.0 s2.env.next_block (ended_by s2.current t) s.current.id.0 refl (u.distinct (entering c)) (free_then s.current.id.0 u (record { below = (y.distinct c).current_below; unused = (y.distinct c).open_block; other = λ e. (f c).other (sym e) }));
+  distinct =
+      λ c. distinct_ended s2.completed s2.current.id.0 s2.env.next_block (ended_by s2.current t) s.current.id.0 refl
+      (u.distinct (entering c))
+      (free_then s.current.id.0 u
+      (record { below = (y.distinct c).current_below; unused = (y.distinct c).open_block; other = λ e. (f c).other (sym e) }));
   counted = omega (arith, y.counted, u.counted);
 }
   where
@@ -151,7 +155,8 @@ ids_aside {completed0} {current0} {next0} s s2 w t y own f u = record {
     mine id o = elim o [ inl e ↦ subst (λ (z : ℕ). IsOwn current0 next0 z) (sym e) own | inr le ↦ inr (omega (arith, le, y.counted)) ]
 
     entering : UniqueIds completed0 current0 next0 → UniqueIds s.completed w s.env.next_block
-    entering c = record { apart = (y.distinct c).apart; open_block = (f c).unused; below = (y.distinct c).below; current_below = (f c).below }
+    entering c =
+        record { apart = (y.distinct c).apart; open_block = (f c).unused; below = (y.distinct c).below; current_below = (f c).below }
 
 -- Other free ids stay free.
 pub free_aside : (s s2 : State) (w id : ℕ) (t : Terminal) → IsFree s.completed s.current.id.0 s.env.next_block id → (id ≡ w → ⊥)

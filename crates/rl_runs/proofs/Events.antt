@@ -41,10 +41,15 @@ module _ (c : Code) (world : World) (one : AreOne c.ident) (shares : SharesVaria
       store1 = changer c answer.assignments store
 
       after : IsBehind c store notes (answer ∷ rest) source1 store1 rest
-      after = record { since = λ r. since_answer c world one shares (answer ∷ rest) answer.assignments a (omega arith) r; fewer = omega arith }
+      after = record {
+        since = λ r. since_answer c world one shares (answer ∷ rest) answer.assignments a
+            (omega arith) r;
+        fewer = omega arith;
+      }
 
       by_answer : (kind : AnswerKind)
-          → Eventually c (λ stuck next. by_kind kind (g_yes stuck next store1 rest) (g_no stuck next store1 rest) (g_no stuck next store1 rest))
+          → Eventually c (λ stuck next. by_kind kind (g_yes stuck next store1 rest) (g_no stuck next store1 rest)
+          (g_no stuck next store1 rest))
           (by_kind kind (s_yes source1 rest) (s_no source1 rest) (s_no source1 rest))
       by_answer Yes = if_yes source1 store1 rest after
       by_answer No = if_no source1 store1 rest after
@@ -83,10 +88,15 @@ module _ (c : Code) (world : World) (one : AreOne c.ident) (shares : SharesVaria
       store1 = changer c answer.assignments store
 
       after : IsBehind c store notes (answer ∷ rest) source1 store1 rest
-      after = record { since = λ r. since_answer c world one shares (answer ∷ rest) answer.assignments a (omega arith) r; fewer = omega arith }
+      after = record {
+        since = λ r. since_answer c world one shares (answer ∷ rest) answer.assignments a
+            (omega arith) r;
+        fewer = omega arith;
+      }
 
       by_answer : (kind : AnswerKind)
-          → Eventually c (λ stuck next. by_kind kind (g_on next answer store1 rest) (g_on next answer store1 rest) (g_throw stuck next answer.value store1 rest))
+          → Eventually c (λ stuck next. by_kind kind (g_on next answer store1 rest) (g_on next answer store1 rest)
+          (g_throw stuck next answer.value store1 rest))
           (by_kind kind (s_on answer source1 rest) (s_on answer source1 rest) (s_throw answer.value source1 rest))
       by_answer Yes = given answer source1 store1 rest after
       by_answer No = given answer source1 store1 rest after
@@ -116,10 +126,15 @@ module _ (c : Code) (world : World) (one : AreOne c.ident) (shares : SharesVaria
       store1 = changer c answer.assignments store
 
       after : IsBehind c store notes (answer ∷ rest) source1 store1 rest
-      after = record { since = λ r. since_answer c world one shares (answer ∷ rest) answer.assignments a (omega arith) r; fewer = omega arith }
+      after = record {
+        since = λ r. since_answer c world one shares (answer ∷ rest) answer.assignments a
+            (omega arith) r;
+        fewer = omega arith;
+      }
 
       by_answer : (kind : AnswerKind)
-          → Eventually c (λ stuck next. by_kind kind (g_next next answer.value store1 rest) (g_end next store1 rest) (g_throw stuck next answer.value store1 rest))
+          → Eventually c (λ stuck next. by_kind kind (g_next next answer.value store1 rest) (g_end next store1 rest)
+          (g_throw stuck next answer.value store1 rest))
           (by_kind kind (s_next answer.value source1 rest) (s_end source1 rest) (s_throw answer.value source1 rest))
       by_answer Yes = given answer.value source1 store1 rest after
       by_answer No = ended source1 store1 rest after

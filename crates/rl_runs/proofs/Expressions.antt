@@ -31,7 +31,8 @@ use Rattle.rl_runs.specs.Simulation.{RunsAll, RunsExpression}
 pub computed_runs : (world : World) (s : State) (d : Action Value) (value : InstructionValue) (span : Option Span)
     (computed : Store → Value)
     → ((store : Store) → act (length s.env.identifiers) value store ≡ Computes (computed store) (length s.env.identifiers ∷ []))
-    → ((c : Code) → IsContainedIn s c → HasSoundNames s → (source store : Store) → Agrees c.ident source store → (answers : List Answer) (ways : Ways) (k : ValueCont) → d ways k source answers ≡ k (computed store) source answers)
+    → ((c : Code) → IsContainedIn s c → HasSoundNames s → (source store : Store) → Agrees c.ident source store
+    → (answers : List Answer) (ways : Ways) (k : ValueCont) → d ways k source answers ≡ k (computed store) source answers)
     → RunsExpression world d s (with_value s value span) (length s.env.identifiers)
 computed_runs world s d value span computed acts silent = record {
   fresh = omega arith;
@@ -40,9 +41,11 @@ computed_runs world s d value span computed acts silent = record {
   runs = λ c cover sound shares ways k source store notes answers a throws onward.
       let here : IsContainedIn s c = contained_before (extends_value s value span) cover in
       subst (λ t. TracesFrom c s store notes answers t) (sym (silent c here sound source store a answers ways k))
-      (computes_on s value span c store notes answers (k (computed store) source answers) (computed store) (length s.env.identifiers ∷ []) (acts store) cover
+      (computes_on s value span c store notes answers (k (computed store) source answers) (computed store) (length s.env.identifiers ∷ [])
+      (acts store) cover
       (onward.goes (computed store) source (set store (length s.env.identifiers) (computed store)) notes answers
-      (since_set (length s.env.identifiers) (computed store) (value_free s value span c cover sound) (omega arith) (value_made s value span) (since_start a))
+      (since_set (length s.env.identifiers) (computed store) (value_free s value span c cover sound) (omega arith) (value_made s value span)
+      (since_start a))
       (set_same store (length s.env.identifiers) (computed store))));
 }
 
@@ -68,7 +71,8 @@ local_runs world s symbol p span bound =
 pub stored_runs : (world : World) (s mid : State) (d : Action Value) (symbol : ℕ) (kind : InstructionKind) (p value : Place)
     (span : Option Span)
     → Extends s mid → identifier_of mid.env.pairs symbol ≡ Some p.identifier.0 → RunsExpression world d s mid value.identifier.0
-    → RunsExpression world (λ ways k. d ways (λ v source answers. k v (set source symbol v) answers)) s (with_value mid (values.StoreLocal kind p value) span)
+    → RunsExpression world (λ ways k. d ways (λ v source answers. k v (set source symbol v) answers)) s
+    (with_value mid (values.StoreLocal kind p value) span)
     (length mid.env.identifiers)
 stored_runs world s mid d symbol kind p value span g bound r = record {
   fresh = g.identifiers;
@@ -81,9 +85,14 @@ stored_runs world s mid d symbol kind p value span g bound r = record {
       (λ v source1 store1 notes1 answers1 t u is.
       computes_on mid (values.StoreLocal kind p value) span c store1 notes1 answers1 (k v (set source1 symbol v) answers1)
       (store1 value.identifier.0) (p.identifier.0 ∷ length mid.env.identifiers ∷ []) refl cover
-      (onward.goes v (set source1 symbol v) (set (set store1 p.identifier.0 (store1 value.identifier.0)) (length mid.env.identifiers) (store1 value.identifier.0)) notes1 answers1
-      (since_set (length mid.env.identifiers) (store1 value.identifier.0) (value_free mid (values.StoreLocal kind p value) span c cover (g.sound sound)) g.identifiers (value_made mid (values.StoreLocal kind p value) span)
-      (subst (λ (x : Value). Since c (between s (with_value mid (values.StoreLocal kind p value) span)) store notes answers (set source1 symbol v) (set store1 p.identifier.0 x) notes1 answers1) (sym is)
+      (onward.goes v (set source1 symbol v)
+      (set (set store1 p.identifier.0 (store1 value.identifier.0)) (length mid.env.identifiers)
+      (store1 value.identifier.0)) notes1 answers1
+      (since_set (length mid.env.identifiers) (store1 value.identifier.0)
+      (value_free mid (values.StoreLocal kind p value) span c cover (g.sound sound)) g.identifiers
+      (value_made mid (values.StoreLocal kind p value) span)
+      (subst (λ (x : Value). Since c (between s (with_value mid (values.StoreLocal kind p value) span)) store notes answers
+      (set source1 symbol v) (set store1 p.identifier.0 x) notes1 answers1) (sym is)
       (since_store symbol p.identifier.0 v cover.names.one (here.names.kept symbol p.identifier.0 bound) t)))
       (set_same (set store1 p.identifier.0 (store1 value.identifier.0)) (length mid.env.identifiers) (store1 value.identifier.0) ∙ is)));
 }
@@ -95,7 +104,8 @@ none_run world s = record {
   fresh = All-nil (λ identifier. length s.env.identifiers ≤ identifier);
   made = All-nil (λ identifier. identifier < length s.env.identifiers);
   free = λ c cover sound. All-nil (Nobody c.ident);
-  runs = λ c cover sound shares ways k source store notes answers a throws onward. onward.goes [] source store notes answers (since_start a) refl;
+  runs = λ c cover sound shares ways k source store notes answers a throws onward. onward.goes [] source store notes answers
+      (since_start a) refl;
 }
 
 pub next_runs : (world : World) (s mid new : State) (d : Action Value) (ds : Action (List Value)) (identifier : ℕ)
@@ -107,7 +117,8 @@ next_runs world s mid new d ds identifier identifiers g1 g2 r rs = record {
       All-cons (λ n. length s.env.identifiers ≤ n) identifier identifiers r.fresh
       (λ place default within. (let later = rs.fresh place default within in omega (arith, later, g1.identifiers)));
   made = All-cons (λ n. n < length new.env.identifiers) identifier identifiers (omega (arith, r.made, g2.identifiers)) rs.made;
-  free = λ c cover sound. All-cons (Nobody c.ident) identifier identifiers (r.free c (contained_before g2 cover) sound) (rs.free c cover (g1.sound sound));
+  free = λ c cover sound. All-cons (Nobody c.ident) identifier identifiers (r.free c (contained_before g2 cover) sound)
+      (rs.free c cover (g1.sound sound));
   runs = λ c cover sound shares ways k source store notes answers a throws onward.
       use_expression ways (λ v. ds ways (λ vs. k (v ∷ vs))) r (contained_before g2 cover) sound shares
       (inside (extends_refl s) g2) throws (since_start a)
@@ -116,7 +127,8 @@ next_runs world s mid new d ds identifier identifiers g1 g2 r rs = record {
       (same_throws c (between s new) store notes answers s mid ways.throws g1.handlers throws) t
       (λ vs source2 store2 notes2 answers2 t2 u2 are.
       onward.goes (v ∷ vs) source2 store2 notes2 answers2 t2
-      (ap (λ (x : Value). x ∷ map store2 identifiers) (u2.later.temporaries identifier (r.free c (contained_before g2 cover) sound) (inl r.made) ∙ is)
+      (ap (λ (x : Value). x ∷ map store2 identifiers)
+      (u2.later.temporaries identifier (r.free c (contained_before g2 cover) sound) (inl r.made) ∙ is)
       ∙ ap (λ (l : List Value). v ∷ l) are)));
 }
 
@@ -129,7 +141,10 @@ one_runs world s new d identifier r = record {
   free = λ c cover sound. All-cons (Nobody c.ident) identifier [] (r.free c cover sound) (All-nil (Nobody c.ident));
   runs = λ c cover sound shares ways k source store notes answers a throws onward.
       r.runs c cover sound shares ways (λ v. k (v ∷ [])) source store notes answers a throws
-      (record { goes = λ v source1 store1 notes1 answers1 t is. onward.goes (v ∷ []) source1 store1 notes1 answers1 t (ap (λ (x : Value). x ∷ []) is) });
+      (record {
+        goes = λ v source1 store1 notes1 answers1 t is. onward.goes (v ∷ []) source1 store1 notes1 answers1 t
+            (ap (λ (x : Value). x ∷ []) is);
+      });
 }
 
 -- Parts from left to right, and then an instruction over their values: one whose event gives its value, one whose event keeps a value that
@@ -137,9 +152,12 @@ one_runs world s new d identifier r = record {
 module _ (world : World) (s mid : State) (ds : Action (List Value)) (identifiers : List ℕ) (value : InstructionValue)
     (span : Option Span) (g : Extends s mid) where
   pub all_asked : (event : List Value → Event)
-      → ((store : Store) → act (length mid.env.identifiers) value store ≡ Asks (event (map store identifiers)) (gives (length mid.env.identifiers)))
+      → ((store : Store)
+      → act (length mid.env.identifiers) value store ≡ Asks (event (map store identifiers)) (gives (length mid.env.identifiers)))
       → RunsAll world ds s mid identifiers
-      → RunsExpression world (λ ways k. ds ways (λ vs source answers. fired (set_open world.opens) (event vs) source answers (λ a. k a.value) ways.throws)) s (with_value mid value span)
+      → RunsExpression world
+      (λ ways k. ds ways (λ vs source answers. fired (set_open world.opens) (event vs) source answers (λ a. k a.value) ways.throws)) s
+      (with_value mid value span)
       (length mid.env.identifiers)
   all_asked event acts rs = record {
     fresh = g.identifiers;
@@ -150,15 +168,21 @@ module _ (world : World) (s mid : State) (ds : Action (List Value)) (identifiers
         (contained_before (extends_value mid value span) cover) sound shares
         (inside (extends_refl s) (extends_value mid value span)) throws (since_start a)
         (λ vs source1 store1 notes1 answers1 t u are.
-        subst (λ (x : List Value). TracesFrom c mid store1 notes1 answers1 (fired (set_open world.opens) (event x) source1 answers1 (λ y. k y.value) ways.throws)) are
-        (asks_runs world mid value span (event (map store1 identifiers)) k ways.throws (acts store1) cover (g.sound sound) shares g.identifiers (value_made mid value span)
+        subst (λ (x : List Value). TracesFrom c mid store1 notes1 answers1
+        (fired (set_open world.opens) (event x) source1 answers1 (λ y. k y.value) ways.throws)) are
+        (asks_runs world mid value span (event (map store1 identifiers)) k ways.throws (acts store1) cover
+        (g.sound sound) shares g.identifiers (value_made mid value span)
         (same_throws c (between s (with_value mid value span)) store notes answers s mid ways.throws g.handlers throws) onward t));
   }
 
   pub all_kept : (event : List Value → Event) (kept : List Value → Value)
-      → ((store : Store) → act (length mid.env.identifiers) value store ≡ Asks (event (map store identifiers)) (keeps (length mid.env.identifiers) (kept (map store identifiers))))
+      → ((store : Store)
+      → act (length mid.env.identifiers) value store ≡ Asks (event (map store identifiers))
+      (keeps (length mid.env.identifiers) (kept (map store identifiers))))
       → RunsAll world ds s mid identifiers
-      → RunsExpression world (λ ways k. ds ways (λ vs source answers. fired (set_open world.opens) (event vs) source answers (λ a. k (kept vs)) ways.throws)) s (with_value mid value span)
+      → RunsExpression world
+      (λ ways k. ds ways (λ vs source answers. fired (set_open world.opens) (event vs) source answers (λ a. k (kept vs)) ways.throws)) s
+      (with_value mid value span)
       (length mid.env.identifiers)
   all_kept event kept acts rs = record {
     fresh = g.identifiers;
@@ -169,13 +193,16 @@ module _ (world : World) (s mid : State) (ds : Action (List Value)) (identifiers
         (contained_before (extends_value mid value span) cover) sound shares
         (inside (extends_refl s) (extends_value mid value span)) throws (since_start a)
         (λ vs source1 store1 notes1 answers1 t u are.
-        subst (λ (x : List Value). TracesFrom c mid store1 notes1 answers1 (fired (set_open world.opens) (event x) source1 answers1 (λ y. k (kept x)) ways.throws)) are
-        (keeps_runs world mid value span (event (map store1 identifiers)) (kept (map store1 identifiers)) k ways.throws (acts store1) cover (g.sound sound) shares g.identifiers (value_made mid value span)
+        subst (λ (x : List Value). TracesFrom c mid store1 notes1 answers1
+        (fired (set_open world.opens) (event x) source1 answers1 (λ y. k (kept x)) ways.throws)) are
+        (keeps_runs world mid value span (event (map store1 identifiers)) (kept (map store1 identifiers)) k ways.throws (acts store1) cover
+        (g.sound sound) shares g.identifiers (value_made mid value span)
         (same_throws c (between s (with_value mid value span)) store notes answers s mid ways.throws g.handlers throws) onward t));
   }
 
   pub all_given : (given : List Value → Value)
-      → ((store : Store) → act (length mid.env.identifiers) value store ≡ Computes (given (map store identifiers)) (length mid.env.identifiers ∷ []))
+      → ((store : Store)
+      → act (length mid.env.identifiers) value store ≡ Computes (given (map store identifiers)) (length mid.env.identifiers ∷ []))
       → RunsAll world ds s mid identifiers
       → RunsExpression world (λ ways k. ds ways (λ vs. k (given vs))) s (with_value mid value span) (length mid.env.identifiers)
   all_given given acts rs = record {
@@ -187,9 +214,12 @@ module _ (world : World) (s mid : State) (ds : Action (List Value)) (identifiers
         (inside (extends_refl s) (extends_value mid value span)) throws (since_start a)
         (λ vs source1 store1 notes1 answers1 t u are.
         subst (λ (x : List Value). TracesFrom c mid store1 notes1 answers1 (k (given x) source1 answers1)) are
-        (computes_on mid value span c store1 notes1 answers1 (k (given (map store1 identifiers)) source1 answers1) (given (map store1 identifiers)) (length mid.env.identifiers ∷ []) (acts store1) cover
-        (onward.goes (given (map store1 identifiers)) source1 (set store1 (length mid.env.identifiers) (given (map store1 identifiers))) notes1 answers1
-        (since_set (length mid.env.identifiers) (given (map store1 identifiers)) (value_free mid value span c cover (g.sound sound)) g.identifiers (value_made mid value span) t)
+        (computes_on mid value span c store1 notes1 answers1 (k (given (map store1 identifiers)) source1 answers1)
+        (given (map store1 identifiers)) (length mid.env.identifiers ∷ []) (acts store1) cover
+        (onward.goes (given (map store1 identifiers)) source1
+        (set store1 (length mid.env.identifiers) (given (map store1 identifiers))) notes1 answers1
+        (since_set (length mid.env.identifiers) (given (map store1 identifiers))
+        (value_free mid value span c cover (g.sound sound)) g.identifiers (value_made mid value span) t)
         (set_same store1 (length mid.env.identifiers) (given (map store1 identifiers))))));
   }
 

@@ -63,7 +63,8 @@ pub sound_covers : (s : State) → HasSoundNames s → CoversNames s.env.pairs (
 sound_covers s q = record {
   kept = λ symbol identifier is. is;
   fresh = λ symbol identifier is. inl is;
-  one = λ symbol other identifier is also. name_of-injective s q.agree symbol other identifier identifier (q.same symbol ∙ is) (q.same other ∙ also) refl;
+  one = λ symbol other identifier is also. name_of-injective s q.agree symbol other identifier identifier (q.same symbol ∙ is)
+      (q.same other ∙ also) refl;
 }
 
 -- A symbol that is resolved.
@@ -107,7 +108,8 @@ sound_by None s name symbol given none agrees q =
       agree = agrees q.agree;
       same = λ other. same_more s.bindings s.env.pairs p q.same other (identifier_of s.bindings other) refl;
       once = subst (λ (symbols : List ℕ). AreDistinct symbols) (sym (map-append (λ (x : Pair). x.symbol.0) s.env.pairs (p ∷ [])))
-          (distinct_push (map (λ (x : Pair). x.symbol.0) s.env.pairs) symbol q.once (unpaired s.env.pairs symbol (sym (q.same symbol) ∙ none)));
+          (distinct_push (map (λ (x : Pair). x.symbol.0) s.env.pairs) symbol q.once
+          (unpaired s.env.pairs symbol (sym (q.same symbol) ∙ none)));
     }
 sound_by (Some known) s name symbol given is agrees q = record { agree = agrees q.agree; same = q.same; once = q.once }
 
@@ -131,7 +133,8 @@ names_by : (known : Option ℕ) (s : State) (name : List ℕ) (symbol : ℕ) (gi
     → GrowsNames s.env.pairs (length s.env.identifiers) (resolved_by known s name symbol given).env.pairs
 names_by None s name symbol given = record {
   kept = λ other identifier is. identifier_of-append_some s.env.pairs (pair symbol (length s.env.identifiers) ∷ []) other identifier is;
-  fresh = λ other identifier is. fresh_last s.env.pairs (length s.env.identifiers) symbol other identifier (identifier_of s.env.pairs other) refl is;
+  fresh = λ other identifier is. fresh_last s.env.pairs (length s.env.identifiers) symbol other identifier
+      (identifier_of s.env.pairs other) refl is;
 }
 names_by (Some known) s name symbol given = names_refl s.env.pairs (length s.env.identifiers)
 

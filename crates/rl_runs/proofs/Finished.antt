@@ -117,7 +117,13 @@ module _ (s : State) (fin : IsFinished s) (ident : ℕ → Option ℕ) (world : 
   notes_left id n =
       let b = end_block n.block n.place n.terminal n.there in
       let at : FoundAt s.completed n.block b.0 = found_at s.completed n.block b.0 b.1 in
-      record { index = at.index; block = (at.own, b.0); found = at.found; leaves = subst (λ (t : Terminal). LeavesStraight (leaving t.kind) id) (sym b.2) n.leaves }
+      record {
+        index = at.index;
+        block = (at.own, b.0);
+        found = at.found;
+        leaves = subst
+            (λ (t : Terminal). LeavesStraight (leaving t.kind) id) (sym b.2) n.leaves;
+      }
 
   -- The state in which the builder began.
   module _ (begun : State) (nothing : begun.completed ≡ []) (no_scopes : begun.scopes ≡ [])
@@ -150,7 +156,8 @@ module _ (s : State) (fin : IsFinished s) (ident : ℕ → Option ℕ) (world : 
         points : (other index : ℕ) → HasPoint s other index → Settles code other index
         points =
             settle code (finished_contained covers) (λ other low high n. notes_left other n) below jumps before
-            (settles_nothing code s.current.id.0 (length s.current.instructions) (ap (λ (o : Option BasicBlock). item_at s.table o (length s.current.instructions)) nowhere))
+            (settles_nothing code s.current.id.0 (length s.current.instructions)
+            (ap (λ (o : Option BasicBlock). item_at s.table o (length s.current.instructions)) nowhere))
 
         by_item : (block : BasicBlock) → block_of s.completed id ≡ Some block → (o : Option Item) → item_in s.table block place ≡ o
             → Settles code id place
@@ -158,7 +165,14 @@ module _ (s : State) (fin : IsFinished s) (ident : ℕ → Option ℕ) (world : 
         by_item block is (Some item) there =
             (let at : FoundAt s.completed id block = found_at s.completed id block is in
             points id place
-            (inl (record { index = at.index; block = (at.own, block); found = at.found; named = at.named; within = item_place block place item there })))
+            (inl (record {
+              index = at.index;
+              block =
+                  (at.own, block);
+              found = at.found;
+              named = at.named;
+              within = item_place block place item there;
+            })))
 
         by_block : (o : Option BasicBlock) → block_of s.completed id ≡ o → Settles code id place
         by_block None is = settles_nothing code id place (ap (λ (o : Option BasicBlock). item_at s.table o place) is)
@@ -166,7 +180,7 @@ module _ (s : State) (fin : IsFinished s) (ident : ℕ → Option ℕ) (world : 
 
     -- Blocks that are reached.
 
-    led_reached : (id : ℕ) → IsLedTo code s.entry.0 id → IsReached s.completed s.entry (record { 0 = id })
+    pub led_reached : (id : ℕ) → IsLedTo code s.entry.0 id → IsReached s.completed s.entry (record { 0 = id })
     led_reached id blocks.Begins = Begins
     led_reached id (Leads from place t b r there is) =
         let at = end_block from place t there in
@@ -177,7 +191,8 @@ module _ (s : State) (fin : IsFinished s) (ident : ℕ → Option ℕ) (world : 
     reached_led b Begins = blocks.Begins
     reached_led b (Goes from _ block r found is) =
         Leads from.0 (length block.instructions) block.terminal b (reached_led from r)
-        (ap (λ (o : Option BasicBlock). item_at s.table o (length block.instructions)) found ∙ item_met s.table (from, block) (length block.instructions) (Ends block.terminal) (refl, refl)) is
+        (ap (λ (o : Option BasicBlock). item_at s.table o (length block.instructions)) found
+        ∙ item_met s.table (from, block) (length block.instructions) (Ends block.terminal) (refl, refl)) is
 
     each_reached : (ids : List BlockId) → Each (IsLedTo code s.entry.0) ids → Each (Reached graph) ids
     each_reached [] all = tt
@@ -189,7 +204,8 @@ module _ (s : State) (fin : IsFinished s) (ident : ℕ → Option ℕ) (world : 
     loops_reached covers looping id kind e =
         subst (λ (k : TerminalKind). Each (Reached graph) (loop_blocks k)) e.ends
         (each_reached (loop_blocks e.block.terminal.kind)
-        (looping code (finished_contained covers) s.entry.0 none (at.own, e.block) (record { index = at.index; found = at.found }) (subst (λ (n : ℕ). IsLedTo code s.entry.0 n) (sym at.named) (reached_led id e.reached))))
+        (looping code (finished_contained covers) s.entry.0 none (at.own, e.block) (record { index = at.index; found = at.found })
+        (subst (λ (n : ℕ). IsLedTo code s.entry.0 n) (sym at.named) (reached_led id e.reached))))
       where
         at : FoundAt s.completed id.0 e.block
         at = found_at s.completed id.0 e.block e.there

@@ -35,7 +35,8 @@ module _ {c : Code} {r : Range} {store : Store} {notes : Notes} {answers : List 
       → RunsExpression world d old new identifier → IsContainedIn new c → HasSoundNames old → SharesVariables c.ident world c.world
       → Inside r (between old new) → Throws c r store notes answers (innermost old.handlers) ways.throws
       → Since c r store notes answers source1 store1 notes1 answers1
-      → ((v : Value) (source2 store2 : Store) (notes2 : Notes) (answers2 : List Answer) → Since c r store notes answers source2 store2 notes2 answers2
+      → ((v : Value) (source2 store2 : Store) (notes2 : Notes) (answers2 : List Answer)
+      → Since c r store notes answers source2 store2 notes2 answers2
       → Since c (between old new) store1 notes1 answers1 source2 store2 notes2 answers2 → store2 identifier ≡ v
       → TracesAt c new.current.id.0 (length new.current.instructions) store2 notes2 answers2 (k v source2 answers2))
       → TracesFrom c old store1 notes1 answers1 (d ways k source1 answers1)
@@ -49,7 +50,8 @@ module _ {c : Code} {r : Range} {store : Store} {notes : Notes} {answers : List 
       → RunsAll world d old new identifiers → IsContainedIn new c → HasSoundNames old → SharesVariables c.ident world c.world
       → Inside r (between old new) → Throws c r store notes answers (innermost old.handlers) ways.throws
       → Since c r store notes answers source1 store1 notes1 answers1
-      → ((vs : List Value) (source2 store2 : Store) (notes2 : Notes) (answers2 : List Answer) → Since c r store notes answers source2 store2 notes2 answers2
+      → ((vs : List Value) (source2 store2 : Store) (notes2 : Notes) (answers2 : List Answer)
+      → Since c r store notes answers source2 store2 notes2 answers2
       → Since c (between old new) store1 notes1 answers1 source2 store2 notes2 answers2 → map store2 identifiers ≡ vs
       → TracesAt c new.current.id.0 (length new.current.instructions) store2 notes2 answers2 (k vs source2 answers2))
       → TracesFrom c old store1 notes1 answers1 (d ways k source1 answers1)
@@ -111,7 +113,8 @@ pub aside : (s s2 : State) (wip : WipBlock) (scopes scopes2 : List JumpScope) (h
     → scopes2 ≡ s.scopes → handlers2 ≡ s.handlers → Extends (set_aside s wip scopes handlers) s2
     → Extends s (completed_by (stacked s2 scopes2 handlers2) t s.current)
 aside s s2 wip scopes scopes2 handlers handlers2 t same_scopes same_handlers g = record {
-  done = λ id f d. kept_on id f (g.done id f (record { place = d.place; block = d.block; found = d.found; named = d.named; holds = d.holds }));
+  done = λ id f d. kept_on id f
+      (g.done id f (record { place = d.place; block = d.block; found = d.found; named = d.named; holds = d.holds }));
   wip = λ id f w. inr (record { named = w.named; holds = wip_again s.table s2.table s.handlers handlers2 s.current.instructions f g.table same_handlers w.holds });
   table = g.table;
   completed = λ id k. (let later : IsCompleted s2.completed id = g.completed id k in record { place = later.place; block = later.block; found = get_more s2.completed _ later.place later.block later.found; named = later.named });
@@ -126,7 +129,8 @@ aside s s2 wip scopes scopes2 handlers handlers2 t same_scopes same_handlers g =
 }
   where
     kept_on : (id : ℕ) (f : Fact) → InCompleted s2 id f → InCompleted (completed_by (stacked s2 scopes2 handlers2) t s.current) id f
-    kept_on id f d = record { place = d.place; block = d.block; found = get_more s2.completed _ d.place d.block d.found; named = d.named; holds = d.holds }
+    kept_on id f d =
+        record { place = d.place; block = d.block; found = get_more s2.completed _ d.place d.block d.found; named = d.named; holds = d.holds }
 
 -- A graph that has the facts of a hole's end, under other stacks, has those of the hole.
 pub contained_stacked : (s : State) (scopes : List JumpScope) (handlers : List BlockId) (c : Code)

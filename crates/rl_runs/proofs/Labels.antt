@@ -16,7 +16,8 @@ labeled_breakable None action ways onward =
     ap (λ (breaks : Label → Cont). action (record ways { breaks = breaks }) onward)
     (same_everywhere _ _ (λ jump. elim jump [ None ↦ refl | Some label ↦ refl ]))
 labeled_breakable (Some own) action ways onward =
-    ap (λ (breaks : Label → Cont). action (record (switch_ways (Some own) (onward (tt {0})) (λ store answers. waiting) ways) { breaks = breaks }) onward)
+    ap (λ (breaks : Label → Cont). action
+    (record (switch_ways (Some own) (onward (tt {0})) (λ store answers. waiting) ways) { breaks = breaks }) onward)
     (same_everywhere _ _ by_jump)
   where
     by_jump : (jump : Label)

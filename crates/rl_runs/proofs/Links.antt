@@ -43,7 +43,10 @@ links_one world old new d alternate identifier r = record {
   free = λ c cover sound. All-cons (Nobody c.ident) identifier [] (r.free c cover sound) (All-nil (Nobody c.ident));
   runs = λ c cover sound shares ways k source store notes answers a throws early onward.
       r.runs c cover sound shares ways (λ v. k (v ∷ [])) source store notes answers a throws early
-      (record { goes = λ v source1 store1 notes1 answers1 t is. onward.goes (v ∷ []) source1 store1 notes1 answers1 t (ap (λ (x : Value). x ∷ []) is) });
+      (record {
+        goes = λ v source1 store1 notes1 answers1 t is. onward.goes (v ∷ []) source1 store1 notes1 answers1 t
+            (ap (λ (x : Value). x ∷ []) is);
+      });
 }
 
 module _ {c : Code} {r : Range} {store : Store} {notes : Notes} {answers : List Answer} {world : World} where
@@ -53,7 +56,8 @@ module _ {c : Code} {r : Range} {store : Store} {notes : Notes} {answers : List 
       → RunsLink world d old new alternate identifier → IsContainedIn new c → HasSoundNames old → SharesVariables c.ident world c.world
       → Inside r (between old new) → Throws c r store notes answers (innermost old.handlers) ways.throws
       → Follows c r store notes answers alternate 0 ways.short → Since c r store notes answers source1 store1 notes1 answers1
-      → ((v : Value) (source2 store2 : Store) (notes2 : Notes) (answers2 : List Answer) → Since c r store notes answers source2 store2 notes2 answers2
+      → ((v : Value) (source2 store2 : Store) (notes2 : Notes) (answers2 : List Answer)
+      → Since c r store notes answers source2 store2 notes2 answers2
       → Since c (between old new) store1 notes1 answers1 source2 store2 notes2 answers2 → store2 identifier ≡ v
       → TracesAt c new.current.id.0 (length new.current.instructions) store2 notes2 answers2 (k v source2 answers2))
       → TracesFrom c old store1 notes1 answers1 (d ways k source1 answers1)
@@ -68,13 +72,15 @@ module _ {c : Code} {r : Range} {store : Store} {notes : Notes} {answers : List 
       {notes1 : Notes} {answers1 : List Answer}
       → IsContainedIn (stored_in x place value span) c → HasSoundNames x → Nobody c.ident place.identifier.0
       → r.identifier ≤ place.identifier.0 → place.identifier.0 < length x.env.identifiers → length x.env.identifiers < r.identifiers
-      → ((store2 : Store) (t : Trace) → TracesAt c behind 0 store2 notes1 answers1 t → TracesFrom c (stored_in x place value span) store2 notes1 answers1 t)
+      → ((store2 : Store) (t : Trace) → TracesAt c behind 0 store2 notes1 answers1 t
+      → TracesFrom c (stored_in x place value span) store2 notes1 answers1 t)
       → Continues c r store notes answers behind 0 place.identifier.0 k → Since c r store notes answers source1 store1 notes1 answers1
       → store1 value.identifier.0 ≡ v → TracesFrom c x store1 notes1 answers1 (k v source1 answers1)
   stores_on x place value span behind v k {source1} {store1} {notes1} {answers1} cover sound free above below last jump onward t is =
       computes_on x (values.StoreLocal variables.Const place value) (Some span) c store1 notes1 answers1 (k v source1 answers1) w
       (p ∷ temp ∷ []) refl cover
-      (jump store2 (k v source1 answers1) (onward.goes v source1 store2 notes1 answers1 since2 (set_other (set store1 p w) temp p w apart ∙ set_same store1 p w ∙ is)))
+      (jump store2 (k v source1 answers1)
+      (onward.goes v source1 store2 notes1 answers1 since2 (set_other (set store1 p w) temp p w apart ∙ set_same store1 p w ∙ is)))
     where
       p : ℕ
       p = place.identifier.0

@@ -21,7 +21,8 @@ module _ {K : Type 0} (key_of : Instruction → Option K) where
       → Lives key_of first completes a b → Lives key_of second behind b d → Lives key_of (first ++ second) behind a d
   lives_then a b d first second completes behind g on l1 l2 = record {
     onward = λ is c cover entry r. l2.onward is c cover entry (l1.onward on c (contained_before g cover) entry r);
-    stands = λ c cover entry r. All-append (Stands key_of c entry) first second (l1.stands c (contained_before g cover) entry r) (l2.stands c cover entry (l1.onward on c (contained_before g cover) entry r));
+    stands = λ c cover entry r. All-append (Stands key_of c entry) first second (l1.stands c (contained_before g cover) entry r)
+        (l2.stands c cover entry (l1.onward on c (contained_before g cover) entry r));
   }
 
   -- A dead part behind one that does not complete.

@@ -20,7 +20,10 @@ dropped_unread g id dropped x same (ByBranch from test consequent alternate fall
     dropped.behind_none from (kinds.Branch test consequent alternate fallthrough) e (ap (λ (n : ℕ). Some (record { 0 = n })) same)
 dropped_unread g id dropped x same (ByThrow from continuation handler e) =
     dropped.unreached
-    (subst (λ (n : ℕ). Reached g n) same (Goes from handler e.block e.reached e.there (subst (λ (k : TerminalKind). list_any (same_id handler) (leads (fields_of k)) ≡ true) (sym e.ends) (or_right (same_id handler continuation) _ (or_left (same_id handler handler) false (same_self handler))))))
+    (subst (λ (n : ℕ). Reached g n) same
+    (Goes from handler e.block e.reached e.there
+    (subst (λ (k : TerminalKind). list_any (same_id handler) (leads (fields_of k)) ≡ true) (sym e.ends)
+    (or_right (same_id handler continuation) _ (or_left (same_id handler handler) false (same_self handler))))))
 dropped_unread g id dropped x same (ByStep from e) = dropped.unreached (subst (λ (n : ℕ). Reached g n) same e.reached)
 
 -- The block behind a construct whose terminal `build` may replace.
@@ -41,7 +44,18 @@ may_order g preds ends looped stepless unread = record {
   fresh = preds;
   ended = λ id e. let never : false ≡ true = ends id kinds.Unreachable e in absurd (cc);
   loops = looped;
-  steps = λ id body test fallthrough e. (stepless id body test fallthrough e, λ step. unread id fallthrough (kinds.DoWhile body test fallthrough) e refl (ByStep fallthrough.0 step));
-  dead_loops = λ id body test fallthrough e gone. (λ read. dropped_unread g test gone test.0 refl read, unread id fallthrough (kinds.DoWhile body test fallthrough) e refl);
-  dead_tries = λ id block binding handler fallthrough e gone. (λ read. dropped_unread g handler gone handler.0 refl read, unread id fallthrough (kinds.Try block binding handler fallthrough) e refl);
+  steps = λ id body test fallthrough e. (
+    stepless id body test fallthrough e,
+    λ step. unread id fallthrough (kinds.DoWhile body test fallthrough) e refl
+        (ByStep fallthrough.0 step),
+  );
+  dead_loops =
+      λ id body test fallthrough e gone.
+      (λ read. dropped_unread g test gone test.0 refl read, unread id fallthrough (kinds.DoWhile body test fallthrough) e refl);
+  dead_tries =
+      λ id block binding handler fallthrough e gone. (
+        λ read. dropped_unread g handler gone handler.0 refl read,
+        unread id fallthrough
+            (kinds.Try block binding handler fallthrough) e refl,
+      );
 }

@@ -114,8 +114,19 @@ extends_temporary s span = record {
 
 extends_plain : (s : State) (i : Instruction) → Extends s (plainly_pushed s i)
 extends_plain s i = record {
-  done = λ id f d. record { place = d.place; block = d.block; found = d.found; named = d.named; holds = block_more s.table (i ∷ []) d.block f d.holds };
-  wip = λ id f w. inr (record { named = w.named; holds = wip_more s.table (i ∷ []) s.handlers s.current.instructions (record { 0 = length s.table } ∷ []) f w.holds });
+  done = λ id f d. record {
+    place = d.place;
+    block = d.block;
+    found = d.found;
+    named = d.named;
+    holds = block_more s.table
+        (i ∷ []) d.block f d.holds;
+  };
+  wip = λ id f w. inr (record {
+    named = w.named;
+    holds = wip_more s.table (i ∷ []) s.handlers s.current.instructions
+        (record { 0 = length s.table } ∷ []) f w.holds;
+  });
   table = λ number j is. get_more s.table (i ∷ []) number j is;
   completed = λ id k. k;
   current = inl refl;
@@ -140,11 +151,24 @@ pub extends_completed : (s : State) (t : Terminal) (next : WipBlock) → (innerm
     → Extends s (completed_by s t next)
 extends_completed s t next catches = record {
   done = λ id f d. record { place = d.place; block = d.block; found = get_more s.completed _ d.place d.block d.found; named = d.named; holds = d.holds };
-  wip = λ id f w. inl (record { place = length s.completed; block = ended_by s.current t; found = get_seam s.completed (ended_by s.current t) []; named = w.named; holds = block_from_wip s.table s.handlers s.current t f catches w.holds });
+  wip = λ id f w. inl (record {
+    place = length s.completed;
+    block = ended_by s.current t;
+    found = get_seam s.completed
+        (ended_by s.current t) [];
+    named = w.named;
+    holds = block_from_wip s.table s.handlers s.current t f catches w.holds;
+  });
   table = λ number i is. is;
   completed = λ id k. record { place = k.place; block = k.block; found = get_more s.completed _ k.place k.block k.found; named = k.named };
   current =
-      inr (record { place = length s.completed; block = ended_by s.current t; found = get_seam s.completed (ended_by s.current t) []; named = refl });
+      inr (record {
+        place = length s.completed;
+        block = ended_by s.current t;
+        found = get_seam s.completed
+            (ended_by s.current t) [];
+        named = refl;
+      });
   entry = refl;
   handlers = refl;
   scopes = refl;
@@ -244,19 +268,41 @@ pub terminal_met : (s : State) (t : Terminal) (next : WipBlock) (c : Code) → I
     → c.item s.current.id.0 (length s.current.instructions) ≡ Some (Ends t)
 terminal_met s t next c cover =
     cover.has s.current.id.0 (At (length s.current.instructions) (Ends t))
-    (inl (record { place = length s.completed; block = ended_by s.current t; found = get_seam s.completed (ended_by s.current t) []; named = refl; holds = (refl, refl) }))
+    (inl (record {
+      place = length s.completed;
+      block = ended_by s.current t;
+      found = get_seam s.completed
+          (ended_by s.current t) [];
+      named = refl;
+      holds = (refl, refl);
+    }))
 
 catcher_met : (s : State) (t : Terminal) (next : WipBlock) (c : Code) → IsContainedIn (completed_by s t next) c
     → c.catcher s.current.id.0 ≡ catcher_of t.kind
 catcher_met s t next c cover =
     cover.has s.current.id.0 (Catch (catcher_of t.kind))
-    (inl (record { place = length s.completed; block = ended_by s.current t; found = get_seam s.completed (ended_by s.current t) []; named = refl; holds = refl }))
+    (inl (record {
+      place = length s.completed;
+      block = ended_by s.current t;
+      found = get_seam s.completed
+          (ended_by s.current t) [];
+      named = refl;
+      holds = refl;
+    }))
 
 plain_met : (s : State) (i : Instruction) (c : Code) → IsContainedIn (plainly_pushed s i) c
     → c.item s.current.id.0 (length s.current.instructions) ≡ Some (Runs i)
 plain_met s i c cover =
     cover.has s.current.id.0 (At (length s.current.instructions) (Runs i))
-    (inr (record { named = refl; holds = record { number = record { 0 = length s.table }; at = get_seam s.current.instructions (record { 0 = length s.table }) []; kept = get_seam s.table i [] } }))
+    (inr (record {
+      named = refl;
+      holds = record {
+        number = record { 0 = length s.table };
+        at = get_seam s.current.instructions
+            (record { 0 = length s.table }) [];
+        kept = get_seam s.table i [];
+      };
+    }))
 
 under_met : (o : Option BlockId) (s : State) (i : Instruction) (c : Code) → innermost s.handlers ≡ o
     → IsContainedIn (pushed_under o s i) c
@@ -276,7 +322,13 @@ pub goes_on : (s : State) (t : Terminal) (next : WipBlock) (c : Code) (b : Block
     → TracesAt c b.0 0 store (all_noted marks notes) answers trace → TracesFrom c s store notes answers trace
 goes_on s t next c b marks store notes answers trace is cover rest =
     steps_on c s.current.id.0 (length s.current.instructions) store notes answers (Ends t) trace (terminal_met s t next c cover)
-    (record { by = (rest.by.0, λ stuck steps enough. ap (λ l. left stuck c l (walk stuck c steps) (walk stuck c steps) notes store answers) is ∙ rest.by.1 stuck steps enough) })
+    (record {
+      by = (
+        rest.by.0,
+        λ stuck steps enough. ap
+            (λ l. left stuck c l (walk stuck c steps) (walk stuck c steps) notes store answers) is ∙ rest.by.1 stuck steps enough,
+      );
+    })
 
 -- The point behind an instruction leads to where the builder stands.
 pub goes_behind : (o : Option BlockId) (s : State) (i : Instruction) (c : Code) (store : Store) (notes : Notes) (answers : List Answer)
@@ -294,16 +346,24 @@ goes_behind o s i c store notes answers t is cover rest = by_handler o is cover 
     by_handler None is cover rest = subst (λ place. TracesAt c s.current.id.0 place store notes answers t) one rest
     by_handler (Some handler) is cover rest =
         subst (λ place. TracesAt c s.current.id.0 place store notes answers t) one
-        (goes_on (reserved (plainly_pushed s i)) (maybe_throw s.env.next_block handler i.span) (new_block s.env.next_block s.current.kind) c (record { 0 = s.env.next_block }) [] store notes answers t refl cover rest)
+        (goes_on (reserved (plainly_pushed s i)) (maybe_throw s.env.next_block handler i.span) (new_block s.env.next_block s.current.kind) c
+        (record { 0 = s.env.next_block }) [] store notes answers t refl cover rest)
 
 -- A silent instruction: the run goes on where the builder stands behind it.
 pub push_runs : (s : State) (i : Instruction) (c : Code) (store after : Store) (notes : Notes) (answers : List Answer) (t : Trace)
-    → ((stuck : Trace) (next : Next) (place : ℕ) → step stuck c (Some (Runs i)) next next s.current.id.0 place store notes answers ≡ next s.current.id.0 (place + 1) after notes answers)
+    → ((stuck : Trace) (next : Next) (place : ℕ)
+    → step stuck c (Some (Runs i)) next next s.current.id.0 place store notes answers ≡ next s.current.id.0 (place + 1) after notes answers)
     → IsContainedIn (pushed s i) c → TracesFrom c (pushed s i) after notes answers t → TracesFrom c s store notes answers t
 push_runs s i c store after notes answers t acts cover rest =
     let behind = goes_behind (innermost s.handlers) s i c after notes answers t refl cover rest in
     steps_on c s.current.id.0 (length s.current.instructions) store notes answers (Runs i) t (instruction_met s i c cover)
-    (record { by = (behind.by.0, λ stuck steps enough. acts stuck (walk stuck c steps) (length s.current.instructions) ∙ behind.by.1 stuck steps enough) })
+    (record {
+      by = (
+        behind.by.0,
+        λ stuck steps enough. acts stuck (walk stuck c steps) (length s.current.instructions)
+            ∙ behind.by.1 stuck steps enough,
+      );
+    })
 
 -- The handler of a block to which an instruction is appended.
 pub catches : (o : Option BlockId) (s : State) (i : Instruction) (c : Code) → innermost s.handlers ≡ o
@@ -323,4 +383,10 @@ thrown_comes None c r store notes answers h v source1 store1 left rest throws t 
     comes_at_once c _ _ (λ stuck next. sym (throws v source1 rest))
 thrown_comes (Some handler) c r store notes answers h v source1 store1 left rest throws t =
     let goes = throws.goes v source1 store1 left rest t in
-    record { by = (goes.by.0, λ stuck steps enough. ap (λ note. caught_at stuck note handler.0 left (walk stuck c steps) v store1 rest) (t.later.marks handler.0 throws.outside ∙ throws.noted) ∙ goes.by.1 stuck steps enough) }
+    record {
+      by = (
+        goes.by.0,
+        λ stuck steps enough. ap (λ note. caught_at stuck note handler.0 left (walk stuck c steps) v store1 rest)
+            (t.later.marks handler.0 throws.outside ∙ throws.noted) ∙ goes.by.1 stuck steps enough,
+      );
+    }

@@ -55,7 +55,14 @@ module _ (s : State) where
   step_in : (n : ℕ) → StepsAt (completed_graph s) n → StepIn s n
   step_in n e =
       let at : FoundAt s.completed n e.block = found_at s.completed n e.block e.there in
-      inl (record { block = (at.own, e.block); one = record { index = at.index; found = at.found }; named = at.named; step = listed e.block e.place e.instruction e.item e.reads })
+      inl (record {
+        block =
+            (at.own, e.block);
+        one = record { index = at.index; found = at.found };
+        named = at.named;
+        step =
+            listed e.block e.place e.instruction e.item e.reads;
+      })
     where
       by_kept : (o : Option Instruction) (i : Instruction)
           → option_map (λ j. Runs j) o ≡ Some (Runs i) → o ≡ Some i
@@ -68,7 +75,16 @@ module _ (s : State) where
         where
           by_listed : (o : Option InstructionId) (b : Bool) → slice_get block.instructions place ≡ o
               → item_by s.table o b block.terminal ≡ Some (Runs i) → HasStep s.table block.instructions
-          by_listed (Some number) b found e1 = record { place = place; number = number; instruction = i; at = found; kept = by_kept (slice_get s.table number.0) i e1; reads = reads }
+          by_listed (Some number) b found e1 =
+              record {
+                place = place;
+                number = number;
+                instruction = i;
+                at = found;
+                kept = by_kept
+                    (slice_get s.table number.0) i e1;
+                reads = reads;
+              }
           by_listed None true found e1 = absurd (cc)
           by_listed None false found e1 = absurd (cc)
 
@@ -96,11 +112,13 @@ module _ (s : State) where
       by_read n same (ByBranch from test consequent alternate fallthrough e1) =
           unread fallthrough.0
           (subst (λ (m : ℕ). MarkedAt replaced_of s.completed m) (sym same) (marked_by replaced_of id kind behind.0 e (replaced kind is)))
-          (marked_by reads_of from (kinds.Branch test consequent alternate fallthrough) fallthrough.0 e1 (or_left (same_id fallthrough fallthrough) false (same_self fallthrough)))
+          (marked_by reads_of from (kinds.Branch test consequent alternate fallthrough) fallthrough.0 e1
+          (or_left (same_id fallthrough fallthrough) false (same_self fallthrough)))
       by_read n same (ByThrow from continuation handler e1) =
           unread handler.0
           (subst (λ (m : ℕ). MarkedAt replaced_of s.completed m) (sym same) (marked_by replaced_of id kind behind.0 e (replaced kind is)))
-          (marked_by reads_of from (kinds.MaybeThrow continuation (Some handler)) handler.0 e1 (or_left (same_id handler handler) false (same_self handler)))
+          (marked_by reads_of from (kinds.MaybeThrow continuation (Some handler)) handler.0 e1
+          (or_left (same_id handler handler) false (same_self handler)))
       by_read n same (ByStep from e1) =
           stepless from
           (subst (λ (m : ℕ). MarkedAt stepless_of s.completed m) (sym same) (marked_by stepless_of id kind behind.0 e (no_step kind is)))
@@ -113,7 +131,10 @@ module _ (s : State) where
   finished_may_order unlinked ends looped unread stepless =
       may_order (completed_graph s)
       (λ id block found. (found_holds (λ (b : BlockPair). b.1.preds ≡ []) s.completed id block unlinked found).1)
-      (λ id kind e. subst (λ (k : TerminalKind). is_end k ≡ true) e.ends (found_holds (λ (b : BlockPair). is_end b.1.terminal.kind ≡ true) s.completed id e.block ends e.there).1)
+      (λ id kind e. subst (λ (k : TerminalKind). is_end k ≡ true) e.ends
+      (found_holds (λ (b : BlockPair). is_end b.1.terminal.kind ≡ true) s.completed id e.block ends e.there).1)
       looped
-      (λ id body test fallthrough e step. stepless test.0 (marked_by stepless_of id (kinds.DoWhile body test fallthrough) test.0 e (or_left (same_id test test) _ (same_self test))) (step_in test.0 step))
+      (λ id body test fallthrough e step. stepless test.0
+      (marked_by stepless_of id (kinds.DoWhile body test fallthrough) test.0 e (or_left (same_id test test) _ (same_self test)))
+      (step_in test.0 step))
       (behind_unread unread stepless)

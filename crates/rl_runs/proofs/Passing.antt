@@ -20,7 +20,8 @@ passes_under None s i c cover entry r = r
 passes_under (Some handler) s i c cover entry r =
     Leads s.current.id.0 (length (plainly_pushed s i).current.instructions) (maybe_throw s.env.next_block handler i.span)
     (record { 0 = s.env.next_block }) r
-    (terminal_met (reserved (plainly_pushed s i)) (maybe_throw s.env.next_block handler i.span) (new_block s.env.next_block s.current.kind) c cover)
+    (terminal_met (reserved (plainly_pushed s i)) (maybe_throw s.env.next_block handler i.span)
+    (new_block s.env.next_block s.current.kind) c cover)
     (or_left (same_id (record { 0 = s.env.next_block }) (record { 0 = s.env.next_block })) _ (same_self (record { 0 = s.env.next_block })))
 
 pub passes_pushed : (s : State) (i : Instruction) → Passes s (pushed s i)

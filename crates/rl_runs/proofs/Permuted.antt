@@ -78,8 +78,11 @@ module _ {X : Type 0} (give : ℕ → List X) where
     | inl a ↦ (let d : AreDistinct (a.first ++ a.rest) × (IsIn (a.first ++ a.rest) n → ⊥) = distinct_without a.first n a.rest (subst AreDistinct a.is dm) in
         there a.first a.rest a.is
         (given_permuted ns (a.first ++ a.rest) (distinct_tail n ns dn) d.0
-        (λ m h none. left m (in_tail n ns m h) (λ among. none (without a.first a.rest m (λ same. distinct_head n ns dn (subst (λ (k : ℕ). IsIn ns k) same h)) (subst (λ (l : List ℕ). IsIn l m) a.is among))))
-        (λ m h none. right m (subst (λ (l : List ℕ). IsIn l m) (sym a.is) (within a.first a.rest m h)) (λ among. none (behind m (λ same. d.1 (subst (λ (k : ℕ). IsIn (a.first ++ a.rest) k) same h)) among)))))
+        (λ m h none. left m (in_tail n ns m h)
+        (λ among. none (without a.first a.rest m (λ same. distinct_head n ns dn (subst (λ (k : ℕ). IsIn ns k) same h))
+        (subst (λ (l : List ℕ). IsIn l m) a.is among))))
+        (λ m h none. right m (subst (λ (l : List ℕ). IsIn l m) (sym a.is) (within a.first a.rest m h))
+        (λ among. none (behind m (λ same. d.1 (subst (λ (k : ℕ). IsIn (a.first ++ a.rest) k) same h)) among)))))
     | inr none ↦ (let nothing : give n ≡ [] = left n (in_head n ns) none in
         subst (λ (l : List X). IsPermutation (l ++ given ns) (given ms)) (sym nothing)
         (given_permuted ns ms (distinct_tail n ns dn) dm (λ m h absent. left m (in_tail n ns m h) absent)

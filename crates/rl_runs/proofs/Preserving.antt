@@ -56,7 +56,8 @@ blocks_then a b d first second = record {
       (notes_back c a b d d own first.extends.blocks (omega arith) (λ id n. inl n))
       (straight_below a b first.extends.blocks first.straight below)
       (subst (λ (l : List JumpScope). JumpsSettle c l) (sym first.extends.scopes) jumps)
-      (first.settle c (contained_before second.extends cover) (notes_back c a a b d own (omega arith) second.extends.blocks second.straight) below jumps old);
+      (first.settle c (contained_before second.extends cover)
+      (notes_back c a a b d own (omega arith) second.extends.blocks second.straight) below jumps old);
   looped = λ c cover entry old. second.looped c cover entry (first.looped c (contained_before second.extends cover) entry old);
 }
 
@@ -130,7 +131,8 @@ blocks_returned s span variant place kind = record {
   ended = λ all. ends_more s.completed (ended_by s.current (return_of span variant place)) refl all;
   straight = straight_fresh s (return_of span variant place) kind (λ id n. n);
   settle = λ c cover own below jumps old behind. settle_returned (reserved s) span variant place s.env.next_block kind c cover old;
-  looped = λ c cover entry old. looped_ended (IsLedTo c entry) (reserved s) (return_of span variant place) (new_block s.env.next_block kind) (λ r. tt) old;
+  looped = λ c cover entry old. looped_ended (IsLedTo c entry) (reserved s) (return_of span variant place) (new_block s.env.next_block kind)
+      (λ r. tt) old;
 }
 
 -- A throw, behind which a fresh block goes on.
@@ -145,7 +147,8 @@ blocks_threw s span place kind = record {
   ended = λ all. ends_more s.completed (ended_by s.current (ends_by (ends.Throw place) (Some span))) refl all;
   straight = straight_fresh s (ends_by (ends.Throw place) (Some span)) kind (λ id n. n);
   settle = λ c cover own below jumps old behind. settle_threw (reserved s) span place s.env.next_block kind c cover old;
-  looped = λ c cover entry old. looped_ended (IsLedTo c entry) (reserved s) (ends_by (ends.Throw place) (Some span)) (new_block s.env.next_block kind) (λ r. tt) old;
+  looped = λ c cover entry old. looped_ended (IsLedTo c entry) (reserved s) (ends_by (ends.Throw place) (Some span))
+      (new_block s.env.next_block kind) (λ r. tt) old;
 }
 
 -- A jump to a target, behind which a fresh block goes on.
@@ -168,7 +171,8 @@ blocks_jumped s target variant span kind to = record {
       settle_completed (reserved s) (goto target variant span) (new_block s.env.next_block kind) c
       (settle_goto (reserved s) target variant span (new_block s.env.next_block kind) c cover (jumps target (to []))) old
       (empty_settles c s.env.next_block);
-  looped = λ c cover entry old. looped_ended (IsLedTo c entry) (reserved s) (goto target variant span) (new_block s.env.next_block kind) (λ r. tt) old;
+  looped = λ c cover entry old. looped_ended (IsLedTo c entry) (reserved s) (goto target variant span) (new_block s.env.next_block kind)
+      (λ r. tt) old;
 }
 
 pub blocks_broken : (s : State) (label : Label) (target : BlockId) (variant : GotoVariant) (span : Span) (kind : BlockKind)

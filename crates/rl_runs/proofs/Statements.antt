@@ -29,7 +29,8 @@ use Rattle.rl_runs.specs.Simulation.{RunsExpression, RunsStatement}
 -- No statement.
 pub nothing_runs : (world : World) (s : State) → RunsStatement world done s s
 nothing_runs world s = record {
-  runs = λ c cover sound shares ways normal source store notes answers a throws jumps onward. onward.goes source store notes answers (since_start a);
+  runs = λ c cover sound shares ways normal source store notes answers a throws jumps onward. onward.goes source store notes answers
+      (since_start a);
 }
 
 -- A statement, and another behind it.
@@ -87,7 +88,8 @@ return_ends world s span variant place kind c cover shares v source store notes 
     steps_on c s.current.id.0 (length s.current.instructions) store notes answers (Ends (return_of span variant place))
     (returned (kept_in world source) variant v)
     (terminal_met (reserved s) (return_of span variant place) (new_block s.env.next_block kind) c cover)
-    (comes_at_once c _ _ (λ stuck next. ap (λ (kept : List Assignment). returned kept variant (store place.identifier.0)) (kept_same c world source store a shares) ∙ ap (λ w. returned (kept_in world source) variant w) is))
+    (comes_at_once c _ _ (λ stuck next. ap (λ (kept : List Assignment). returned kept variant (store place.identifier.0))
+    (kept_same c world source store a shares) ∙ ap (λ w. returned (kept_in world source) variant w) is))
 
 pub extends_returned : (s : State) (span : Option Span) (variant : ReturnVariant) (place : Place) (kind : BlockKind)
     → Extends s (returned_from s span variant place kind)
@@ -99,7 +101,8 @@ extends_returned s span variant place kind =
 pub return_runs : (world : World) (s mid : State) (d : Action Value) (place : Place) (span : Option Span) (variant : ReturnVariant)
     (kind : BlockKind)
     → RunsExpression world d s mid place.identifier.0
-    → RunsStatement world (λ ways onward. d ways (λ v source answers. returned (kept_in world source) variant v)) s (returned_from mid span variant place kind)
+    → RunsStatement world (λ ways onward. d ways (λ v source answers. returned (kept_in world source) variant v)) s
+    (returned_from mid span variant place kind)
 return_runs world s mid d place span variant kind r = record {
   runs = λ c cover sound shares ways normal source store notes answers a throws jumps onward.
       use_expression ways (λ v after rest. returned (kept_in world after) variant v) r
@@ -136,7 +139,8 @@ throw_runs world s mid d place span kind none r = record {
 
 -- An equal meaning has the same runs.
 pub does_same : (world : World) (old new : State) {d m : Action (Unit {0})}
-    → ((ways : Ways) (normal : Cont) (source : Store) (answers : List Answer) → m ways (λ end. normal) source answers ≡ d ways (λ end. normal) source answers)
+    → ((ways : Ways) (normal : Cont) (source : Store) (answers : List Answer)
+    → m ways (λ end. normal) source answers ≡ d ways (λ end. normal) source answers)
     → RunsStatement world m old new → RunsStatement world d old new
 does_same world old new {d} {m} same r = record {
   runs = λ c cover sound shares ways normal source store notes answers a throws jumps onward.

@@ -144,8 +144,12 @@ module _ (s : State) (i : Instruction) (no_step : ReadsNote i → ⊥) where
   steps_under : (o : Option BlockId) → KeepsSteps s (pushed_under o s i)
   steps_under None = record { since = λ k id h. inl (steps_plain k id h); listed = listed_plain }
   steps_under (Some handler) = record {
-    since = λ k id h. inl (steps_plain k id (back (steps_ended (reserved (plainly_pushed s i)) (maybe_throw s.env.next_block handler i.span) (new_block s.env.next_block s.current.kind) id refl h)));
-    listed = λ k. listed_ended (reserved (plainly_pushed s i)) (maybe_throw s.env.next_block handler i.span) (new_block s.env.next_block s.current.kind) refl (on (listed_plain k));
+    since = λ k id h. inl
+        (steps_plain k id (back
+        (steps_ended (reserved (plainly_pushed s i)) (maybe_throw s.env.next_block handler i.span)
+        (new_block s.env.next_block s.current.kind) id refl h)));
+    listed = λ k. listed_ended (reserved (plainly_pushed s i)) (maybe_throw s.env.next_block handler i.span)
+        (new_block s.env.next_block s.current.kind) refl (on (listed_plain k));
   }
     where
       back : {id : ℕ} → StepIn (reserved (plainly_pushed s i)) id → StepIn (plainly_pushed s i) id

@@ -107,8 +107,12 @@ module _ {c : Code} {r : Range} {store : Store} {notes : Notes} {answers : List 
       → Later c r store notes answers store1 notes1 answers1 → Later c r1 store1 notes1 answers1 store2 notes2 answers2
       → Later c r store notes answers store2 notes2 answers2
   later_then {r1} {store1} {store2} {notes1} {notes2} {answers1} {answers2} part a b = record {
-    temporaries = λ identifier free outside. b.temporaries identifier free (outside_part r.identifier r.identifiers r1.identifier r1.identifiers identifier part.identifier part.identifiers outside) ∙ a.temporaries identifier free outside;
-    marks = λ block outside. b.marks block (outside_part r.block r.blocks r1.block r1.blocks block part.block part.blocks outside) ∙ a.marks block outside;
+    temporaries =
+        λ identifier free outside. b.temporaries identifier free
+        (outside_part r.identifier r.identifiers r1.identifier r1.identifiers identifier part.identifier part.identifiers outside)
+        ∙ a.temporaries identifier free outside;
+    marks = λ block outside. b.marks block (outside_part r.block r.blocks r1.block r1.blocks block part.block part.blocks outside)
+        ∙ a.marks block outside;
     fewer = omega (arith, a.fewer, b.fewer);
   }
 

@@ -38,15 +38,25 @@ module _ (c : Code) (world : World) (one : AreOne c.ident) (shares : SharesVaria
           → ((source2 store2 : Store) (rest2 : List Answer) → ((q : Range) → Since c q store notes answers source2 store2 notes rest2)
           → Eventually c (λ stuck next. compared stuck c cases (Some other) value next next notes store2 rest2)
           (switched (set_open world.opens) ks k_other v source2 rest2))
-          → Eventually c (λ stuck next. tried (changer c) test value (at next k.block notes) (compared stuck c cases (Some other) value next next notes) (compared stuck c cases (Some other) value next next notes) store1 rest)
+          → Eventually c (λ stuck next. tried (changer c) test value (at next k.block notes)
+          (compared stuck c cases (Some other) value next next notes)
+          (compared stuck c cases (Some other) value next next notes) store1 rest)
           (switched (set_open world.opens) ((w, t.1) ∷ ks) k_other v source1 rest)
       by_test None None is next = next source1 store1 rest here
       by_test None (Some w) is next = absurd is
       by_test (Some place) None is next = absurd is
       by_test (Some place) (Some w) is next =
-          subst (λ (x : Value). Eventually c (λ stuck k1. tested (changer c) (matches x (store1 place.identifier.0)) store1 rest (at k1 k.block notes) (compared stuck c cases (Some other) value k1 k1 notes)) (switched (set_open world.opens) ((Some w, t.1) ∷ ks) k_other v source1 rest))
+          subst (λ (x : Value). Eventually c
+          (λ stuck k1. tested (changer c) (matches x (store1 place.identifier.0)) store1 rest (at k1 k.block notes)
+          (compared stuck c cases (Some other) value k1 k1 notes))
+          (switched (set_open world.opens) ((Some w, t.1) ∷ ks) k_other v source1 rest))
           (sym (kept value free ∙ has))
-          (subst (λ (x : Value). Eventually c (λ stuck k1. tested (changer c) (matches v x) store1 rest (at k1 k.block notes) (compared stuck c cases (Some other) value k1 k1 notes)) (switched (set_open world.opens) ((Some w, t.1) ∷ ks) k_other v source1 rest)) (sym (kept place.identifier.0 is.0 ∙ is.1))
-          (stuck_tests_come c world one shares (matches v w) rest (λ stuck k1. at k1 k.block notes) (λ stuck k1. compared stuck c cases (Some other) value k1 k1 notes) t.1 (switched (set_open world.opens) ks k_other v) (here r).agrees
+          (subst (λ (x : Value). Eventually c
+          (λ stuck k1. tested (changer c) (matches v x) store1 rest (at k1 k.block notes)
+          (compared stuck c cases (Some other) value k1 k1 notes))
+          (switched (set_open world.opens) ((Some w, t.1) ∷ ks) k_other v source1 rest)) (sym (kept place.identifier.0 is.0 ∙ is.1))
+          (stuck_tests_come c world one shares (matches v w) rest (λ stuck k1. at k1 k.block notes)
+          (λ stuck k1. compared stuck c cases (Some other) value k1 k1 notes) t.1 (switched (set_open world.opens) ks k_other v)
+          (here r).agrees
           (λ source2 store2 rest2 after. all.1.goes source2 store2 notes rest2 (since_then (inside_refl r) (here r).later (after.since r)))
           (λ source2 store2 rest2 after. next source2 store2 rest2 (λ q. since_then (inside_refl q) (here q).later (after.since q)))))

@@ -35,12 +35,14 @@ IsHandler s id = IsTarget s.handlers [] id
 -- Replaced terminals stand before blocks alone that were numbered since.
 abbrev pub ReplacesSince : State → State → Type 0
 ReplacesSince old new =
-    (id : ℕ) → MarkedAt replaced_of new.completed id → MarkedAt replaced_of old.completed id ⊎ ((old.env.next_block ≤ id) × (id < new.env.next_block))
+    (id : ℕ) → MarkedAt replaced_of new.completed id
+    → MarkedAt replaced_of old.completed id ⊎ ((old.env.next_block ≤ id) × (id < new.env.next_block))
 
 -- Notes are read alone of blocks that were numbered since, and of open handlers.
 abbrev pub ReadsSince : State → State → Type 0
 ReadsSince old new =
-    (id : ℕ) → MarkedAt reads_of new.completed id → MarkedAt reads_of old.completed id ⊎ ((old.env.next_block ≤ id) × (id < new.env.next_block)) ⊎ IsHandler old id
+    (id : ℕ) → MarkedAt reads_of new.completed id
+    → MarkedAt reads_of old.completed id ⊎ ((old.env.next_block ≤ id) × (id < new.env.next_block)) ⊎ IsHandler old id
 
 -- No note is read of a block behind a construct whose terminal may be replaced.
 abbrev pub Unread : State → Type 0
