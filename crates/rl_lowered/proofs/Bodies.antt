@@ -1,0 +1,31 @@
+-- All that is promised of a body, from its derivation.
+use Rattle.rl_builder.specs.Builder.{State}
+use Rattle.rl_lowered.proofs.Blocks.{body_blocks}
+use Rattle.rl_lowered.proofs.Listing.{body_lists}
+use Rattle.rl_lowered.proofs.Living.{body_lives}
+use Rattle.rl_lowered.proofs.Names.{body_names}
+use Rattle.rl_lowered.proofs.Refused.{body_refused}
+use Rattle.rl_lowered.proofs.Sizes.{body_size}
+use Rattle.rl_lowered.proofs.Sound.{body_sound}
+use Rattle.rl_lowered.proofs.StatementRuns.{body_runs}
+use Rattle.rl_lowered.proofs.Tallies.{body_tallies}
+use Rattle.rl_lowered.specs.Lowered.{LoweredBody}
+use Rattle.rl_lowered.specs.Named.{IsNamed}
+use Rattle.rl_lowered.specs.Promised.{LowersBody}
+use Rattle.rl_names.specs.Names.{Names}
+use Rattle.rl_syntax.specs.Syntax.{Syntax}
+
+-- The names are told before the body.
+pub told_body : {names : Names} {b : Syntax} {s t : State} → IsNamed names s → LoweredBody names b s t → LowersBody names b s t
+told_body named l = record {
+  by = l;
+  names_kept = body_names l;
+  size = body_size l;
+  blocks = body_blocks l;
+  lists = body_lists l;
+  refused = body_refused l;
+  tallies = λ key held. body_tallies key held l;
+  lives = body_lives l;
+  sound = body_sound named.texts l;
+  runs = λ none scene same ported. body_runs l none scene same ported;
+}

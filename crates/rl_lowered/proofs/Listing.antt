@@ -1,0 +1,538 @@
+-- The instructions that blocks list since the lowering of a part began: each that was made is listed once more.
+use Rattle.std.proofs.Common.{◌≡◌, ℕ, ◌+◌, ◌<◌, ◌≤◌, inl, inr, ◌&&◌, ◌++◌, Bool, true, false, if◌then◌else◌, nat_le, nat_lt}
+use Rattle.std.proofs.Common.{List, [], ◌∷◌, All, length, length-append, append-nil, Option, Some, None}
+use Rattle.std.proofs.Common.{refl, sym, ap, ◌∙◌, subst, arith}
+use Rattle.std.proofs.Common.{eq-eqb}
+use Rattle.std.proofs.lemmas.Bool.{le-leb, lt-leb, lt-ltb, le-ltb, ne_eqb}
+use Rattle.std.proofs.lemmas.Bool.Decides.{leb_tells}
+use Rattle.std.proofs.lemmas.List.{map-append}
+use Rattle.std.proofs.lemmas.List.Elements.{All-append, All-cons, All-head, All-nil, All-push, All-tail}
+use Rattle.rl_base.specs.declared.ids.BlockId.{BlockId}
+use Rattle.rl_base.specs.declared.ids.InstructionId.{InstructionId}
+use Rattle.rl_base.specs.declared.row.Row.TheVariants as row
+use Rattle.rl_base.specs.declared.span.Span.{Span}
+use Rattle.rl_builder.specs.Builder.{State, completed_by, ended_by, innermost, maybe_throw, new_block, plainly_pushed, pushed, pushed_under}
+use Rattle.rl_builder.specs.Builder.{recorded, reserved, with_temporary}
+use Rattle.rl_builder.specs.Names.{resolved}
+use Rattle.rl_builder.specs.declared.blocks.WipBlock.{WipBlock}
+use Rattle.rl_builder.specs.Dropped.{is_function_expression}
+use Rattle.rl_builder.specs.Temporaries.{temporary, unordered, with_value}
+use Rattle.rl_frames.specs.Frames.{IfParts, if_after_consequent, if_alternate, if_at, if_consequent, if_ended, if_shut}
+use Rattle.rl_frames.specs.Frames.{LogicalParts, aside_of, logical_after, logical_at, logical_ended, logical_righted}
+use Rattle.rl_frames.specs.Frames.{SequenceParts, sequence_at, sequence_ended}
+use Rattle.rl_frames.specs.Frames.{TernaryParts, ternary_after, ternary_aside, ternary_at, ternary_ended, ternary_parted}
+use Rattle.rl_frames.specs.Frames.{ternary_alternated, ternary_consequent}
+use Rattle.rl_frames.specs.Parts.{if_begun, if_end, loads, logical_begun, logical_entered, logical_left, logical_place}
+use Rattle.rl_frames.specs.Parts.{sequence_begun, ternary_begun}
+use Rattle.rl_hir.specs.Blocks.{Pair as BlockPair}
+use Rattle.rl_hir.specs.Pieces.{Piece}
+use Rattle.rl_hir.specs.declared.function.BlockKind.{BlockKind}
+use Rattle.rl_hir.specs.declared.function.BlockKind.TheVariants as blocks
+use Rattle.rl_hir.specs.declared.instruction.InstructionKind.TheVariants as variables
+use Rattle.rl_hir.specs.declared.instruction.InstructionValue.TheVariants as values
+use Rattle.rl_hir.specs.declared.instruction.Place.{Place}
+use Rattle.rl_hir.specs.declared.instruction.PrimitiveValue.TheVariants as primitives
+use Rattle.rl_hir.specs.declared.terminal.GotoVariant.{GotoVariant}
+use Rattle.rl_hir.specs.declared.terminal.GotoVariant.TheVariants as gotos
+use Rattle.rl_hir.specs.declared.terminal.ReturnVariant.TheVariants as returns
+use Rattle.rl_hir.specs.declared.terminal.TerminalKind.TheVariants as kinds
+use Rattle.rl_hir.specs.Numbered.{listed_in}
+use Rattle.rl_hir.specs.declared.instruction.Instruction.{Instruction}
+use Rattle.rl_hir.specs.declared.instruction.InstructionValue.{InstructionValue}
+use Rattle.rl_hir.specs.declared.terminal.Terminal.{Terminal}
+use Rattle.rl_lowered.specs.Forms.{IsForm}
+use Rattle.rl_lowered.specs.Forms as forms
+use Rattle.rl_lowered.specs.Lowered.{Lowered, LoweredAll, LoweredBody, LoweredLast, LoweredStatement, LoweredStatements}
+use Rattle.rl_lowered.specs.Lowered as lowered
+use Rattle.rl_lowered.specs.Listing.{ListsSince, ListsTable, all_listed, occurrences, one_within}
+use Rattle.rl_names.specs.Names.{Names}
+use Rattle.rl_order.specs.Numbering.{orders_of}
+use Rattle.rl_promises.specs.Rows.{refusal}
+use Rattle.rl_runs.proofs.Listed.{ListsBelow, numbers, orders_append}
+use Rattle.rl_runs.proofs.ReadNotes.{marked_ended}
+use Rattle.rl_runs.specs.Listed.{AreBelow}
+use Rattle.rl_runs.specs.Moves.{branch, ends_by, goto, last_hole, next_hole, return_of, returned_from, stored_in}
+use Rattle.rl_runs.specs.ReadNotes.{HasId, MarkedAt, replaced_of}
+use Rattle.rl_syntax.specs.Syntax.{Syntax, Pieces, span_of}
+use Rattle.rl_syntax.specs.declared.word.Word.{Word}
+
+-- Numbers within bounds.
+
+pub within_low : (first end n : ℕ) → n < first → one_within first end n ≡ 0
+within_low first end n low = ap (λ (b : Bool). if b && nat_lt n end then 1 else 0) (lt-leb first n low)
+
+within_high : (first end n : ℕ) → end ≤ n → one_within first end n ≡ 0
+within_high first end n high = by_test (nat_le first n) refl
+  where
+    by_test : (b : Bool) → nat_le first n ≡ b → one_within first end n ≡ 0
+    by_test true e = ap (λ (b : Bool). if b && nat_lt n end then 1 else 0) e ∙ ap (λ (b : Bool). if b then 1 else 0) (le-ltb n end high)
+    by_test false e = ap (λ (b : Bool). if b && nat_lt n end then 1 else 0) e
+
+within_both : (first end n : ℕ) → first ≤ n → n < end → one_within first end n ≡ 1
+within_both first end n low high =
+    ap (λ (b : Bool). if b && nat_lt n end then 1 else 0) (le-leb first n low) ∙ ap (λ (b : Bool). if b then 1 else 0) (lt-ltb n end high)
+
+-- No number is from an end on below it.
+within_none : (end n : ℕ) → one_within end end n ≡ 0
+within_none end n = elim (leb_tells end n) [ inl high ↦ within_high end end n high.1 | inr low ↦ within_low end end n low.1 ]
+
+within_then : (a b c n : ℕ) → a ≤ b → b ≤ c → one_within a b n + one_within b c n ≡ one_within a c n
+within_then a b c n first second = elim (leb_tells a n) [
+  | inr low ↦ (
+      let below : n < b = omega (arith, first, low.1) in
+      omega (arith, within_low a b n low.1, within_low b c n below, within_low a c n low.1)
+      )
+  | inl above ↦ elim (leb_tells b n) [
+    | inr low ↦ (
+        let below : n < c = omega (arith, second, low.1) in
+        omega (arith, within_both a b n above.1 low.1, within_low b c n low.1, within_both a c n above.1 below)
+        )
+    | inl high ↦ elim (leb_tells c n) [
+      | inr low ↦ omega (arith, within_high a b n high.1, within_both b c n high.1 low.1, within_both a c n above.1 low.1)
+      | inl past ↦ omega (arith, within_high a b n high.1, within_high b c n past.1, within_high a c n past.1)
+    ]
+  ]
+]
+
+-- The number at the end.
+within_last : (end n : ℕ) → one_within end (end + 1) n ≡ occurrences n (end ∷ [])
+within_last end n = elim (leb_tells end n) [
+  | inr low ↦ within_low end (end + 1) n low.1 ∙ sym (other (λ e. absurd (omega (arith, e, low.1))))
+  | inl high ↦ elim (leb_tells (end + 1) n) [
+    | inl past ↦ within_high end (end + 1) n past.1 ∙ sym (other (λ e. absurd (omega (arith, e, past.1))))
+    | inr low ↦ (
+        let same : n ≡ end = omega (arith, high.1, low.1) in
+        within_both end (end + 1) n high.1 low.1 ∙ sym (ap (λ (b : Bool). (if b then 1 else 0) + 0) (eq-eqb n end same))
+        )
+  ]
+]
+  where
+    other : (n ≡ end → ⊥) → occurrences n (end ∷ []) ≡ 0
+    other ne = ap (λ (b : Bool). (if b then 1 else 0) + 0) (ne_eqb n end ne)
+
+-- Numbers in lists, one behind the other.
+
+occurs_append : (n : ℕ) (xs ys : List ℕ) → occurrences n (xs ++ ys) ≡ occurrences n xs + occurrences n ys
+occurs_append n [] ys = omega arith
+occurs_append n (x ∷ xs) ys =
+    let rest : occurrences n (xs ++ ys) ≡ occurrences n xs + occurrences n ys = occurs_append n xs ys in
+    omega (arith, rest)
+
+occurs_numbers : (n : ℕ) (xs ys : List InstructionId)
+    → occurrences n (numbers (xs ++ ys)) ≡ occurrences n (numbers xs) + occurrences n (numbers ys)
+occurs_numbers n xs ys =
+    ap (occurrences n) (map-append (λ (id : InstructionId). id.0) xs ys) ∙ occurs_append n (numbers xs) (numbers ys)
+
+occurs_blocks : (n : ℕ) (xs ys : List BlockPair)
+    → occurrences n (listed_in (xs ++ ys)) ≡ occurrences n (listed_in xs) + occurrences n (listed_in ys)
+occurs_blocks n [] ys = omega arith
+occurs_blocks n (x ∷ xs) ys =
+    let rest : occurrences n (listed_in (xs ++ ys)) ≡ occurrences n (listed_in xs) + occurrences n (listed_in ys) = occurs_blocks n xs ys in
+    let whole = occurs_append n (numbers x.1.instructions) (listed_in (xs ++ ys)) in
+    omega (arith, rest, whole, occurs_append n (numbers x.1.instructions) (listed_in xs))
+
+left_all : {X : Type 0} (P : X → Type 0) (xs ys : List X) → All P (xs ++ ys) → All P xs
+left_all P [] ys all = All-nil P
+left_all P (x ∷ xs) ys all = All-cons P x xs (All-head P x (xs ++ ys) all) (left_all P xs ys (All-tail P x (xs ++ ys) all))
+
+right_all : {X : Type 0} (P : X → Type 0) (xs ys : List X) → All P (xs ++ ys) → All P ys
+right_all P [] ys all = all
+right_all P (x ∷ xs) ys all = right_all P xs ys (All-tail P x (xs ++ ys) all)
+
+below_more : (bound later : ℕ) (ids : List InstructionId) → bound ≤ later → AreBelow bound ids → AreBelow later ids
+below_more bound later ids le below place default inside = omega (arith, le, below place default inside)
+
+-- Parts one behind the other.
+
+pub lists_then : (a b c : State) → ListsSince a b → ListsSince b c → ListsSince a c
+lists_then a b c j k = record {
+  longer = omega (arith, j.longer, k.longer);
+  within = λ l. k.within (j.within l);
+  once = λ n. omega (arith, j.once n, k.once n, within_then (length a.table) (length b.table) (length c.table) n j.longer k.longer);
+  counted = omega (arith, j.counted, k.counted);
+  unordered = λ all. k.unordered (j.unordered all);
+  no_functions = λ all. k.no_functions (j.no_functions all);
+  predecessors = λ all. k.predecessors (j.predecessors all);
+  replaced = λ id m. j.replaced id (k.replaced id m);
+}
+
+-- All of a state that the listing speaks of.
+record Lists : Type 0 where
+  pub completed : List BlockPair
+  pub listed : List InstructionId
+  pub table : List Instruction
+
+abbrev lists_of : State → Lists
+lists_of s = record { completed = s.completed; listed = s.current.instructions; table = s.table }
+
+-- A move that changes none of it.
+lists_same : (s t : State) → lists_of s ≡ lists_of t → ListsSince s t
+lists_same s t same = record {
+  longer = (let longer : length s.table ≡ length t.table = ap (λ (v : Lists). length v.table) same in omega (arith, longer));
+  within = λ l. record {
+    completed = subst (λ (v : Lists). All (ListsBelow (length v.table)) v.completed) same l.completed;
+    current = subst (λ (v : Lists). AreBelow (length v.table) v.listed) same l.current;
+  };
+  once = λ n.
+      let none : occurrences n (all_listed s) ≡ occurrences n (all_listed s) + one_within (length s.table) (length s.table) n =
+      omega (arith, within_none (length s.table) n) in
+      subst
+      (λ (v : Lists). occurrences n (listed_in v.completed ++ numbers v.listed)
+      ≡ occurrences n (all_listed s) + one_within (length s.table) (length v.table) n) same none;
+  counted = subst
+      (λ (v : Lists). orders_of v.completed + length v.listed + (length s.table + length s.completed)
+      ≡ orders_of s.completed + length s.current.instructions + (length v.table + length v.completed)) same refl;
+  unordered = λ all. subst (λ (v : Lists). All (λ (i : Instruction). i.order.0 ≡ 0) v.table) same all;
+  no_functions = λ all. subst (λ (v : Lists). All (λ (i : Instruction). is_function_expression i.value ≡ false) v.table) same all;
+  predecessors = λ all. subst (λ (v : Lists). All (λ (b : BlockPair). b.1.preds ≡ []) v.completed) same all;
+  replaced = λ id m. subst (λ (v : Lists). MarkedAt replaced_of v.completed id) (sym same) m;
+}
+
+pub lists_refl : (s : State) → ListsSince s s
+lists_refl s = lists_same s s refl
+
+-- The indices that an outer block lists, which was set aside, in front of those of the current block.
+abbrev pub beside : List InstructionId → State → State
+beside outer s = record s { current = record s.current { instructions = outer ++ s.current.instructions } }
+
+occurs_beside : (n : ℕ) (outer : List InstructionId) (s : State)
+    → occurrences n (all_listed (beside outer s)) ≡ occurrences n (numbers outer) + occurrences n (all_listed s)
+occurs_beside n outer s =
+    let with_both = occurs_append n (listed_in s.completed) (numbers (outer ++ s.current.instructions)) in
+    let alone = occurs_append n (listed_in s.completed) (numbers s.current.instructions) in
+    omega (arith, with_both, alone, occurs_numbers n outer s.current.instructions)
+
+-- A part in a block of its own lists the same beside the outer block.
+pub lists_beside : (outer : List InstructionId) (a b : State) → ListsSince a b → ListsSince (beside outer a) (beside outer b)
+lists_beside outer a b k = record {
+  longer = k.longer;
+  within = λ l.
+      let own : AreBelow (length a.table) outer =
+      left_all (λ (id : InstructionId). id.0 < length a.table) outer a.current.instructions l.current in
+      let before : ListsTable a = record {
+        completed = l.completed;
+        current = right_all (λ (id : InstructionId). id.0 < length a.table) outer a.current.instructions l.current;
+      } in
+      let behind : ListsTable b = k.within before in record {
+        completed = behind.completed;
+        current = All-append (λ (id : InstructionId). id.0 < length b.table) outer b.current.instructions
+            (below_more (length a.table) (length b.table) outer k.longer own) behind.current;
+      };
+  once = λ n. omega (arith, k.once n, occurs_beside n outer a, occurs_beside n outer b);
+  counted = omega (arith, k.counted, length-append outer a.current.instructions, length-append outer b.current.instructions);
+  unordered = k.unordered;
+  no_functions = k.no_functions;
+  predecessors = k.predecessors;
+  replaced = k.replaced;
+}
+
+-- The current block is complete, and the block goes on that was set aside.
+pub lists_left : (s : State) (t : Terminal) (outer : WipBlock) → replaced_of t.kind ≡ []
+    → ListsSince (beside outer.instructions s) (completed_by s t outer)
+lists_left s t outer unmarked = record {
+  longer = omega arith;
+  within = λ l. record {
+    completed = All-push (ListsBelow (length s.table)) s.completed ended l.completed
+        (right_all (λ (id : InstructionId). id.0 < length s.table) outer.instructions s.current.instructions l.current);
+    current = left_all (λ (id : InstructionId). id.0 < length s.table) outer.instructions s.current.instructions l.current;
+  };
+  once = λ n.
+      let one : occurrences n (listed_in (ended ∷ [])) ≡ occurrences n (numbers s.current.instructions) =
+      ap (occurrences n) (append-nil (numbers s.current.instructions)) in
+      let behind = occurs_append n (listed_in (s.completed ++ ended ∷ [])) (numbers outer.instructions) in
+      let before = occurs_append n (listed_in s.completed) (numbers s.current.instructions) in
+      let blocks = occurs_blocks n s.completed (ended ∷ []) in
+      omega (arith, one, behind, before, blocks, occurs_beside n outer.instructions s, within_none (length s.table) n);
+  counted =
+      let more : length (s.completed ++ ended ∷ []) ≡ length s.completed + 1 = length-append s.completed (ended ∷ []) in
+      omega (arith, more, orders_append s.completed (ended ∷ []), length-append outer.instructions s.current.instructions);
+  unordered = λ all. all;
+  no_functions = λ all. all;
+  predecessors = λ all. All-push (λ (b : BlockPair). b.1.preds ≡ []) s.completed ended all refl;
+  replaced = λ id m. elim (marked_ended replaced_of s t outer id m) [
+    | inl e ↦ e
+    | inr e ↦ absurd (never id (subst (λ (ids : List BlockId). HasId ids id) unmarked e))
+  ];
+}
+  where
+    ended : BlockPair
+    ended = ended_by s.current t
+
+    never : (id : ℕ) → HasId [] id → ⊥
+    never id h = cc
+
+-- A fresh block goes on.
+pub lists_completed : (s : State) (t : Terminal) (next : WipBlock) → next.instructions ≡ [] → replaced_of t.kind ≡ []
+    → ListsSince s (completed_by s t next)
+lists_completed s t next none unmarked =
+    lists_then s (beside next.instructions s) (completed_by s t next)
+    (lists_same s (beside next.instructions s) (ap (λ (ids : List InstructionId). lists_of (beside ids s)) (sym none)))
+    (lists_left s t next unmarked)
+
+-- A fresh block is entered, and the current one is set aside.
+pub lists_entered : (s t : State) → t.completed ≡ s.completed → t.current.instructions ≡ [] → t.table ≡ s.table
+    → ListsSince s (beside s.current.instructions t)
+lists_entered s t completed none table = lists_same s (beside s.current.instructions t) same
+  where
+    here : Lists
+    here = lists_of (beside s.current.instructions t)
+
+    same : lists_of s ≡ here
+    same =
+        ap (λ (ids : List InstructionId). record (lists_of s) { listed = ids }) (sym (append-nil s.current.instructions))
+        ∙ ap (λ (ids : List InstructionId). record (lists_of s) { listed = s.current.instructions ++ ids }) (sym none)
+        ∙ ap (λ (done : List BlockPair). record here { completed = done; table = s.table }) (sym completed)
+        ∙ ap (λ (rows : List Instruction). record here { table = rows }) (sym table)
+
+-- Instructions.
+
+lists_plain : (s : State) (i : Instruction) → i.order.0 ≡ 0 → is_function_expression i.value ≡ false
+    → ListsSince s (plainly_pushed s i)
+lists_plain s i fresh plain = record {
+  longer = omega (arith, longer);
+  within = λ l. record {
+    completed = λ place default inside.
+        below_more (length s.table) (length (s.table ++ i ∷ [])) _ grows (l.completed place default inside);
+    current = All-append (λ (id : InstructionId). id.0 < length (s.table ++ i ∷ [])) s.current.instructions (next ∷ [])
+        (below_more (length s.table) (length (s.table ++ i ∷ [])) s.current.instructions grows l.current)
+        (All-cons (λ (id : InstructionId). id.0 < length (s.table ++ i ∷ [])) next [] (omega (arith, longer))
+        (All-nil (λ (id : InstructionId). id.0 < length (s.table ++ i ∷ []))));
+  };
+  once = λ n.
+      let here : one_within (length s.table) (length (s.table ++ i ∷ [])) n ≡ occurrences n (length s.table ∷ []) =
+      ap (λ (end : ℕ). one_within (length s.table) end n) longer ∙ within_last (length s.table) n in
+      let behind = occurs_append n (listed_in s.completed) (numbers (s.current.instructions ++ next ∷ [])) in
+      let before = occurs_append n (listed_in s.completed) (numbers s.current.instructions) in
+      omega (arith, here, behind, before, occurs_numbers n s.current.instructions (next ∷ []));
+  counted = omega (arith, longer, length-append s.current.instructions (next ∷ []));
+  unordered = λ all. All-push (λ (j : Instruction). j.order.0 ≡ 0) s.table i all fresh;
+  no_functions = λ all. All-push (λ (j : Instruction). is_function_expression j.value ≡ false) s.table i all plain;
+  predecessors = λ all. all;
+  replaced = λ id m. m;
+}
+  where
+    next : InstructionId
+    next = record { 0 = length s.table }
+
+    longer : length (s.table ++ i ∷ []) ≡ length s.table + 1
+    longer = length-append s.table (i ∷ [])
+
+    grows : length s.table ≤ length (s.table ++ i ∷ [])
+    grows = omega (arith, longer)
+
+-- Under a handler the block ends behind it.
+lists_under : (o : Option BlockId) (s : State) (i : Instruction) → i.order.0 ≡ 0 → is_function_expression i.value ≡ false
+    → ListsSince s (pushed_under o s i)
+lists_under None s i fresh plain = lists_plain s i fresh plain
+lists_under (Some handler) s i fresh plain =
+    let on : State = reserved (plainly_pushed s i) in
+    lists_then s (plainly_pushed s i) (pushed_under (Some handler) s i) (lists_plain s i fresh plain)
+    (lists_then (plainly_pushed s i) on (pushed_under (Some handler) s i) (lists_same (plainly_pushed s i) on refl)
+    (lists_completed on (maybe_throw s.env.next_block handler i.span) (new_block s.env.next_block s.current.kind) refl refl))
+
+pub lists_pushed : (s : State) (i : Instruction) → i.order.0 ≡ 0 → is_function_expression i.value ≡ false → ListsSince s (pushed s i)
+lists_pushed s i fresh plain = lists_under (innermost s.handlers) s i fresh plain
+
+pub lists_value : (s : State) (v : InstructionValue) (span : Option Span) → is_function_expression v ≡ false
+    → ListsSince s (with_value s v span)
+lists_value s v span plain =
+    lists_then s (with_temporary s span) (with_value s v span) (lists_same s (with_temporary s span) refl)
+    (lists_pushed (with_temporary s span) (unordered (temporary s span) v span) refl plain)
+
+lists_stored : (s : State) (place value : Place) (part : Span) → ListsSince s (stored_in s place value part)
+lists_stored s place value part = lists_value s (values.StoreLocal variables.Const place value) (Some part) refl
+
+-- Between holes.
+
+lists_next : (s : State) (behind : ℕ) (variant : GotoVariant) (part : Span) (kind : BlockKind)
+    → ListsSince s (next_hole s behind variant part kind)
+lists_next s behind variant part kind =
+    lists_then s (reserved s) (next_hole s behind variant part kind) (lists_same s (reserved s) refl)
+    (lists_completed (reserved s) (goto behind variant part) (new_block s.env.next_block kind) refl refl)
+
+lists_last : (s : State) (behind : ℕ) (variant : GotoVariant) (part : Span) (outer : WipBlock)
+    → ListsSince (beside outer.instructions s) (last_hole s behind variant part outer)
+lists_last s behind variant part outer = lists_left s (goto behind variant part) outer refl
+
+-- The hole ends with its value.
+lists_stored_last : (s : State) (place value : Place) (span part : Span) (behind : ℕ) (outer : WipBlock)
+    → ListsSince (beside outer.instructions s) (last_hole (stored_in s place value span) behind gotos.Break part outer)
+lists_stored_last s place value span part behind outer =
+    let stored : State = stored_in s place value span in
+    lists_then (beside outer.instructions s) (beside outer.instructions stored) (last_hole stored behind gotos.Break part outer)
+    (lists_beside outer.instructions s stored (lists_stored s place value span)) (lists_last stored behind gotos.Break part outer)
+
+lists_logical_begun : (s : State) (span left : Span) → ListsSince s (beside s.current.instructions (logical_begun s span left))
+lists_logical_begun s span left =
+    let outer : List InstructionId = s.current.instructions in
+    let entry : State = logical_entered s span left in
+    let stored : State = stored_in entry (logical_place s span) (logical_left s left) left in
+    lists_then s (beside outer entry) (beside outer (logical_begun s span left)) (lists_entered s entry refl refl refl)
+    (lists_beside outer entry (logical_begun s span left)
+    (lists_then entry stored (logical_begun s span left) (lists_stored entry (logical_place s span) (logical_left s left) left)
+    (lists_next stored s.env.next_block gotos.Break left blocks.Value)))
+
+lists_logical_righted : (f : LogicalParts) (s : State) (value : Place) (part : Span) → (aside_of f).1.instructions ≡ []
+    → ListsSince (beside (aside_of f).0.instructions s) (logical_righted f s value part)
+lists_logical_righted f s value part none =
+    let gone : State = last_hole (stored_in s f.place value part) f.behind.id.0 gotos.Break part (aside_of f).0 in
+    lists_then (beside (aside_of f).0.instructions s) gone (logical_righted f s value part)
+    (lists_stored_last s f.place value part part f.behind.id.0 (aside_of f).0)
+    (lists_completed gone (ends_by (kinds.Logical f.operator (aside_of f).1.id f.behind.id) (Some f.span)) (aside_of f).1 none refl)
+
+lists_logical_ended : (f : LogicalParts) (s : State) (value : Place) → f.behind.instructions ≡ []
+    → ListsSince s (logical_ended f s value)
+lists_logical_ended f s value none =
+    let loaded : State = pushed s (loads f.left value f.span) in
+    lists_then s loaded (logical_ended f s value) (lists_pushed s (loads f.left value f.span) refl refl)
+    (lists_completed loaded (branch f.left f.consequent f.alternate f.behind.id.0 f.span) f.behind none refl)
+
+lists_ternary_consequent : (f : TernaryParts) (s : State) (value : Place) (part : Span)
+    → ListsSince s (ternary_consequent f s value part)
+lists_ternary_consequent f s value part =
+    let stored : State = stored_in s f.place value f.span in
+    lists_then s stored (ternary_consequent f s value part) (lists_stored s f.place value f.span)
+    (lists_next stored f.behind.id.0 gotos.Break part blocks.Value)
+
+lists_ternary_alternated : (f : TernaryParts) (s : State) (value : Place) (part : Span) → (ternary_aside f).1.instructions ≡ []
+    → ListsSince (beside (ternary_aside f).0.instructions s) (ternary_alternated f s value part)
+lists_ternary_alternated f s value part none =
+    let gone : State = last_hole (stored_in s f.place value f.span) f.behind.id.0 gotos.Break part (ternary_aside f).0 in
+    lists_then (beside (ternary_aside f).0.instructions s) gone (ternary_alternated f s value part)
+    (lists_stored_last s f.place value f.span part f.behind.id.0 (ternary_aside f).0)
+    (lists_completed gone (ends_by (kinds.Ternary (ternary_aside f).1.id f.behind.id) (Some f.span)) (ternary_aside f).1 none refl)
+
+lists_sequence_ended : (f : SequenceParts) (s : State) (value : Place) (part : Span) → f.behind.instructions ≡ []
+    → ListsSince (beside f.outer.instructions s) (sequence_ended f s value part)
+lists_sequence_ended f s value part none =
+    let gone : State = last_hole (stored_in s f.place value part) f.behind.id.0 gotos.Break part f.outer in
+    lists_then (beside f.outer.instructions s) gone (sequence_ended f s value part)
+    (lists_stored_last s f.place value part part f.behind.id.0 f.outer)
+    (lists_completed gone (ends_by (kinds.Sequence (record { 0 = f.block }) f.behind.id) (Some f.span)) f.behind none refl)
+
+lists_if_ended : (f : IfParts) (s : State) (test : Place) → f.behind.instructions ≡ [] → ListsSince s (if_ended f s test)
+lists_if_ended f s test none = lists_completed s (if_end f.behind.id.0 f.consequent f.alternate test f.span) f.behind none refl
+
+-- No kind of the table makes a function.
+form_plain : {w : Word} {fields parts : Pieces} {pieces : List Piece} {v : InstructionValue} → IsForm w fields parts pieces v
+    → is_function_expression v ≡ false
+form_plain forms.Binary = refl
+form_plain (forms.Unary plain) = refl
+form_plain forms.Await = refl
+form_plain forms.Member = refl
+form_plain (forms.Index other) = refl
+form_plain (forms.NumberIndex is) = refl
+form_plain (forms.Call plain given) = refl
+form_plain (forms.New given) = refl
+form_plain (forms.Array given) = refl
+form_plain (forms.Template texts given) = refl
+form_plain forms.RegExp = refl
+form_plain forms.ImportMeta = refl
+
+mutual
+  pub expression_lists : {names : Names} {e : Syntax} {s t : State} {p : Place} → Lowered names e s t p → ListsSince s t
+  expression_lists (lowered.Literal at w fields p s is) = lists_value s (values.Primitive p) (Some at.span) refl
+  expression_lists (lowered.RefusedNumber at text s is) =
+      let noted : State = recorded s (refusal row.F43 at.span) in
+      lists_then s noted _ (lists_same s noted refl) (lists_value noted (values.Primitive primitives.Undefined) (Some at.span) refl)
+  expression_lists {names} (lowered.Variable at name symbol identifier s is named bound agree) =
+      let found : State = resolved s (names.name symbol.0) symbol.0 (Some at.span) in
+      lists_then s found _ (lists_same s found refl)
+      (lists_value found (values.LoadLocal (record { identifier = record { 0 = identifier }; span = Some at.span })) (Some at.span) refl)
+  expression_lists (lowered.Global at name binding s is plain) = lists_value s (values.LoadGlobal binding) (Some at.span) refl
+  expression_lists (lowered.RefusedGlobal at name binding s is refused) =
+      let noted : State = recorded s (refusal row.F2 at.span) in
+      lists_then s noted _ (lists_same s noted refl) (lists_value noted (values.LoadGlobal binding) (Some at.span) refl)
+  expression_lists (lowered.Same at w e s t p is l) = expression_lists l
+  expression_lists (lowered.Asked at w fields parts pieces v s t is l) =
+      lists_then s t (with_value t v (Some at.span)) (all_lists l) (lists_value t v (Some at.span) (form_plain is))
+  expression_lists (lowered.Logical at operator left right s s2 s3 l r second first) =
+      let outer : List InstructionId = s.current.instructions in
+      let f : LogicalParts = logical_at s at.span operator (span_of left) in
+      let begun : State = logical_begun s at.span (span_of left) in
+      let righted : State = logical_righted f s2 r (span_of right) in
+      lists_then s (beside outer begun) _ (lists_logical_begun s at.span (span_of left))
+      (lists_then (beside outer begun) (beside outer s2) _ (lists_beside outer begun s2 (expression_lists second))
+      (lists_then (beside outer s2) righted _ (lists_logical_righted f s2 r (span_of right) refl)
+      (lists_then righted s3 _ (expression_lists first) (lists_logical_ended (logical_after f) s3 l refl))))
+  expression_lists (lowered.Conditional at test consequent alternate s s2 s3 s4 c a p second third first) =
+      let outer : List InstructionId = s.current.instructions in
+      let f : TernaryParts = ternary_at s at.span in
+      let parted : TernaryParts = ternary_parted f s2 c (span_of consequent) in
+      let begun : State = ternary_begun s at.span in
+      let between : State = ternary_consequent f s2 c (span_of consequent) in
+      let behind : State = ternary_alternated parted s3 a (span_of alternate) in
+      let ended : State = ternary_ended (ternary_after parted) s4 p in
+      lists_then s (beside outer begun) ended (lists_entered s begun refl refl refl)
+      (lists_then (beside outer begun) (beside outer s2) ended (lists_beside outer begun s2 (expression_lists second))
+      (lists_then (beside outer s2) (beside outer between) ended
+      (lists_beside outer s2 between (lists_ternary_consequent f s2 c (span_of consequent)))
+      (lists_then (beside outer between) (beside outer s3) ended (lists_beside outer between s3 (expression_lists third))
+      (lists_then (beside outer s3) behind ended (lists_ternary_alternated parted s3 a (span_of alternate) refl)
+      (lists_then behind s4 ended (expression_lists first)
+      (lists_completed s4 (branch p parted.consequent parted.alternate parted.behind.id.0 parted.span) parted.behind refl refl))))))
+  expression_lists (lowered.Sequence at e es s s2 p l) =
+      let outer : List InstructionId = s.current.instructions in
+      let begun : State = sequence_begun s at.span in
+      lists_then s (beside outer begun) _ (lists_entered s begun refl refl refl)
+      (lists_then (beside outer begun) (beside outer s2) _ (lists_beside outer begun s2 (last_lists l))
+      (lists_sequence_ended (sequence_at s at.span) s2 p at.span refl))
+
+  pub all_lists : {names : Names} {es : Pieces} {s t : State} {pieces : List Piece} → LoweredAll names es s t pieces → ListsSince s t
+  all_lists (lowered.NoPart s) = lists_refl s
+  all_lists (lowered.NextPart e es s t u p pieces l more) = lists_then s t u (expression_lists l) (all_lists more)
+  all_lists (lowered.NextSpread at e es s t u p pieces l more) = lists_then s t u (expression_lists l) (all_lists more)
+  all_lists (lowered.NextHole at es s u pieces more) = all_lists more
+
+  pub last_lists : {names : Names} {es : Pieces} {s t : State} {p : Place} → LoweredLast names es s t p
+      → ListsSince s t
+  last_lists (lowered.LastPart e s t p l) = expression_lists l
+  last_lists (lowered.EarlierPart e next es s t u p q l more) = lists_then s t u (expression_lists l) (last_lists more)
+
+lists_returned : (s : State) (span : Option Span) (place : Place) → ListsSince s (returned_from s span returns.Explicit place blocks.Block)
+lists_returned s span place =
+    lists_then s (reserved s) _ (lists_same s (reserved s) refl)
+    (lists_completed (reserved s) (return_of span returns.Explicit place) (new_block s.env.next_block blocks.Block) refl refl)
+
+mutual
+  pub statement_lists : {names : Names} {e : Syntax} {s t : State} → LoweredStatement names e s t → ListsSince s t
+  statement_lists (lowered.Empty at s) = lists_refl s
+  statement_lists (lowered.Expression at e s t p l) = expression_lists l
+  statement_lists (lowered.ReturnNothing at s) =
+      let valued : State = with_value s (values.Primitive primitives.Undefined) None in
+      lists_then s valued _ (lists_value s (values.Primitive primitives.Undefined) None refl)
+      (lists_returned valued (Some at.span) (temporary s None))
+  statement_lists (lowered.Return at e s t p l) = lists_then s t _ (expression_lists l) (lists_returned t (Some at.span) p)
+  statement_lists (lowered.Block at statements s t l) = statements_lists l
+  statement_lists (lowered.IfThen at test consequent s s2 s3 p second first) =
+      let outer : List InstructionId = s.current.instructions in
+      let f : IfParts = if_at s at.span false in
+      let behind : State = if_consequent f s2 (span_of consequent) in
+      lists_then s (beside outer (if_begun s)) _ (lists_entered s (if_begun s) refl refl refl)
+      (lists_then (beside outer (if_begun s)) (beside outer s2) _ (lists_beside outer (if_begun s) s2 (statement_lists second))
+      (lists_then (beside outer s2) behind _ (lists_last s2 f.behind.id.0 gotos.Break (span_of consequent) s.current)
+      (lists_then behind s3 _ (expression_lists first) (lists_if_ended (if_after_consequent f s2) s3 p refl))))
+  statement_lists (lowered.IfElse at test consequent alternate s s2 s3 s4 p second third first) =
+      let outer : List InstructionId = s.current.instructions in
+      let f : IfParts = if_at s at.span true in
+      let parted : IfParts = if_after_consequent f s2 in
+      let between : State = if_consequent f s2 (span_of consequent) in
+      let behind : State = if_alternate parted s3 (span_of alternate) in
+      lists_then s (beside outer (if_begun s)) _ (lists_entered s (if_begun s) refl refl refl)
+      (lists_then (beside outer (if_begun s)) (beside outer s2) _ (lists_beside outer (if_begun s) s2 (statement_lists second))
+      (lists_then (beside outer s2) (beside outer between) _
+      (lists_beside outer s2 between (lists_next s2 f.behind.id.0 gotos.Break (span_of consequent) blocks.Block))
+      (lists_then (beside outer between) (beside outer s3) _ (lists_beside outer between s3 (statement_lists third))
+      (lists_then (beside outer s3) behind _ (lists_last s3 f.behind.id.0 gotos.Break (span_of alternate) s.current)
+      (lists_then behind s4 _ (expression_lists first) (lists_if_ended (if_shut parted) s4 p refl))))))
+
+  pub statements_lists : {names : Names} {es : Pieces} {s t : State} → LoweredStatements names es s t → ListsSince s t
+  statements_lists (lowered.NoStatement s) = lists_refl s
+  statements_lists (lowered.NextStatement e es s t u l more) = lists_then s t u (statement_lists l) (statements_lists more)
+
+pub body_lists : {names : Names} {b : Syntax} {s t : State} → LoweredBody names b s t → ListsSince s t
+body_lists (lowered.Statements at directives statements s t texts l) = statements_lists l
+body_lists (lowered.Value e s t p l) =
+    lists_then s (reserved s) _ (lists_same s (reserved s) refl)
+    (lists_then (reserved s) t _ (expression_lists l)
+    (lists_completed t (return_of None returns.Implicit p) (new_block s.env.next_block blocks.Block) refl refl))

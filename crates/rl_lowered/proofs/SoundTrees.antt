@@ -1,0 +1,29 @@
+-- The parts of a small tree are small.
+use Rattle.std.proofs.Common.{◌≡◌, ℕ, ◌≤◌, Bool, true, false, ◌&&◌, nat_le, List, refl, sym, subst, arith}
+use Rattle.std.proofs.lemmas.Bool.{leb-true}
+use Rattle.rl_text.specs.Number.{largest}
+use Rattle.rl_text.specs.Numeral.{is_numeral, number_of}
+use Rattle.rl_syntax.specs.Syntax.{Syntax, Node, Pieces, Then, span_of}
+use Rattle.rl_lowered.specs.Sound.{AreSmallTrees, HasSmallSpans, IsSmallSpan, IsSmallTree}
+
+-- The first of small trees is small, and so are the others.
+pub first_small : (trees rest : Pieces) (tree : Syntax) → trees ≡ Then tree rest → AreSmallTrees trees
+    → IsSmallTree tree × AreSmallTrees rest
+first_small trees rest tree is small =
+    let both : AreSmallTrees (Then tree rest) = subst AreSmallTrees is small in
+    ((both.0.0, both.1.0), (both.0.1, both.1.1))
+
+-- A numeral spells a number up to the largest.
+pub numeral_fits : (text : List ℕ) (number : ℕ) → is_numeral text ≡ true → number ≡ number_of text → number ≤ largest
+numeral_fits text number is same =
+    subst (λ (n : ℕ). n ≤ largest) (sym same)
+    (leb-true (number_of text) largest (first_true (nat_le (number_of text) largest) _ is))
+  where
+    first_true : (a b : Bool) → a && b ≡ true → a ≡ true
+    first_true true b e = refl
+    first_true false b e = e
+
+-- The span of a part is small.
+pub span_small : (e : Syntax) → HasSmallSpans e → IsSmallSpan (span_of e)
+span_small (Node at w parts) small = small.0
+span_small _ small = (omega arith, omega arith)

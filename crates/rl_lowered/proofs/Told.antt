@@ -1,0 +1,28 @@
+-- Promises of the lowering of a part, from its derivation.
+use Rattle.std.proofs.Common.{List}
+use Rattle.rl_builder.specs.Builder.{State}
+use Rattle.rl_hir.specs.Pieces.{Piece}
+use Rattle.rl_hir.specs.declared.instruction.Place.{Place}
+use Rattle.rl_lowered.proofs.Names.{all_names, expression_names, last_names, statement_names, statements_names}
+use Rattle.rl_lowered.proofs.Sizes.{all_size, expression_size, last_size, statement_size, statements_size}
+use Rattle.rl_lowered.specs.Lowered.{Lowered, LoweredAll, LoweredLast, LoweredStatement, LoweredStatements}
+use Rattle.rl_lowered.specs.Promised.{LowersAll, LowersExpression, LowersLast, LowersStatement, LowersStatements}
+use Rattle.rl_names.specs.Names.{Names}
+use Rattle.rl_syntax.specs.Syntax.{Syntax, Pieces}
+
+pub told : {names : Names} {e : Syntax} {s t : State} {p : Place} → Lowered names e s t p → LowersExpression names e s t p
+told l = record { by = l; named = (expression_names l).named; size = expression_size l }
+
+pub told_all : {names : Names} {es : Pieces} {s t : State} {pieces : List Piece} → LoweredAll names es s t pieces
+    → LowersAll names es s t pieces
+told_all l = record { by = l; named = (all_names l).named; size = all_size l }
+
+pub told_last : {names : Names} {es : Pieces} {s t : State} {p : Place} → LoweredLast names es s t p
+    → LowersLast names es s t p
+told_last l = record { by = l; named = (last_names l).named; size = last_size l }
+
+pub told_statement : {names : Names} {e : Syntax} {s t : State} → LoweredStatement names e s t → LowersStatement names e s t
+told_statement l = record { by = l; named = (statement_names l).named; size = statement_size l }
+
+pub told_statements : {names : Names} {es : Pieces} {s t : State} → LoweredStatements names es s t → LowersStatements names es s t
+told_statements l = record { by = l; named = (statements_names l).named; size = statements_size l }

@@ -1,0 +1,6 @@
+pub mod Forms
+pub mod Listing
+pub mod Lowered
+pub mod Named
+pub mod Promised
+pub mod Sound

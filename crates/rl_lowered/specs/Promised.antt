@@ -1,0 +1,96 @@
+-- Promises of the lowering of a part.
+use Rattle.std.specs.Prelude.{◌≡◌, ℕ, ◌+◌, ◌*◌, ◌<◌, ◌≤◌, ◌^◌, ◌++◌, Bool, true, false, List, [], Option, option_map}
+use Rattle.rl_builder.specs.Builder.{State}
+use Rattle.rl_hir.specs.Pieces.{Piece}
+use Rattle.rl_hir.specs.declared.instruction.Instruction.{Instruction}
+use Rattle.rl_hir.specs.declared.instruction.Place.{Place}
+use Rattle.rl_hir.specs.declared.terminal.ReturnVariant.TheVariants as returns
+use Rattle.rl_lowered.specs.Listing.{ListsSince}
+use Rattle.rl_lowered.specs.Lowered.{Lowered, LoweredAll, LoweredBody, LoweredLast, LoweredStatement, LoweredStatements}
+use Rattle.rl_lowered.specs.Named.{IsNamed, KeepsNames}
+use Rattle.rl_lowered.specs.Sound.{IsSmallTree, StaysSound}
+use Rattle.rl_model.specs.Actions.{Action, ◌>>=◌, return_with}
+use Rattle.rl_model.specs.Counted.{Counted}
+use Rattle.rl_model.specs.Expressions.{eval}
+use Rattle.rl_model.specs.Scene.{Scene}
+use Rattle.rl_model.specs.Statements.{exec_all}
+use Rattle.rl_names.specs.Names.{Names}
+use Rattle.rl_hir.specs.Written.{value_word}
+use Rattle.rl_promises.specs.Held.{times}
+use Rattle.rl_model.specs.Dead.{lives_all}
+use Rattle.rl_promises.specs.Live.{Held, live_in_body}
+use Rattle.rl_promises.specs.Rows.{refusals}
+use Rattle.rl_promises.specs.Tallies.{IsHeldKind, tallied}
+use Rattle.rl_runs.specs.Blocks.{Lives, PreservesBlocks, size_of}
+use Rattle.rl_runs.specs.Simulation.{RunsStatement}
+use Rattle.rl_syntax.specs.declared.word.Word.TheVariants as word
+use Rattle.rl_syntax.specs.Syntax.{Syntax, Node, Listed, Pieces, End, Then, nodes, nodes_of}
+
+-- The most blocks, types, identifiers and instructions, all together, that are made for `count` nodes.
+abbrev pub share : (nodes : ℕ) → ℕ
+share count = 64 * count
+
+-- The blocks, types, identifiers and instructions of the state and `more` others are fewer than 2^31, all together.
+abbrev pub HasRoom : State → (more : ℕ) → Type 0
+HasRoom s more = size_of s + more < 2 ^ 31
+
+-- An expression was lowered: its derivation, that local variables have identifiers behind it, and a bound on all that was made.
+pub record LowersExpression (names : Names) (e : Syntax) (old new : State) (place : Place) : Type 0 where
+  pub by : Lowered names e old new place
+  pub named : IsNamed names old → IsNamed names new
+  pub size : size_of new ≤ size_of old + share (nodes e)
+
+-- As `LowersExpression`, for parts from left to right and the pieces that they give.
+pub record LowersAll (names : Names) (es : Pieces) (old new : State) (pieces : List Piece) : Type 0 where
+  pub by : LoweredAll names es old new pieces
+  pub named : IsNamed names old → IsNamed names new
+  pub size : size_of new ≤ size_of old + share (nodes_of es)
+
+-- As `LowersExpression`, for expressions of which the last has the value.
+pub record LowersLast (names : Names) (es : Pieces) (old new : State) (place : Place) : Type 0 where
+  pub by : LoweredLast names es old new place
+  pub named : IsNamed names old → IsNamed names new
+  pub size : size_of new ≤ size_of old + share (nodes_of es)
+
+-- As `LowersExpression`, for a statement.
+pub record LowersStatement (names : Names) (e : Syntax) (old new : State) : Type 0 where
+  pub by : LoweredStatement names e old new
+  pub named : IsNamed names old → IsNamed names new
+  pub size : size_of new ≤ size_of old + share (nodes e)
+
+-- As `LowersStatement`, for statements in order.
+pub record LowersStatements (names : Names) (es : Pieces) (old new : State) : Type 0 where
+  pub by : LoweredStatements names es old new
+  pub named : IsNamed names old → IsNamed names new
+  pub size : size_of new ≤ size_of old + share (nodes_of es)
+
+-- The meaning of a body before its end, where the function returns undefined: an expression returns its value.
+abbrev pub exec_before_end : Scene → Syntax → Action (Unit {0})
+exec_before_end scene (Node at word.Body (Then directives (Then (Listed statements) End))) = exec_all scene statements
+exec_before_end scene body = do
+  v ← eval scene body
+  return_with scene returns.Implicit v
+
+-- True of a body that may end behind its last statement.
+abbrev pub body_falls : Syntax → Bool
+body_falls (Node at word.Body (Then directives (Then (Listed statements) End))) = (lives_all statements).outs.falls
+body_falls body = false
+
+-- The word and the span of an instruction. None of one without a span.
+abbrev pub held_by : Instruction → Option Held
+held_by i = option_map (λ span. record { word = value_word i.value; span = span }) i.span
+
+-- A body was lowered up to its end: all that the graph of its function is proved by. Where no node of it is refused, the graph has
+-- the port's run of it.
+pub record LowersBody (names : Names) (b : Syntax) (old new : State) : Type 0 where
+  pub by : LoweredBody names b old new
+  pub names_kept : KeepsNames names old new
+  pub size : size_of new ≤ size_of old + share (nodes b + 1)
+  pub blocks : PreservesBlocks old new
+  pub lists : ListsSince old new
+  pub refused : new.env.diagnostics ≡ old.env.diagnostics ++ refusals names b
+  pub tallies : (key : Counted) → IsHeldKind key.kinds → times key new.table ≡ times key old.table + tallied key b
+  pub lives : Lives held_by (live_in_body b) (body_falls b) old new
+  pub sound : StaysSound (IsSmallTree b) old new
+  pub runs : refusals names b ≡ [] → (scene : Scene) → scene.names ≡ names → scene.ported ≡ true
+      → RunsStatement scene.world (exec_before_end scene b) old new
