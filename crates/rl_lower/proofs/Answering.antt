@@ -13,7 +13,8 @@ ok_given (Err e) a p f = tt
 abbrev pub Parsed : List ℕ → Option ℕ
 Parsed bytes = if is_numeral bytes then Some (number_of bytes) else None
 
-pub parsed_some : (text bytes : List ℕ) (number : ℕ) → bytes ≡ text → Some number ≡ Parsed bytes → (is_numeral text ≡ true) × (number ≡ number_of text)
+pub parsed_some : (text bytes : List ℕ) (number : ℕ) → bytes ≡ text → Some number ≡ Parsed bytes
+    → (is_numeral text ≡ true) × (number ≡ number_of text)
 parsed_some text bytes number same is = by_test (is_numeral text) Rattle.std.proofs.Common.refl
   where
     by_test : (b : Bool) → is_numeral text ≡ b → (is_numeral text ≡ true) × (number ≡ number_of text)

@@ -1,59 +1,97 @@
--- A builder that was closed off can be built.
-use Rattle.std.proofs.Common.{◌≡◌, ◌+◌, ◌*◌, ◌^◌, ◌<◌, ◌≤◌, Bool, true, false, cond, List, [], ◌∷◌, filter, length, All, refl, arith}
-use Rattle.std.proofs.lemmas.List.Elements.{All-cons, All-head, All-tail}
-use Rattle.rl_hir.specs.Blocks.{Pair as BlockPair}
-use Rattle.rl_builder.specs.Builder.{State, placeholder}
-use Rattle.rl_order.specs.Numbering.{orders_of}
-use Rattle.rl_lower.specs.Values.{temporary}
-use Rattle.rl_syntax.specs.Syntax.{Syntax, nodes}
-use Rattle.rl_names.specs.Names.{Names}
-use Rattle.rl_lower.specs.Lowering.{HasRoom, Preserves, LowersBody}
-use Rattle.rl_lower.specs.Endings.{return_of, with_undefined, closed_off}
-use Rattle.rl_hir.specs.declared.terminal.ReturnVariant.TheVariants as returns
+-- The end of a body: what blocks list behind it, its size, its names, and its sound parts.
+use Rattle.std.proofs.Common.{◌≡◌, ◌+◌, ◌-◌, ◌≤◌, ◌^◌, [], Option, None, length, Some}
+use Rattle.std.proofs.Common.{refl, arith}
+use Rattle.rl_base.specs.declared.ids.BlockId.{BlockId}
+use Rattle.rl_builder.specs.Builder.{State, completed_by, innermost, placeholder, pushed_under, with_temporary}
+use Rattle.rl_builder.specs.Temporaries.{temporary, unordered}
+use Rattle.rl_builder.specs.declared.blocks.WipBlock.{WipBlock}
+use Rattle.rl_hir.specs.declared.function.BlockKind.TheVariants as kinds
+use Rattle.rl_hir.specs.declared.instruction.Instruction.{Instruction}
 use Rattle.rl_hir.specs.declared.instruction.InstructionValue.TheVariants as values
 use Rattle.rl_hir.specs.declared.instruction.PrimitiveValue.TheVariants as primitives
-use Rattle.std.proofs.Common.{None}
-use Rattle.rl_lower.proofs.Keeping.{keeps_then, keeps_value, keeps_completed}
-use Rattle.rl_runs.proofs.Listed.{listed_none}
+use Rattle.rl_hir.specs.declared.terminal.ReturnVariant.TheVariants as returns
+use Rattle.rl_hir.specs.declared.terminal.Terminal.{Terminal}
+use Rattle.rl_lower.specs.Endings.{closed_off, with_undefined}
+use Rattle.rl_lowered.proofs.Listed.{lists_whole}
+use Rattle.rl_lowered.proofs.Names.{names_then, names_value}
+use Rattle.rl_lowered.proofs.SoundListing.{instruction_writable, place_writable, undefined_writable}
+use Rattle.rl_lowered.proofs.SoundMoves.{empty_writable, identifiers_longer, none_known, one_known, place_next}
+use Rattle.rl_lowered.proofs.SoundMoves.{place_temporary, sound_next, sound_pushed, sound_return, sound_value}
+use Rattle.rl_lowered.specs.Listing.{ListsSince}
+use Rattle.rl_lowered.specs.Named.{KeepsNames}
+use Rattle.rl_lowered.specs.Sound.{StaysSound}
+use Rattle.rl_names.specs.Names.{Names}
+use Rattle.rl_runs.proofs.Listed.{listed_completed, listed_value}
+use Rattle.rl_runs.proofs.Sizes.{size_value}
+use Rattle.rl_runs.specs.Blocks.{size_of}
 use Rattle.rl_runs.specs.Listed.{IsListed}
+use Rattle.rl_runs.specs.Moves.{return_of}
 
--- The moves that close off a body.
-pub keeps_closed : {names : Names} (s : State) → Preserves names s (closed_off s) 2
-keeps_closed s =
-    keeps_then s (with_undefined s) (closed_off s) 1 1 (keeps_value s (values.Primitive primitives.Undefined) None refl) (keeps_completed (with_undefined s) (return_of None returns.Void (temporary s None)) placeholder refl)
-
--- A builder with no complete block and no instruction.
+-- A builder with no complete block, no instruction and nothing open, whose block has the last number.
 pub record IsFresh (s : State) : Type 0 where
   pub completed : s.completed ≡ []
   pub instructions : s.current.instructions ≡ []
   pub table : s.table ≡ []
   pub entry : s.entry.0 ≡ s.current.id.0
-  pub below : s.current.id.0 < s.env.next_block
+  pub last : s.env.next_block ≡ s.current.id.0 + 1
+  pub handlers : s.handlers ≡ []
+  pub scopes : s.scopes ≡ []
 
-pub listed_fresh : (s : State) → IsFresh s → IsListed s
-listed_fresh s fresh = listed_none s fresh.completed fresh.instructions fresh.table
+pub closed_listed : (begun s : State) → IsFresh begun → ListsSince begun s → IsListed (closed_off s)
+closed_listed begun s fresh l =
+    listed_completed (with_undefined s) (return_of None returns.Void (temporary s None)) placeholder refl
+    (listed_value s (values.Primitive primitives.Undefined) None refl (lists_whole begun s fresh.completed fresh.instructions fresh.table l))
 
-pub filtered : (P : BlockPair → Type 0) (p : BlockPair → Bool) (xs : List BlockPair) → All P xs
-    → All P (filter p xs)
-filtered P p [] all = all
-filtered P p (x ∷ xs) all = by_test (filtered P p xs (All-tail P x xs all)) (p x)
+-- The end of a body adds four numbers at most.
+pub size_closed : (s : State) → size_of (closed_off s) ≤ size_of s + 4
+size_closed s = size_value s (values.Primitive primitives.Undefined) None
+
+-- The last moves change no name.
+names_ended : {names : Names} (s : State) (t : Terminal) (next : WipBlock) → KeepsNames names s (completed_by s t next)
+names_ended s t next = record {
+  named = λ n. record {
+    texts = n.texts;
+    declared = n.declared;
+    each = λ reference name symbol is.
+        let h = n.each reference name symbol is in
+        record { identifier = h.identifier; bound = h.bound; known = h.known; made = h.made; named = h.named };
+  };
+  identifiers = λ identifier known is named. is;
+  pairs = λ p. p;
+  functions = refl;
+  fn_type = refl;
+}
+
+pub names_closed : {names : Names} (s : State) → KeepsNames names s (closed_off s)
+names_closed s =
+    names_then s (with_undefined s) (closed_off s) (names_value s (values.Primitive primitives.Undefined) None)
+    (names_ended (with_undefined s) (return_of None returns.Void (temporary s None)) placeholder)
+
+pub sound_closed : (small : Type 0) (s : State) → StaysSound small s (closed_off s)
+sound_closed small s =
+    sound_next small s (with_undefined s) (closed_off s)
+    (sound_value small s (values.Primitive primitives.Undefined) None (none_known (length s.env.identifiers))
+    (λ holds fits. undefined_writable) (λ holds. tt))
+    (sound_return small (with_undefined s) None returns.Void (temporary s None) placeholder (λ holds. tt)
+    (place_next small new (with_undefined s) (temporary s None) pushing (place_temporary small s None (λ holds. tt)))
+    (λ fits. empty_writable (2 ^ 32 - 1) kinds.Block (omega arith)))
   where
-    by_test : All P (filter p xs) → (b : Bool) → All P (cond b (x ∷ filter p xs) (filter p xs))
-    by_test rest true = All-cons P x (filter p xs) (All-head P x xs all) rest
-    by_test rest false = rest
+    new : State
+    new = with_temporary s None
 
-pub closed_listed : (names : Names) (begun : State) (body : Syntax) (s : State) → IsFresh begun
-    → LowersBody names body begun s → IsListed (closed_off s)
-closed_listed names begun body s fresh l = (keeps_closed {names = names} s).listed (l.keeps.listed (listed_fresh begun fresh))
+    made : Instruction
+    made = unordered (temporary s None) (values.Primitive primitives.Undefined) None
 
-pub orders_fit : (names : Names) (begun : State) (body : Syntax) (s : State) → IsFresh begun
-    → LowersBody names body begun s → HasRoom begun (4 * (nodes body + 2))
-    → 1 + orders_of (closed_off s).completed < 2 ^ 32
-orders_fit names begun body s fresh l room =
-    let keeps : Preserves names begun (closed_off s) (4 * (nodes body + 1) + 2) = keeps_then begun s (closed_off s) (4 * (nodes body + 1)) 2 l.keeps (keeps_closed s) in
-    let counted : orders_of (closed_off s).completed + 0 ≡ length (closed_off s).table + length (closed_off s).completed = (closed_listed names begun body s fresh l).counted in
-    let table : length (closed_off s).table ≤ length begun.table + (4 * (nodes body + 1) + 2) = keeps.uses.instructions in
-    let blocks : length (closed_off s).completed ≤ length begun.completed + (4 * (nodes body + 1) + 2) = keeps.uses.completed in
-    let most : length begun.table + 4 * (nodes body + 2) < 2 ^ 31 = room.instructions in
-    let also : length begun.completed + 4 * (nodes body + 2) < 2 ^ 31 = room.completed in
-    omega (arith, counted, table, blocks, most, also)
+    pushing : StaysSound small new (with_undefined s)
+    pushing =
+        sound_pushed small new made (one_known (length new.env.identifiers) (temporary s None) (omega (arith, identifiers_longer s None)))
+        (λ holds fits. instruction_writable made (omega arith) (place_writable (temporary s None) (omega (arith, identifiers_longer s None, fits.identifiers)) tt) tt undefined_writable)
+
+diagnostics_under : (o : Option BlockId) (s : State) (i : Instruction) → (pushed_under o s i).env.diagnostics ≡ s.env.diagnostics
+diagnostics_under None s i = refl
+diagnostics_under (Some handler) s i = refl
+
+-- The end of a body refuses nothing.
+pub diagnostics_closed : (s : State) → (closed_off s).env.diagnostics ≡ s.env.diagnostics
+diagnostics_closed s =
+    diagnostics_under (innermost s.handlers) (with_temporary s None) (unordered (temporary s None) (values.Primitive primitives.Undefined) None)

@@ -1,66 +1,68 @@
 -- The graph of a function (`IsGraphOf`): its traces, size, identifiers and fields, from the lowering of its body.
-use Rattle.std.proofs.Common.{◌≡◌, ℕ, ◌+◌, ◌*◌, ◌<◌, ◌≤◌, ◌^◌, ◌++◌, false, List, [], ◌∷◌, All, length, length-append, slice_get, Option, Some, refl, sym, ap, ◌∙◌, subst, arith, append_assoc}
+use Rattle.std.proofs.Common.{◌≡◌, ℕ, ◌+◌, ◌*◌, ◌<◌, ◌≤◌, ◌^◌, ◌++◌, false, List, [], ◌∷◌, All, length, length-append, slice_get, Option}
+use Rattle.std.proofs.Common.{Some, refl, sym, ap, ◌∙◌, subst, arith, append_assoc}
 use Rattle.rl_base.specs.declared.diagnostic.Diagnostic.{Diagnostic}
 use Rattle.rl_base.specs.declared.span.Span.{Span}
-use Rattle.rl_syntax.specs.declared.word.Word.TheVariants as word
-use Rattle.rl_syntax.specs.Syntax.{Syntax, Node, Listed, End, Then, nodes}
-use Rattle.rl_hir.specs.declared.environment.Environment.{Environment}
-use Rattle.rl_hir.specs.declared.function.HirFunction.{HirFunction}
-use Rattle.rl_hir.specs.Pairs.{identifier_of}
+use Rattle.rl_builder.specs.Build.{graph_of}
+use Rattle.rl_builder.specs.Builder.{State, one_identifier_more, with_temporary}
 use Rattle.rl_hir.specs.Blocks.{Pair as BlockPair}
+use Rattle.rl_hir.specs.Pairs.{identifier_of}
+use Rattle.rl_hir.specs.declared.environment.Environment.{Environment}
+use Rattle.rl_hir.specs.declared.function.Hir.{Hir}
+use Rattle.rl_hir.specs.declared.function.HirFunction.{HirFunction}
 use Rattle.rl_hir.specs.declared.function.Pair.{Pair}
 use Rattle.rl_hir.specs.declared.function.Param.{Param}
 use Rattle.rl_hir.specs.declared.instruction.Instruction.{Instruction}
-use Rattle.rl_builder.specs.Builder.{State, one_identifier_more, with_temporary}
-use Rattle.rl_order.proofs.Pruning.{pruned_size}
+use Rattle.rl_lower.proofs.Building.{IsFresh, closed_listed, diagnostics_closed, names_closed}
+use Rattle.rl_lower.proofs.Builds.{closed_size, closed_table, few_parts}
+use Rattle.rl_lower.proofs.FunctionTrees.{IsFunction, function_nodes, function_refusals}
+use Rattle.rl_lower.proofs.Functions.{body_trace, closed_extends, function_may, function_runs_by}
+use Rattle.rl_lower.proofs.GivenNames.{pairs_told, parameters_kept, parameters_pairs, parameters_sound}
+use Rattle.rl_lower.proofs.Linked.{built_length}
+use Rattle.rl_lower.proofs.Parameters.{known_from, known_length, pair_found, parameters_given, said_from, said_told, state_with}
+use Rattle.rl_lower.proofs.StartStores.{agrees_start, agrees_taken, start_values, take, take_arguments}
+use Rattle.rl_lower.specs.Begun.{FunctionTables, begun_by}
+use Rattle.rl_lower.specs.Endings.{IsGraphOf, closed_off, hir_of}
+use Rattle.rl_lower.specs.Parameters.{AreDeclaredAt, said_of_parameters, with_parameters}
+use Rattle.rl_lower.specs.Scenes.{IsSceneOf}
+use Rattle.rl_lowered.proofs.Names.{names_temporary, names_then}
+use Rattle.rl_lowered.specs.Named.{KeepsNames}
+use Rattle.rl_lowered.specs.Promised.{HasRoom, LowersBody, exec_before_end, share}
+use Rattle.rl_machine.specs.Closed.{IsClosed}
+use Rattle.rl_machine.specs.Conditions.{MayOrder}
 use Rattle.rl_machine.specs.Machine.{Graph}
-use Rattle.rl_names.specs.Names.{Names, parameters_in}
-use Rattle.rl_names.specs.declared.parameters.Parameter.{Parameter}
-use Rattle.rl_names.specs.Functions.{body_in, params_in, parameters_of}
-use Rattle.rl_names.specs.Locals.{AreApart, AreLocals, DeclaresAll}
+use Rattle.rl_machine.specs.Traces.{Cont, Store, World, unset, waiting}
 use Rattle.rl_machine.specs.declared.trace.Answer.{Answer}
 use Rattle.rl_machine.specs.declared.trace.Assignment.{Assignment}
 use Rattle.rl_machine.specs.declared.trace.Trace.{Trace}
 use Rattle.rl_machine.specs.declared.trace.Value.{Value}
-use Rattle.rl_machine.specs.Closed.{IsClosed}
-use Rattle.rl_model.specs.Headline.{NeverStuck, SameRuns}
-use Rattle.rl_model.specs.Runs.{trace_by}
-use Rattle.rl_model.specs.Rows.{refusals, refusals_of}
-use Rattle.rl_model.specs.Size.{function_size}
-use Rattle.rl_model.proofs.CoveredMeanings.{params_taken}
 use Rattle.rl_model.specs.Actions.{Ways}
 use Rattle.rl_model.specs.Functions.{outside, run_body, run_function, set_all, take_params}
+use Rattle.rl_model.specs.Runs.{trace_by}
 use Rattle.rl_model.specs.Scene.{Scene}
-use Rattle.rl_machine.specs.Traces.{Cont, Store, World, unset, waiting}
-use Rattle.rl_hir.specs.declared.function.Hir.{Hir}
-use Rattle.rl_lower.specs.Begun.{FunctionTables, begun_by}
-use Rattle.rl_lower.specs.Endings.{closed_off, IsGraphOf, hir_of}
-use Rattle.rl_lower.specs.Named.{AreDeclaredAt}
-use Rattle.rl_lower.specs.Scenes.{IsSceneOf}
-use Rattle.rl_lower.specs.Lowering.{HasRoom, Preserves, LowersBody, exec_before_end}
-use Rattle.rl_model.specs.Fields.{AreGiven, ArePairs}
-use Rattle.rl_lower.specs.Simulation.{Agrees, CoversNames, Extends, HasSoundNames}
-use Rattle.rl_lower.specs.Parameters.{said_of_parameters, with_parameters}
-use Rattle.rl_lower.proofs.Building.{IsFresh, keeps_closed}
-use Rattle.rl_lower.proofs.FunctionTrees.{IsFunction, function_nodes, function_refusals}
-use Rattle.rl_lower.proofs.Functions.{body_trace, extends_closed, function_finished, function_runs_by}
-use Rattle.rl_lower.proofs.GivenNames.{pairs_told, parameters_kept, parameters_pairs, parameters_sound}
-use Rattle.rl_lower.proofs.Linked.{built_length}
-use Rattle.rl_lower.proofs.Keeping.{keeps_named, keeps_then, named_pairs, room_less}
-use Rattle.rl_lower.proofs.Moves.{extends_temporary, extends_then}
-use Rattle.rl_lower.proofs.Parameters.{known_from, known_length, pair_found, parameters_given, said_from, said_told, state_with}
-use Rattle.rl_lower.proofs.StartStores.{agrees_start, agrees_taken, start_values, take, take_arguments}
-use Rattle.rl_lower.proofs.Builds.{closed_table}
-use Rattle.rl_lower.proofs.Building.{closed_listed}
-use Rattle.rl_builder.specs.Build.{graph_of}
-use Rattle.rl_machine.specs.Conditions.{MayOrder}
-use Rattle.rl_lower.proofs.Finished.{finished_may_order}
+use Rattle.rl_names.specs.Functions.{body_in, params_in, parameters_of}
+use Rattle.rl_names.specs.Locals.{AreApart, AreLocals, DeclaresAll}
+use Rattle.rl_names.specs.Names.{Names, parameters_in}
+use Rattle.rl_names.specs.declared.parameters.Parameter.{Parameter}
+use Rattle.rl_order.proofs.Pruning.{pruned_size}
+use Rattle.rl_promises.proofs.CoveredMeanings.{params_taken}
+use Rattle.rl_promises.specs.Fields.{AreGiven, ArePairs}
+use Rattle.rl_promises.specs.Headline.{NeverStuck, SameRuns}
+use Rattle.rl_promises.specs.Rows.{refusals, refusals_of}
+use Rattle.rl_promises.specs.Size.{function_size}
 use Rattle.rl_runs.proofs.FinalNames.{sound_covers}
+use Rattle.rl_runs.proofs.Moves.{extends_temporary}
+use Rattle.rl_runs.specs.Blocks.{size_of}
+use Rattle.rl_runs.specs.Continuations.{Agrees}
+use Rattle.rl_runs.specs.Facts.{CoversNames, Extends, HasSoundNames}
+use Rattle.rl_syntax.specs.Syntax.{Syntax, Node, Listed, End, Then, nodes}
+use Rattle.rl_syntax.specs.declared.word.Word.TheVariants as word
 
 -- The builder behind the parameters.
 
-pub begun_fresh : (env : Environment) (tables : FunctionTables) (parameters : List Parameter) → IsFresh (state_with (begun_by env tables) parameters)
-begun_fresh env tables parameters = record { completed = refl; instructions = refl; table = refl; entry = refl; below = omega arith }
+pub begun_fresh : (env : Environment) (tables : FunctionTables) (parameters : List Parameter)
+    → IsFresh (state_with (begun_by env tables) parameters)
+begun_fresh env tables parameters = record { completed = refl; instructions = refl; table = refl; entry = refl; last = refl; handlers = refl; scopes = refl }
 
 pub begun_is : (env : Environment) (tables : FunctionTables) (parameters : List Parameter) → AreApart parameters
     → with_parameters (begun_by env tables) parameters ≡ state_with (begun_by env tables) parameters
@@ -71,91 +73,85 @@ pub begun_call : (env : Environment) (tables : FunctionTables) (parameters : Lis
 begun_call env tables parameters s0 begun distinct is moved =
     moved ∙ ap (λ (s : State). with_parameters s parameters) is ∙ begun_is env tables parameters distinct
 
+-- Each parameter takes an identifier and a type.
+pub begun_size : (env : Environment) (tables : FunctionTables) (parameters : List Parameter)
+    → size_of (state_with (begun_by env tables) parameters) ≡ size_of (begun_by env tables) + 2 * length parameters
+begun_size env tables parameters =
+    let given : length (env.identifiers ++ known_from (begun_by env tables) env.next_type parameters) ≡ length env.identifiers + length parameters =
+    length-append env.identifiers (known_from (begun_by env tables) env.next_type parameters)
+    ∙ ap (λ (n : ℕ). length env.identifiers + n) (known_length (begun_by env tables) env.next_type parameters) in
+    omega (arith, given)
+
 -- The room that is left behind them.
 pub begun_room : (env : Environment) (tables : FunctionTables) (parameters : List Parameter) (more : ℕ)
-    → HasRoom (begun_by env tables) (more + length parameters) → HasRoom (state_with (begun_by env tables) parameters) more
-begun_room env tables parameters more room =
-    let given : length (env.identifiers ++ known_from (begun_by env tables) env.next_type parameters) ≡ length env.identifiers + length parameters = length-append env.identifiers (known_from (begun_by env tables) env.next_type parameters) ∙ ap (λ (n : ℕ). length env.identifiers + n) (known_length (begun_by env tables) env.next_type parameters) in
-    record {
-      blocks = omega (arith, room.blocks);
-      types = omega (arith, room.types);
-      identifiers = omega (arith, given, room.identifiers);
-      instructions = omega (arith, room.instructions);
-      completed = omega (arith, room.completed);
-    }
+    → HasRoom (begun_by env tables) (more + 2 * length parameters) → HasRoom (state_with (begun_by env tables) parameters) more
+begun_room env tables parameters more room = omega (arith, begun_size env tables parameters, room)
 
-pub lowered_from : (names : Names) (tables : FunctionTables) (parameters : List Parameter) (body : Syntax) (env new : Environment) (params : List Param) (built : Graph)
-    (g : IsGraphOf names tables parameters body env new params built) → AreApart parameters
-    → LowersBody names body (state_with (begun_by env tables) parameters) g.state
-lowered_from names tables parameters body env new params built g distinct =
-    subst (λ (o : State). LowersBody names body o g.state) (begun_is env tables parameters distinct) g.lowers
+module _ (names : Names) (tables : FunctionTables) (parameters : List Parameter) (body : Syntax) (env new : Environment)
+    (params : List Param) (built : Graph) (g : IsGraphOf names tables parameters body env new params built) (distinct : AreApart parameters) where
+  abbrev begun : State
+  begun = state_with (begun_by env tables) parameters
 
--- The state behind the graph.
-graph_keeps : (names : Names) (tables : FunctionTables) (parameters : List Parameter) (body : Syntax) (env new : Environment) (params : List Param) (built : Graph)
-    (g : IsGraphOf names tables parameters body env new params built) → AreApart parameters
-    → Preserves names (state_with (begun_by env tables) parameters) (closed_off g.state) (4 * (nodes body + 1) + 2)
-graph_keeps names tables parameters body env new params built g distinct =
-    keeps_then (state_with (begun_by env tables) parameters) g.state (closed_off g.state) (4 * (nodes body + 1)) 2 (lowered_from names tables parameters body env new params built g distinct).keeps (keeps_closed g.state)
+  abbrev last : State
+  last = closed_off g.state
 
-graph_extends : (names : Names) (tables : FunctionTables) (parameters : List Parameter) (body : Syntax) (env new : Environment) (params : List Param) (built : Graph)
-    (g : IsGraphOf names tables parameters body env new params built) → AreApart parameters
-    → Extends (state_with (begun_by env tables) parameters) (closed_off g.state)
-graph_extends names tables parameters body env new params built g distinct =
-    extends_then (state_with (begun_by env tables) parameters) g.state (closed_off g.state) (lowered_from names tables parameters body env new params built g distinct).blocks.extends (extends_closed g.state)
+  pub lowered_from : LowersBody names body begun g.state
+  lowered_from = subst (λ (o : State). LowersBody names body o g.state) (begun_is env tables parameters distinct) g.lowers
 
--- Names are sound, where the environment had no pairs before.
-graph_names : (names : Names) (tables : FunctionTables) (parameters : List Parameter) (body : Syntax) (env new : Environment) (params : List Param) (built : Graph)
-    (g : IsGraphOf names tables parameters body env new params built) → AreApart parameters → env.pairs ≡ [] → HasSoundNames (closed_off g.state)
-graph_names names tables parameters body env new params built g distinct none =
-    (graph_extends names tables parameters body env new params built g distinct).sound (parameters_sound (begun_by env tables) parameters none distinct)
+  -- Blocks have numbers below 2^32.
+  pub graph_fits : last.env.next_block < 2 ^ 32
+  graph_fits = subst (λ (e : Environment). e.next_block < 2 ^ 32) g.after g.few
 
-pub identifiers_fit : (names : Names) (tables : FunctionTables) (parameters : List Parameter) (body : Syntax) (env new : Environment) (params : List Param) (built : Graph)
-    → IsGraphOf names tables parameters body env new params built → AreApart parameters
-    → HasRoom (begun_by env tables) (4 * (nodes body + 2) + length parameters) → length new.identifiers < 2 ^ 32
-identifiers_fit names tables parameters body env new params built g distinct room =
-    let keeps = graph_keeps names tables parameters body env new params built g distinct in
-    let given : length (env.identifiers ++ known_from (begun_by env tables) env.next_type parameters) ≡ length env.identifiers + length parameters = length-append env.identifiers (known_from (begun_by env tables) env.next_type parameters) ∙ ap (λ (n : ℕ). length env.identifiers + n) (known_length (begun_by env tables) env.next_type parameters) in
-    let used : length (closed_off g.state).env.identifiers ≤ length (env.identifiers ++ known_from (begun_by env tables) env.next_type parameters) + (4 * (nodes body + 1) + 2) = keeps.uses.identifiers in
-    let free : length env.identifiers + (4 * (nodes body + 2) + length parameters) < 2 ^ 31 = room.identifiers in
-    let same : length new.identifiers ≡ length (closed_off g.state).env.identifiers = ap (λ (e : Environment). length e.identifiers) g.after in
-    omega (arith, given, used, free, same)
+  -- The state behind the graph.
 
-pub types_fit : (names : Names) (tables : FunctionTables) (parameters : List Parameter) (body : Syntax) (env new : Environment) (params : List Param) (built : Graph)
-    → IsGraphOf names tables parameters body env new params built → AreApart parameters
-    → HasRoom (begun_by env tables) (4 * (nodes body + 2) + length parameters) → new.next_type + 1 < 2 ^ 32
-types_fit names tables parameters body env new params built g distinct room =
-    let keeps = graph_keeps names tables parameters body env new params built g distinct in
-    let used : (closed_off g.state).env.next_type ≤ env.next_type + length parameters + (4 * (nodes body + 1) + 2) = keeps.uses.types in
-    let free : env.next_type + (4 * (nodes body + 2) + length parameters) < 2 ^ 31 = room.types in
-    let same : new.next_type ≡ (closed_off g.state).env.next_type = ap (λ (e : Environment). e.next_type) g.after in
-    omega (arith, used, free, same)
+  graph_keeps : KeepsNames names begun last
+  graph_keeps = names_then begun g.state last lowered_from.names_kept (names_closed g.state)
 
-pub graph_refused : (names : Names) (tables : FunctionTables) (parameters : List Parameter) (body : Syntax) (env new : Environment) (params : List Param) (built : Graph)
-    → IsGraphOf names tables parameters body env new params built → AreApart parameters
-    → new.diagnostics ≡ env.diagnostics ++ (said_of_parameters names parameters ++ refusals names body)
-graph_refused names tables parameters body env new params built g distinct =
-    ap (λ (e : Environment). e.diagnostics) g.after ∙ (lowered_from names tables parameters body env new params built g distinct).refused ∙ append_assoc env.diagnostics (said_from (begun_by env tables) parameters) (refusals names body)
-    ∙ ap (λ (l : List Diagnostic). env.diagnostics ++ (l ++ refusals names body)) (said_told names (begun_by env tables) parameters g.declared)
+  pub graph_extends : Extends begun last
+  graph_extends = closed_extends begun g.state (begun_fresh env tables parameters) lowered_from.blocks graph_fits
 
--- No completed block has a predecessor.
-pub graph_unlinked : (names : Names) (tables : FunctionTables) (parameters : List Parameter) (body : Syntax) (env new : Environment) (params : List Param) (built : Graph)
-    (g : IsGraphOf names tables parameters body env new params built) → AreApart parameters → All (λ p. p.1.preds ≡ []) (closed_off g.state).completed
-graph_unlinked names tables parameters body env new params built g distinct =
-    (closed_listed names (state_with (begun_by env tables) parameters) body g.state (begun_fresh env tables parameters) (lowered_from names tables parameters body env new params built g distinct)).predecessors
+  -- Names are sound, where the environment had no pairs before.
+  pub graph_names : env.pairs ≡ [] → HasSoundNames last
+  graph_names none = graph_extends.sound (parameters_sound (begun_by env tables) parameters none distinct)
 
-pub graph_table : (names : Names) (tables : FunctionTables) (parameters : List Parameter) (body : Syntax) (env new : Environment) (params : List Param) (built : Graph)
-    (g : IsGraphOf names tables parameters body env new params built) → AreApart parameters → graph_of (closed_off g.state) ≡ (closed_off g.state).completed
-graph_table names tables parameters body env new params built g distinct =
-    closed_table names (state_with (begun_by env tables) parameters) body g.state (begun_fresh env tables parameters) (lowered_from names tables parameters body env new params built g distinct)
+  graph_size : HasRoom (begun_by env tables) (share (nodes body + 2) + 2 * length parameters) → size_of last < 2 ^ 31
+  graph_size room = omega (arith, closed_size names begun body g.state lowered_from, begun_size env tables parameters, room)
 
-pub graph_closed : (names : Names) (tables : FunctionTables) (parameters : List Parameter) (body : Syntax) (env new : Environment) (params : List Param) (built : Graph)
-    → IsGraphOf names tables parameters body env new params built → AreApart parameters → IsClosed (hir_of built)
-graph_closed names tables parameters body env new params built g distinct =
-    let last : State = closed_off g.state in
-    g.graph.closed
-    (subst (λ (blocks : List BlockPair). MayOrder (record { blocks = blocks; table = last.table; entry = last.entry })) (sym (graph_table names tables parameters body env new params built g distinct))
-    (finished_may_order last (function_finished (state_with (begun_by env tables) parameters) g.state (begun_fresh env tables parameters) (lowered_from names tables parameters body env new params built g distinct).blocks)
-    (graph_unlinked names tables parameters body env new params built g distinct)))
+  pub identifiers_fit : HasRoom (begun_by env tables) (share (nodes body + 2) + 2 * length parameters) → length new.identifiers < 2 ^ 32
+  identifiers_fit room =
+      let same : length new.identifiers ≡ length last.env.identifiers = ap (λ (e : Environment). length e.identifiers) g.after in
+      omega (arith, graph_size room, same)
+
+  pub types_fit : HasRoom (begun_by env tables) (share (nodes body + 2) + 2 * length parameters) → new.next_type + 1 < 2 ^ 32
+  types_fit room =
+      let same : new.next_type ≡ last.env.next_type = ap (λ (e : Environment). e.next_type) g.after in
+      omega (arith, graph_size room, same)
+
+  pub graph_refused : new.diagnostics ≡ env.diagnostics ++ (said_of_parameters names parameters ++ refusals names body)
+  graph_refused =
+      ap (λ (e : Environment). e.diagnostics) g.after ∙ refused ∙ append_assoc env.diagnostics (said_from (begun_by env tables) parameters) (refusals names body)
+      ∙ ap (λ (l : List Diagnostic). env.diagnostics ++ (l ++ refusals names body)) (said_told names (begun_by env tables) parameters g.declared)
+    where
+      refused : last.env.diagnostics ≡ begun.env.diagnostics ++ refusals names body
+      refused = diagnostics_closed g.state ∙ lowered_from.refused
+
+  -- No completed block has a predecessor.
+  pub graph_unlinked : All (λ p. p.1.preds ≡ []) last.completed
+  graph_unlinked = (closed_listed begun g.state (begun_fresh env tables parameters) lowered_from.lists).predecessors
+
+  pub graph_table : graph_of last ≡ last.completed
+  graph_table = closed_table names begun body g.state (begun_fresh env tables parameters) lowered_from graph_fits
+
+  pub graph_closed : env.pairs ≡ [] → IsClosed (hir_of built)
+  graph_closed none =
+      g.graph.closed
+      (subst (λ (blocks : List BlockPair). MayOrder (record { blocks = blocks; table = last.table; entry = last.entry })) (sym graph_table)
+      (function_may begun g.state (begun_fresh env tables parameters) lowered_from.blocks graph_fits lowered_from.lists
+      (λ symbol. identifier_of last.env.pairs symbol) alone (sound_covers last (graph_names none)) graph_unlinked))
+    where
+      -- A world in which no variable is shared.
+      alone : World
+      alone = record { opens = λ symbol. false; keeps = [] }
 
 -- The meaning of a body is that before its end, and then of a return of Undefined.
 body_means : (scene : Scene) (b : Syntax) (ways : Ways) (onward : Unit {0} → Cont) (source : Store) (answers : List Answer)
@@ -164,32 +160,34 @@ body_means scene (Node at word.Body (Then directives (Then (Listed statements) E
 body_means scene _ ways onward source answers = refl
 
 -- The parameters take their arguments, and then the body runs.
-function_means : (scene : Scene) (f body : Syntax) → IsFunction f body → scene.ported ≡ false → DeclaresAll scene.names (params_in f)
+function_means : (scene : Scene) (f body : Syntax) → IsFunction f body → DeclaresAll scene.names (params_in f)
     → (start : List Assignment) (arguments : List Value) (answers : List Answer)
     → run_function scene f start arguments answers
     ≡ body_trace scene (exec_before_end scene body) outside (take (parameters_of scene.names f) arguments (set_all start unset)) answers
-function_means scene f body w written declared start arguments answers =
+function_means scene f body w declared start arguments answers =
     ap (λ (p : Syntax). take_params scene p arguments outside (λ end. run_body scene (body_in f) outside (λ (e : Unit {0}) store rest. waiting)) (set_all start unset) answers) w.is_params
-    ∙ params_taken scene written w.params (subst (DeclaresAll scene.names) w.is_params declared) w.list outside (λ end. run_body scene (body_in f) outside (λ (e : Unit {0}) store rest. waiting)) arguments (set_all start unset) answers
+    ∙ params_taken scene w.params (subst (DeclaresAll scene.names) w.is_params declared) w.list outside (λ end. run_body scene (body_in f) outside (λ (e : Unit {0}) store rest. waiting)) arguments (set_all start unset) answers
     ∙ ap (λ (p : Syntax). run_body scene (body_in f) outside (λ (e : Unit {0}) store rest. waiting) (take (parameters_in scene.names p) arguments (set_all start unset)) answers) (sym w.is_params)
     ∙ ap (λ (b : Syntax). run_body scene b outside (λ (e : Unit {0}) store rest. waiting) (take (parameters_of scene.names f) arguments (set_all start unset)) answers) w.is_body
     ∙ body_means scene body outside (λ (e : Unit {0}) store rest. waiting) (take (parameters_of scene.names f) arguments (set_all start unset)) answers
 
 -- Its size.
-
-pub graph_bounded : (names : Names) (tables : FunctionTables) (parameters : List Parameter) (body : Syntax) (env new : Environment) (params : List Param) (built : Graph)
+pub graph_bounded : (names : Names) (tables : FunctionTables) (parameters : List Parameter) (body : Syntax) (env new : Environment)
+    (params : List Param) (built : Graph)
     → IsGraphOf names tables parameters body env new params built → AreApart parameters → (f : HirFunction (List BlockPair)) (count : ℕ)
     → f.body ≡ hir_of built → f.instructions ≡ built.table → nodes body + 2 ≤ count → function_size f ≤ 64 * count
 graph_bounded names tables parameters body env new params built g distinct f count body_is instructions_is counted =
-    let keeps = graph_keeps names tables parameters body env new params built g distinct in
     let s : State = closed_off g.state in
-    let table : length s.table ≤ 0 + (4 * (nodes body + 1) + 2) = keeps.uses.instructions in
-    let blocks : length s.completed ≤ 0 + (4 * (nodes body + 1) + 2) = keeps.uses.completed in
+    let few : length s.table + length s.completed ≤ 64 * (nodes body + 1) + 5 =
+    few_parts names (state_with (begun_by env tables) parameters) body g.state (begun_fresh env tables parameters)
+    (lowered_from names tables parameters body env new params built g distinct)
+    (graph_fits names tables parameters body env new params built g distinct) in
     let instructions : length f.instructions ≡ length s.table = ap (λ (l : List Instruction). length l) instructions_is ∙ built_length s built new g.graph in
     let listed : length f.body.blocks ≡ length built.blocks = ap (λ (h : Hir (List BlockPair)). length h.blocks) body_is in
     let kept : length built.blocks ≤ length (graph_of s) = pruned_size (graph_of s) s.entry s.table built.blocks built.table g.graph.pruned in
-    let same : length (graph_of s) ≡ length s.completed = ap (λ (pairs : List BlockPair). length pairs) (graph_table names tables parameters body env new params built g distinct) in
-    omega (arith, table, instructions, blocks, listed, kept, same, counted)
+    let same : length (graph_of s) ≡ length s.completed =
+    ap (λ (pairs : List BlockPair). length pairs) (graph_table names tables parameters body env new params built g distinct) in
+    omega (arith, few, instructions, listed, kept, same, counted)
 
 -- The clauses of `lower`, whose caller hands it the function's parameters.
 
@@ -197,18 +195,21 @@ nothing_twice : (xs ys : List Diagnostic) → xs ++ ys ≡ [] → ys ≡ []
 nothing_twice [] ys e = e
 nothing_twice (x ∷ xs) ys e = absurd (cc)
 
-body_supported : (names : Names) (f body : Syntax) → IsFunction f body → DeclaresAll names (params_in f) → refusals_of names f ≡ [] → refusals names body ≡ []
+body_supported : (names : Names) (f body : Syntax) → IsFunction f body → DeclaresAll names (params_in f) → refusals_of names f ≡ []
+    → refusals names body ≡ []
 body_supported names f body w declared none =
     nothing_twice (said_of_parameters names (parameters_of names f)) (refusals names body) (sym (function_refusals names f body w declared) ∙ none)
 
-pub lower_room : (f body : Syntax) (names : Names) (parameters : List Parameter) (s : State) → IsFunction f body → parameters ≡ parameters_of names f
-    → HasRoom s (4 * nodes f) → HasRoom s (4 * (nodes body + 2) + length parameters)
+pub lower_room : (f body : Syntax) (names : Names) (parameters : List Parameter) (s : State) → IsFunction f body
+    → parameters ≡ parameters_of names f
+    → HasRoom s (share (nodes f)) → HasRoom s (share (nodes body + 2) + 2 * length parameters)
 lower_room f body names parameters s w is room =
     let same : length parameters ≡ length (parameters_of names f) = ap (λ (l : List Parameter). length l) is in
     let counted : nodes body + 2 + 2 * length (parameters_of names f) ≤ nodes f = function_nodes names f body w in
-    room_less s (4 * nodes f) (4 * (nodes body + 2) + length parameters) (omega (arith, same, counted)) room
+    omega (arith, same, counted, room)
 
-pub lower_refused : (f body : Syntax) (names : Names) (tables : FunctionTables) (parameters : List Parameter) (env new : Environment) (params : List Param) (built : Graph)
+pub lower_refused : (f body : Syntax) (names : Names) (tables : FunctionTables) (parameters : List Parameter) (env new : Environment)
+    (params : List Param) (built : Graph)
     → IsFunction f body → DeclaresAll names (params_in f) → parameters ≡ parameters_of names f → AreApart parameters
     → IsGraphOf names tables parameters body env new params built → new.diagnostics ≡ env.diagnostics ++ refusals_of names f
 lower_refused f body names tables parameters env new params built w declared is distinct g =
@@ -216,22 +217,25 @@ lower_refused f body names tables parameters env new params built w declared is 
     ∙ ap (λ (l : List Parameter). env.diagnostics ++ (said_of_parameters names l ++ refusals names body)) is
     ∙ ap (λ (l : List Diagnostic). env.diagnostics ++ l) (sym (function_refusals names f body w declared))
 
-lower_runs_by : (f body : Syntax) (names : Names) (tables : FunctionTables) (parameters : List Parameter) (env new : Environment) (params : List Param) (built : Graph)
+lower_runs_by : (f body : Syntax) (names : Names) (tables : FunctionTables) (parameters : List Parameter) (env new : Environment)
+    (params : List Param) (built : Graph)
     → IsFunction f body → DeclaresAll names (params_in f) → parameters ≡ parameters_of names f → AreApart parameters → env.pairs ≡ []
     → IsGraphOf names tables parameters body env new params built → refusals_of names f ≡ []
-    → (h : HirFunction (List BlockPair)) (pairs : List Pair) → pairs ≡ new.pairs → h.body ≡ hir_of built → h.instructions ≡ built.table → h.params ≡ params
+    → (h : HirFunction (List BlockPair)) (pairs : List Pair) → pairs ≡ new.pairs → h.body ≡ hir_of built → h.instructions ≡ built.table
+    → h.params ≡ params
     → (scene : Scene) (world : World) → IsSceneOf names pairs scene world
     → (stuck : Trace) (start : List Assignment) (arguments : List Value) (answers : List Answer)
     → trace_by stuck world h pairs start arguments answers ≡ run_function scene f start arguments answers
 lower_runs_by f body names tables given env new params built w declared is distinct none g supported h pairs final body_is instructions_is params_is scene world stands =
     function_runs_by scene world begun graph.state (exec_before_end scene body) (begun_fresh env tables parameters) sound
-    lowered.blocks (lowered.runs (body_supported names f body w declared supported) scene stands.named) h pairs covers stands.shares f
+    lowered.blocks (graph_fits names tables parameters body env new params built graph apart) lowered.lists
+    (lowered.runs (body_supported names f body w declared supported) scene stands.named stands.ported) h pairs covers stands.shares f
     built new graph.graph (graph_table names tables parameters body env new params built graph apart) (graph_unlinked names tables parameters body env new params built graph apart) body_is instructions_is
     (λ start arguments. take parameters arguments (set_all start unset))
     (λ start arguments. subst (λ (ps : List Param). Agrees ident (take parameters arguments (set_all start unset))
     (take_arguments ps arguments (start_values pairs start))) (sym (params_is ∙ graph.places))
     (agrees_taken ident covers.one (length env.identifiers) parameters arguments (set_all start unset) (start_values pairs start) given_so (agrees_start ident covers.one start)))
-    (λ start arguments answers. function_means scene f body w stands.written (subst (λ (n : Names). DeclaresAll n (params_in f)) (sym stands.named) declared) start arguments answers
+    (λ start arguments answers. function_means scene f body w (subst (λ (n : Names). DeclaresAll n (params_in f)) (sym stands.named) declared) start arguments answers
     ∙ ap (λ (n : Names). body_trace scene (exec_before_end scene body) outside (take (parameters_of n f) arguments (set_all start unset)) answers) stands.named)
   where
     parameters : List Parameter
@@ -268,58 +272,69 @@ lower_runs_by f body names tables given env new params built w declared is disti
         ((graph_extends names tables parameters body env new params built graph apart).names.kept p.symbol.0 (length env.identifiers + place)
         (sym (sound.same p.symbol.0) ∙ pair_found (length env.identifiers) parameters place p apart there))
 
-pub lower_same_runs : (f body : Syntax) (names : Names) (tables : FunctionTables) (parameters : List Parameter) (env new : Environment) (params : List Param) (built : Graph)
+pub lower_same_runs : (f body : Syntax) (names : Names) (tables : FunctionTables) (parameters : List Parameter) (env new : Environment)
+    (params : List Param) (built : Graph)
     → IsFunction f body → DeclaresAll names (params_in f) → parameters ≡ parameters_of names f → AreApart parameters → env.pairs ≡ []
     → IsGraphOf names tables parameters body env new params built → refusals_of names f ≡ []
-    → (h : HirFunction (List BlockPair)) (pairs : List Pair) → pairs ≡ new.pairs → h.body ≡ hir_of built → h.instructions ≡ built.table → h.params ≡ params
+    → (h : HirFunction (List BlockPair)) (pairs : List Pair) → pairs ≡ new.pairs → h.body ≡ hir_of built → h.instructions ≡ built.table
+    → h.params ≡ params
     → (scene : Scene) (world : World) → IsSceneOf names pairs scene world → SameRuns scene f world h pairs
 lower_same_runs f body names tables parameters env new params built w declared is distinct none g supported h pairs final body_is instructions_is params_is scene world stands start arguments answers =
     lower_runs_by f body names tables parameters env new params built w declared is distinct none g supported h pairs final body_is instructions_is params_is scene world stands waiting start arguments answers
 
-pub lower_never_stuck : (f body : Syntax) (names : Names) (tables : FunctionTables) (parameters : List Parameter) (env new : Environment) (params : List Param) (built : Graph)
+pub lower_never_stuck : (f body : Syntax) (names : Names) (tables : FunctionTables) (parameters : List Parameter) (env new : Environment)
+    (params : List Param) (built : Graph)
     → IsFunction f body → DeclaresAll names (params_in f) → parameters ≡ parameters_of names f → AreApart parameters → env.pairs ≡ []
     → IsGraphOf names tables parameters body env new params built → refusals_of names f ≡ []
-    → (h : HirFunction (List BlockPair)) (pairs : List Pair) → pairs ≡ new.pairs → h.body ≡ hir_of built → h.instructions ≡ built.table → h.params ≡ params
+    → (h : HirFunction (List BlockPair)) (pairs : List Pair) → pairs ≡ new.pairs → h.body ≡ hir_of built → h.instructions ≡ built.table
+    → h.params ≡ params
     → (scene : Scene) (world : World) → IsSceneOf names pairs scene world → NeverStuck world h pairs
 lower_never_stuck f body names tables parameters env new params built w declared is distinct none g supported h pairs final body_is instructions_is params_is scene world stands stuck start arguments answers =
     lower_runs_by f body names tables parameters env new params built w declared is distinct none g supported h pairs final body_is instructions_is params_is scene world stands stuck start arguments answers
     ∙ sym (lower_same_runs f body names tables parameters env new params built w declared is distinct none g supported h pairs final body_is instructions_is params_is scene world stands start arguments answers)
 
-pub lower_bounded : (f body : Syntax) (names : Names) (tables : FunctionTables) (parameters : List Parameter) (env new : Environment) (params : List Param) (built : Graph)
+pub lower_bounded : (f body : Syntax) (names : Names) (tables : FunctionTables) (parameters : List Parameter) (env new : Environment)
+    (params : List Param) (built : Graph)
     → IsFunction f body → AreApart parameters → IsGraphOf names tables parameters body env new params built
     → (h : HirFunction (List BlockPair)) → h.body ≡ hir_of built → h.instructions ≡ built.table → function_size h ≤ 64 * nodes f
 lower_bounded f body names tables parameters env new params built w distinct g h body_is instructions_is =
     let counted : nodes body + 2 + 2 * length (parameters_of names f) ≤ nodes f = function_nodes names f body w in
     graph_bounded names tables parameters body env new params built g distinct h (nodes f) body_is instructions_is (omega (arith, counted))
 
-pub lower_functions : (names : Names) (tables : FunctionTables) (parameters : List Parameter) (body : Syntax) (env new : Environment) (params : List Param) (built : Graph)
+pub lower_functions : (names : Names) (tables : FunctionTables) (parameters : List Parameter) (body : Syntax) (env new : Environment)
+    (params : List Param) (built : Graph)
     → AreApart parameters → IsGraphOf names tables parameters body env new params built → new.functions ≡ env.functions
 lower_functions names tables parameters body env new params built distinct g =
     ap (λ (e : Environment). e.functions) g.after ∙ (graph_keeps names tables parameters body env new params built g distinct).functions
 
 -- The pairs behind the graph and one identifier more, that of the returned place.
-pub lower_pairs : (names : Names) (tables : FunctionTables) (parameters : List Parameter) (body : Syntax) (env new last : Environment) (params : List Param)
+pub lower_pairs : (names : Names) (tables : FunctionTables) (parameters : List Parameter) (body : Syntax) (env new behind : Environment)
+    (params : List Param)
     (built : Graph) (span : Option Span) → AreApart parameters → AreLocals names parameters → env.pairs ≡ []
-    → IsGraphOf names tables parameters body env new params built → last ≡ one_identifier_more new span → ArePairs names last.identifiers last.pairs
-lower_pairs names tables parameters body env new last params built span distinct own none g more =
+    → IsGraphOf names tables parameters body env new params built → behind ≡ one_identifier_more new span
+    → ArePairs names behind.identifiers behind.pairs
+lower_pairs names tables parameters body env new behind params built span distinct own none g more =
     subst (λ (e : Environment). ArePairs names e.identifiers e.pairs) (sym (more ∙ ap (λ (e : Environment). one_identifier_more e span) g.after))
     (pairs_told names (with_temporary (closed_off g.state) span)
     ((extends_temporary (closed_off g.state) span).sound (graph_names names tables parameters body env new params built g distinct none))
-    (named_pairs names (closed_off g.state).env.identifiers _ (closed_off g.state).env.pairs
+    ((names_temporary {names = names} (closed_off g.state) span).pairs
     ((graph_keeps names tables parameters body env new params built g distinct).pairs (parameters_pairs (begun_by env tables) names parameters none own))))
 
 -- The identifiers of parameters there.
-pub lower_given : (names : Names) (tables : FunctionTables) (parameters : List Parameter) (body : Syntax) (env new last : Environment) (params : List Param)
+pub lower_given : (names : Names) (tables : FunctionTables) (parameters : List Parameter) (body : Syntax) (env new behind : Environment)
+    (params : List Param)
     (built : Graph) (span : Option Span) → AreApart parameters → env.pairs ≡ []
-    → IsGraphOf names tables parameters body env new params built → AreDeclaredAt tables.semantic parameters → last ≡ one_identifier_more new span
-    → AreGiven last.identifiers last.pairs (length env.identifiers) env.next_type parameters
-lower_given names tables parameters body env new last params built span distinct none g spanned more =
+    → IsGraphOf names tables parameters body env new params built → AreDeclaredAt tables.semantic parameters
+    → behind ≡ one_identifier_more new span
+    → AreGiven behind.identifiers behind.pairs (length env.identifiers) env.next_type parameters
+lower_given names tables parameters body env new behind params built span distinct none g spanned more =
     subst (λ (e : Environment). AreGiven e.identifiers e.pairs (length env.identifiers) env.next_type parameters) (sym (more ∙ ap (λ (e : Environment). one_identifier_more e span) g.after))
     (parameters_kept (begun_by env tables) parameters _ _ _ none distinct spanned (graph_extends names tables parameters body env new params built g distinct).names
-    (λ identifier known is named. keeps_named (closed_off g.state).env.identifiers _ identifier known
+    (λ identifier known is named. (names_temporary {names = names} (closed_off g.state) span).identifiers identifier known
     ((graph_keeps names tables parameters body env new params built g distinct).identifiers identifier known is named) named))
 
-pub lower_fn_type : (names : Names) (tables : FunctionTables) (parameters : List Parameter) (body : Syntax) (env new : Environment) (params : List Param) (built : Graph)
+pub lower_fn_type : (names : Names) (tables : FunctionTables) (parameters : List Parameter) (body : Syntax) (env new : Environment)
+    (params : List Param) (built : Graph)
     → AreApart parameters → IsGraphOf names tables parameters body env new params built → new.fn_type ≡ env.fn_type
 lower_fn_type names tables parameters body env new params built distinct g =
     ap (λ (e : Environment). e.fn_type) g.after ∙ (graph_keeps names tables parameters body env new params built g distinct).fn_type

@@ -1,9 +1,8 @@
--- The tree of a function that is covered and fits the grammar: its nodes, parameters, refusals and calls, and its small parts.
+-- The tree of a function that is covered and fits the grammar: its nodes, parameters and refusals, and its small parts.
 use Rattle.std.specs.Option.{is_some}
 use Rattle.std.proofs.Common.{◌≡◌, ℕ, ◌+◌, ◌*◌, ◌≤◌, ◌++◌, Bool, true, false, List, [], ◌∷◌, length, All, Option, Some, None, refl, sym, ap, ◌∙◌, subst, arith, append-nil}
 use Rattle.std.proofs.lemmas.List.Elements.{All-nil, All-cons}
 use Rattle.rl_base.specs.declared.diagnostic.Diagnostic.{Diagnostic}
-use Rattle.rl_base.specs.declared.span.Span.{Span}
 use Rattle.rl_text.specs.Notation.{IsWritable}
 use Rattle.rl_grammar.specs.Grammar.{fits}
 use Rattle.rl_syntax.specs.Syntax.{Syntax, Node, Said, Flag, Absent, Pieces, End, Then, nodes, nodes_of, span_of, syntax}
@@ -27,14 +26,13 @@ use Rattle.rl_names.specs.Locals.{AreDeclared, DeclaresAll}
 use Rattle.rl_names.specs.Names.{Names, parameters_among}
 use Rattle.rl_names.specs.declared.parameters.Parameter.{Parameter}
 use Rattle.rl_base.specs.declared.ids.SymbolId.{SymbolId}
-use Rattle.rl_model.specs.Covered.{AreCovered, IsCovered, IsCoveredFunction}
-use Rattle.rl_model.specs.Calls.{calls_in, calls_among}
-use Rattle.rl_model.specs.Rows.{label_of, refusals, refusals_in, refusals_of, said_of_local}
+use Rattle.rl_promises.specs.Covered.{AreCovered, IsCovered, IsCoveredFunction}
+use Rattle.rl_promises.specs.Rows.{label_of, refusals, refusals_in, refusals_of, said_of_local}
 use Rattle.rl_semantic.specs.Items.{of_item}
 use Rattle.rl_lower.specs.Parameters.{said_of_parameters}
-use Rattle.rl_lower.specs.Sound.{AreSmallTrees, IsSmallParameter, IsSmallTree}
-use Rattle.rl_lower.proofs.SoundListing.{span_writable}
-use Rattle.rl_model.proofs.CoveredForms.{ParamNode, bind_of, list_of, name_form, params_form, params_of}
+use Rattle.rl_lowered.proofs.SoundListing.{span_writable}
+use Rattle.rl_lowered.specs.Sound.{AreSmallTrees, IsSmallParameter, IsSmallTree}
+use Rattle.rl_promises.proofs.CoveredForms.{ParamNode, bind_of, list_of, name_form, params_form, params_of}
 
 -- The tree `f` is a function with the body `body`, whose parameters are names.
 pub record IsFunction (f body : Syntax) : Type 0 where
@@ -43,7 +41,6 @@ pub record IsFunction (f body : Syntax) : Type 0 where
   pub is_params : params_in f ≡ list_of list params
   pub is_body : body_in f ≡ body
   pub counted : nodes (params_in f) + nodes body + 1 ≤ nodes f
-  pub calls : calls_in f ≡ calls_in (params_in f) ++ calls_in body
   pub small : IsSmallTree f → IsSmallTree (params_in f) × IsSmallTree body
   pub spanned : IsSmallTree f → IsWritable (listing.optional listing.span (Some (span_of f)))
   pub named : IsSmallTree f → IsWritable (listing.optional listing.said (name_in f))
@@ -61,7 +58,8 @@ small_rest p ps small = (small.0.1, small.1.1)
 
 -- An arrow function.
 
-arrow_form : (f : Arrow) → AreCovered (Then (Flag f.marked) (Then (Flag f.is_async) (Then (syntax f.params.tree.now) (Then (syntax f.body.tree.now) End))))
+arrow_form : (f : Arrow)
+    → AreCovered (Then (Flag f.marked) (Then (Flag f.is_async) (Then (syntax f.params.tree.now) (Then (syntax f.body.tree.now) End))))
     → IsFunction (seen_arrow f) (syntax f.body.tree.now)
 arrow_form f covered =
     let form = params_form (syntax f.params.tree.now) f.params.fit covered.1.1.0 in record {
@@ -70,7 +68,6 @@ arrow_form f covered =
       is_params = form.2;
       is_body = refl;
       counted = omega arith;
-      calls = ap (λ (l : List (Option Span)). calls_in (syntax f.params.tree.now) ++ l) (append-nil (calls_in (syntax f.body.tree.now)));
       small = λ small. ((small.0.1.1.1.0, small.1.1.1.1.0), (small.0.1.1.1.1.0, small.1.1.1.1.1.0));
       spanned = λ small. span_writable f.at.span small.0.0;
       named = λ small. tt;
@@ -78,14 +75,12 @@ arrow_form f covered =
 
 -- A function declaration, whose name is covered.
 
--- The name of a function calls nothing, and the notation has it where it is small.
+-- The notation has the name of a function where it is small.
 record IsName (name : Syntax) : Type 0 where
-  calls : calls_in name ≡ []
   named : IsSmallTree name → IsWritable (listing.optional listing.said (said_by name))
 
 bind_name : (b : Syntax) (bind : At) (name : List ℕ) → b ≡ Node bind word.Bind (Then (Said name) (Then Absent End)) → IsName b
 bind_name b bind name is = record {
-  calls = ap calls_in is;
   named = λ small.
       let opened = subst IsSmallTree is small in
       subst (λ (t : Syntax). IsWritable (listing.optional listing.said (said_by t))) (sym is) opened.1.1.0;
@@ -97,7 +92,7 @@ own_name _ h covered = absurd (cc)
 
 maybe_name : {X : Type 0} (name : Option X) (shown : X → Syntax) → ((x : X) → fits (field.One kind.BindingIdentifier) (shown x) ≡ true)
     → IsCovered (maybe name shown) → IsName (maybe name shown)
-maybe_name None shown fit covered = record { calls = refl; named = λ small. tt }
+maybe_name None shown fit covered = record { named = λ small. tt }
 maybe_name (Some x) shown fit covered = own_name (shown x) (fit x) covered
 
 declaration_form : (at : At) (marked is_async generator : Bool) (name params body : Syntax) → IsName name
@@ -110,8 +105,6 @@ declaration_form at marked is_async generator name params body n fit covered =
       is_params = form.2;
       is_body = refl;
       counted = omega arith;
-      calls = ap (λ (l : List (Option Span)). l ++ (calls_in params ++ (calls_in body ++ []))) n.calls
-          ∙ ap (λ (l : List (Option Span)). calls_in params ++ l) (append-nil (calls_in body));
       small = λ small. ((small.0.1.1.1.1.1.0, small.1.1.1.1.1.1.0), (small.0.1.1.1.1.1.1.0, small.1.1.1.1.1.1.1.0));
       spanned = λ small. span_writable at.span small.0.0;
       named = λ small. n.named (small.0.1.1.1.1.0, small.1.1.1.1.1.0);
@@ -133,20 +126,24 @@ by_form f form.Declaration is covered =
 by_form f form.Expression is covered = absurd (subst (λ (form : FunctionForm). IsCoveredFunction (with_form f form)) is covered)
 
 -- The tree that a view shows, if it is covered, is a function with the body that it shows.
-pub function_form : (f : FunctionNode) → IsCoveredFunction (seen_function_node f) → IsFunction (seen_function_node f) (body_in (seen_function_node f))
+pub function_form : (f : FunctionNode) → IsCoveredFunction (seen_function_node f)
+    → IsFunction (seen_function_node f) (body_in (seen_function_node f))
 function_form (function_node.Arrow f) covered = arrow_form f covered
 function_form (function_node.Function f) covered = by_form f f.form refl covered
 
--- Nodes, parameters, refusals and calls of a function.
+-- Nodes, parameters and refusals of a function.
 
-parameters_are : (names : Names) (f body : Syntax) (w : IsFunction f body) → parameters_of names f ≡ parameters_among names (params_of w.params)
+parameters_are : (names : Names) (f body : Syntax) (w : IsFunction f body)
+    → parameters_of names f ≡ parameters_among names (params_of w.params)
 parameters_are names f body w = ap (λ (t : Syntax). Rattle.rl_names.specs.Names.parameters_in names t) w.is_params
 
-parameter_nodes : (names : Names) (params : List ParamNode) → 2 * length (parameters_among names (params_of params)) ≤ nodes_of (params_of params)
+parameter_nodes : (names : Names) (params : List ParamNode)
+    → 2 * length (parameters_among names (params_of params)) ≤ nodes_of (params_of params)
 parameter_nodes names [] = omega arith
 parameter_nodes names (p ∷ params) = by_symbol (parameter_nodes names params) (names.declared p.bind.id.0) refl
   where
-    by_symbol : 2 * length (parameters_among names (params_of params)) ≤ nodes_of (params_of params) → (o : Option SymbolId) → names.declared p.bind.id.0 ≡ o
+    by_symbol : 2 * length (parameters_among names (params_of params)) ≤ nodes_of (params_of params) → (o : Option SymbolId)
+        → names.declared p.bind.id.0 ≡ o
         → 2 * length (parameters_among names (params_of (p ∷ params))) ≤ nodes_of (params_of (p ∷ params))
     by_symbol rest None is = rw is (omega (arith, rest))
     by_symbol rest (Some symbol) is = rw is (omega (arith, rest))
@@ -172,7 +169,8 @@ said_params names (p ∷ params) declared = by_symbol (said_params names params 
     own : List Diagnostic
     own = said_by_name (names.declared p.bind.id.0)
 
-    by_symbol : refusals_in names (params_of params) ≡ said_of_parameters names (parameters_among names (params_of params)) → (o : Option SymbolId) → names.declared p.bind.id.0 ≡ o
+    by_symbol : refusals_in names (params_of params) ≡ said_of_parameters names (parameters_among names (params_of params))
+        → (o : Option SymbolId) → names.declared p.bind.id.0 ≡ o
         → refusals_in names (params_of (p ∷ params)) ≡ said_of_parameters names (parameters_among names (params_of (p ∷ params)))
     by_symbol rest None is = absurd (let never : false ≡ true = sym (ap (λ (o : Option SymbolId). is_some o) is) ∙ declared.0 in cc)
     by_symbol rest (Some symbol) is =
@@ -189,15 +187,6 @@ function_refusals names f body w declared =
     ap (λ (l : List Diagnostic). l ++ refusals names (body_in f)) given
     ∙ ap (λ (t : Syntax). said_of_parameters names (parameters_of names f) ++ refusals names t) w.is_body
 
-no_calls_in : (params : List ParamNode) → calls_among (params_of params) ≡ []
-no_calls_in [] = refl
-no_calls_in (p ∷ params) = no_calls_in params
-
-pub function_calls : (f body : Syntax) → IsFunction f body → calls_in f ≡ calls_in body
-function_calls f body w =
-    let none : calls_in (params_in f) ≡ [] = ap calls_in w.is_params ∙ append-nil (calls_among (params_of w.params)) ∙ no_calls_in w.params in
-    w.calls ∙ ap (λ (l : List (Option Span)). l ++ calls_in body) none
-
 -- The parameters of a small function.
 
 parameters_small : (names : Names) (params : List ParamNode) → AreSmallTrees (params_of params)
@@ -208,11 +197,13 @@ parameters_small names (p ∷ params) small = by_symbol (parameters_small names 
     bind : IsSmallTree (bind_of p)
     bind = (small.0.0.1.0, small.1.0.1.0)
 
-    by_symbol : All IsSmallParameter (parameters_among names (params_of params)) → (o : Option SymbolId) → names.declared p.bind.id.0 ≡ o → All IsSmallParameter (parameters_among names (params_of (p ∷ params)))
+    by_symbol : All IsSmallParameter (parameters_among names (params_of params)) → (o : Option SymbolId) → names.declared p.bind.id.0 ≡ o
+        → All IsSmallParameter (parameters_among names (params_of (p ∷ params)))
     by_symbol rest None is = rw is rest
     by_symbol rest (Some symbol) is = rw is (All-cons IsSmallParameter (record { symbol = symbol; name = p.name; declaration = p.bind.span }) (parameters_among names (params_of params)) (bind.1.1.0, bind.0.0) rest)
 
-pub function_parameters : (names : Names) (f body : Syntax) → IsFunction f body → IsSmallTree f → All IsSmallParameter (parameters_of names f)
+pub function_parameters : (names : Names) (f body : Syntax) → IsFunction f body → IsSmallTree f
+    → All IsSmallParameter (parameters_of names f)
 function_parameters names f body w small =
     let opened = subst IsSmallTree w.is_params (w.small small).0 in
     subst (λ (parameters : List Parameter). All IsSmallParameter parameters) (sym (parameters_are names f body w))

@@ -1,199 +1,319 @@
--- The traces of a function's graph, from those of its body's.
-use Rattle.std.proofs.Common.{◌≡◌, ℕ, ◌+◌, ◌<◌, inl, inr, List, [], All, length, map, slice_get, Option, Some, None, refl, sym, ap, ◌∙◌, subst, arith}
-use Rattle.rl_base.specs.declared.span.Span.{Span}
-use Rattle.rl_hir.specs.declared.instruction.Place.{Place}
-use Rattle.rl_hir.specs.declared.instruction.InstructionValue.TheVariants as values
-use Rattle.rl_hir.specs.declared.instruction.PrimitiveValue.TheVariants as primitives
-use Rattle.rl_hir.specs.declared.terminal.Terminal.{Terminal}
-use Rattle.rl_hir.specs.declared.terminal.ReturnVariant.{ReturnVariant}
-use Rattle.rl_hir.specs.declared.terminal.ReturnVariant.TheVariants as returns
-use Rattle.rl_hir.specs.declared.function.BlockKind.{BlockKind}
-use Rattle.rl_hir.specs.declared.environment.Environment.{Environment}
-use Rattle.rl_hir.specs.declared.function.HirFunction.{HirFunction}
-use Rattle.rl_hir.specs.Blocks.{Pair as BlockPair}
+-- A finished function: its graph may be built, and has the traces of the body.
+use Rattle.std.proofs.Common.{◌≡◌, ℕ, ◌+◌, ◌-◌, ◌<◌, ◌≤◌, ◌^◌, inl, inr, List, [], All, length, map, slice_get, Option, Some, None, Ok}
+use Rattle.std.proofs.Common.{true, false, refl, sym, ap, ◌∙◌, subst, arith}
+use Rattle.std.proofs.lemmas.List.{length-map}
+use Rattle.std.proofs.lemmas.List.Elements.{All-nil}
+use Rattle.rl_base.proofs.DistinctLists.{distinct_none}
+use Rattle.rl_base.specs.Distinct.{AreDistinct}
 use Rattle.rl_base.specs.declared.ids.BlockId.{BlockId}
 use Rattle.rl_base.specs.declared.ids.InstructionId.{InstructionId}
-use Rattle.rl_hir.specs.declared.function.Pair.{Pair}
-use Rattle.rl_builder.specs.Builder.{State, reserved, new_block, ended_by, completed_by, placeholder}
-use Rattle.rl_lower.specs.Values.{temporary}
 use Rattle.rl_builder.specs.Build.{IsBuilt, graph_of, unordered_graph}
-use Rattle.rl_machine.specs.Machine.{Graph}
+use Rattle.rl_builder.specs.Builder.{State, ended_by, innermost, placeholder, pushed_under, with_temporary}
+use Rattle.rl_builder.specs.Temporaries.{temporary, unordered}
+use Rattle.rl_builder.specs.declared.jumps.JumpScope.{JumpScope}
+use Rattle.rl_builder.specs.Jumps.{lookup_break, lookup_continue}
+use Rattle.rl_hir.specs.Blocks.{Pair as BlockPair, same_id}
 use Rattle.rl_hir.specs.Pairs.{identifier_of}
+use Rattle.rl_hir.specs.declared.function.BlockKind.TheVariants as block_kinds
+use Rattle.rl_hir.specs.declared.function.Hir.{Hir}
+use Rattle.rl_hir.specs.declared.function.HirFunction.{HirFunction}
+use Rattle.rl_hir.specs.declared.function.Pair.{Pair}
+use Rattle.rl_hir.specs.declared.environment.Environment.{Environment}
+use Rattle.rl_hir.specs.declared.instruction.Instruction.{Instruction}
+use Rattle.rl_hir.specs.declared.instruction.InstructionValue.TheVariants as values
+use Rattle.rl_hir.specs.declared.instruction.PrimitiveValue.TheVariants as primitives
+use Rattle.rl_hir.specs.declared.terminal.ReturnVariant.TheVariants as returns
+use Rattle.rl_hir.specs.declared.terminal.Terminal.{Terminal}
+use Rattle.rl_hir.specs.declared.terminal.TerminalKind.{TerminalKind}
+use Rattle.rl_hir.specs.declared.terminal.TerminalKind.TheVariants as kinds
+use Rattle.rl_lower.proofs.Building.{IsFresh}
+use Rattle.rl_lower.proofs.Ranges.{few_within}
+use Rattle.rl_lower.proofs.StartStores.{start_values, take_arguments}
+use Rattle.rl_lower.specs.Endings.{closed_off, hir_of, with_undefined}
+use Rattle.rl_lowered.specs.Listing.{ListsSince}
+use Rattle.rl_machine.proofs.Silence.{settled_walks, settles_passes_once}
 use Rattle.rl_machine.specs.Conditions.{MayOrder}
-use Rattle.rl_machine.specs.Machine.{code_of, graph_trace, positions, steps_for}
+use Rattle.rl_machine.specs.Ends.{Notes, no_notes}
+use Rattle.rl_machine.specs.Machine.{Code, Ends, Graph, code_of, graph_trace, positions, steps_for}
 use Rattle.rl_machine.specs.Prunes.{PassesOnce}
-use Rattle.rl_builder.specs.declared.blocks.WipBlock.{WipBlock}
-use Rattle.rl_machine.specs.declared.trace.Value.{Value}
-use Rattle.rl_machine.specs.declared.trace.Value.TheVariants as value
+use Rattle.rl_machine.specs.Silence.{AlwaysSettles}
+use Rattle.rl_machine.specs.Traces.{Cont, Store, World, returned}
 use Rattle.rl_machine.specs.declared.trace.Answer.{Answer}
 use Rattle.rl_machine.specs.declared.trace.Assignment.{Assignment}
 use Rattle.rl_machine.specs.declared.trace.Trace.{Trace}
-use Rattle.rl_machine.specs.Traces.{Store, World, returned}
-use Rattle.rl_model.specs.Actions.{Action, Ways, give, return_with}
+use Rattle.rl_machine.specs.declared.trace.Value.{Value}
+use Rattle.rl_machine.specs.declared.trace.Value.TheVariants as value
+use Rattle.rl_model.specs.Actions.{Action, Label, Ways, give}
 use Rattle.rl_model.specs.Functions.{outside, run_function}
-use Rattle.rl_model.specs.Scene.{Scene, kept_values}
-use Rattle.rl_machine.specs.Machine.{Ends, Code}
-use Rattle.rl_machine.specs.Ends.{Notes, no_notes}
-use Rattle.rl_lower.proofs.StartStores.{start_values, take_arguments}
 use Rattle.rl_model.specs.Runs.{param_identifier, trace_by}
-use Rattle.rl_syntax.specs.Syntax.{Syntax}
-use Rattle.rl_hir.specs.declared.function.Hir.{Hir}
-use Rattle.rl_hir.specs.declared.instruction.Instruction.{Instruction}
-use Rattle.rl_lower.specs.Simulation.{Agrees, CoversNames, IsCompleted, IsCurrentOrCompleted, Extends, HasSoundNames, IsContainedIn, IsNamed, PointsSettle, UniqueIds, AreEnded, PreservesBlocks, SharesVariables, StandsIn, TracesAt, TracesFrom, RunsExpression, RunsStatement}
-use Rattle.rl_lower.specs.Reachable.{KnowsBlocks}
-use Rattle.rl_lower.specs.Endings.{return_of, with_undefined, closed_off, hir_of}
-use Rattle.rl_lower.proofs.Building.{IsFresh}
-use Rattle.rl_lower.proofs.Moves.{extends_then, extends_value, extends_completed, contained_before, terminal_met}
-use Rattle.rl_base.specs.Distinct.{AreDistinct}
-use Rattle.rl_base.proofs.DistinctLists.{distinct_none}
-use Rattle.rl_lower.proofs.Parts.{value_runs}
-use Rattle.rl_lower.proofs.BlockNames.{named_before}
-use Rattle.rl_lower.proofs.Finished.{IsFinished, finished_code, finished_contained, finished_may_order, finished_settles}
-use Rattle.rl_lower.proofs.Points.{settle_returned, settle_value}
-use Rattle.rl_machine.proofs.Silence.{settled_walks, settles_passes_once}
-use Rattle.rl_machine.specs.Silence.{AlwaysSettles}
-use Rattle.rl_lower.proofs.Blocks.{ended_more}
-use Rattle.rl_runs.proofs.BlockIds.{apart_ended, ids_of}
-use Rattle.rl_runs.proofs.Ordered.{completed_graph}
+use Rattle.rl_model.specs.Scene.{Scene, kept_values}
+use Rattle.rl_order.proofs.Ordering.{or_left, same_self}
+use Rattle.rl_order.specs.Walk.{IsWhole}
+use Rattle.rl_runs.proofs.BlockIds.{apart_ended, completed_in, ids_of}
+use Rattle.rl_runs.proofs.Expressions.{literal_runs}
+use Rattle.rl_runs.proofs.Finished.{IsFinished, always_settles, code, finished_contained, finished_whole, loops_reached}
+use Rattle.rl_runs.proofs.Moves.{contained_before, extends_completed, extends_then, terminal_met}
+use Rattle.rl_runs.proofs.Naming.{named_ended, named_none}
+use Rattle.rl_runs.proofs.Ordered.{completed_graph, finished_may_order}
+use Rattle.rl_runs.proofs.Points.{settle_returned}
+use Rattle.rl_runs.proofs.Preserving.{blocks_then, blocks_value}
 use Rattle.rl_runs.proofs.Shared.{kept_same}
-use Rattle.rl_runs.proofs.Steps.{get_seam, comes_at_once, steps_on}
+use Rattle.rl_runs.proofs.Steps.{added_cases, comes_at_once, steps_on}
+use Rattle.rl_runs.proofs.Used.{ended_there, ends_more, looped_ended, notes_back, straight_ended}
+use Rattle.rl_runs.specs.Blocks.{AreEnds, IsLedTo, IsOwn, Looping, NamesSince, PreservesBlocks, Settling, UniqueIds, is_end}
+use Rattle.rl_runs.specs.Continuations.{Agrees, Jumps, SharesVariables, Throws, TracesAt, TracesFrom, between, kept_in}
+use Rattle.rl_runs.specs.Facts.{CoversNames, Extends, HasSoundNames, IsCompleted, IsContainedIn}
+use Rattle.rl_runs.specs.Moves.{return_of}
+use Rattle.rl_runs.specs.ReadNotes.{HasId, MarkedAt, Unread, replaced_of}
+use Rattle.rl_runs.specs.Simulation.{RunsStatement}
+use Rattle.rl_runs.specs.StepNotes.{Stepless, stepless_of}
+use Rattle.rl_syntax.specs.Syntax.{Syntax}
 
--- A block that ends by a return ends the run with the value.
-pub block_returns : (scene : Scene) (ways : Ways) (s : State) (span : Option Span) (variant : ReturnVariant) (place : Place) (next : WipBlock) (c : Code)
-    → IsContainedIn (completed_by s (return_of span variant place) next) c → StandsIn c scene ways
-    → (v : Value) (source store : Store) (notes : Notes) (answers : List Answer) → Agrees c.ident source store → store place.identifier.0 ≡ v
-    → TracesFrom c s store notes answers (returned (kept_values scene source) variant v)
-block_returns scene ways s span variant place next c cover stands v source store notes answers a is =
-    steps_on c s.current.id.0 (length s.current.instructions) store notes answers (Ends (return_of span variant place)) (returned (kept_values scene source) variant v)
-    (terminal_met s (return_of span variant place) next c cover)
-    (comes_at_once c _ _ (λ stuck onward. ap (λ (kept : List Assignment). returned kept variant (store place.identifier.0)) (kept_same c scene.world source store a stands.shares) ∙ ap (λ w. returned (kept_values scene source) variant w) is))
+-- The return at the end of a body.
+abbrev last_end : State → Terminal
+last_end s = return_of None returns.Void (temporary s None)
 
--- A body that is an expression: its value is returned, and a block that was reserved before goes on.
-pub value_returned : (scene : Scene) (s new : State) (d : Action Value) (identifier : ℕ) (span : Option Span) (place : Place) (kind : BlockKind)
-    → place.identifier.0 ≡ identifier → RunsExpression scene d (reserved s) new identifier
-    → RunsStatement scene (λ ways onward. d ways (λ v. return_with scene returns.Implicit v ways onward)) s
-    (completed_by new (return_of span returns.Implicit place) (new_block s.env.next_block kind))
-value_returned scene s new d identifier span place kind named r = record {
-  runs = λ c cover m ways normal source store notes answers a stands onward.
-      r.runs c (contained_before new _ c ended cover) m ways (λ v. return_with scene returns.Implicit v ways (λ (end : Unit {0}). normal)) source store notes answers a stands
-      (record { goes = λ v after later notes1 answers1 a1 l is. block_returns scene ways new span returns.Implicit place (new_block s.env.next_block kind) c cover stands v after later notes1 answers1 a1 (ap later named ∙ is) });
-}
-  where
-    ended : Extends new (completed_by new (return_of span returns.Implicit place) (new_block s.env.next_block kind))
-    ended = extends_completed new (return_of span returns.Implicit place) (new_block s.env.next_block kind)
-
-undefined_runs : (scene : Scene) (s : State) → RunsExpression scene (give value.Undefined) s (with_undefined s) (length s.env.identifiers)
-undefined_runs scene s =
-    value_runs scene s (give value.Undefined) primitives.Undefined None (λ source answers ways k. refl)
-
-extends_undefined : (s : State) → Extends s (with_undefined s)
-extends_undefined s = extends_value s (values.Primitive primitives.Undefined) None
+extends_end : (s : State) → Extends (with_undefined s) (closed_off s)
+extends_end s = extends_completed (with_undefined s) (last_end s) placeholder (λ none. refl)
 
 pub extends_closed : (s : State) → Extends s (closed_off s)
-extends_closed s = extends_then s (with_undefined s) (closed_off s) (extends_undefined s) (extends_completed (with_undefined s) _ placeholder)
+extends_closed s = extends_then (blocks_value s (values.Primitive primitives.Undefined) None).extends (extends_end s)
 
--- At the end of a body the function returns Undefined.
-falls_off : (scene : Scene) (s : State) (c : Code) → IsContainedIn (closed_off s) c → HasSoundNames s
-    → (ways : Ways) (source store : Store) (notes : Notes) (answers : List Answer) → Agrees c.ident source store
-    → StandsIn c scene ways → TracesFrom c s store notes answers (returned (kept_values scene source) returns.Void value.Undefined)
-falls_off scene s c cover m ways source store notes answers a stands =
-    (undefined_runs scene s).runs c (contained_before (with_undefined s) (closed_off s) c (extends_completed (with_undefined s) _ placeholder) cover) m
-    ways (λ v after rest. returned (kept_values scene after) returns.Void v) source store notes answers a stands
-    (record { goes = λ v after later notes1 answers1 a1 l is. block_returns scene ways (with_undefined s) None returns.Void (temporary s None) placeholder c cover stands v after later notes1 answers1 a1 is })
+-- A builder of which nothing is complete.
 
 nothing_completed : (completed : List BlockPair) → completed ≡ [] → (id : ℕ) → IsCompleted completed id → ⊥
 nothing_completed completed none id k =
-    (let never : slice_get {X = BlockPair} [] k.place ≡ Some k.block = ap (λ (l : List BlockPair). slice_get l k.place) (sym none) ∙ k.found in cc)
-
-nothing_named : (completed : List BlockPair) → completed ≡ [] → (id : ℕ) → IsNamed completed id → ⊥
-nothing_named completed none id n =
-    (let never : slice_get {X = BlockPair} [] n.index ≡ Some n.block = ap (λ (l : List BlockPair). slice_get l n.index) (sym none) ∙ n.found in cc)
-
-nothing_settles : (s : State) → IsFresh s → (c : Code) → PointsSettle c s
-nothing_settles s fresh c behind id place h = elim h [
-  | inl d ↦ absurd (let never : slice_get {X = BlockPair} [] d.index ≡ Some d.block = ap (λ (l : List BlockPair). slice_get l d.index) (sym fresh.completed) ∙ d.found in cc)
-  | inr w ↦ absurd (let below : place < 0 = subst (λ (l : List InstructionId). place < length l) fresh.instructions w.within in omega (arith, below))
-]
+    (let never : slice_get {X = BlockPair} [] k.place ≡ Some k.block = ap (λ (l : List BlockPair). slice_get l k.place) (sym none) ∙ k.found in absurd (cc))
 
 distinct_fresh : (s : State) → IsFresh s → UniqueIds s.completed s.current.id.0 s.env.next_block
 distinct_fresh s fresh = record {
   apart = subst (λ (blocks : List BlockPair). AreDistinct (ids_of blocks)) (sym fresh.completed) distinct_none;
   open_block = λ k. nothing_completed s.completed fresh.completed s.current.id.0 k;
   below = λ id k. absurd (nothing_completed s.completed fresh.completed id k);
-  current_below = fresh.below;
+  current_below = omega (arith, fresh.last);
 }
 
-pub knows_fresh : (s : State) → IsFresh s → KnowsBlocks s
-knows_fresh s fresh = record {
-  unique = distinct_fresh s fresh;
-  entry = (let same : s.entry.0 ≡ s.current.id.0 = fresh.entry in omega (arith, same, fresh.below));
-  named = λ id n. absurd (nothing_named s.completed fresh.completed id n);
-}
+-- The builder of a function behind the end of its body.
+module _ (begun s : State) (fresh : IsFresh begun) (b : PreservesBlocks begun s) (fits : (closed_off s).env.next_block < 2 ^ 32) where
+  abbrev last : State
+  last = closed_off s
 
-entry_completed : (s : State) (t : Terminal) (next : WipBlock) (id : ℕ) → IsCurrentOrCompleted s id
-    → IsCompleted (completed_by s t next).completed id
-entry_completed s t next id h = elim h [
-  | inl is ↦ record { place = length s.completed; block = ended_by s.current t; found = get_seam s.completed (ended_by s.current t) []; named = is }
-  | inr k ↦ (extends_completed s t next).completed id k
-]
+  abbrev ending : State
+  ending = with_undefined s
 
-none_ended : AreEnded []
-none_ended k d below = absurd (omega arith)
+  behind : PreservesBlocks begun ending
+  behind = blocks_then begun s ending b (blocks_value s (values.Primitive primitives.Undefined) None)
 
--- The builder of a function is finished behind the end of the body.
-pub function_finished : (begun s : State) → IsFresh begun → PreservesBlocks begun s → IsFinished (closed_off s)
-function_finished begun s fresh b = record {
-  apart = apart_ended s.completed s.current.id.0 s.env.next_block (ended_by (with_undefined s).current (return_of None returns.Void (temporary s None))) refl (b.ids.distinct (distinct_fresh begun fresh));
-  ended = ended_more s.completed (ended_by (with_undefined s).current (return_of None returns.Void (temporary s None))) refl (b.ended (subst AreEnded (sym fresh.completed) none_ended));
-  empty = refl;
-  entry = subst (λ (id : ℕ). IsCompleted (closed_off s).completed id) (sym (ap (λ (id : BlockId). id.0) b.extends.entry ∙ fresh.entry))
-      (entry_completed (with_undefined s) (return_of None returns.Void (temporary s None)) placeholder begun.current.id.0
-      (extends_then begun s (with_undefined s) b.extends (extends_undefined s)).current);
-  named = λ id n. elim (b.named id (named_before (with_undefined s) (return_of None returns.Void (temporary s None)) placeholder refl id n)) [
-    | inl before ↦ absurd (nothing_named begun.completed fresh.completed id before)
-    | inr own ↦ entry_completed (with_undefined s) (return_of None returns.Void (temporary s None)) placeholder id own.0
-  ];
-  settle = λ c cover id place d.
-      let ended : Extends (with_undefined s) (closed_off s) = extends_completed (with_undefined s) (return_of None returns.Void (temporary s None)) placeholder in
-      settle_returned (with_undefined s) None returns.Void (temporary s None) placeholder c refl cover
-      (settle_value s (values.Primitive primitives.Undefined) None c (contained_before (with_undefined s) (closed_off s) c ended cover)
-      (b.settle c (contained_before s (closed_off s) c (extends_closed s) cover) (nothing_settles begun fresh c))) id place (inl d);
-}
+  distinct : UniqueIds ending.completed ending.current.id.0 ending.env.next_block
+  distinct = behind.ids.distinct (distinct_fresh begun fresh)
+
+  pub closed_extends : Extends begun last
+  closed_extends = extends_then behind.extends (extends_end s)
+
+  -- A complete block has a number from the first on.
+  module _ (id : ℕ) (k : IsCompleted last.completed id) where
+    own_from : (n : ℕ) → IsOwn begun.current.id.0 begun.env.next_block n → begun.current.id.0 ≤ n
+    own_from n own = elim own [ inl e ↦ omega (arith, e) | inr le ↦ omega (arith, le, fresh.last) ]
+
+    completed_within : (begun.current.id.0 ≤ id) × (id < last.env.next_block)
+    completed_within = elim (added_cases ending.completed (ended_by ending.current (last_end s)) k.place k.block k.found) [
+      | inl e ↦ (let old : IsCompleted ending.completed id = record { place = k.place; block = k.block; found = e; named = k.named } in (
+        elim (behind.ids.added id old) [ inl before ↦ absurd (nothing_completed begun.completed fresh.completed id before) | inr own ↦ own_from id own ],
+        distinct.below id old,
+      ))
+      | inr e ↦ (let same : ending.current.id.0 ≡ id = ap (λ (x : BlockPair). x.0.0) (sym e) ∙ k.named in (
+        subst (λ (n : ℕ). begun.current.id.0 ≤ n) same (own_from ending.current.id.0 behind.ids.own),
+        subst (λ (n : ℕ). n < last.env.next_block) same distinct.current_below,
+      ))
+    ]
+
+  pub function_finished : IsFinished last
+  function_finished = record {
+    apart = apart_ended ending.completed ending.current.id.0 ending.env.next_block (ended_by ending.current (last_end s)) refl distinct;
+    empty = refl;
+    none = λ k. (let within : (begun.current.id.0 ≤ placeholder.id.0) × (placeholder.id.0 < last.env.next_block) = completed_within placeholder.id.0 k in never last.env.next_block fits within.1);
+  }
+    where
+      never : (n : ℕ) → n < 2 ^ 32 → placeholder.id.0 < n → ⊥
+      never n under over = omega (arith, under, over)
+
+  -- The blocks are as many as the numbers that were given.
+  pub few_completed : length last.completed + begun.current.id.0 ≤ last.env.next_block
+  few_completed = by_count (last.env.next_block - begun.current.id.0) (omega (arith, closed_extends.blocks, fresh.last))
+    where
+      by_count : (count : ℕ) → last.env.next_block ≡ count + begun.current.id.0
+          → length last.completed + begun.current.id.0 ≤ last.env.next_block
+      by_count count is =
+          let few : length (ids_of last.completed) ≤ count =
+          few_within begun.current.id.0 count (ids_of last.completed) function_finished.apart
+          (λ n h. let within : (begun.current.id.0 ≤ n) × (n < last.env.next_block) = completed_within n (completed_in last.completed n h) in
+          (within.0, subst (λ (bound : ℕ). n < bound) is within.1)) in
+          let same : length (ids_of last.completed) ≡ length last.completed = length-map last.completed (λ (x : BlockPair). x.0.0) in
+          omega (arith, few, same, is)
+
+  ends : AreEnds last.completed
+  ends =
+      ends_more ending.completed (ended_by ending.current (last_end s)) refl
+      (behind.ended (subst AreEnds (sym fresh.completed) (All-nil (λ (x : BlockPair). is_end x.1.terminal.kind ≡ true))))
+
+  named : NamesSince begun last
+  named = named_ended begun ending (last_end s) placeholder behind.named (λ id is. absurd (named_none id is))
+
+  settle : Settling begun last
+  settle c cover own below jumps old here =
+      settle_returned ending None returns.Void (temporary s None) (2 ^ 32 - 1) block_kinds.Block c cover
+      (behind.settle c (contained_before (extends_end s) cover)
+      (notes_back c begun begun ending last own (omega arith) (omega arith) (straight_ended ending (last_end s) placeholder (λ id n. n))) below jumps old)
+
+  looped : Looping begun last
+  looped c cover entry old =
+      looped_ended (IsLedTo c entry) ending (last_end s) placeholder (λ r. tt)
+      (behind.looped c (contained_before (extends_end s) cover) entry old)
+
+  pub entry_is : last.entry.0 ≡ begun.current.id.0
+  entry_is = ap (λ (id : BlockId). id.0) closed_extends.entry ∙ fresh.entry
+
+  -- Successors lead to blocks of the builder alone.
+  pub function_whole : IsWhole last.completed last.entry
+  function_whole =
+      finished_whole begun last function_finished.apart fresh.completed fresh.handlers fresh.scopes named
+      (λ id above below. ended_there ending (last_end s) placeholder id (behind.used id above below))
+      (subst (λ (id : ℕ). IsCompleted last.completed id) (sym entry_is) (ended_there ending (last_end s) placeholder begun.current.id.0 behind.extends.current))
+
+  -- Notes and steps: `build` replaces no terminal of the builder.
+  module _ (lists : ListsSince begun s) where
+    no_handlers : s.handlers ≡ []
+    no_handlers = b.extends.handlers ∙ fresh.handlers
+
+    same_completed : ending.completed ≡ s.completed
+    same_completed =
+        ap (λ (h : List BlockId). (pushed_under (innermost h) (with_temporary s None) (unordered (temporary s None) (values.Primitive primitives.Undefined) None)).completed) no_handlers
+
+    none_begun : (id : ℕ) → MarkedAt replaced_of begun.completed id → ⊥
+    none_begun id m =
+        (let never : slice_get {X = BlockPair} [] m.one.index ≡ Some m.block = ap (λ (l : List BlockPair). slice_get l m.one.index) (sym fresh.completed) ∙ m.one.found in absurd (cc))
+
+    none_replaced : (id : ℕ) → MarkedAt replaced_of last.completed id → ⊥
+    none_replaced id m = elim (added_cases ending.completed (ended_by ending.current (last_end s)) m.one.index m.block m.one.found) [
+      | inl e ↦ none_begun id (lists.replaced id (subst (λ (blocks : List BlockPair). MarkedAt replaced_of blocks id) same_completed (record { block = m.block; one = record { index = m.one.index; found = e }; marks = m.marks })))
+      | inr e ↦ none_ended (subst (λ (x : BlockPair). HasId (replaced_of x.1.terminal.kind) id) e m.marks)
+    ]
+      where
+        none_ended : HasId [] id → ⊥
+        none_ended h = let never : false ≡ true = h in absurd (cc)
+
+    unread : Unread last
+    unread id replaced read = none_replaced id replaced
+
+    -- A terminal at whose blocks no step may stand may be replaced.
+    stepless : Stepless last
+    stepless id m step = by_kind m.block.1.terminal.kind refl m.marks
+      where
+        marked : (kind : TerminalKind) (fallthrough : BlockId) → m.block.1.terminal.kind ≡ kind → HasId (replaced_of kind) fallthrough.0 → ⊥
+        marked kind fallthrough is has =
+            none_replaced fallthrough.0 (record { block = m.block; one = m.one; marks = subst (λ (k : TerminalKind). HasId (replaced_of k) fallthrough.0) (sym is) has })
+
+        by_kind : (kind : TerminalKind) → m.block.1.terminal.kind ≡ kind → HasId (stepless_of kind) id → ⊥
+        by_kind (kinds.DoWhile body test fallthrough) is h =
+            marked (kinds.DoWhile body test fallthrough) fallthrough is (or_left (same_id fallthrough fallthrough) false (same_self fallthrough))
+        by_kind (kinds.Try block binding handler fallthrough) is h =
+            marked (kinds.Try block binding handler fallthrough) fallthrough is (or_left (same_id fallthrough fallthrough) false (same_self fallthrough))
+        by_kind _ is h = let never : false ≡ true = h in absurd (cc)
+
+    -- The blocks may be ordered.
+    pub function_may : (ident : ℕ → Option ℕ) (world : World) → CoversNames last.env.pairs (length last.env.identifiers) ident
+        → All (λ x. x.1.preds ≡ []) last.completed → MayOrder (completed_graph last)
+    function_may ident world covers unlinked =
+        finished_may_order last unlinked ends
+        (loops_reached last function_finished ident world begun fresh.completed fresh.scopes fresh.instructions covers looped) unread stepless
+
+  -- The code of the blocks.
+  abbrev pub function_code : (ident : ℕ → Option ℕ) (world : World) → Code
+  function_code ident world = code last function_finished ident world
+
+  pub function_settles : (ident : ℕ → Option ℕ) (world : World) → CoversNames last.env.pairs (length last.env.identifiers) ident
+      → AlwaysSettles (function_code ident world)
+  function_settles ident world covers =
+      always_settles last function_finished ident world begun fresh.completed fresh.scopes fresh.instructions covers settle
+
+-- At the end of a body the function returns Undefined.
+falls_off : (world : World) (s : State) (c : Code) → IsContainedIn (closed_off s) c → HasSoundNames s
+    → SharesVariables c.ident world c.world
+    → s.handlers ≡ [] → (source store : Store) (notes : Notes) (answers : List Answer) → Agrees c.ident source store
+    → TracesFrom c s store notes answers (returned (kept_in world source) returns.Void value.Undefined)
+falls_off world s c cover sound shares no_handlers source store notes answers a =
+    (literal_runs world s (give value.Undefined) primitives.Undefined None (λ ways k after rest. refl)).runs c
+    (contained_before (extends_end s) cover) sound shares outside (λ v after rest. returned (kept_in world after) returns.Void v)
+    source store notes answers a
+    (subst (λ (h : List BlockId). Throws c (between s (with_undefined s)) store notes answers (innermost h) outside.throws) (sym no_handlers) (λ v after rest. refl))
+    (record {
+      goes = λ v after later left rest t is.
+          steps_on c (with_undefined s).current.id.0 (length (with_undefined s).current.instructions) later left rest (Ends (last_end s))
+          (returned (kept_in world after) returns.Void v)
+          (terminal_met (with_undefined s) (last_end s) placeholder c cover)
+          (comes_at_once c _ _ (λ stuck next.
+          ap (λ (kept : List Assignment). returned kept returns.Void (later (length s.env.identifiers))) (kept_same c world after later t.agrees shares)
+          ∙ ap (λ w. returned (kept_in world after) returns.Void w) is));
+    })
 
 -- The meaning of a body and of its end.
 abbrev pub body_trace : Scene → Action (Unit {0}) → Ways → Store → List Answer → Trace
-body_trace scene m ways source answers = m ways (λ end after rest. returned (kept_values scene after) returns.Void value.Undefined) source answers
+body_trace scene m ways source answers =
+    m ways (λ end after rest. returned (kept_values scene after) returns.Void value.Undefined) source answers
 
--- The finished blocks have the traces of the body.
-pub function_runs : (scene : Scene) (begun s : State) (m : Action (Unit {0})) (ident : ℕ → Option ℕ) (world : World) (fresh : IsFresh begun) → HasSoundNames begun → (b : PreservesBlocks begun s)
-    → CoversNames (closed_off s).env.pairs (length (closed_off s).env.identifiers) ident → RunsStatement scene m begun s → (ways : Ways) (source store : Store) (notes : Notes) (answers : List Answer)
-    → Agrees ident source store → StandsIn (finished_code (closed_off s) (function_finished begun s fresh b) ident world) scene ways
-    → TracesAt (finished_code (closed_off s) (function_finished begun s fresh b) ident world) (closed_off s).entry.0 0 store notes answers (body_trace scene m ways source answers)
-function_runs scene begun s m ident world fresh sound b covers r ways source store notes answers agrees stands =
-    let c : Code = finished_code (closed_off s) (function_finished begun s fresh b) ident world in
-    let trace : Trace = body_trace scene m ways source answers in
-    let cover : IsContainedIn (closed_off s) c = finished_contained (closed_off s) (function_finished begun s fresh b) ident world covers in
+-- No scope is open, so no jump has a target.
+nothing_jumps : (c : Code) (begun s : State) (store : Store) (notes : Notes) (answers : List Answer) (scopes : List JumpScope)
+    (breaks continues : Label → Cont) → scopes ≡ []
+    → Jumps c (between begun s) store notes answers scopes breaks continues
+nothing_jumps c begun s store notes answers scopes breaks continues none = record {
+  behind = λ label block is. no_break label block (subst (λ (l : List JumpScope). lookup_break l label ≡ Ok block) none is);
+  again = λ label block is. no_continue label block (subst (λ (l : List JumpScope). lookup_continue l label ≡ Ok block) none is);
+}
+  where
+    no_break : {X : Type 0} (label : Label) (block : BlockId) → lookup_break [] label ≡ Ok block → X
+    no_break label block is = absurd (cc)
+
+    no_continue : {X : Type 0} (label : Label) (block : BlockId) → lookup_continue [] label ≡ Ok block → X
+    no_continue label block is = absurd (cc)
+
+-- The completed blocks have the traces of the body.
+pub function_runs : (scene : Scene) (begun s : State) (m : Action (Unit {0})) (ident : ℕ → Option ℕ) (world : World) (fresh : IsFresh begun)
+    → HasSoundNames begun → (b : PreservesBlocks begun s) (fits : (closed_off s).env.next_block < 2 ^ 32)
+    → CoversNames (closed_off s).env.pairs (length (closed_off s).env.identifiers) ident → RunsStatement scene.world m begun s
+    → SharesVariables ident scene.world world
+    → (source store : Store) (notes : Notes) (answers : List Answer) → Agrees ident source store
+    → TracesAt (function_code begun s fresh b fits ident world)
+    (closed_off s).entry.0 0 store notes answers (body_trace scene m outside source answers)
+function_runs scene begun s m ident world fresh sound b fits covers r shares source store notes answers agrees =
+    let c : Code = function_code begun s fresh b fits ident world in
+    let trace : Trace = body_trace scene m outside source answers in
+    let cover : IsContainedIn (closed_off s) c = finished_contained (closed_off s) (function_finished begun s fresh b fits) ident world covers in
+    let no_handlers : s.handlers ≡ [] = b.extends.handlers ∙ fresh.handlers in
     let goes : TracesFrom c begun store notes answers trace =
-    r.runs c (contained_before s (closed_off s) c (extends_closed s) cover) sound
-    ways (λ after rest. returned (kept_values scene after) returns.Void value.Undefined) source store notes answers agrees stands
-    (record { goes = λ after later notes1 answers1 a1 l. falls_off scene s c cover (b.extends.sound sound) ways after later notes1 answers1 a1 stands }) in
-    subst (λ (id : ℕ). TracesAt c id 0 store notes answers trace) (sym (ap (λ (id : BlockId). id.0) b.extends.entry ∙ fresh.entry))
+    r.runs c (contained_before (extends_closed s) cover) sound shares outside
+    (λ after rest. returned (kept_values scene after) returns.Void value.Undefined) source store notes answers agrees
+    (subst (λ (h : List BlockId). Throws c (between begun s) store notes answers (innermost h) outside.throws) (sym fresh.handlers) (λ v after rest. refl))
+    (nothing_jumps c begun s store notes answers begun.scopes outside.breaks outside.continues fresh.scopes)
+    (record { goes = λ after later left rest t. falls_off scene.world s c cover (b.extends.sound sound) shares no_handlers after later left rest t.agrees }) in
+    subst (λ (id : ℕ). TracesAt c id 0 store notes answers trace) (sym (entry_is begun s fresh b fits))
     (subst (λ (listed : List InstructionId). TracesAt c begun.current.id.0 (length listed) store notes answers trace) fresh.instructions goes)
 
 -- The function that is built has the traces of its source, whatever trace a stuck run has: `build` keeps the runs of the completed blocks.
-pub function_runs_by : (scene : Scene) (world : World) (begun s : State) (m : Action (Unit {0})) → IsFresh begun → HasSoundNames begun → PreservesBlocks begun s
-    → RunsStatement scene m begun s → (f : HirFunction (List BlockPair)) (pairs : List Pair)
+pub function_runs_by : (scene : Scene) (world : World) (begun s : State) (m : Action (Unit {0})) → IsFresh begun → HasSoundNames begun
+    → PreservesBlocks begun s → (closed_off s).env.next_block < 2 ^ 32 → ListsSince begun s → RunsStatement scene.world m begun s
+    → (f : HirFunction (List BlockPair)) (pairs : List Pair)
     → CoversNames (closed_off s).env.pairs (length (closed_off s).env.identifiers) (λ symbol. identifier_of pairs symbol)
     → SharesVariables (λ symbol. identifier_of pairs symbol) scene.world world
     → (function : Syntax)
-    → (built : Graph) (env : Environment) → IsBuilt (closed_off s) built env → graph_of (closed_off s) ≡ (closed_off s).completed → All (λ p. p.1.preds ≡ []) (closed_off s).completed
+    → (built : Graph) (env : Environment) → IsBuilt (closed_off s) built env → graph_of (closed_off s) ≡ (closed_off s).completed
+    → All (λ p. p.1.preds ≡ []) (closed_off s).completed
     → f.body ≡ hir_of built → f.instructions ≡ built.table
-    → (source : List Assignment → List Value → Store) →
-    ((start : List Assignment) (arguments : List Value) → Agrees (λ symbol. identifier_of pairs symbol) (source start arguments) (take_arguments f.params arguments (start_values pairs start)))
+    → (source : List Assignment → List Value → Store)
+    → ((start : List Assignment) (arguments : List Value) → Agrees (λ symbol. identifier_of pairs symbol) (source start arguments) (take_arguments f.params arguments (start_values pairs start)))
     → ((start : List Assignment) (arguments : List Value) (answers : List Answer) → run_function scene function start arguments answers ≡ body_trace scene m outside (source start arguments) answers)
     → (stuck : Trace) (start : List Assignment) (arguments : List Value) (answers : List Answer)
     → trace_by stuck world f pairs start arguments answers ≡ run_function scene function start arguments answers
-function_runs_by scene world begun s m fresh sound b r f pairs covers shares function built env is_built table_is unlinked body_is instructions_is source agrees means stuck start arguments answers =
+function_runs_by scene world begun s m fresh sound b fits lists r f pairs covers shares function built env is_built table_is unlinked body_is instructions_is source agrees means stuck start arguments answers =
     ap (λ (h : Hir (List BlockPair)). graph_trace stuck (record { blocks = h.blocks; table = f.instructions; entry = h.entry }) ident world params start arguments answers) body_is
     ∙ ap (λ (l : List Instruction). graph_trace stuck (record { blocks = built.blocks; table = l; entry = built.entry }) ident world params start arguments answers) instructions_is
     ∙ is_built.runs may stuck ident world params once start arguments answers
@@ -217,24 +337,21 @@ function_runs_by scene world begun s m fresh sound b r f pairs covers shares fun
     trace : Trace
     trace = body_trace scene m outside (source start arguments) answers
 
-    finished : IsFinished last
-    finished = function_finished begun s fresh b
-
     ordered : MayOrder (completed_graph last)
-    ordered = finished_may_order last finished unlinked
+    ordered = function_may begun s fresh b fits lists ident world covers unlinked
 
     may : MayOrder (unordered_graph last)
     may = subst (λ (blocks : List BlockPair). MayOrder (record { blocks = blocks; table = last.table; entry = last.entry })) (sym table_is) ordered
 
-    settles : AlwaysSettles (finished_code last finished ident world)
-    settles = finished_settles last finished ident world covers
+    settles : AlwaysSettles (function_code begun s fresh b fits ident world)
+    settles = function_settles begun s fresh b fits ident world covers
 
     once : PassesOnce (code_of (unordered_graph last) ident world) last.entry params
     once = subst (λ (blocks : List BlockPair). PassesOnce (code_of (record { blocks = blocks; table = last.table; entry = last.entry }) ident world) last.entry params) (sym table_is)
-        (settles_passes_once (finished_code last finished ident world) settles last.entry params)
+        (settles_passes_once (function_code begun s fresh b fits ident world) settles last.entry params)
 
-    goes : TracesAt (finished_code last finished ident world) last.entry.0 0 store no_notes answers trace
-    goes = function_runs scene begun s m ident world fresh sound b covers r outside (source start arguments) store no_notes answers (agrees start arguments) (record { throws = λ v after rest. refl; shares = shares })
+    goes : TracesAt (function_code begun s fresh b fits ident world) last.entry.0 0 store no_notes answers trace
+    goes = function_runs scene begun s m ident world fresh sound b fits covers r shares (source start arguments) store no_notes answers (agrees start arguments)
 
     enough : ℕ
     enough = goes.by.0 + steps_for answers (positions last.completed)

@@ -17,13 +17,13 @@ use Rattle.rl_builder.specs.Names.{fresh_identifier}
 use Rattle.rl_used_names.specs.IdentifierNames.{name_of}
 use Rattle.rl_used_names.specs.UsedName.{user_of}
 use Rattle.rl_builder.proofs.NameLaws.{name_of-injective}
-use Rattle.rl_model.specs.Fields.{AreGiven, ArePairs, IsNamedPair, name_at}
+use Rattle.rl_promises.specs.Fields.{AreGiven, ArePairs, IsNamedPair, name_at}
 use Rattle.rl_names.specs.Locals.{AreApart, AreLocals, IsApart}
 use Rattle.rl_names.specs.Names.{Names}
 use Rattle.rl_names.specs.declared.parameters.Parameter.{Parameter}
-use Rattle.rl_lower.specs.Lowering.{HasNamedPairs, KeepsNamed}
-use Rattle.rl_lower.specs.Named.{AreDeclaredAt, declared_span}
-use Rattle.rl_lower.specs.Simulation.{GrowsNames, HasSoundNames}
+use Rattle.rl_lower.specs.Parameters.{AreDeclaredAt}
+use Rattle.rl_lowered.specs.Named.{HasNamedPairs, KeepsNamed, declared_span}
+use Rattle.rl_runs.specs.Facts.{GrowsNames, HasSoundNames}
 use Rattle.rl_lower.proofs.Parameters.{all_at, get_behind, identifier_for, known_at, known_from, pair_found, pair_tells, pairs_from, span_given, state_with, users_of}
 use Rattle.rl_runs.proofs.FinalNames.{unpaired}
 
@@ -39,14 +39,16 @@ user_found (q ∷ parameters) (suc place) p apart there =
     (nat_list_eq_equiv.symm p.name q.name ∙ (all_at (IsApart q) parameters place p there apart.0).names)
     ∙ user_found parameters place p apart.1 there
 
-unpaired_behind : (identifier : ℕ) (parameters : List Parameter) (p : Parameter) → All (IsApart p) parameters → identifier_of (pairs_from identifier parameters) p.symbol.0 ≡ None
+unpaired_behind : (identifier : ℕ) (parameters : List Parameter) (p : Parameter) → All (IsApart p) parameters
+    → identifier_of (pairs_from identifier parameters) p.symbol.0 ≡ None
 unpaired_behind identifier [] p apart = refl
 unpaired_behind identifier (q ∷ parameters) p apart =
     ap (λ (b : Bool). if b then Some identifier else identifier_of (pairs_from (identifier + 1) parameters) p.symbol.0)
     (ne_eqb q.symbol.0 p.symbol.0 (λ e. (All-head (IsApart p) q parameters apart).symbols (sym e)))
     ∙ unpaired_behind (identifier + 1) parameters p (All-tail (IsApart p) q parameters apart)
 
-symbols_distinct : (identifier : ℕ) (parameters : List Parameter) → AreApart parameters → AreDistinct (map (λ (p : Pair). p.symbol.0) (pairs_from identifier parameters))
+symbols_distinct : (identifier : ℕ) (parameters : List Parameter) → AreApart parameters
+    → AreDistinct (map (λ (p : Pair). p.symbol.0) (pairs_from identifier parameters))
 symbols_distinct identifier [] apart = distinct_none
 symbols_distinct identifier (p ∷ parameters) apart =
     distinct_cons p.symbol.0 (map (λ (x : Pair). x.symbol.0) (pairs_from (identifier + 1) parameters))
@@ -55,7 +57,8 @@ symbols_distinct identifier (p ∷ parameters) apart =
 
 -- The identifier of a parameter.
 known_given : (s : State) (parameters : List Parameter) (place : ℕ) (p : Parameter) → slice_get parameters place ≡ Some p
-    → slice_get (s.env.identifiers ++ known_from s s.env.next_type parameters) (length s.env.identifiers + place) ≡ Some (identifier_for s (s.env.next_type + place) p)
+    → slice_get (s.env.identifiers ++ known_from s s.env.next_type parameters)
+    (length s.env.identifiers + place) ≡ Some (identifier_for s (s.env.next_type + place) p)
 known_given s parameters place p there =
     get_behind s.env.identifiers (known_from s s.env.next_type parameters) place ∙ known_at s s.env.next_type parameters place p there
 
@@ -64,7 +67,8 @@ name_given : (s : State) (parameters : List Parameter) (place : ℕ) (p : Parame
 name_given s parameters place p there = ap (λ (o : Option Identifier). option_map_or (λ i. i.name) o None) (known_given s parameters place p there)
 
 -- Names are sound behind the parameters, where the environment had no pairs before.
-pub parameters_sound : (s : State) (parameters : List Parameter) → s.env.pairs ≡ [] → AreApart parameters → HasSoundNames (state_with s parameters)
+pub parameters_sound : (s : State) (parameters : List Parameter) → s.env.pairs ≡ [] → AreApart parameters
+    → HasSoundNames (state_with s parameters)
 parameters_sound s parameters none apart = record {
   agree = record {
     named = λ symbol identifier is.
@@ -108,7 +112,8 @@ parameters_pairs s names parameters none own =
     (λ place p there. name_given s parameters place p there) own.named own.spanned)
 
 -- Pairs and named identifiers stay, so each parameter has its own in the end.
-pub parameters_kept : (s : State) (parameters : List Parameter) (made : ℕ) (identifiers : List Identifier) (pairs : List Pair) → s.env.pairs ≡ [] → AreApart parameters
+pub parameters_kept : (s : State) (parameters : List Parameter) (made : ℕ) (identifiers : List Identifier) (pairs : List Pair)
+    → s.env.pairs ≡ [] → AreApart parameters
     → AreDeclaredAt s.semantic parameters
     → GrowsNames (state_with s parameters).env.pairs made pairs → KeepsNamed (state_with s parameters).env.identifiers identifiers
     → AreGiven identifiers pairs (length s.env.identifiers) s.env.next_type parameters
@@ -123,12 +128,14 @@ parameters_kept s parameters made identifiers pairs none apart spanned g k place
 
 -- Pairs whose symbols are distinct.
 
-mapped_at : {X Y : Type 0} (f : X → Y) (xs : List X) (place : ℕ) (x : X) → slice_get xs place ≡ Some x → slice_get (map f xs) place ≡ Some (f x)
+mapped_at : {X Y : Type 0} (f : X → Y) (xs : List X) (place : ℕ) (x : X) → slice_get xs place ≡ Some x
+    → slice_get (map f xs) place ≡ Some (f x)
 mapped_at f [] place x there = absurd (none-some x there)
 mapped_at f (y ∷ xs) zero x there = ap (λ (z : _). Some (f z)) (same_Some y x there)
 mapped_at f (y ∷ xs) (suc place) x there = mapped_at f xs place x there
 
-mapped_from : {X Y : Type 0} (f : X → Y) (xs : List X) (place : ℕ) (y : Y) → slice_get (map f xs) place ≡ Some y → (x : X) × (slice_get xs place ≡ Some x) × (f x ≡ y)
+mapped_from : {X Y : Type 0} (f : X → Y) (xs : List X) (place : ℕ) (y : Y) → slice_get (map f xs) place ≡ Some y
+    → (x : X) × (slice_get xs place ≡ Some x) × (f x ≡ y)
 mapped_from f [] place y there = absurd (none-some y there)
 mapped_from f (x ∷ xs) zero y there = (x, refl, same_Some (f x) y there)
 mapped_from f (x ∷ xs) (suc place) y there = mapped_from f xs place y there
@@ -142,7 +149,8 @@ distinct_by f g xs distinct tells i j item at_i at_j =
     let same : f one.0 ≡ f two.0 = tells i j one.0 two.0 one.1 two.1 (one.2 ∙ sym two.2) in
     distinct i j (f one.0) (mapped_at f xs i one.0 one.1) (mapped_at f xs j two.0 two.1 ∙ ap (λ (n : ℕ). Some n) (sym same))
 
-looked_up : (pairs : List Pair) (place : ℕ) (p : Pair) → AreDistinct (map (λ (x : Pair). x.symbol.0) pairs) → slice_get pairs place ≡ Some p → identifier_of pairs p.symbol.0 ≡ Some p.identifier.0
+looked_up : (pairs : List Pair) (place : ℕ) (p : Pair) → AreDistinct (map (λ (x : Pair). x.symbol.0) pairs) → slice_get pairs place ≡ Some p
+    → identifier_of pairs p.symbol.0 ≡ Some p.identifier.0
 looked_up [] place p distinct there = absurd (none-some p there)
 looked_up (q ∷ pairs) zero p distinct there =
     let same : q ≡ p = same_Some q p there in
@@ -166,5 +174,6 @@ pairs_told names s q named = record {
     bound : (place : ℕ) (x : Pair) → slice_get s.env.pairs place ≡ Some x → identifier_of s.bindings x.symbol.0 ≡ Some x.identifier.0
     bound place x there = q.same x.symbol.0 ∙ looked_up s.env.pairs place x q.once there
 
-    one : (i j : ℕ) (x y : Pair) → slice_get s.env.pairs i ≡ Some x → slice_get s.env.pairs j ≡ Some y → name_at s.env.identifiers x.identifier.0 ≡ name_at s.env.identifiers y.identifier.0 → x.symbol.0 ≡ y.symbol.0
+    one : (i j : ℕ) (x y : Pair) → slice_get s.env.pairs i ≡ Some x → slice_get s.env.pairs j ≡ Some y
+        → name_at s.env.identifiers x.identifier.0 ≡ name_at s.env.identifiers y.identifier.0 → x.symbol.0 ≡ y.symbol.0
     one i j x y at_i at_j same = name_of-injective s q.agree x.symbol.0 y.symbol.0 x.identifier.0 y.identifier.0 (bound i x at_i) (bound j y at_j) same

@@ -22,7 +22,8 @@ use Rattle.rl_runs.proofs.Listed.{numbers}
 use Rattle.rl_runs.proofs.Tables.{table_same}
 use Rattle.rl_runs.specs.Listed.{IsListed}
 
-pub built_numbered : (s : State) (built : Graph) (env : Environment) → HaveOwnIds s.completed → IsListed s → IsBuilt s built env → IsNumbered built.table built.blocks
+pub built_numbered : (s : State) (built : Graph) (env : Environment) → HaveOwnIds s.completed → IsListed s → IsBuilt s built env
+    → IsNumbered built.table built.blocks
 built_numbered s built env own l b =
     b.numbered (subst (λ (pairs : List BlockPair). AreDistinct (listed_in pairs)) (sym (table_same s.completed own)) (distinct_left (listed_in s.completed) (numbers s.current.instructions) l.once)) l.unordered
 
@@ -30,7 +31,8 @@ built_numbered s built env own l b =
 pub built_length : (s : State) (built : Graph) (env : Environment) → IsBuilt s built env → length built.table ≡ length s.table
 built_length s built env b = ap (λ (t : List Instruction). length t) b.pruned.orders ∙ table_length 1 (cleaned b.pruned.ordered) s.table
 
-pub built_plain : (s : State) (built : Graph) (env : Environment) → IsBuilt s built env → map without_order built.table ≡ map without_order s.table
+pub built_plain : (s : State) (built : Graph) (env : Environment) → IsBuilt s built env
+    → map without_order built.table ≡ map without_order s.table
 built_plain s built env b = ap (λ (t : List Instruction). map without_order t) b.pruned.orders ∙ ordered_table_plain 1 (cleaned b.pruned.ordered) s.table
 
 pub built_linked : (s : State) (built : Graph) (env : Environment) → HaveOwnIds s.completed → IsListed s → IsBuilt s built env

@@ -26,11 +26,11 @@ use Rattle.rl_builder.specs.Names.{fbt_label, fresh_identifier, new_span, rename
 use Rattle.rl_used_names.specs.Choosing.{chosen, is_free, place_from, with_user}
 use Rattle.rl_used_names.specs.IdentifierNames.{fbt, fbt_diagnostic}
 use Rattle.rl_used_names.specs.UsedName.{candidate, user_of, UsedName}
-use Rattle.rl_model.specs.Rows.{label_of, refusal, said_of_local}
+use Rattle.rl_promises.specs.Rows.{label_of, refusal, said_of_local}
 use Rattle.rl_names.specs.Locals.{AreApart, AreLocals, HasTexts, IsApart}
 use Rattle.rl_names.specs.Names.{Names}
 use Rattle.rl_names.specs.declared.parameters.Parameter.{Parameter}
-use Rattle.rl_lower.specs.Named.{HasIdentifier, IsNamed, TellDeclarations, declared_span}
+use Rattle.rl_lowered.specs.Named.{HasIdentifier, IsNamed, TellDeclarations, declared_span}
 use Rattle.rl_lower.specs.Parameters.{said_of_parameters, with_parameters}
 
 -- The pairs and identifiers of parameters that get identifiers one after the other, from the given ids on.
@@ -53,27 +53,32 @@ users_of parameters = map user_of_parameter parameters
 
 -- The span of a parameter's identifier is that of the parameter, where that is its symbol's declaration identifier: the index has
 -- that declaration or none.
-pub span_given : (s : State) (p : Parameter) → declared_span s.semantic p.symbol.0 ≡ Some p.declaration → new_span s p.symbol.0 (Some p.declaration) ≡ Some p.declaration
+pub span_given : (s : State) (p : Parameter) → declared_span s.semantic p.symbol.0 ≡ Some p.declaration
+    → new_span s p.symbol.0 (Some p.declaration) ≡ Some p.declaration
 span_given s p is = by_declaration (declaration_ident s.semantic.bindings.symbols p.symbol.0) is
   where
-    by_index : (b : Bound) (held : Bool) → Some b.span ≡ Some p.declaration → option_or (if held then Some b.span else None) (Some p.declaration) ≡ Some p.declaration
+    by_index : (b : Bound) (held : Bool) → Some b.span ≡ Some p.declaration
+        → option_or (if held then Some b.span else None) (Some p.declaration) ≡ Some p.declaration
     by_index b true same = same
     by_index b false same = refl
 
-    by_declaration : (o : Option Bound) → option_map (λ (b : Bound). b.span) o ≡ Some p.declaration → option_or (of_item None (span_among s.sites) o) (Some p.declaration) ≡ Some p.declaration
+    by_declaration : (o : Option Bound) → option_map (λ (b : Bound). b.span) o ≡ Some p.declaration
+        → option_or (of_item None (span_among s.sites) o) (Some p.declaration) ≡ Some p.declaration
     by_declaration None same = refl
     by_declaration (Some b) same = by_index b (declares b.node.0 s.sites) same
 
 -- Lists that grow at their end.
 
-pairs_end : (identifier : ℕ) (done : List Parameter) (p : Parameter) → pairs_from identifier (done ++ p ∷ []) ≡ pairs_from identifier done ++ pair p.symbol.0 (identifier + length done) ∷ []
+pairs_end : (identifier : ℕ) (done : List Parameter) (p : Parameter)
+    → pairs_from identifier (done ++ p ∷ []) ≡ pairs_from identifier done ++ pair p.symbol.0 (identifier + length done) ∷ []
 pairs_end identifier [] p = ap (λ (n : ℕ). pair p.symbol.0 n ∷ []) (omega arith)
 pairs_end identifier (q ∷ done) p =
     let one : identifier + 1 + length done ≡ identifier + length (q ∷ done) = omega arith in
     ap (λ (l : List Pair). pair q.symbol.0 identifier ∷ l) (pairs_end (identifier + 1) done p
     ∙ ap (λ (n : ℕ). pairs_from (identifier + 1) done ++ pair p.symbol.0 n ∷ []) one)
 
-known_end : (s : State) (type : ℕ) (done : List Parameter) (p : Parameter) → known_from s type (done ++ p ∷ []) ≡ known_from s type done ++ identifier_for s (type + length done) p ∷ []
+known_end : (s : State) (type : ℕ) (done : List Parameter) (p : Parameter)
+    → known_from s type (done ++ p ∷ []) ≡ known_from s type done ++ identifier_for s (type + length done) p ∷ []
 known_end s type [] p = ap (λ (n : ℕ). identifier_for s n p ∷ []) (omega arith)
 known_end s type (q ∷ done) p =
     let one : type + 1 + length done ≡ type + length (q ∷ done) = omega arith in
@@ -96,16 +101,19 @@ said_end : (s : State) (done : List Parameter) (p : Parameter) → said_from s (
 said_end s [] p = refl
 said_end s (q ∷ done) p = ap (λ (l : List Diagnostic). said_of s q ++ l) (said_end s done p) ∙ sym (append_assoc (said_of s q) (said_from s done) (said_from s (p ∷ [])))
 
-label_by : (declared : Option Bound) (other : Span) → option_map_or (λ b. b.span) declared other ≡ unwrap_or (option_map (λ b. b.span) declared) other
+label_by : (declared : Option Bound) (other : Span)
+    → option_map_or (λ b. b.span) declared other ≡ unwrap_or (option_map (λ b. b.span) declared) other
 label_by None other = refl
 label_by (Some b) other = refl
 
 -- The builder's label of row F40 is that of the names.
-pub label_told : (names : Names) (s : State) (symbol : SymbolId) (at : Span) → TellDeclarations names s.semantic → fbt_label s symbol.0 (Some at) ≡ label_of names symbol at
+pub label_told : (names : Names) (s : State) (symbol : SymbolId) (at : Span) → TellDeclarations names s.semantic
+    → fbt_label s symbol.0 (Some at) ≡ label_of names symbol at
 label_told names s symbol at told =
     label_by (declaration_ident s.semantic.bindings.symbols symbol.0) at ∙ ap (λ (o : Option Span). unwrap_or o at) (sym (told symbol.0))
 
-pub said_told : (names : Names) (s : State) (parameters : List Parameter) → TellDeclarations names s.semantic → said_from s parameters ≡ said_of_parameters names parameters
+pub said_told : (names : Names) (s : State) (parameters : List Parameter) → TellDeclarations names s.semantic
+    → said_from s parameters ≡ said_of_parameters names parameters
 said_told names s [] told = refl
 said_told names s (p ∷ parameters) told =
     ap (λ (label : Span). said_of_local p.name label ++ said_from s parameters) (label_told names s p.symbol p.declaration told)
@@ -160,7 +168,8 @@ unused (q ∷ done) p apart = other (unused done p (All-tail (λ q. IsApart q p)
         absurd (cc)
     other rest false is = ap (λ (b : Bool). if b then Some q.symbol.0 else user_of (users_of done) p.name) is ∙ rest
 
-unbound : (identifier : ℕ) (done : List Parameter) (p : Parameter) → All (λ q. IsApart q p) done → identifier_of (pairs_from identifier done) p.symbol.0 ≡ None
+unbound : (identifier : ℕ) (done : List Parameter) (p : Parameter) → All (λ q. IsApart q p) done
+    → identifier_of (pairs_from identifier done) p.symbol.0 ≡ None
 unbound identifier [] p apart = refl
 unbound identifier (q ∷ done) p apart =
     ap (λ (b : Bool). if b then Some identifier else identifier_of (pairs_from (identifier + 1) done) p.symbol.0) (ne_eqb q.symbol.0 p.symbol.0 (All-head (λ q. IsApart q p) q done apart).symbols)
@@ -175,7 +184,8 @@ pub record IsAt (parameters : List Parameter) (symbol : ℕ) : Type 0 where
   pub there : slice_get parameters place ≡ Some parameter
   pub has : parameter.symbol.0 ≡ symbol
 
-pub pair_tells : (identifier : ℕ) (parameters : List Parameter) (symbol found : ℕ) → identifier_of (pairs_from identifier parameters) symbol ≡ Some found → (at : IsAt parameters symbol) × (found ≡ identifier + at.place)
+pub pair_tells : (identifier : ℕ) (parameters : List Parameter) (symbol found : ℕ)
+    → identifier_of (pairs_from identifier parameters) symbol ≡ Some found → (at : IsAt parameters symbol) × (found ≡ identifier + at.place)
 pair_tells identifier [] symbol found is = absurd (cc)
 pair_tells identifier (p ∷ parameters) symbol found is = elim (eqb_tells p.symbol.0 symbol) [
   | inl same ↦ (
@@ -187,7 +197,8 @@ pair_tells identifier (p ∷ parameters) symbol found is = elim (eqb_tells p.sym
       (record { place = suc later.0.place; parameter = later.0.parameter; there = later.0.there; has = later.0.has }, omega (arith, later.1)))
 ]
 
-pub pair_found : (identifier : ℕ) (parameters : List Parameter) (place : ℕ) (p : Parameter) → AreApart parameters → slice_get parameters place ≡ Some p → identifier_of (pairs_from identifier parameters) p.symbol.0 ≡ Some (identifier + place)
+pub pair_found : (identifier : ℕ) (parameters : List Parameter) (place : ℕ) (p : Parameter) → AreApart parameters
+    → slice_get parameters place ≡ Some p → identifier_of (pairs_from identifier parameters) p.symbol.0 ≡ Some (identifier + place)
 pair_found identifier [] place p apart there = absurd (cc)
 pair_found identifier (q ∷ parameters) zero p apart there =
     let same : q ≡ p = cc in
@@ -201,17 +212,19 @@ pub known_length : (s : State) (type : ℕ) (done : List Parameter) → length (
 known_length s type [] = refl
 known_length s type (x ∷ done) = let rest : length (known_from s (type + 1) done) ≡ length done = known_length s (type + 1) done in omega (arith, rest)
 
-said_first : (s : State) (x : Parameter) → (if bytes_eq x.name fbt && true then fbt_diagnostic (fbt_label s x.symbol.0 (Some x.declaration)) ∷ [] else []) ≡ said_from s (x ∷ [])
+said_first : (s : State) (x : Parameter)
+    → (if bytes_eq x.name fbt && true then fbt_diagnostic (fbt_label s x.symbol.0 (Some x.declaration)) ∷ [] else []) ≡ said_from s (x ∷ [])
 said_first s x = by_test (bytes_eq x.name fbt) refl
   where
     label : Span
     label = fbt_label s x.symbol.0 (Some x.declaration)
 
-    by_test : (b : Bool) → bytes_eq x.name fbt ≡ b → (if bytes_eq x.name fbt && true then fbt_diagnostic label ∷ [] else []) ≡ said_from s (x ∷ [])
+    by_test : (b : Bool) → bytes_eq x.name fbt ≡ b
+        → (if bytes_eq x.name fbt && true then fbt_diagnostic label ∷ [] else []) ≡ said_from s (x ∷ [])
     by_test true is = ap (λ (c : Bool). if c && true then fbt_diagnostic label ∷ [] else []) is ∙ sym (ap (λ (c : Bool). (if c then refusal row.F40 label ∷ [] else []) ++ []) is)
     by_test false is = ap (λ (c : Bool). if c && true then fbt_diagnostic label ∷ [] else []) is ∙ sym (ap (λ (c : Bool). (if c then refusal row.F40 label ∷ [] else []) ++ []) is)
 
--- the environment after some symbols got identifiers
+-- The environment after some symbols got identifiers.
 abbrev pub env_with : State → List Parameter → Environment
 env_with s done = record s.env {
   next_type = s.env.next_type + length done;
@@ -220,19 +233,23 @@ env_with s done = record s.env {
   diagnostics = s.env.diagnostics ++ said_from s done;
 }
 
--- the state after those symbols got identifiers, where none had one before
+-- The state after those symbols got identifiers, where none had one before.
 abbrev pub state_with : State → List Parameter → State
 state_with s done = record s { env = env_with s done; bindings = pairs_from (length s.env.identifiers) done; used_names = users_of done }
 
--- a builder, by what names change of it
+-- A builder, by what names change of it.
 abbrev made : State → ℕ → List Identifier → List Pair → List Diagnostic → List Rename → List Pair → List UsedName → State
 made s types identifiers pairs diagnostics renames bindings used = record s { env = record s.env { next_type = types; identifiers = identifiers; pairs = pairs; diagnostics = diagnostics; renames = renames }; bindings = bindings; used_names = used }
 
-made_same : (s : State) {types types1 : ℕ} {identifiers identifiers1 : List Identifier} {pairs pairs1 : List Pair} {diagnostics diagnostics1 : List Diagnostic} {renames renames1 : List Rename} {bindings bindings1 : List Pair} {used used1 : List UsedName}
-    → types ≡ types1 → identifiers ≡ identifiers1 → pairs ≡ pairs1 → diagnostics ≡ diagnostics1 → renames ≡ renames1 → bindings ≡ bindings1 → used ≡ used1 → made s types identifiers pairs diagnostics renames bindings used ≡ made s types1 identifiers1 pairs1 diagnostics1 renames1 bindings1 used1
+made_same : (s : State) {types types1 : ℕ} {identifiers identifiers1 : List Identifier} {pairs pairs1 : List Pair}
+    {diagnostics diagnostics1 : List Diagnostic} {renames renames1 : List Rename} {bindings bindings1 : List Pair}
+    {used used1 : List UsedName}
+    → types ≡ types1 → identifiers ≡ identifiers1 → pairs ≡ pairs1 → diagnostics ≡ diagnostics1 → renames ≡ renames1 → bindings ≡ bindings1
+    → used ≡ used1
+    → made s types identifiers pairs diagnostics renames bindings used ≡ made s types1 identifiers1 pairs1 diagnostics1 renames1 bindings1 used1
 made_same s a b c d e f g = λ i. made s (a i) (b i) (c i) (d i) (e i) (f i) (g i)
 
--- a list whose last part grows
+-- A list whose last part grows.
 ended_by : {X : Type 0} (first more : List X) (last all : List X) → all ≡ more ++ last → (first ++ more) ++ last ≡ first ++ all
 ended_by first more last all is = append_assoc first more last ∙ ap (λ (l : List _). first ++ l) (sym is)
 
@@ -248,7 +265,8 @@ none_renamed s name free symbol is = ap (λ (l : List Rename). s.env.renames ++ 
     same false e = absurd (cc)
 
 -- A parameter more, of a name that nobody has and a symbol without an identifier.
-next_with : (s : State) (done : List Parameter) (x : Parameter) → All (λ q. IsApart q x) done → resolved (state_with s done) x.name x.symbol.0 (Some x.declaration) ≡ state_with s (done ++ x ∷ [])
+next_with : (s : State) (done : List Parameter) (x : Parameter) → All (λ q. IsApart q x) done
+    → resolved (state_with s done) x.name x.symbol.0 (Some x.declaration) ≡ state_with s (done ++ x ∷ [])
 next_with s done x apart =
     let base : ℕ = length s.env.identifiers in
     let type : ℕ = s.env.next_type + length done in
@@ -273,7 +291,8 @@ next_with s done x apart =
     used
 
 -- Parameters one after the other.
-all_with : (s : State) (done rest : List Parameter) → AreApart (done ++ rest) → with_parameters (state_with s done) rest ≡ state_with s (done ++ rest)
+all_with : (s : State) (done rest : List Parameter) → AreApart (done ++ rest)
+    → with_parameters (state_with s done) rest ≡ state_with s (done ++ rest)
 all_with s done [] apart = ap (λ (l : List Parameter). state_with s l) (sym (append-nil done))
 all_with s done (x ∷ rest) apart =
     let regrouped : done ++ x ∷ rest ≡ (done ++ x ∷ []) ++ rest = sym (append_assoc done (x ∷ []) rest) in
@@ -295,11 +314,13 @@ empty_with s bindings used =
     ∙ ap (λ (l : List UsedName). record s { used_names = l }) (sym used)
 
 -- Behind the parameters of a function each has its own identifier, in order.
-pub parameters_given : (s : State) (parameters : List Parameter) → s.bindings ≡ [] → s.used_names ≡ [] → AreApart parameters → with_parameters s parameters ≡ state_with s parameters
+pub parameters_given : (s : State) (parameters : List Parameter) → s.bindings ≡ [] → s.used_names ≡ [] → AreApart parameters
+    → with_parameters s parameters ≡ state_with s parameters
 parameters_given s parameters bindings used apart = ap (λ (t : State). with_parameters t parameters) (sym (empty_with s bindings used)) ∙ all_with s [] parameters apart
 
 -- The identifier of a place.
-pub known_at : (s : State) (type : ℕ) (symbols : List Parameter) (place : ℕ) (x : Parameter) → slice_get symbols place ≡ Some x → slice_get (known_from s type symbols) place ≡ Some (identifier_for s (type + place) x)
+pub known_at : (s : State) (type : ℕ) (symbols : List Parameter) (place : ℕ) (x : Parameter) → slice_get symbols place ≡ Some x
+    → slice_get (known_from s type symbols) place ≡ Some (identifier_for s (type + place) x)
 known_at s type [] place x is = absurd (cc)
 known_at s type (y ∷ symbols) zero x is = (let same : y ≡ x = cc in let none : type ≡ type + 0 = omega arith in ap (λ (z : Parameter). Some (identifier_for s type z)) same ∙ ap (λ (n : ℕ). Some (identifier_for s n x)) none)
 known_at s type (y ∷ symbols) (suc place) x is = (let one : type + 1 + place ≡ type + suc place = omega arith in known_at s (type + 1) symbols place x is ∙ ap (λ (n : ℕ). Some (identifier_for s n x)) one)
@@ -314,7 +335,9 @@ within (y ∷ xs) zero x e = omega arith
 within (y ∷ xs) (suc place) x e = let rest : place < length xs = within xs place x e in omega arith
 
 -- The identifier of the parameter at a place.
-identified : (s : State) (names : Names) (parameters : List Parameter) → AreApart parameters → All (λ p. names.name p.symbol.0 ≡ p.name) parameters → (place : ℕ) (p : Parameter) → slice_get parameters place ≡ Some p → HasIdentifier (state_with s parameters) p.symbol.0 (names.name p.symbol.0)
+identified : (s : State) (names : Names) (parameters : List Parameter) → AreApart parameters
+    → All (λ p. names.name p.symbol.0 ≡ p.name) parameters → (place : ℕ) (p : Parameter) → slice_get parameters place ≡ Some p
+    → HasIdentifier (state_with s parameters) p.symbol.0 (names.name p.symbol.0)
 identified s names parameters apart named place p there = record {
   identifier = length s.env.identifiers + place;
   bound = pair_found (length s.env.identifiers) parameters place p apart there;
@@ -324,7 +347,8 @@ identified s names parameters apart named place p there = record {
 }
 
 -- The parameter that has a symbol of the parameters.
-found_in : (parameters : List Parameter) (symbol : SymbolId) (place : ℕ) → place < length (map (λ (p : Parameter). p.symbol) parameters) → get_or (map (λ (p : Parameter). p.symbol) parameters) place symbol ≡ symbol
+found_in : (parameters : List Parameter) (symbol : SymbolId) (place : ℕ) → place < length (map (λ (p : Parameter). p.symbol) parameters)
+    → get_or (map (λ (p : Parameter). p.symbol) parameters) place symbol ≡ symbol
     → (at : ℕ) × (p : Parameter) × (slice_get parameters at ≡ Some p) × (p.symbol ≡ symbol)
 found_in [] symbol place within is = absurd (omega (arith, within))
 found_in (p ∷ parameters) symbol zero within is = (0, p, refl, is)
@@ -332,10 +356,10 @@ found_in (p ∷ parameters) symbol (suc place) within is =
     let later = found_in parameters symbol place (omega (arith, within)) is in
     (suc later.0, later.1, later.2, later.3)
 
-pub parameters_named : (s : State) (names : Names) (parameters : List Parameter) → HasTexts names → s.handlers ≡ [] → TellDeclarations names s.semantic → AreApart parameters → AreLocals names parameters → IsNamed names (state_with s parameters)
-parameters_named s names parameters texts handlers told apart l = record {
+pub parameters_named : (s : State) (names : Names) (parameters : List Parameter) → HasTexts names → TellDeclarations names s.semantic
+    → AreApart parameters → AreLocals names parameters → IsNamed names (state_with s parameters)
+parameters_named s names parameters texts told apart l = record {
   texts = texts;
-  handlers = handlers;
   declared = told;
   each = λ reference name symbol is.
       let there = l.locals reference name symbol is in

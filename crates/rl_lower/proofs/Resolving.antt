@@ -20,42 +20,45 @@ use Rattle.rl_builder.specs.Names.{IsStopped, resolved, resolved_by}
 use Rattle.rl_hir.specs.Pairs.{pair}
 use Rattle.rl_names.specs.Locals.{IsApart}
 use Rattle.rl_names.specs.declared.parameters.Parameter.{Parameter}
-use Rattle.rl_model.specs.Rows.{first_named, stop_at}
-use Rattle.rl_lower.specs.Lowering.{HasRoom}
-use Rattle.rl_model.specs.Fields.{places_from}
+use Rattle.rl_promises.specs.Rows.{first_named, stop_at}
+use Rattle.rl_lowered.specs.Promised.{HasRoom}
+use Rattle.rl_promises.specs.Fields.{places_from}
 
 -- Look-ups in pairs that got one more.
-unbound_more : (bindings : List Pair) (number identifier other : ℕ) → (number ≡ other → ⊥) → identifier_of bindings other ≡ None → identifier_of (bindings ++ pair number identifier ∷ []) other ≡ None
+unbound_more : (bindings : List Pair) (number identifier other : ℕ) → (number ≡ other → ⊥) → identifier_of bindings other ≡ None
+    → identifier_of (bindings ++ pair number identifier ∷ []) other ≡ None
 unbound_more [] number identifier other ne none = ap (λ (b : Bool). if b then Some identifier else None) (ne_eqb number other ne)
 unbound_more (p ∷ bindings) number identifier other ne none = by_test (unbound_more bindings number identifier other ne) (nat_eq p.symbol.0 other) refl
   where
-    by_test : (identifier_of bindings other ≡ None → identifier_of (bindings ++ pair number identifier ∷ []) other ≡ None) → (b : Bool) → nat_eq p.symbol.0 other ≡ b → identifier_of (p ∷ (bindings ++ pair number identifier ∷ [])) other ≡ None
+    by_test : (identifier_of bindings other ≡ None → identifier_of (bindings ++ pair number identifier ∷ []) other ≡ None) → (b : Bool)
+        → nat_eq p.symbol.0 other ≡ b → identifier_of (p ∷ (bindings ++ pair number identifier ∷ [])) other ≡ None
     by_test rest true is = absurd ((let never : Some p.identifier.0 ≡ None = sym (ap (λ (b : Bool). if b then Some p.identifier.0 else identifier_of bindings other) is) ∙ none in cc))
     by_test rest false is = ap (λ (b : Bool). if b then Some p.identifier.0 else identifier_of (bindings ++ pair number identifier ∷ []) other) is ∙ rest (sym (ap (λ (b : Bool). if b then Some p.identifier.0 else identifier_of bindings other) is) ∙ none)
 
-bound_last : (bindings : List Pair) (number identifier : ℕ) → identifier_of bindings number ≡ None → identifier_of (bindings ++ pair number identifier ∷ []) number ≡ Some identifier
+bound_last : (bindings : List Pair) (number identifier : ℕ) → identifier_of bindings number ≡ None
+    → identifier_of (bindings ++ pair number identifier ∷ []) number ≡ Some identifier
 bound_last [] number identifier none = ap (λ (b : Bool). if b then Some identifier else None) (eq-eqb number number refl)
 bound_last (p ∷ bindings) number identifier none = by_test (bound_last bindings number identifier) (nat_eq p.symbol.0 number) refl
   where
-    by_test : (identifier_of bindings number ≡ None → identifier_of (bindings ++ pair number identifier ∷ []) number ≡ Some identifier) → (b : Bool) → nat_eq p.symbol.0 number ≡ b → identifier_of (p ∷ (bindings ++ pair number identifier ∷ [])) number ≡ Some identifier
+    by_test : (identifier_of bindings number ≡ None → identifier_of (bindings ++ pair number identifier ∷ []) number ≡ Some identifier)
+        → (b : Bool) → nat_eq p.symbol.0 number ≡ b → identifier_of (p ∷ (bindings ++ pair number identifier ∷ [])) number ≡ Some identifier
     by_test rest true is = absurd ((let never : Some p.identifier.0 ≡ None = sym (ap (λ (b : Bool). if b then Some p.identifier.0 else identifier_of bindings number) is) ∙ none in cc))
     by_test rest false is = ap (λ (b : Bool). if b then Some p.identifier.0 else identifier_of (bindings ++ pair number identifier ∷ []) number) is ∙ rest (sym (ap (λ (b : Bool). if b then Some p.identifier.0 else identifier_of bindings number) is) ∙ none)
 
 -- A symbol that had no identifier.
-pub resolved_fresh : (s new : State) (name : List ℕ) (number : ℕ) (given : Option Span) → identifier_of s.bindings number ≡ None → new ≡ resolved s name number given → new ≡ resolved_by None s name number given
+pub resolved_fresh : (s new : State) (name : List ℕ) (number : ℕ) (given : Option Span) → identifier_of s.bindings number ≡ None
+    → new ≡ resolved s name number given → new ≡ resolved_by None s name number given
 resolved_fresh s new name number given none moved = moved ∙ ap (λ (o : Option ℕ). resolved_by o s name number given) none
 
-pub fresh_room : (s new : State) (name : List ℕ) (number : ℕ) (given : Option Span) (left more : ℕ) → new ≡ resolved_by None s name number given → left ≡ more + 1 → HasRoom s left → HasRoom new more
-fresh_room s new name number given left more moved is room = subst (λ (t : State). HasRoom t more) (sym moved) (record {
-  blocks = omega (arith, is, room.blocks);
-  types = omega (arith, is, room.types);
-  identifiers = simp length-append (omega (arith, is, room.identifiers));
-  instructions = omega (arith, is, room.instructions);
-  completed = omega (arith, is, room.completed);
-})
+-- A parameter takes an identifier and a type.
+pub fresh_room : (s new : State) (name : List ℕ) (number : ℕ) (given : Option Span) (left more : ℕ)
+    → new ≡ resolved_by None s name number given → left ≡ more + 2 → HasRoom s left → HasRoom new more
+fresh_room s new name number given left more moved is room =
+    subst (λ (t : State). HasRoom t more) (sym moved) (simp length-append (omega (arith, is, room)))
 
 -- The parameters behind one that gets its identifier have none still.
-pub fresh_unbound : (s new : State) (p : Parameter) (rest : List Parameter) → new ≡ resolved_by None s p.name p.symbol.0 (Some p.declaration) → All (IsApart p) rest
+pub fresh_unbound : (s new : State) (p : Parameter) (rest : List Parameter)
+    → new ≡ resolved_by None s p.name p.symbol.0 (Some p.declaration) → All (IsApart p) rest
     → All (λ q. identifier_of s.bindings q.symbol.0 ≡ None) rest → All (λ q. identifier_of new.bindings q.symbol.0 ≡ None) rest
 fresh_unbound s new p [] moved apart none = All-nil (λ q. identifier_of new.bindings q.symbol.0 ≡ None)
 fresh_unbound s new p (q ∷ rest) moved apart none =
@@ -65,7 +68,9 @@ fresh_unbound s new p (q ∷ rest) moved apart none =
     (fresh_unbound s new p rest moved (All-tail (IsApart p) q rest apart) (All-tail (λ q. identifier_of s.bindings q.symbol.0 ≡ None) q rest none))
 
 -- Its place among the parameters.
-pub fresh_place : (s new : State) (x : Parameter) (identifier : ℕ) (rest : List Parameter) (given more all : List Param) → new ≡ resolved_by None s x.name x.symbol.0 (Some x.declaration) → identifier_of s.bindings x.symbol.0 ≡ None → identifier_of new.bindings x.symbol.0 ≡ Some identifier
+pub fresh_place : (s new : State) (x : Parameter) (identifier : ℕ) (rest : List Parameter) (given more all : List Param)
+    → new ≡ resolved_by None s x.name x.symbol.0 (Some x.declaration) → identifier_of s.bindings x.symbol.0 ≡ None
+    → identifier_of new.bindings x.symbol.0 ≡ Some identifier
     → more ≡ given ++ params.Place (record { identifier = record { 0 = identifier }; span = Some x.declaration }) ∷ [] → given ++ places_from (length s.env.identifiers) (x ∷ rest) ≡ all → more ++ places_from (length new.env.identifiers) rest ≡ all
 fresh_place s new x identifier rest given more all moved none bound pushed before =
     let told : Some (length s.env.identifiers) ≡ Some identifier = sym (bound_last s.bindings x.symbol.0 (length s.env.identifiers) none) ∙ ap (λ (t : State). identifier_of t.bindings x.symbol.0) (sym moved) ∙ bound in
@@ -76,13 +81,17 @@ fresh_place s new x identifier rest given more all moved none bound pushed befor
     ∙ append_assoc given (params.Place (record { identifier = record { 0 = length s.env.identifiers }; span = Some x.declaration }) ∷ []) (places_from (length s.env.identifiers + 1) rest)
     ∙ before
 
-pub unreserved_more : (x : Parameter) (rest : List Parameter) (all : Option Parameter) → is_reserved x.name ≡ false → first_named (λ name. is_reserved name) (x ∷ rest) ≡ all → first_named (λ name. is_reserved name) rest ≡ all
+pub unreserved_more : (x : Parameter) (rest : List Parameter) (all : Option Parameter) → is_reserved x.name ≡ false
+    → first_named (λ name. is_reserved name) (x ∷ rest) ≡ all → first_named (λ name. is_reserved name) rest ≡ all
 unreserved_more x rest all free is = sym (ap (λ (b : Bool). if b then Some x else first_named (λ name. is_reserved name) rest) free) ∙ is
 
 -- The stop at a parameter whose name is reserved is that of the first such parameter.
-pub stopped_first : {X : Type 0} (r : Result X Stop) (given : Stop) (s : State) (name : List ℕ) (x : Parameter) (rest : List Parameter) (all : Option Parameter)
-    → IsErrAnd r (λ e. e ≡ given) → ((d : Diagnostic) → given ≡ stops.Diagnostic d → IsStopped s name x.symbol.0 (Some x.declaration) d) → name ≡ x.name
-    → first_named (λ name. is_reserved name) (x ∷ rest) ≡ all → IfErr r (λ e. (d : Diagnostic) → e ≡ stops.Diagnostic d → Some d ≡ stop_at row.S1 all None)
+pub stopped_first : {X : Type 0} (r : Result X Stop) (given : Stop) (s : State) (name : List ℕ) (x : Parameter) (rest : List Parameter)
+    (all : Option Parameter)
+    → IsErrAnd r (λ e. e ≡ given) → ((d : Diagnostic) → given ≡ stops.Diagnostic d → IsStopped s name x.symbol.0 (Some x.declaration) d)
+    → name ≡ x.name
+    → first_named (λ name. is_reserved name) (x ∷ rest) ≡ all
+    → IfErr r (λ e. (d : Diagnostic) → e ≡ stops.Diagnostic d → Some d ≡ stop_at row.S1 all None)
 stopped_first (Ok y) given s name x rest all error stopped named first = absurd error
 stopped_first (Err e) given s name x rest all error stopped named first = λ d is.
     let stop = stopped d (sym error ∙ is) in

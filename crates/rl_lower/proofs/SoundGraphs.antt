@@ -1,60 +1,66 @@
 -- The graph of a function has known places and, where the function is small, writable parts.
-use Rattle.std.proofs.Common.{◌≡◌, ℕ, ◌+◌, ◌*◌, ◌<◌, ◌≤◌, ◌^◌, ◌++◌, List, [], ◌∷◌, length, length-append, lit<, map, All, Option, Some, None, refl, sym, ap, ◌∙◌, subst, arith}
+use Rattle.std.proofs.Common.{◌≡◌, ℕ, ◌+◌, ◌<◌, ◌≤◌, ◌^◌, ◌++◌, List, [], ◌∷◌, length, length-append, lit<, map, All, Option, Some, None}
+use Rattle.std.proofs.Common.{refl, sym, ap, ◌∙◌, subst, arith}
 use Rattle.std.specs.Str.{IsUtf8}
 use Rattle.std.proofs.lemmas.List.Elements.{All-nil, All-cons, All-append, All-head, All-push, All-same, All-tail}
 use Rattle.rl_base.specs.declared.ids.BlockId.{BlockId}
 use Rattle.rl_base.specs.declared.ids.InstructionId.{InstructionId}
 use Rattle.rl_base.specs.declared.span.Span.{Span}
-use Rattle.rl_text.specs.Notation.{IsWritable}
-use Rattle.rl_text.specs.Number.{largest}
-use Rattle.rl_syntax.specs.Syntax.{Syntax, nodes, span_of}
+use Rattle.rl_builder.specs.Build.{IsBuilt, graph_of}
+use Rattle.rl_builder.specs.Builder.{State, completed_by, placeholder}
+use Rattle.rl_builder.specs.Names.{new_span}
+use Rattle.rl_builder.specs.Temporaries.{temporary}
+use Rattle.rl_hir.specs.Blocks.{Pair as BlockPair}
 use Rattle.rl_hir.specs.Listing as listing
+use Rattle.rl_hir.specs.Pairs.{pair}
 use Rattle.rl_hir.specs.declared.environment.Environment.{Environment}
 use Rattle.rl_hir.specs.declared.function.Hir.{Hir}
 use Rattle.rl_hir.specs.declared.function.HirFunction.{HirFunction}
-use Rattle.rl_hir.specs.Pairs.{pair}
 use Rattle.rl_hir.specs.declared.function.Identifier.{Identifier}
 use Rattle.rl_hir.specs.declared.function.Pair.{Pair}
-use Rattle.rl_hir.specs.Blocks.{Pair as BlockPair}
 use Rattle.rl_hir.specs.declared.function.Param.{Param}
 use Rattle.rl_hir.specs.declared.function.Param.TheVariants as given
 use Rattle.rl_hir.specs.declared.instruction.Instruction.{Instruction}
-use Rattle.rl_hir.specs.declared.instruction.InstructionValue.TheVariants as values
 use Rattle.rl_hir.specs.declared.instruction.Place.{Place}
-use Rattle.rl_hir.specs.declared.instruction.PrimitiveValue.TheVariants as primitives
 use Rattle.rl_hir.specs.declared.terminal.ReturnVariant.TheVariants as returns
-use Rattle.rl_builder.specs.Build.{IsBuilt, graph_of}
-use Rattle.rl_builder.specs.Names.{new_span}
-use Rattle.rl_lower.proofs.Builds.{closed_env, closed_table}
-use Rattle.rl_builder.specs.Builder.{State, completed_by, placeholder}
-use Rattle.rl_order.specs.Numbering.{orders_of}
-use Rattle.rl_lower.specs.Values.{temporary}
+use Rattle.rl_lower.proofs.Building.{IsFresh, sound_closed}
+use Rattle.rl_lower.proofs.Builds.{closed_env, closed_fits, closed_size, closed_table, orders_fit}
+use Rattle.rl_lower.proofs.Closings.{closed_is}
+use Rattle.rl_lower.proofs.FunctionGraphs.{begun_fresh}
+use Rattle.rl_lower.proofs.Functions.{extends_closed}
+use Rattle.rl_lower.proofs.FunctionTrees.{IsFunction, function_parameters}
+use Rattle.rl_lower.proofs.Parameters.{identifier_for, known_from, known_length, pairs_from, span_given, state_with}
+use Rattle.rl_lower.proofs.SoundOrders.{built_table_known, built_terminals_known, built_writable}
+use Rattle.rl_lower.specs.Begun.{FunctionTables, begun_by}
+use Rattle.rl_lower.specs.Endings.{closed_off, hir_of, with_undefined}
+use Rattle.rl_lower.specs.Parameters.{AreDeclaredAt}
+use Rattle.rl_lower.specs.Sound.{IsSoundGraph, IsWritableGraph}
+use Rattle.rl_lowered.proofs.SoundListing.{function_writable, named_writable, place_writable, span_writable, unnamed_writable}
+use Rattle.rl_lowered.proofs.SoundMoves.{counters_before, none_known, sound_next, table_more, terminals_more}
+use Rattle.rl_lowered.specs.Named.{declared_span}
+use Rattle.rl_lowered.specs.Promised.{HasRoom, LowersBody, share}
+use Rattle.rl_lowered.specs.Sound.{AreWritableIdentifiers, AreWritablePairs, HasKnownParts, HasSmallCounters, HasSmallSymbol, HasWritableParts}
+use Rattle.rl_lowered.specs.Sound.{IsSmallParameter, IsSmallTree, StaysSound}
 use Rattle.rl_machine.specs.Machine.{Graph}
-use Rattle.rl_model.specs.Fields.{places_from}
 use Rattle.rl_model.specs.WellFormed.{AreKnown, HasKnownPlaces, instruction_places, param_place, terminal_places}
 use Rattle.rl_names.specs.Functions.{name_in, parameters_of}
 use Rattle.rl_names.specs.Names.{Names}
 use Rattle.rl_names.specs.declared.parameters.Parameter.{Parameter}
-use Rattle.rl_lower.specs.Begun.{FunctionTables, begun_by}
-use Rattle.rl_lower.specs.Endings.{closed_off, return_of, with_undefined, hir_of}
-use Rattle.rl_lower.specs.Named.{AreDeclaredAt, declared_span}
-use Rattle.rl_lower.specs.Lowering.{CountersGrowBy, HasRoom, LowersBody}
-use Rattle.rl_lower.specs.Sound.{AreWritableIdentifiers, AreWritablePairs, HasKnownParts, HasSmallCounters, HasSmallSymbol, HasWritableParts, IsSmallParameter, IsSmallTree, IsSoundGraph, IsWritableGraph, StaysSound}
-use Rattle.rl_lower.proofs.Building.{IsFresh, keeps_closed, orders_fit}
-use Rattle.rl_lower.proofs.Closings.{closed_is}
-use Rattle.rl_lower.proofs.FunctionTrees.{IsFunction, function_parameters}
-use Rattle.rl_lower.proofs.Keeping.{keeps_then, room_less}
-use Rattle.rl_lower.proofs.Parameters.{identifier_for, known_from, known_length, pairs_from, span_given, state_with}
-use Rattle.rl_lower.proofs.SoundListing.{function_writable, named_writable, place_writable, span_writable, undefined_writable, unnamed_writable}
-use Rattle.rl_lower.proofs.SoundMoves.{counters_before, none_known, place_value, sound_next, sound_return, sound_value, table_more, terminals_more}
-use Rattle.rl_lower.proofs.SoundOrders.{built_table_known, built_terminals_known, built_writable}
+use Rattle.rl_order.specs.Numbering.{orders_of}
+use Rattle.rl_promises.specs.Fields.{places_from}
+use Rattle.rl_runs.specs.Blocks.{size_of}
+use Rattle.rl_runs.specs.Moves.{return_of}
+use Rattle.rl_syntax.specs.Syntax.{Syntax, nodes, span_of}
+use Rattle.rl_text.specs.Notation.{IsWritable}
+use Rattle.rl_text.specs.Number.{largest}
 
--- the parameters
+-- The parameters.
 
 abbrev IsWritableIdentifier : Identifier → Type 0
 IsWritableIdentifier i = IsWritable (listing.identifier i)
 
-known_writable : (s : State) (type : ℕ) (parameters : List Parameter) → AreDeclaredAt s.semantic parameters → All IsSmallParameter parameters → type + length parameters ≤ largest
+known_writable : (s : State) (type : ℕ) (parameters : List Parameter) → AreDeclaredAt s.semantic parameters
+    → All IsSmallParameter parameters → type + length parameters ≤ largest
     → AreWritableIdentifiers (known_from s type parameters)
 known_writable s type [] spanned small fits = All-nil IsWritableIdentifier
 known_writable s type (x ∷ parameters) spanned small fits =
@@ -84,7 +90,7 @@ params_writable base (x ∷ parameters) small fits =
     (span_writable x.declaration here.1))
     (params_writable (base + 1) parameters (All-tail IsSmallParameter x parameters small) (omega (arith, fits)))
 
--- a builder behind the parameters, and one that was closed off
+-- A builder behind the parameters.
 
 abbrev begun : Environment → FunctionTables → List Parameter → State
 begun env tables parameters = state_with (begun_by env tables) parameters
@@ -102,16 +108,19 @@ begun_known env tables parameters = record {
       (terminal_places b.1.terminal));
 }
 
-begun_writable : (env : Environment) (tables : FunctionTables) (parameters : List Parameter) → HasSmallCounters (begun env tables parameters)
+begun_writable : (env : Environment) (tables : FunctionTables) (parameters : List Parameter)
+    → HasSmallCounters (begun env tables parameters)
     → HasWritableParts (begun env tables parameters)
 begun_writable env tables parameters fits = record {
   table = All-nil (λ (i : Instruction). IsWritable (listing.instruction i));
   completed = All-nil (λ (b : BlockPair). IsWritable (listing.block b));
   current = omega (arith, fits.blocks);
   listed = All-nil (λ (id : InstructionId). id.0 ≤ largest);
+  handlers = All-nil (λ (id : BlockId). id.0 ≤ largest);
 }
 
-begun_identifiers : (env : Environment) (tables : FunctionTables) (parameters : List Parameter) → AreDeclaredAt tables.semantic parameters → All IsSmallParameter parameters
+begun_identifiers : (env : Environment) (tables : FunctionTables) (parameters : List Parameter) → AreDeclaredAt tables.semantic parameters
+    → All IsSmallParameter parameters
     → HasSmallCounters (begun env tables parameters) → AreWritableIdentifiers env.identifiers
     → AreWritableIdentifiers (begun env tables parameters).env.identifiers
 begun_identifiers env tables parameters spanned small fits w =
@@ -133,84 +142,70 @@ begun_pairs env tables parameters small fits w =
     All-append (λ (p : Pair). IsWritable (listing.pair p)) env.pairs (pairs_from (length env.identifiers) parameters) w
     (pairs_writable (length env.identifiers) parameters small (omega (arith, begun_longer env tables parameters, fits.identifiers)))
 
-sound_closed : (small : Type 0) (s : State) → StaysSound small s (closed_off s)
-sound_closed small s =
-    sound_next small s (with_undefined s) (closed_off s)
-    (sound_value small s (values.Primitive primitives.Undefined) None (none_known (length s.env.identifiers))
-    (λ holds fits. undefined_writable) (λ holds. tt))
-    (sound_return small (with_undefined s) None returns.Void (temporary s None) placeholder (λ holds. tt)
-    (place_value small s (values.Primitive primitives.Undefined) None (λ holds. tt)) (λ fits. omega arith) refl)
+-- The graph of a function whose body was lowered and closed off.
+module _ (names : Names) (tables : FunctionTables) (parameters : List Parameter) (body : Syntax) (env new : Environment) (s : State) (built : Graph)
+    (lowered : LowersBody names body (begun env tables parameters) s) (room : HasRoom (begun env tables parameters) (share (nodes body + 2)))
+    (spanned : AreDeclaredAt tables.semantic parameters) (graph : IsBuilt (closed_off s) built new) where
+  whole : StaysSound (IsSmallTree body) (begun env tables parameters) (closed_off s)
+  whole = sound_next (IsSmallTree body) (begun env tables parameters) s (closed_off s) lowered.sound (sound_closed (IsSmallTree body) s)
 
-small_behind : (old new : State) (more : ℕ) → CountersGrowBy old new more → HasRoom old more → HasSmallCounters new
-small_behind old new more uses room = record {
-  blocks = omega (arith, uses.blocks, room.blocks);
-  types = omega (arith, uses.types, room.types);
-  identifiers = omega (arith, uses.identifiers, room.identifiers);
-  instructions = omega (arith, uses.instructions, room.instructions);
-}
+  fresh : IsFresh (begun env tables parameters)
+  fresh = begun_fresh env tables parameters
 
--- the graph of a function whose body was lowered and closed off
-pub graph_sound : (tables : FunctionTables) (parameters : List Parameter) (body : Syntax) (env new : Environment) (s : State) (more : ℕ) (built : Graph)
-    → StaysSound (IsSmallTree body) (begun env tables parameters) s → CountersGrowBy (begun env tables parameters) (closed_off s) more
-    → HasRoom (begun env tables parameters) more → s.entry ≡ (begun env tables parameters).entry
-    → 1 + orders_of (closed_off s).completed < 2 ^ 32 → AreDeclaredAt tables.semantic parameters → graph_of (closed_off s) ≡ (closed_off s).completed
-    → IsBuilt (closed_off s) built new → new ≡ (closed_off s).env → IsSoundGraph parameters body env new built
-graph_sound tables parameters body env new s more built sound uses room entry orders spanned same graph after =
-    subst (λ (e : Environment). IsSoundGraph parameters body env e built) (sym after) (record {
-      given = omega (arith, begun_longer env tables parameters, whole.counters.identifiers);
-      count = fits.identifiers;
-      types = fits.types;
-      table = built_table_known (closed_off s) built new graph (length (closed_off s).env.identifiers) known.table;
-      terminals = built_terminals_known (closed_off s) built new graph (length (closed_off s).env.identifiers) same known.terminals;
-      graph = λ small. built_writable (closed_off s) built new graph same (omega (arith, at_entry, fits0.blocks)) (omega (arith, orders))
-          (whole.parts small fits (begun_writable env tables parameters fits0));
-      identifiers = λ named small w. whole.identifiers small fits (begun_identifiers env tables parameters spanned named fits0 w);
-      pairs = λ small w. whole.pairs fits (begun_pairs env tables parameters small fits0 w);
-    })
-  where
-    whole : StaysSound (IsSmallTree body) (begun env tables parameters) (closed_off s)
-    whole = sound_next (IsSmallTree body) (begun env tables parameters) s (closed_off s) sound (sound_closed (IsSmallTree body) s)
+  few : (closed_off s).env.next_block < 2 ^ 32
+  few = closed_fits names (begun env tables parameters) body s lowered room
 
-    fits : HasSmallCounters (closed_off s)
-    fits = small_behind (begun env tables parameters) (closed_off s) more uses room
+  size : size_of (closed_off s) < 2 ^ 31
+  size = omega (arith, closed_size names (begun env tables parameters) body s lowered, room)
 
-    fits0 : HasSmallCounters (begun env tables parameters)
-    fits0 = counters_before (begun env tables parameters) (closed_off s) whole.counters fits
+  fits : HasSmallCounters (closed_off s)
+  fits = record { blocks = omega (arith, size); types = omega (arith, size); identifiers = omega (arith, size); instructions = omega (arith, size) }
 
-    known : HasKnownParts (closed_off s)
-    known = whole.known (begun_known env tables parameters)
+  fits0 : HasSmallCounters (begun env tables parameters)
+  fits0 = counters_before (begun env tables parameters) (closed_off s) whole.counters fits
 
-    at_entry : s.entry.0 ≡ env.next_block
-    at_entry = ap (λ (id : BlockId). id.0) entry
+  known : HasKnownParts (closed_off s)
+  known = whole.known (begun_known env tables parameters)
 
--- as `graph_sound`, from the states that the code goes through
-pub graph_sound_call : (names : Names) (tables : FunctionTables) (parameters : List Parameter) (body : Syntax) (env new : Environment) (before s s1 s2 : State) (p : Place)
-    (built : Graph) → before ≡ begun env tables parameters → AreDeclaredAt tables.semantic parameters → LowersBody names body before s → StaysSound (IsSmallTree body) before s
-    → HasRoom (begun env tables parameters) (4 * (nodes body + 2)) → s1 ≡ with_undefined s → p ≡ temporary s None
+  same : graph_of (closed_off s) ≡ (closed_off s).completed
+  same = closed_table names (begun env tables parameters) body s fresh lowered few
+
+  at_entry : s.entry.0 ≡ env.next_block
+  at_entry = ap (λ (id : BlockId). id.0) lowered.blocks.extends.entry
+
+  orders : 1 + orders_of (closed_off s).completed < 2 ^ 32
+  orders = orders_fit names (begun env tables parameters) body s fresh lowered few room
+
+  graph_sound : IsSoundGraph parameters body env new built
+  graph_sound =
+      subst (λ (e : Environment). IsSoundGraph parameters body env e built)
+      (sym (closed_env names (begun env tables parameters) body s fresh lowered few built new graph)) (record {
+        given = omega (arith, begun_longer env tables parameters, whole.counters.identifiers);
+        count = fits.identifiers;
+        types = fits.types;
+        table = built_table_known (closed_off s) built new graph (length (closed_off s).env.identifiers) known.table;
+        terminals = built_terminals_known (closed_off s) built new graph (length (closed_off s).env.identifiers) same known.terminals;
+        graph = λ small. built_writable (closed_off s) built new graph same (omega (arith, entry_is, at_entry, fits0.blocks)) (omega (arith, orders))
+            (whole.parts small fits (begun_writable env tables parameters fits0));
+        identifiers = λ named small w. whole.identifiers small fits (begun_identifiers env tables parameters spanned named fits0 w);
+        pairs = λ small w. whole.pairs fits (begun_pairs env tables parameters small fits0 w);
+      })
+    where
+      entry_is : (closed_off s).entry.0 ≡ s.entry.0
+      entry_is = ap (λ (id : BlockId). id.0) (extends_closed s).entry
+
+-- A sound graph, from the states that the code goes through.
+pub graph_sound_call : (names : Names) (tables : FunctionTables) (parameters : List Parameter) (body : Syntax) (env new : Environment)
+    (before s s1 s2 : State) (p : Place) (built : Graph)
+    → before ≡ begun env tables parameters → AreDeclaredAt tables.semantic parameters → LowersBody names body before s
+    → HasRoom (begun env tables parameters) (share (nodes body + 2)) → s1 ≡ with_undefined s → p ≡ temporary s None
     → s2 ≡ completed_by s1 (return_of None returns.Void p) placeholder → IsBuilt s2 built new
     → IsSoundGraph parameters body env new built
-graph_sound_call names tables parameters body env new before s s1 s2 p built is spanned lowers sound room given placed ended graph =
-    graph_sound tables parameters body env new s (4 * (nodes body + 1) + 2) built
-    (subst (λ (o : State). StaysSound (IsSmallTree body) o s) is sound)
-    (keeps_then (begun env tables parameters) s (closed_off s) (4 * (nodes body + 1)) 2 lowered.keeps (keeps_closed {names = names} s)).uses
-    (room_less (begun env tables parameters) (4 * (nodes body + 2)) (4 * (nodes body + 1) + 2) (omega arith) room)
-    lowered.blocks.extends.entry
-    (orders_fit names (begun env tables parameters) body s fresh lowered room)
-    spanned
-    (closed_table names (begun env tables parameters) body s fresh lowered)
-    is_built
-    (closed_env names (begun env tables parameters) body s fresh lowered built new is_built)
-  where
-    fresh : IsFresh (begun env tables parameters)
-    fresh = record { completed = refl; instructions = refl; table = refl; entry = refl; below = omega arith }
+graph_sound_call names tables parameters body env new before s s1 s2 p built is spanned lowers room given placed ended graph =
+    graph_sound names tables parameters body env new s built (subst (λ (o : State). LowersBody names body o s) is lowers) room spanned
+    (subst (λ (t : State). IsBuilt t built new) (closed_is s s1 s2 p given placed ended) graph)
 
-    lowered : LowersBody names body (begun env tables parameters) s
-    lowered = subst (λ (o : State). LowersBody names body o s) is lowers
-
-    is_built : IsBuilt (closed_off s) built new
-    is_built = subst (λ (t : State). IsBuilt t built new) (closed_is s s1 s2 p given placed ended) graph
-
--- the function
+-- The function.
 
 pub function_places : (parameters : List Parameter) (body : Syntax) (env mid new : Environment) (built : Graph) (i : Identifier)
     (f : HirFunction (List BlockPair)) → IsSoundGraph parameters body env mid built → new.identifiers ≡ mid.identifiers ++ i ∷ []
@@ -244,7 +239,8 @@ function_pairs names fn body parameters env mid new built are none g same small 
     (g.pairs (subst (λ (l : List Parameter). All HasSmallSymbol l) (sym are) small)
     (subst AreWritablePairs (sym none) (All-nil (λ (p : Pair). IsWritable (listing.pair p)))))
 
-pub function_listed : (names : Names) (fn tree : Syntax) (parameters : List Parameter) (env mid : Environment) (built : Graph) (f : HirFunction (List BlockPair))
+pub function_listed : (names : Names) (fn tree : Syntax) (parameters : List Parameter) (env mid : Environment) (built : Graph)
+    (f : HirFunction (List BlockPair))
     → IsFunction fn tree → parameters ≡ parameters_of names fn → IsSoundGraph parameters tree env mid built
     → f.span ≡ Some (span_of fn) → f.name ≡ name_in fn
     → (IsSmallTree tree → All IsUtf8 f.directives) → f.body ≡ hir_of built
@@ -270,11 +266,12 @@ function_listed names fn tree parameters env mid built f w are g span_is name_is
     (subst (λ (h : Hir (List BlockPair)). All (λ b. IsWritable (listing.block b)) h.blocks) (sym body_is) graph.blocks)
     (subst (λ (t : List Instruction). All (λ i. IsWritable (listing.instruction i)) t) (sym table_is) graph.table)
 
--- an identifier without a name
+-- An identifier without a name.
 abbrev unnamed : Span → ℕ → Identifier
 unnamed span type = record { name = None; span = Some span; type_id = record { 0 = type } }
 
-pub function_identifiers : (names : Names) (fn body : Syntax) (span : Span) (parameters : List Parameter) (env mid new : Environment) (built : Graph)
+pub function_identifiers : (names : Names) (fn body : Syntax) (span : Span) (parameters : List Parameter) (env mid new : Environment)
+    (built : Graph)
     → IsFunction fn body → span ≡ span_of fn → parameters ≡ parameters_of names fn → IsSoundGraph parameters body env mid built
     → new.identifiers ≡ mid.identifiers ++ unnamed span mid.next_type ∷ [] → IsSmallTree fn
     → AreWritableIdentifiers env.identifiers → AreWritableIdentifiers new.identifiers

@@ -12,9 +12,10 @@ use Rattle.rl_machine.specs.Machine.{Graph}
 use Rattle.rl_order.proofs.PrunedBlocks.{StaysPruned, pruned_all, pruned_table_all}
 use Rattle.rl_order.specs.Numbering.{orders_of}
 use Rattle.rl_model.specs.WellFormed.{AreKnown, instruction_places, terminal_places}
-use Rattle.rl_lower.specs.Sound.{HasWritableParts, IsWritableGraph}
-use Rattle.rl_lower.proofs.SoundListing.{IsSmallId, blocks_stay, instruction_ordered}
-use Rattle.rl_lower.proofs.SoundMoves.{none_known}
+use Rattle.rl_lower.specs.Sound.{IsWritableGraph}
+use Rattle.rl_lowered.proofs.SoundListing.{IsSmallId, blocks_stay, instruction_ordered}
+use Rattle.rl_lowered.proofs.SoundMoves.{none_known}
+use Rattle.rl_lowered.specs.Sound.{HasWritableParts}
 
 -- The places of a block's terminal are known.
 abbrev EndsKnown : (count : ℕ) → BlockPair → Type 0
@@ -46,7 +47,8 @@ module _ (s : State) (built : Graph) (env : Environment) (b : IsBuilt s built en
       pruned_all (EndsKnown count) (λ id. Unit {0}) (1 + orders_of (graph_of s)) (known_stay count (1 + orders_of (graph_of s)))
       (graph_of s) s.entry s.table built.blocks built.table b.pruned (omega arith) (subst (All (EndsKnown count)) (sym same) known)
 
-  pub built_writable : graph_of s ≡ s.completed → s.entry.0 ≤ largest → 1 + orders_of s.completed ≤ largest → HasWritableParts s → IsWritableGraph built
+  pub built_writable : graph_of s ≡ s.completed → s.entry.0 ≤ largest → 1 + orders_of s.completed ≤ largest → HasWritableParts s
+      → IsWritableGraph built
   built_writable same entry orders w = record {
     entry = subst IsSmallId (sym b.entry) entry;
     blocks = pruned_all (λ (p : BlockPair). IsWritable (listing.block p)) IsSmallId largest blocks_stay

@@ -8,11 +8,11 @@ use Rattle.rl_machine.specs.Traces.{Store, set, take_values, unset}
 use Rattle.rl_machine.specs.declared.trace.Assignment.{Assignment}
 use Rattle.rl_machine.specs.declared.trace.Value.{Value}
 use Rattle.rl_machine.specs.declared.trace.Value.TheVariants as value
-use Rattle.rl_model.specs.Fields.{places_from}
+use Rattle.rl_promises.specs.Fields.{places_from}
 use Rattle.rl_model.specs.Functions.{set_all}
 use Rattle.rl_model.specs.Runs.{param_identifier}
 use Rattle.rl_names.specs.declared.parameters.Parameter.{Parameter}
-use Rattle.rl_lower.specs.Simulation.{Agrees}
+use Rattle.rl_runs.specs.Continuations.{Agrees}
 use Rattle.rl_runs.proofs.Shared.{agrees_store, agrees_where}
 use Rattle.rl_runs.specs.Facts.{AreOne}
 
@@ -40,7 +40,8 @@ module _ (ident : ℕ → Option ℕ) (one : AreOne ident) where
 
   -- Parameters take their arguments, on both sides.
   pub agrees_taken : (base : ℕ) (parameters : List Parameter) (arguments : List Value) (source store : Store)
-      → ((place : ℕ) (p : Parameter) → slice_get parameters place ≡ Some p → ident p.symbol.0 ≡ Some (base + place)) → Agrees ident source store
+      → ((place : ℕ) (p : Parameter) → slice_get parameters place ≡ Some p → ident p.symbol.0 ≡ Some (base + place))
+      → Agrees ident source store
       → Agrees ident (take parameters arguments source) (take_arguments (places_from base parameters) arguments store)
   agrees_taken base [] arguments source store given a = a
   agrees_taken base (p ∷ parameters) [] source store given a =

@@ -19,7 +19,7 @@ pub record FunctionTables : Type 0 where
 abbrev pub function_tables : FunctionNames → (scope : ScopeId) → (sites : List Site) → FunctionTables
 function_tables names scope sites = record { semantic = names.resolver.now.semantic.now; scope = scope; sites = sites }
 
--- The parts that its builder is given. No function around it has names or captures.
+-- The parts that the builder of the marked function is given. No function around it has names or captures.
 abbrev pub given_by : FunctionTables → Given
 given_by t = record {
   semantic = t.semantic;
@@ -32,6 +32,6 @@ given_by t = record {
   used_names = [];
 }
 
--- Its first state.
+-- The first state of that builder.
 abbrev pub begun_by : Environment → FunctionTables → State
 begun_by env t = started env (given_by t) kinds.Block

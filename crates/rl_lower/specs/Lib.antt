@@ -1,10 +1,6 @@
 pub mod Begun
 pub mod Endings
-pub mod Lowering
-pub mod Named
+pub mod Groups
 pub mod Parameters
-pub mod Reachable
 pub mod Scenes
-pub mod Simulation
 pub mod Sound
-pub mod Values

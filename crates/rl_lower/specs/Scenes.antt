@@ -1,14 +1,14 @@
 -- The scenes in which a lowered function runs.
-use Rattle.std.specs.Prelude.{◌≡◌, false, List}
+use Rattle.std.specs.Prelude.{◌≡◌, true, List}
 use Rattle.rl_hir.specs.Pairs.{identifier_of}
 use Rattle.rl_hir.specs.declared.function.Pair.{Pair}
 use Rattle.rl_machine.specs.Traces.{World}
 use Rattle.rl_model.specs.Scene.{Scene}
 use Rattle.rl_names.specs.Names.{Names}
-use Rattle.rl_lower.specs.Simulation.{SharesVariables}
+use Rattle.rl_runs.specs.Continuations.{SharesVariables}
 
--- A scene of the function as it is written, with these names; its world is that of the graph, by the pairs.
+-- A scene of the function as the port runs it, with these names; its world is that of the graph, by the pairs.
 pub record IsSceneOf (names : Names) (pairs : List Pair) (scene : Scene) (world : World) : Type 0 where
   pub named : scene.names ≡ names
-  pub written : scene.ported ≡ false
+  pub ported : scene.ported ≡ true
   pub shares : SharesVariables (identifier_of pairs) scene.world world

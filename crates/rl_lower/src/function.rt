@@ -14,20 +14,22 @@ ghost use Rattle.rl_hir.specs.Listing.{function as listed_function};
 ghost use Rattle.rl_hir.specs.Numbered.{IsNumbered};
 ghost use Rattle.rl_lower.specs.Begun.{FunctionTables, begun_by, function_tables};
 ghost use Rattle.rl_lower.specs.Endings.{IsGraphOf, graph_of};
-ghost use Rattle.rl_lower.specs.Lowering.{HasRoom, LowersBody};
-ghost use Rattle.rl_lower.specs.Named.{IsNamed};
 ghost use Rattle.rl_lower.specs.Parameters.{with_parameters};
-ghost use Rattle.rl_lower.specs.Sound.{AreWritableIdentifiers, AreWritablePairs, HasSmallSymbol, IsSmallTree, IsSoundGraph, StaysSound};
+ghost use Rattle.rl_lower.specs.Sound.{IsSoundGraph};
+ghost use Rattle.rl_lowered.specs.Lowered.{LoweredBody};
+ghost use Rattle.rl_lowered.specs.Named.{IsNamed};
+ghost use Rattle.rl_lowered.specs.Promised.{HasRoom, share};
+ghost use Rattle.rl_lowered.specs.Sound.{AreWritableIdentifiers, AreWritablePairs, HasSmallSymbol, IsSmallTree};
 ghost use Rattle.rl_machine.specs.Closed.{IsClosed};
-ghost use Rattle.rl_model.specs.Covered.{IsCovered, IsCoveredFunction};
-ghost use Rattle.rl_model.specs.Fields.{AreGiven, ArePairs, directives_in, places_from, texts_in};
+ghost use Rattle.rl_promises.specs.Covered.{IsCovered, IsCoveredFunction};
+ghost use Rattle.rl_promises.specs.Fields.{AreGiven, ArePairs, directives_in, places_from, texts_in};
 ghost use Rattle.rl_machine.specs.Traces.{World};
-ghost use Rattle.rl_model.specs.Headline.{NeverStuck, SameRuns};
+ghost use Rattle.rl_promises.specs.Headline.{NeverStuck, SameRuns};
+ghost use Rattle.rl_promises.specs.HeldNodes.{HoldsNodes};
 ghost use Rattle.rl_model.specs.Scene.{Scene};
 ghost use Rattle.rl_lower.specs.Scenes.{IsSceneOf};
-ghost use Rattle.rl_model.specs.Calls.{HoldsCalls};
-ghost use Rattle.rl_model.specs.Rows.{first_named, is_text, refusals_of, stop_at, stop_of};
-ghost use Rattle.rl_model.specs.Size.{function_size};
+ghost use Rattle.rl_promises.specs.Rows.{first_named, is_text, refusals_of, stop_at, stop_of};
+ghost use Rattle.rl_promises.specs.Size.{function_size};
 ghost use Rattle.rl_model.specs.WellFormed.{HasKnownPlaces, IsLinked};
 ghost use Rattle.rl_names.specs.Functions.{async_in, body_in, generator_in, name_in, parameters_of, said_by};
 ghost use Rattle.rl_names.specs.Locals.{AreApart, AreLocals, HasTexts, LocalsAreParameters};
@@ -157,7 +159,7 @@ fn lower_parameters<U: ReadsUnit>(
 ) -> Result<List<Param>, Stop>
     requires nothing { (state_of U.tables builder.old).bindings ≡ [] }
     requires apart { AreApart parameters.now }
-    requires room { HasRoom (state_of U.tables builder.old) (length parameters.now) }
+    requires room { HasRoom (state_of U.tables builder.old) (2 * length parameters.now) }
     ensures same_reference { builder.new.env.ghost_name ≡ builder.old.env.ghost_name }
     ensures state { OnOk result (state_of U.tables builder.new ≡ with_parameters (state_of U.tables builder.old) parameters.now) }
     ensures places { IfOk result (λ params. params ≡ places_from (length builder.old.env.now.identifiers) parameters.now) }
@@ -187,10 +189,9 @@ fn lower_body<U: ReadsUnit>(
 ) -> Result<(), Stop>
     requires names { IsNamed (seen names.now) (state_of U.tables builder.old) }
     requires covered { IsCovered (seen_arrow_body body) }
-    requires room { HasRoom (state_of U.tables builder.old) (4 * (nodes (seen_arrow_body body) + 1)) }
+    requires room { HasRoom (state_of U.tables builder.old) (share (nodes (seen_arrow_body body) + 1)) }
     ensures same_reference { builder.new.env.ghost_name ≡ builder.old.env.ghost_name }
-    ensures lowered { OnOk result (LowersBody (seen names.now) (seen_arrow_body body.entry) (state_of U.tables builder.old) (state_of U.tables builder.new)) }
-    ensures sound { OnOk result (StaysSound (IsSmallTree (seen_arrow_body body.entry)) (state_of U.tables builder.old) (state_of U.tables builder.new)) }
+    ensures lowered { OnOk result (LoweredBody (seen names.now) (seen_arrow_body body.entry) (state_of U.tables builder.old) (state_of U.tables builder.new)) }
     ensures memory { IfErr result (λ e. e ≡ Stop.OutOfMemory) }
 {
     match body {
@@ -232,7 +233,7 @@ fn lower_graph<U: ReadsUnit>(
     requires locals { AreLocals (seen names.now) parameters.now }
     requires apart { AreApart parameters.now }
     requires covered { IsCovered (seen_arrow_body body) }
-    requires room { HasRoom (begun_by env.old (function_tables names.now scope (U.tables unit).sites)) (4 * (nodes (seen_arrow_body body) + 2) + length parameters.now) }
+    requires room { HasRoom (begun_by env.old (function_tables names.now scope (U.tables unit).sites)) (share (nodes (seen_arrow_body body) + 2) + 2 * length parameters.now) }
     ensures graph { IfOk result (λ graph. IsGraphOf (seen names.now) (function_tables names.now scope (U.tables unit).sites) parameters.now (seen_arrow_body body.entry) env.old env.new graph.params (graph_of graph.built)) }
     ensures sound { IfOk result (λ graph. IsSoundGraph parameters.now (seen_arrow_body body.entry) env.old env.new (graph_of graph.built)) }
     ensures goes_on { OnOk result (first_named (λ name. is_reserved name) parameters.now ≡ None) }
@@ -319,14 +320,14 @@ pub fn lower(
     requires covered { IsCoveredFunction (seen_function_node function) }
     requires body { body_in (seen_function_node function) ≢ Absent }
     requires fresh { env.old.pairs ≡ [] }
-    requires room { (tables : FunctionTables) → HasRoom (begun_by env.old tables) (4 * nodes (seen_function_node function)) }
+    requires room { (tables : FunctionTables) → HasRoom (begun_by env.old tables) (share (nodes (seen_function_node function))) }
     ensures goes_on { OnOk result (stop_of (seen names.now) (seen_function_node function.entry) ≡ None) }
     ensures stopped { IfErr result (λ e. (d : Said) → e ≡ Stop.Diagnostic d → stop_of (seen names.now) (seen_function_node function.entry) ≡ Some d) }
     ensures refused { OnOk result (env.new.diagnostics ≡ env.old.diagnostics ++ refusals_of (seen names.now) (seen_function_node function.entry)) }
     ensures closed { IfOk result (λ f. IsClosed f.body) }
     ensures same_runs { IfOk result (λ f. refusals_of (seen names.now) (seen_function_node function.entry) ≡ [] → (scene : Scene) (world : World) → IsSceneOf (seen names.now) env.new.pairs scene world → SameRuns scene (seen_function_node function.entry) world f env.new.pairs) }
     ensures never_stuck { IfOk result (λ f. refusals_of (seen names.now) (seen_function_node function.entry) ≡ [] → (scene : Scene) (world : World) → IsSceneOf (seen names.now) env.new.pairs scene world → NeverStuck world f env.new.pairs) }
-    ensures held { IfOk result (λ f. HoldsCalls (seen_function_node function.entry) f) }
+    ensures held { IfOk result (λ f. HoldsNodes (seen_function_node function.entry) f) }
     ensures numbered { IfOk result (λ f. IsNumbered f.instructions f.body.blocks) }
     ensures linked { IfOk result (λ f. IsLinked f) }
     ensures functions { OnOk result (env.new.functions ≡ env.old.functions) }

@@ -4,4 +4,5 @@
 mod expression;
 pub mod function;
 mod graph_builder;
+mod span;
 mod statement;

@@ -1,31 +1,35 @@
 //! Lowering of statements, and of lists of them.
 
-ghost use Rattle.std.specs.Prelude.{◌≡◌, ◌*◌, map, OnOk, IfErr, Some};
+ghost use Rattle.std.specs.Prelude.{◌≡◌, map, OnOk, IfErr, None, Some};
 ghost use Rattle.rl_syntax.specs.Syntax.{nodes, nodes_of, pieces_of, syntax};
+ghost use Rattle.rl_ast.specs.StatementViews.{seen_statement};
 ghost use Rattle.rl_builder.specs.Builder.{state_of};
-ghost use Rattle.rl_lower.specs.Endings.{returned_from};
-ghost use Rattle.rl_lower.specs.Lowering.{HasRoom, LowersStatement, LowersStatements};
-ghost use Rattle.rl_lower.specs.Named.{IsNamed};
-ghost use Rattle.rl_model.specs.Covered.{AreCovered, IsCovered};
+ghost use Rattle.rl_lowered.specs.Named.{IsNamed};
+ghost use Rattle.rl_lowered.specs.Promised.{HasRoom, LowersStatement, LowersStatements, share};
+ghost use Rattle.rl_promises.specs.Covered.{AreCovered, IsCovered};
 ghost use Rattle.rl_names.specs.Seen.{seen};
-ghost use Rattle.rl_lower.specs.Sound.{AreSmallTrees, IsSmallTree, StaysSound};
+ghost use Rattle.rl_runs.specs.Moves.{returned_from};
 
 use crate::expression::{lower_expression, lower_value_to_temporary};
 use crate::graph_builder::GraphBuilder;
+use crate::span::span_of;
 use rl_ast::statement::{Statement, statement_view};
+use rl_ast::statement_part::block_statement_view;
 use rl_base::ids::EvaluationOrder;
 use rl_base::span::Span;
 use rl_base::stop::Stop;
 use rl_builder::unit_tables::ReadsUnit;
-use rl_grammar::sort::{StatementTree, StatementTrees};
+use rl_frames::if_frame::IfFrame;
+use rl_grammar::sort::{ExpressionTree, StatementTree, StatementTrees};
 use rl_hir::function::BlockKind;
 use rl_hir::instruction::{InstructionValue, Place, PrimitiveValue};
 use rl_hir::terminal::{ReturnVariant, Terminal, TerminalKind};
 use rl_names::names::FunctionNames;
+use rl_syntax::numbered::At;
 use std::alloc::Global;
 
 /// Ends the block by a return of a value, and goes on in a fresh block, which is unreachable.
-fn lower_return<U: ReadsUnit>(
+fn end_by_return<U: ReadsUnit>(
     builder: &mut GraphBuilder<'_, U>,
     span: Span,
     value: Place,
@@ -50,7 +54,89 @@ fn lower_return<U: ReadsUnit>(
     Ok(())
 }
 
+/// Lowers a `return` statement.
+fn lower_return<U: ReadsUnit>(
+    alloc: Global,
+    builder: &mut GraphBuilder<'_, U>,
+    names: &FunctionNames<'_>,
+    at: At,
+    argument: Option<ExpressionTree<'_>>,
+) -> Result<(), Stop>
+    requires names { IsNamed (seen names.now) (state_of U.tables builder.old) }
+    requires covered { IsCovered (seen_statement (Statement.Return at argument)) }
+    requires room { HasRoom (state_of U.tables builder.old) (share (nodes (seen_statement (Statement.Return at argument)))) }
+    ensures same_reference { builder.new.env.ghost_name ≡ builder.old.env.ghost_name }
+    ensures lowered { OnOk result (LowersStatement (seen names.now) (seen_statement (Statement.Return at argument.entry)) (state_of U.tables builder.old) (state_of U.tables builder.new)) }
+    ensures memory { IfErr result (λ e. e ≡ Stop.OutOfMemory) }
+{
+    match argument {
+        Some(argument) => {
+            let value = lower_expression(alloc, builder, names, argument)?;
+            end_by_return(builder, at.span, value)
+        }
+        None => {
+            let undefined = InstructionValue::Primitive(PrimitiveValue::Undefined);
+            let value = lower_value_to_temporary(builder, undefined, None)?;
+            end_by_return(builder, at.span, value)
+        }
+    }
+}
+
+/// Lowers an `if` statement without an alternate: its consequent, and then its test.
+#[cycle(statements)]
+fn lower_if_then<U: ReadsUnit>(
+    alloc: Global,
+    builder: &mut GraphBuilder<'_, U>,
+    names: &FunctionNames<'_>,
+    at: At,
+    test: ExpressionTree<'_>,
+    consequent: StatementTree<'_>,
+) -> Result<(), Stop>
+    requires names { IsNamed (seen names.now) (state_of U.tables builder.old) }
+    requires covered { IsCovered (seen_statement (Statement.If at test consequent None)) }
+    requires room { HasRoom (state_of U.tables builder.old) (share (nodes (seen_statement (Statement.If at test consequent None)))) }
+    ensures same_reference { builder.new.env.ghost_name ≡ builder.old.env.ghost_name }
+    ensures lowered { OnOk result (LowersStatement (seen names.now) (seen_statement (Statement.If at test.entry consequent.entry None)) (state_of U.tables builder.old) (state_of U.tables builder.new)) }
+    ensures memory { IfErr result (λ e. e ≡ Stop.OutOfMemory) }
+{
+    let mut frame = IfFrame::begin(builder, at.span, false)?;
+    lower_statement(alloc, builder, names, consequent)?;
+    frame.consequent(builder, span_of(consequent.tree))?;
+    let test = lower_expression(alloc, builder, names, test)?;
+    frame.finish(builder, test)?;
+    Ok(())
+}
+
+/// Lowers an `if` statement with an alternate: its consequent, its alternate, and then its test.
+#[cycle(statements)]
+fn lower_if_else<U: ReadsUnit>(
+    alloc: Global,
+    builder: &mut GraphBuilder<'_, U>,
+    names: &FunctionNames<'_>,
+    at: At,
+    test: ExpressionTree<'_>,
+    consequent: StatementTree<'_>,
+    alternate: StatementTree<'_>,
+) -> Result<(), Stop>
+    requires names { IsNamed (seen names.now) (state_of U.tables builder.old) }
+    requires covered { IsCovered (seen_statement (Statement.If at test consequent (Some alternate))) }
+    requires room { HasRoom (state_of U.tables builder.old) (share (nodes (seen_statement (Statement.If at test consequent (Some alternate))))) }
+    ensures same_reference { builder.new.env.ghost_name ≡ builder.old.env.ghost_name }
+    ensures lowered { OnOk result (LowersStatement (seen names.now) (seen_statement (Statement.If at test.entry consequent.entry (Some alternate.entry))) (state_of U.tables builder.old) (state_of U.tables builder.new)) }
+    ensures memory { IfErr result (λ e. e ≡ Stop.OutOfMemory) }
+{
+    let mut frame = IfFrame::begin(builder, at.span, true)?;
+    lower_statement(alloc, builder, names, consequent)?;
+    frame.consequent(builder, span_of(consequent.tree))?;
+    lower_statement(alloc, builder, names, alternate)?;
+    frame.alternate(builder, span_of(alternate.tree))?;
+    let test = lower_expression(alloc, builder, names, test)?;
+    frame.finish(builder, test)?;
+    Ok(())
+}
+
 /// Lowers a statement (`lowerStatement`).
+#[cycle(statements)]
 fn lower_statement<U: ReadsUnit>(
     alloc: Global,
     builder: &mut GraphBuilder<'_, U>,
@@ -59,33 +145,39 @@ fn lower_statement<U: ReadsUnit>(
 ) -> Result<(), Stop>
     requires names { IsNamed (seen names.now) (state_of U.tables builder.old) }
     requires covered { IsCovered (syntax statement.tree.now) }
-    requires room { HasRoom (state_of U.tables builder.old) (4 * nodes (syntax statement.tree.now)) }
+    requires room { HasRoom (state_of U.tables builder.old) (share (nodes (syntax statement.tree.now))) }
     ensures same_reference { builder.new.env.ghost_name ≡ builder.old.env.ghost_name }
     ensures lowered { OnOk result (LowersStatement (seen names.now) (syntax statement.entry.tree.now) (state_of U.tables builder.old) (state_of U.tables builder.new)) }
-    ensures sound { OnOk result (StaysSound (IsSmallTree (syntax statement.entry.tree.now)) (state_of U.tables builder.old) (state_of U.tables builder.new)) }
     ensures memory { IfErr result (λ e. e ≡ Stop.OutOfMemory) }
 {
     match statement_view(statement) {
+        Statement::Empty { at: _ } => Ok(()),
         Statement::Expression { at: _, expression } => {
             lower_expression(alloc, builder, names, expression)?;
             Ok(())
         }
-        Statement::Return { at, argument } => match argument {
-            Some(argument) => {
-                let value = lower_expression(alloc, builder, names, argument)?;
-                lower_return(builder, at.span, value)
+        Statement::Return { at, argument } => lower_return(alloc, builder, names, at, argument),
+        Statement::Block(block) => {
+            let block = block_statement_view(block);
+            lower_statements(alloc, builder, names, block.body)
+        }
+        Statement::If {
+            at,
+            test,
+            consequent,
+            alternate,
+        } => match alternate {
+            Some(alternate) => {
+                lower_if_else(alloc, builder, names, at, test, consequent, alternate)
             }
-            None => {
-                let undefined = InstructionValue::Primitive(PrimitiveValue::Undefined);
-                let value = lower_value_to_temporary(builder, undefined, None)?;
-                lower_return(builder, at.span, value)
-            }
+            None => lower_if_then(alloc, builder, names, at, test, consequent),
         },
         _ => unreachable!(),
     }
 }
 
 /// Lowers statements in order. Those behind a return stand in an unreachable block.
+#[cycle(statements)]
 pub(crate) fn lower_statements<U: ReadsUnit>(
     alloc: Global,
     builder: &mut GraphBuilder<'_, U>,
@@ -94,10 +186,9 @@ pub(crate) fn lower_statements<U: ReadsUnit>(
 ) -> Result<(), Stop>
     requires names { IsNamed (seen names.now) (state_of U.tables builder.old) }
     requires covered { AreCovered (pieces_of (map syntax statements.trees.now)) }
-    requires room { HasRoom (state_of U.tables builder.old) (4 * nodes_of (pieces_of (map syntax statements.trees.now))) }
+    requires room { HasRoom (state_of U.tables builder.old) (share (nodes_of (pieces_of (map syntax statements.trees.now)))) }
     ensures same_reference { builder.new.env.ghost_name ≡ builder.old.env.ghost_name }
     ensures lowered { OnOk result (LowersStatements (seen names.now) (pieces_of (map syntax statements.entry.trees.now)) (state_of U.tables builder.old) (state_of U.tables builder.new)) }
-    ensures sound { OnOk result (StaysSound (AreSmallTrees (pieces_of (map syntax statements.entry.trees.now))) (state_of U.tables builder.old) (state_of U.tables builder.new)) }
     ensures memory { IfErr result (λ e. e ≡ Stop.OutOfMemory) }
 {
     let mut left = statements;

@@ -1,7 +1,7 @@
 use Rattle.std.proofs.Common.{◌≡◌, ◌++◌, map}
 use Rattle.rl_syntax.specs.Sizes.{size_of}
 use Rattle.rl_syntax.specs.Syntax.{pieces_of, syntax}
-use Rattle.rl_model.specs.Fields.{texts_in}
+use Rattle.rl_promises.specs.Fields.{texts_in}
 use Rattle.rl_lower.proofs.function.copy_texts.Given as goal
 
 abbrev pub decreases-texts : goal.decreases-texts

@@ -3,8 +3,8 @@ use Rattle.rl_ast.specs.FunctionViews.{seen_arrow_body}
 use Rattle.std.specs.Str.{IsUtf8}
 use Rattle.std.proofs.lemmas.List.Elements.{All-nil, All-cons, All-same}
 use Rattle.rl_syntax.specs.Syntax.{Said, Pieces, Then, pieces_of, syntax}
-use Rattle.rl_model.specs.Fields.{texts_in}
-use Rattle.rl_lower.specs.Sound.{AreSmallTrees, IsSmallTree}
+use Rattle.rl_promises.specs.Fields.{texts_in}
+use Rattle.rl_lowered.specs.Sound.{AreSmallTrees, IsSmallTree}
 use Rattle.rl_lower.proofs.Answering.{ok_so}
 use Rattle.rl_lower.proofs.function.directives_of.Goals as goal
 

@@ -1,5 +1,5 @@
 use Rattle.std.proofs.Common.{◌≡◌, codes, drop}
-use Rattle.rl_model.specs.Rows.{first_named, is_text}
+use Rattle.rl_promises.specs.Rows.{first_named, is_text}
 use Rattle.rl_lower.proofs.function.find_this.Given as goal
 
 -- The rest is searched.

@@ -1,21 +1,22 @@
-use Rattle.std.proofs.Common.{◌≡◌, Some, List, ap, sym, ◌∙◌, refl, subst, length}
+use Rattle.std.proofs.Common.{◌≡◌, Some, List, [], ap, sym, ◌∙◌, refl, subst, length}
 use Rattle.rl_ast.specs.FunctionNodes.{seen_function_node}
 use Rattle.rl_ast.specs.declared.function_node.FunctionNode.{FunctionNode}
 use Rattle.rl_ast.specs.declared.function_node.FunctionNode.TheVariants as function_node
 use Rattle.rl_base.specs.declared.span.Span.{Span}
-use Rattle.rl_model.specs.Rows.{stop_of}
+use Rattle.rl_promises.specs.Rows.{stop_of}
 use Rattle.rl_hir.specs.declared.environment.Environment.{Environment}
 use Rattle.rl_hir.specs.Blocks.{Pair as BlockPair}
 use Rattle.rl_hir.specs.declared.function.HirFunction.{HirFunction}
 use Rattle.rl_lower.proofs.Answering.{says_nothing}
-use Rattle.rl_lower.proofs.FunctionCalls.{lower_held}
+use Rattle.rl_lower.proofs.FunctionHeld.{lower_held}
 use Rattle.rl_lower.proofs.FunctionGraphs.{graph_closed, identifiers_fit, types_fit, lower_bounded, lower_never_stuck, lower_fn_type, lower_functions, lower_given, lower_pairs, lower_refused, lower_room, lower_same_runs}
 use Rattle.rl_lower.proofs.FunctionTrees.{IsFunction, function_form}
-use Rattle.rl_lower.specs.Named.{AreDeclaredAt}
+use Rattle.rl_lower.specs.Begun.{begun_by, function_tables}
+use Rattle.rl_lower.specs.Parameters.{AreDeclaredAt}
 use Rattle.rl_lower.proofs.WellFormed.{graph_linked, graph_numbered}
 use Rattle.rl_lower.proofs.SoundGraphs.{function_identifiers, function_listed, function_pairs, function_places}
-use Rattle.rl_model.specs.Covered.{IsCoveredFunction}
-use Rattle.rl_model.specs.Fields.{AreGiven}
+use Rattle.rl_promises.specs.Covered.{IsCoveredFunction}
+use Rattle.rl_promises.specs.Fields.{AreGiven}
 use Rattle.rl_names.specs.Functions.{body_in}
 use Rattle.rl_names.specs.Locals.{AreApart, AreLocals}
 use Rattle.rl_names.specs.Names.{at_of}
@@ -42,7 +43,8 @@ lowered c = record {
   instructions = c.in_ok-graph.graph.built.instructions;
 }
 
-whole_form : (f : FunctionNode) (body : Syntax) → IsCoveredFunction (seen_function_node f) → body ≡ body_in (seen_function_node f) → IsFunction (seen_function_node f) body
+whole_form : (f : FunctionNode) (body : Syntax) → IsCoveredFunction (seen_function_node f) → body ≡ body_in (seen_function_node f)
+    → IsFunction (seen_function_node f) body
 whole_form f body covered is = subst (IsFunction (seen_function_node f)) (sym is) (function_form f covered)
 
 are_apart : (ps qs : List Parameter) → ps ≡ qs → AreApart qs → AreApart ps
@@ -57,17 +59,20 @@ span_is f at is = ap (λ (a : At). a.span) is ∙ span_shown f
 
 pub lower_graph-requires-clause-room : goal.lower_graph-requires-clause-room
 lower_graph-requires-clause-room c =
-    lower_room _ _ (seen c.args.names.now) _ _ (whole_form c.args.function _ c.requires.covered c.parts_of-parts.ensures.body) (c.as_slice-2.ensures ∙ c.in_ok-parameters.ensures) (c.requires.room _)
+    lower_room _ _ (seen c.args.names.now) _ (begun_by c.args.env.now (function_tables c.args.names.now c.parts_of-parts.result.at.scope [])) (whole_form c.args.function _ c.requires.covered c.parts_of-parts.ensures.body)
+    (c.as_slice-2.ensures ∙ c.in_ok-parameters.ensures) (c.requires.room (function_tables c.args.names.now c.parts_of-parts.result.at.scope []))
 
 pub create_temporary_place-requires-clause-identifiers : goal.create_temporary_place-requires-clause-identifiers
 create_temporary_place-requires-clause-identifiers c =
     identifiers_fit _ _ _ _ _ _ _ _ c.in_ok-graph.ensures.graph (are_apart _ _ (c.as_slice-2.ensures ∙ c.in_ok-parameters.ensures) c.requires.locals.apart)
-    (lower_room _ _ (seen c.args.names.now) _ _ (whole_form c.args.function _ c.requires.covered c.parts_of-parts.ensures.body) (c.as_slice-2.ensures ∙ c.in_ok-parameters.ensures) (c.requires.room _))
+    (lower_room _ _ (seen c.args.names.now) _ (begun_by c.args.env.now (function_tables c.args.names.now c.parts_of-parts.result.at.scope [])) (whole_form c.args.function _ c.requires.covered c.parts_of-parts.ensures.body)
+    (c.as_slice-2.ensures ∙ c.in_ok-parameters.ensures) (c.requires.room (function_tables c.args.names.now c.parts_of-parts.result.at.scope [])))
 
 pub create_temporary_place-requires-clause-types : goal.create_temporary_place-requires-clause-types
 create_temporary_place-requires-clause-types c =
     types_fit _ _ _ _ _ _ _ _ c.in_ok-graph.ensures.graph (are_apart _ _ (c.as_slice-2.ensures ∙ c.in_ok-parameters.ensures) c.requires.locals.apart)
-    (lower_room _ _ (seen c.args.names.now) _ _ (whole_form c.args.function _ c.requires.covered c.parts_of-parts.ensures.body) (c.as_slice-2.ensures ∙ c.in_ok-parameters.ensures) (c.requires.room _))
+    (lower_room _ _ (seen c.args.names.now) _ (begun_by c.args.env.now (function_tables c.args.names.now c.parts_of-parts.result.at.scope [])) (whole_form c.args.function _ c.requires.covered c.parts_of-parts.ensures.body)
+    (c.as_slice-2.ensures ∙ c.in_ok-parameters.ensures) (c.requires.room (function_tables c.args.names.now c.parts_of-parts.result.at.scope [])))
 
 pub returns-clause-refused : goal.returns-clause-refused
 returns-clause-refused c =
@@ -75,7 +80,7 @@ returns-clause-refused c =
     ∙ lower_refused _ _ _ _ _ _ _ _ _ (whole_form c.args.function _ c.requires.covered c.parts_of-parts.ensures.body) c.requires.locals.declared (c.as_slice-2.ensures ∙ c.in_ok-parameters.ensures) (are_apart _ _ (c.as_slice-2.ensures ∙ c.in_ok-parameters.ensures) c.requires.locals.apart) c.in_ok-graph.ensures.graph
 
 pub returns-clause-closed : goal.returns-clause-closed
-returns-clause-closed c = graph_closed _ _ _ _ _ _ _ _ c.in_ok-graph.ensures.graph (are_apart _ _ (c.as_slice-2.ensures ∙ c.in_ok-parameters.ensures) c.requires.locals.apart)
+returns-clause-closed c = graph_closed _ _ _ _ _ _ _ _ c.in_ok-graph.ensures.graph (are_apart _ _ (c.as_slice-2.ensures ∙ c.in_ok-parameters.ensures) c.requires.locals.apart) c.requires.fresh
 
 pub returns-clause-same_runs : goal.returns-clause-same_runs
 returns-clause-same_runs c supported =
@@ -124,7 +129,8 @@ returns-clause-paired c =
 
 pub returns-clause-held : goal.returns-clause-held
 returns-clause-held c =
-    lower_held _ _ _ _ _ _ _ _ _ (whole_form c.args.function _ c.requires.covered c.parts_of-parts.ensures.body) (are_apart _ _ (c.as_slice-2.ensures ∙ c.in_ok-parameters.ensures) c.requires.locals.apart) c.in_ok-graph.ensures.graph
+    lower_held _ _ _ _ _ _ _ _ _ (whole_form c.args.function _ c.requires.covered c.parts_of-parts.ensures.body) (are_apart _ _ (c.as_slice-2.ensures ∙ c.in_ok-parameters.ensures) c.requires.locals.apart)
+    c.requires.fresh c.in_ok-graph.ensures.graph
     (lowered c) refl refl
 
 pub returns-clause-numbered : goal.returns-clause-numbered

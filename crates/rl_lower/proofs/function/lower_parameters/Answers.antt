@@ -1,12 +1,12 @@
-use Rattle.std.proofs.Common.{◌≡◌, ◌+◌, ◌++◌, List, ◌∷◌, All, None, Some, false, ℕ, length, drop, subst, ap, sym, ◌∙◌, arith}
+use Rattle.std.proofs.Common.{◌≡◌, ◌+◌, ◌*◌, ◌++◌, List, ◌∷◌, All, None, Some, false, ℕ, length, drop, subst, ap, sym, ◌∙◌, arith}
 use Rattle.std.proofs.lemmas.List.{drop_more}
 use Rattle.std.proofs.lemmas.List.Elements.{All-head, All-tail}
 use Rattle.rl_base.specs.Reserved.{is_reserved}
 use Rattle.rl_builder.specs.Builder.{State, state_of}
 use Rattle.rl_builder.specs.Names.{resolved}
 use Rattle.rl_hir.specs.Pairs.{identifier_of}
-use Rattle.rl_model.specs.Fields.{places_from}
-use Rattle.rl_model.specs.Rows.{first_named}
+use Rattle.rl_promises.specs.Fields.{places_from}
+use Rattle.rl_promises.specs.Rows.{first_named}
 use Rattle.rl_names.specs.Locals.{AreApart}
 use Rattle.rl_names.specs.declared.parameters.Parameter.{Parameter}
 use Rattle.rl_lower.specs.Parameters.{with_parameters}
@@ -30,7 +30,7 @@ loop-parameter-preserved g c =
     let moved = resolved_fresh s _ x.name x.symbol.0 (Some x.declaration) none state in
     record {
       same_reference = c.in_ok-identifier.ensures.same_reference ∙ c.loop-parameter.invariant.same_reference;
-      room = fresh_room s _ x.name x.symbol.0 (Some x.declaration) (length (drop index parameters)) (length rest) moved (omega (arith, long)) c.loop-parameter.invariant.room;
+      room = fresh_room s _ x.name x.symbol.0 (Some x.declaration) (2 * length (drop index parameters)) (2 * length rest) moved (omega (arith, long)) c.loop-parameter.invariant.room;
       state = ap (λ (t : State). with_parameters t rest) state ∙ sym (ap (λ (l : List Parameter). with_parameters s l) split) ∙ c.loop-parameter.invariant.state;
       places = fresh_place s _ x c.in_ok-identifier.identifier.0 rest c.loop-parameter.params _ _ moved none c.in_ok-identifier.ensures.resolves.identifier c.in_ok-push.ensures.ok
           (ap (λ (l : List Parameter). c.loop-parameter.params ++ places_from (length c.loop-parameter.builder.env.now.identifiers) l) (sym split) ∙ c.loop-parameter.invariant.places);
