@@ -6,7 +6,7 @@ use Rattle.rl_syntax.specs.Syntax.{Syntax}
 use Rattle.rl_ast.specs.Units.{Spells}
 use Rattle.rl_base.specs.Pieces.{AppendsPrefix}
 use Rattle.rl_hir.specs.declared.function.Lowered.{Lowered}
-use Rattle.rl_model.specs.Headline.{IsLowered}
+use Rattle.rl_promises.specs.Headline.{IsLowered}
 use Rattle.rl_semantic.specs.Rules.{least_broken}
 use Rattle.rl_unit.specs.Answers.{RefusesKnown, WritesKnown}
 use Rattle.rl_unit.specs.declared.run.Status.{Status}

@@ -119,6 +119,45 @@ fn push_value(
             write!(line, "${callee}")?;
             push_arguments(arguments.as_slice(), line)
         }
+        other => push_operation(alloc, other, line),
+    }
+}
+
+/// As `push_value`, for constructions, operators before a value, properties and stores.
+fn push_operation(
+    alloc: Global,
+    value: &InstructionValue,
+    line: &mut String,
+) -> Result<(), OutOfMemory> {
+    match value {
+        InstructionValue::StoreLocal { place, value, .. } => {
+            let place = place.identifier.0;
+            let value = value.identifier.0;
+            write!(line, "${place} := ${value}")?;
+            Ok(())
+        }
+        InstructionValue::UnaryExpression { operator, value } => {
+            let operator = operator.as_str();
+            let value = value.identifier.0;
+            write!(line, "{operator} ${value}")?;
+            Ok(())
+        }
+        InstructionValue::Await(value) => {
+            let value = value.identifier.0;
+            write!(line, "await ${value}")?;
+            Ok(())
+        }
+        InstructionValue::NewExpression { callee, arguments } => {
+            let callee = callee.identifier.0;
+            write!(line, "new ${callee}")?;
+            push_arguments(arguments.as_slice(), line)
+        }
+        InstructionValue::ComputedLoad { object, property } => {
+            let object = object.identifier.0;
+            let property = property.identifier.0;
+            write!(line, "${object}[${property}]")?;
+            Ok(())
+        }
         listed => push_listed(alloc, listed, line),
     }
 }

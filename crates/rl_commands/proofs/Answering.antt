@@ -1,5 +1,5 @@
 -- The outputs of `trace` and of `source_trace` for a unit, and their answers.
-use Rattle.std.proofs.Common.{◌≡◌, ◌≢◌, inl, inr, ℕ, List, [], Option, Some, None, refl, ap, sym, ◌∙◌}
+use Rattle.std.proofs.Common.{◌≡◌, ◌≢◌, inl, inr, ℕ, true, List, [], Option, Some, None, refl, ap, sym, subst, ◌∙◌}
 use Rattle.std.proofs.lemmas.Option.{none-some, same_Some}
 use Rattle.std.specs.Option.{option_map}
 use Rattle.rl_base.specs.declared.diagnostic.Diagnostic.{Diagnostic}
@@ -12,10 +12,10 @@ use Rattle.rl_machine.specs.declared.trace.Answer.{Answer}
 use Rattle.rl_machine.specs.declared.trace.Assignment.{Assignment}
 use Rattle.rl_machine.specs.declared.trace.Trace.{Trace}
 use Rattle.rl_machine.specs.declared.trace.Value.{Value}
-use Rattle.rl_model.specs.Headline.{IsLowered}
+use Rattle.rl_promises.specs.Headline.{IsLowered}
 use Rattle.rl_model.specs.Marked.{marked}
-use Rattle.rl_model.specs.Rows.{refusals_of, stop_of}
-use Rattle.rl_model.specs.Source.{function_at, source_trace_of}
+use Rattle.rl_promises.specs.Rows.{refusals_of, stop_of}
+use Rattle.rl_model.specs.Source.{function_at, is_orderly, source_trace_of}
 use Rattle.rl_model.specs.Units.{names_of}
 use Rattle.rl_model.specs.Worlds.{graph_trace_of}
 use Rattle.rl_syntax.specs.Syntax.{Syntax}
@@ -80,15 +80,15 @@ is_marked l (Some number) start arguments answers t none some = absurd (absent (
     absent : None ≡ Some t → ⊥
     absent = none-some t
 
--- The two traces of the marked function are equal.
+-- The two traces of the marked function are equal, if it is orderly.
 pub same_traces : (u : Syntax) (l : Lowered) (function : Option ℕ) (start : List Assignment) (arguments : List Value)
-    → (answers : List Answer) (source graph : Trace) → IsLowered u l → function ≡ None
+    → (answers : List Answer) (source graph : Trace) → IsLowered u l → function ≡ None → is_orderly u (node_of l function) ≡ true
     → source_trace_of u (node_of l function) start arguments answers ≡ Some source
     → graph_trace_of l (id_of function) start arguments answers ≡ Some graph → source ≡ graph
-same_traces u l function start arguments answers source graph lowers is by_source by_graph =
+same_traces u l function start arguments answers source graph lowers is orderly by_source by_graph =
     same_Some source graph
     (sym by_source ∙ ap (λ (f : Option ℕ). source_trace_of u (node_of l f) start arguments answers) is
-    ∙ ap Some (sym (lowers.main.same_runs start arguments answers))
+    ∙ ap Some (sym (lowers.orderly (subst (λ (f : Option ℕ). is_orderly u (node_of l f) ≡ true) is orderly) start arguments answers))
     ∙ sym (ap (λ (f : Option ℕ). graph_trace_of l (id_of f) start arguments answers) is) ∙ by_graph)
 
 -- Answers of `trace`.

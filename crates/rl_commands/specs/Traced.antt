@@ -5,7 +5,7 @@ use Rattle.rl_base.specs.declared.ids.FunctionId.{FunctionId}
 use Rattle.rl_hir.specs.declared.function.InnerFunction.{InnerFunction}
 use Rattle.rl_hir.specs.declared.function.Lowered.{Lowered}
 use Rattle.rl_machine.specs.declared.trace.Trace.{Trace}
-use Rattle.rl_model.specs.Headline.{IsLowered}
+use Rattle.rl_promises.specs.Headline.{IsLowered}
 use Rattle.rl_model.specs.Source.{is_orderly, source_trace_of}
 use Rattle.rl_model.specs.Worlds.{function_in, graph_trace_of}
 use Rattle.rl_semantic.specs.Rules.{least_broken}

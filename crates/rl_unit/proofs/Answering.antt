@@ -10,8 +10,8 @@ use Rattle.rl_syntax.specs.Syntax.{Syntax}
 use Rattle.rl_ast.specs.Units.{Spells}
 use Rattle.rl_ast.proofs.Units.{one_unit}
 use Rattle.rl_hir.specs.declared.function.Lowered.{Lowered}
-use Rattle.rl_model.specs.Headline.{LowersTo}
-use Rattle.rl_model.specs.Rows.{refusals_of, stop_of}
+use Rattle.rl_promises.specs.Headline.{LowersTo}
+use Rattle.rl_promises.specs.Rows.{refusals_of, stop_of}
 use Rattle.rl_model.specs.Marked.{marked}
 use Rattle.rl_model.specs.Units.{names_of}
 use Rattle.rl_unit.specs.Answers.{AnswersSteadily, Explains, IsAnswer, IsOutput, IsComplete, IsMalformed, IsPending, IsRefused, IsReportOf, IsStopped, WritesKnown, ReadsWhole, Refuses, RefusesKnown, lines, output, pending_line, report_of}

@@ -12,8 +12,8 @@ use Rattle.rl_grammar.specs.Fields.{maybe}
 use Rattle.rl_grammar.specs.Grammar.{fits}
 use Rattle.rl_grammar.specs.declared.kind.Field.TheVariants as field
 use Rattle.rl_grammar.specs.declared.kind.Kind.TheVariants as kind
-use Rattle.rl_model.proofs.Covering.{function_covered}
-use Rattle.rl_model.specs.Covered.{IsCoveredFunction, uncovered_in}
+use Rattle.rl_promises.proofs.Covering.{function_covered}
+use Rattle.rl_promises.specs.Covered.{IsCoveredFunction, uncovered_in}
 use Rattle.rl_model.specs.Marked.{marked}
 use Rattle.rl_names.proofs.Marks.{HasBody, keeps_marked, one_marked}
 use Rattle.rl_names.specs.Functions.{body_in}

@@ -6,7 +6,7 @@ use Rattle.std.specs.declared.alloc.Global.{Global}
 use Rattle.rl_syntax.specs.Limits.{IsTooLarge, most_read}
 use Rattle.rl_ast.specs.Units.{Spells}
 use Rattle.rl_hir.specs.declared.function.Lowered.{Lowered}
-use Rattle.rl_model.specs.Headline.{LowersTo}
+use Rattle.rl_promises.specs.Headline.{LowersTo}
 use Rattle.rl_unit.specs.Answers.{IsComplete, WritesKnown}
 use Rattle.rl_unit.specs.Outcomes.{ComesTo, ComesToKnown, outcome_status, outcome_text}
 use Rattle.rl_unit.specs.declared.run.Outcome.{Outcome}

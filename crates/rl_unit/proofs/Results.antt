@@ -1,9 +1,10 @@
 -- The result of the marked function is that of its unit.
-use Rattle.std.proofs.Common.{◌≡◌, ℕ, ◌<◌, Option, None, Some, List, [], All, length, slice_get, refl, ap, sym, subst, ◌∙◌}
+use Rattle.std.proofs.Common.{◌≡◌, ℕ, ◌<◌, true, Option, None, Some, List, [], All, length, slice_get, refl, ap, sym, subst, ◌∙◌}
 use Rattle.std.proofs.lemmas.Option.{none-some, slice_get_within}
 use Rattle.std.specs.Option.{option_map}
 use Rattle.rl_ast.proofs.MarkedFunctions.{marked_fits}
 use Rattle.rl_ast.specs.FunctionNodes.{seen_function_node}
+use Rattle.rl_ast.specs.FunctionTrees.{is_function}
 use Rattle.rl_ast.specs.Marked.{first, marked_functions}
 use Rattle.rl_ast.specs.declared.function_node.FunctionNode.{FunctionNode}
 use Rattle.rl_base.specs.declared.span.Span.{Span}
@@ -12,21 +13,24 @@ use Rattle.rl_bindings.specs.declared.event.Bound.{Bound}
 use Rattle.rl_hir.specs.declared.function.Identifier.{Identifier}
 use Rattle.rl_hir.specs.declared.function.Lowered.{Lowered}
 use Rattle.rl_hir.specs.declared.function.Pair.{Pair}
-use Rattle.rl_model.proofs.Apart.{calls_apart}
-use Rattle.rl_model.proofs.PlainFunctions.{covered_plain}
-use Rattle.rl_model.specs.Covered.{IsCoveredFunction, uncovered_in}
-use Rattle.rl_model.specs.Fields.{HaveSymbolsOf, IsNamedPair}
-use Rattle.rl_model.specs.Scenes.{written_scene}
+use Rattle.rl_promises.proofs.Alike.{same_as_written}
+use Rattle.rl_promises.proofs.CountedOnce.{function_placed}
+use Rattle.rl_promises.proofs.CoveredNames.{covered_nameless}
+use Rattle.rl_promises.specs.Covered.{IsCoveredFunction, uncovered_in}
+use Rattle.rl_promises.specs.Fields.{HaveSymbolsOf, IsNamedPair}
+use Rattle.rl_promises.specs.Headline.{IsGraph}
+use Rattle.rl_model.specs.PortedScenes.{ported_scene}
+use Rattle.rl_model.specs.Scene.{Scene}
 use Rattle.rl_model.specs.Units.{names_of}
 use Rattle.rl_model.specs.Worlds.{graphs, world_in}
 use Rattle.rl_model.specs.Code.{world_of}
-use Rattle.rl_model.proofs.CoveredWorlds.{SharesNothing, graph_alone, source_alone}
+use Rattle.rl_promises.proofs.CoveredWorlds.{SharesNothing, graph_alone, source_alone}
 use Rattle.rl_hir.specs.Pairs.{identifier_of}
 use Rattle.rl_hir.specs.declared.function.InnerFunction.{InnerFunction}
-use Rattle.rl_lower.specs.Simulation.{SharesVariables}
+use Rattle.rl_runs.specs.Continuations.{SharesVariables}
 use Rattle.std.proofs.lemmas.List.Elements.{All-nil}
 use Rattle.rl_model.specs.Marked.{marked}
-use Rattle.rl_names.proofs.LocalParameters.{locals_are_parameters}
+use Rattle.rl_promises.proofs.LocalParameters.{locals_are_parameters}
 use Rattle.rl_names.proofs.UnitTexts.{unit_texts}
 use Rattle.rl_names.specs.Locals.{HasTexts, LocalsAreParameters}
 use Rattle.rl_names.specs.Names.{Names, function_names}
@@ -48,7 +52,7 @@ may_lower u f names r rules found none same =
     let tree : Syntax = seen_function_node f in
     let covered : IsCoveredFunction tree = is_covered u tree found none in
     let has = has_body u tree rules found in
-    let plain = covered_plain tree (marked_fits u tree found r.spells.grammar) covered in
+    let plain = covered_nameless tree (marked_fits u tree found r.spells.grammar) covered in
     record {
       covered = covered;
       body = body_there f covered has;
@@ -56,7 +60,8 @@ may_lower u f names r rules found none same =
           (locals_are_parameters u tree r.spells.grammar r.spells.numbers found plain rules (unit_nodes r.bytes u r.spells r.within));
       texts = subst HasTexts (sym same) (unit_texts u tree r.spells.spelled.writable);
       few = few_nodes r.bytes u tree r.spells r.within found;
-      apart = calls_apart r.bytes u tree r.spells found;
+      from = (function_placed r.bytes u tree r.spells found).0;
+      placed = (function_placed r.bytes u tree r.spells found).1;
       fits = marked_fits u tree found r.spells.grammar;
       small = unit_small r.bytes u tree r.spells (within_bytes r.bytes r.within) found;
     }
@@ -75,9 +80,13 @@ pairs_of_unit u f identifiers pairs named place default within =
     let here = named place default within in
     declared_within (symbols_in u) _ here.at here.declared
 
+-- The scene of the port's run of a function.
+abbrev scene_of : (u f : Syntax) → Scene
+scene_of u f = ported_scene u (names_of u).declared f
+
 -- Neither the source nor the graph of a covered function shares a variable.
 shares_nothing : (u : Syntax) (f : Syntax) (l : Lowered) → IsCoveredFunction f → marked u ≡ f → l.inner ≡ []
-    → SharesVariables (identifier_of l.pairs) (written_scene u f).world (world_in l l.function (graphs l.inner))
+    → SharesVariables (identifier_of l.pairs) (scene_of u f).world (world_in l l.function (graphs l.inner))
 shares_nothing u f l covered is none = record {
   opens = λ symbol. source.opens symbol ∙ sym (graph.opens symbol);
   keeps = source.keeps ∙ sym graph.keeps;
@@ -87,7 +96,7 @@ shares_nothing u f l covered is none = record {
     IsKnown : ℕ → Type 0
     IsKnown symbol = (identifier : ℕ) × (identifier_of l.pairs symbol ≡ Some identifier)
 
-    source : SharesNothing (written_scene u f).world
+    source : SharesNothing (scene_of u f).world
     source = subst (λ (m : Syntax). SharesNothing (world_of (names_of u) (length (symbols_in u)) (names_of u).declared m f)) (sym is)
         (source_alone (names_of u) (length (symbols_in u)) (names_of u).declared f covered)
 
@@ -100,16 +109,20 @@ pub unit_result : (u f : Syntax) (names : Names) (l : Lowered) → IsRead u → 
 unit_result u f names l r rules found none same result =
     let is : f ≡ marked u = marked_is u f found in
     let whole : IsResultOf (function_names u (marked u)) (marked u) l = subst (λ (t : Syntax). IsResultOf (function_names u t) t l) is (subst (λ (n : Names). IsResultOf n f l) same result) in
+    let known : IsCoveredFunction (marked u) = subst IsCoveredFunction is (is_covered u f found none) in
+    let fits : is_function (marked u) ≡ true = subst (λ (t : Syntax). is_function t ≡ true) is (marked_fits u f found r.spells.grammar) in
+    let main : IsGraph (scene_of u (marked u)) (marked u) l (graphs l.inner) l.function = whole.main (scene_of u (marked u)) (record {
+      named = refl;
+      ported = refl;
+      shares = shares_nothing u (marked u) l known refl whole.inner;
+    }) in
     record {
       rules = rules;
       lowers = record {
         covered = ap (λ (t : Syntax). first (uncovered_in t)) (sym is) ∙ none;
         supported = whole.supported;
-        main = whole.main (written_scene u (marked u)) (record {
-          named = refl;
-          written = refl;
-          shares = shares_nothing u (marked u) l (subst IsCoveredFunction is (is_covered u f found none)) refl whole.inner;
-        });
+        main = main;
+        orderly = same_as_written u (names_of u).declared fits known (world_in l l.function (graphs l.inner)) l.function l.pairs main.same_runs;
         inner = whole.inner;
         identifiers = whole.identifiers;
         symbols = pairs_of_unit u (marked u) l.identifiers l.pairs whole.identifiers.pairs.named;

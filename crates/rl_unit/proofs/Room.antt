@@ -1,5 +1,5 @@
 -- The marked function of a unit within the limits leaves room for its graph.
-use Rattle.std.proofs.Common.{◌≡◌, ℕ, ◌+◌, ◌*◌, ◌<◌, ◌≤◌, inl, inr, Some, List, [], length, ap, arith}
+use Rattle.std.proofs.Common.{◌≡◌, ℕ, ◌+◌, ◌*◌, ◌<◌, ◌≤◌, inl, inr, Some, List, [], length, ap, ◌∙◌, arith}
 use Rattle.rl_text.specs.Measure.{nodes_in}
 use Rattle.rl_syntax.specs.Limits.{IsTooLarge}
 use Rattle.rl_syntax.specs.Syntax.{Syntax, nodes}
@@ -12,9 +12,9 @@ use Rattle.rl_hir.specs.declared.function.Identifier.{Identifier}
 use Rattle.rl_hir.specs.Blocks.{Pair as BlockPair}
 use Rattle.rl_hir.specs.declared.function.HirFunction.{HirFunction}
 use Rattle.rl_hir.specs.declared.function.InnerFunction.{InnerFunction}
-use Rattle.rl_model.specs.Size.{function_size, inner_size}
+use Rattle.rl_promises.specs.Size.{function_size, inner_size}
 use Rattle.rl_lower.specs.Begun.{FunctionTables, begun_by}
-use Rattle.rl_lower.specs.Lowering.{HasRoom}
+use Rattle.rl_lowered.specs.Promised.{HasRoom, share}
 
 pub unit_nodes : (bytes : List ℕ) (u : Syntax) → Spells bytes u → (IsTooLarge bytes → ⊥) → nodes u ≤ 65536
 unit_nodes bytes u spells small =
@@ -36,13 +36,10 @@ alone_bounded u f h found few inner none =
     omega (arith, few, nothing, inside)
 
 -- An environment in which nothing was made leaves room.
-pub fresh_room : (env : Environment) (n : ℕ) → env.next_block ≡ 0 → env.next_type ≡ 0 → env.identifiers ≡ [] → n ≤ 65536 → (tables : FunctionTables) → HasRoom (begun_by env tables) (4 * n)
-fresh_room env n blocks types identifiers few tables =
-    let none : length env.identifiers ≡ 0 = ap (λ (l : List Identifier). length l) identifiers in
-    record {
-      blocks = omega (arith, blocks, few);
-      types = omega (arith, types, few);
-      identifiers = omega (arith, none, few);
-      instructions = omega (arith, few);
-      completed = omega (arith, few);
-    }
+pub fresh_room : (env fresh : Environment) (n : ℕ) → env ≡ fresh → fresh.next_block ≡ 0 → fresh.next_type ≡ 0 → fresh.identifiers ≡ []
+    → n ≤ 65536 → (tables : FunctionTables) → HasRoom (begun_by env tables) (share n)
+fresh_room env fresh n is blocks types identifiers few tables =
+    let none : length env.identifiers ≡ 0 = ap (λ (e : Environment). length e.identifiers) is ∙ ap (λ (l : List Identifier). length l) identifiers in
+    let no_block : env.next_block ≡ 0 = ap (λ (e : Environment). e.next_block) is ∙ blocks in
+    let no_type : env.next_type ≡ 0 = ap (λ (e : Environment). e.next_type) is ∙ types in
+    omega (arith, no_block, no_type, none, few)

@@ -11,10 +11,11 @@ use Rattle.rl_syntax.specs.Syntax.{Syntax}
 use Rattle.rl_ast.specs.Units.{Spells}
 use Rattle.rl_base.specs.Diagnostics.{line_of}
 use Rattle.rl_base.specs.declared.diagnostic.Diagnostic.{Diagnostic}
-use Rattle.rl_model.specs.Rows.{IsSupported, refusals_of, stop_of}
+use Rattle.rl_promises.specs.Covered.{pending}
+use Rattle.rl_promises.specs.Rows.{IsSupported, refusals_of, stop_of}
 use Rattle.rl_model.specs.Marked.{marked}
-use Rattle.rl_model.specs.Headline.{IsLowered}
-use Rattle.rl_model.specs.Units.{IsUnit, names_of, pending}
+use Rattle.rl_promises.specs.Headline.{IsLowered}
+use Rattle.rl_model.specs.Units.{IsUnit, names_of}
 use Rattle.rl_semantic.specs.Rules.{least_broken}
 use Rattle.rl_unit.specs.declared.run.Status.{Status}
 use Rattle.rl_unit.specs.declared.run.Status.TheVariants.{Done, Reported, Malformed, TooLarge, ReadFault, WriteFault, OutOfMemory, Usage}

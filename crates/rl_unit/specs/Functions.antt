@@ -2,27 +2,26 @@
 use Rattle.std.specs.Prelude.{◌≡◌, ◌≢◌, ℕ, ◌*◌, ◌≤◌, true, Some, None, List, []}
 use Rattle.rl_ast.specs.FunctionTrees.{is_function}
 use Rattle.rl_ast.specs.Units.{Spells}
-use Rattle.rl_base.specs.Distinct.{AreDistinct}
 use Rattle.rl_hir.specs.Listing.{lowered}
 use Rattle.rl_hir.specs.declared.function.Lowered.{Lowered}
 use Rattle.rl_lower.specs.Scenes.{IsSceneOf}
-use Rattle.rl_lower.specs.Sound.{IsSmallTree}
-use Rattle.rl_model.specs.Calls.{calls_in}
-use Rattle.rl_model.specs.Covered.{IsCoveredFunction}
-use Rattle.rl_model.specs.Fields.{HasIdentifiersOf}
-use Rattle.rl_model.specs.Headline.{IsGraph, IsLowered}
-use Rattle.rl_model.specs.Rows.{IsSupported, refusals_of, stop_of}
-use Rattle.rl_model.specs.Size.{function_size}
+use Rattle.rl_lowered.specs.Sound.{IsSmallTree}
+use Rattle.rl_promises.specs.Covered.{IsCoveredFunction, pending}
+use Rattle.rl_promises.specs.Fields.{HasIdentifiersOf}
+use Rattle.rl_promises.specs.Headline.{IsGraph, IsLowered}
+use Rattle.rl_promises.specs.Rows.{IsSupported, refusals_of, stop_of}
+use Rattle.rl_promises.specs.Size.{function_size}
 use Rattle.rl_model.specs.Marked.{marked}
 use Rattle.rl_model.specs.Scene.{Scene}
-use Rattle.rl_model.specs.Units.{names_of, pending}
+use Rattle.rl_model.specs.Units.{names_of}
 use Rattle.rl_model.specs.Worlds.{graphs, world_in}
 use Rattle.rl_names.specs.Functions.{body_in}
 use Rattle.rl_names.specs.Locals.{HasTexts, LocalsAreParameters}
 use Rattle.rl_names.specs.Names.{Names}
 use Rattle.rl_semantic.specs.Rules.{least_broken}
 use Rattle.rl_syntax.specs.Limits.{IsTooLarge}
-use Rattle.rl_syntax.specs.Syntax.{Syntax, Absent, nodes}
+use Rattle.rl_syntax.specs.Syntax.{IsPlaced, Syntax, Absent, nodes}
+use Rattle.rl_syntax.specs.declared.numbered.Position.{Position}
 use Rattle.rl_text.specs.Notation.{IsWritable}
 use Rattle.rl_unit.specs.declared.unit.LowerError.{LowerError}
 use Rattle.rl_unit.specs.declared.unit.LowerError.TheVariants as errors
@@ -34,14 +33,15 @@ pub record IsRead (u : Syntax) : Type 0 where
   pub within : IsTooLarge bytes → ⊥
 
 -- The function may be lowered under these names: it is covered and has a body, its local variables are its parameters, it is not too
--- large, and it has no two calls in one place.
+-- large, and its nodes stand where they are numbered.
 pub record MayLower (names : Names) (f : Syntax) : Type 0 where
   pub covered : IsCoveredFunction f
   pub body : body_in f ≢ Absent
   pub locals : LocalsAreParameters names f
   pub texts : HasTexts names
   pub few : nodes f ≤ 65536
-  pub apart : AreDistinct (calls_in f)
+  pub from : Position
+  pub placed : IsPlaced from f
   pub fits : is_function f ≡ true
   pub small : IsSmallTree f
 

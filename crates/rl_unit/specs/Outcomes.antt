@@ -3,7 +3,7 @@ use Rattle.std.specs.Prelude.{◌≡◌, ℕ, List, Option, None, Some, IfSome}
 use Rattle.rl_syntax.specs.Limits.{IsTooLarge}
 use Rattle.rl_syntax.specs.Syntax.{Syntax}
 use Rattle.rl_ast.specs.Units.{Spells}
-use Rattle.rl_model.specs.Headline.{IsLowered}
+use Rattle.rl_promises.specs.Headline.{IsLowered}
 use Rattle.rl_semantic.specs.Rules.{least_broken}
 use Rattle.rl_base.specs.Diagnostics.{line_of}
 use Rattle.rl_unit.specs.Answers.{IsReportOf, lines, output, pending_line}

@@ -19,7 +19,7 @@ returns-in_ok-compared-in-Ok c =
         runs_graph = c.in-Ok.ensures.graph;
         compared = c.in_ok-compared-in-Ok.ensures;
         same = λ orderly. same_traces (syntax c.args.unit.now.tree) l a.function a.start a.args a.answers traces.source traces.graph lowers
-            (is_marked l a.function a.start a.args a.answers traces.graph lowers.inner c.in-Ok.ensures.graph) c.in-Ok.ensures.source
+            (is_marked l a.function a.start a.args a.answers traces.graph lowers.inner c.in-Ok.ensures.graph) orderly c.in-Ok.ensures.source
             c.in-Ok.ensures.graph;
       };
     }

@@ -4,10 +4,10 @@ use Rattle.rl_ast.specs.FunctionNodes.{seen_function_node}
 use Rattle.rl_hir.specs.Listing.{identifier, pair}
 use Rattle.rl_hir.specs.declared.environment.Environment.{Environment}
 use Rattle.rl_hir.specs.declared.function.Lowered.{Lowered}
-use Rattle.rl_lower.specs.Sound.{HasSmallSymbol}
-use Rattle.rl_model.specs.Fields.{AreGiven, HasFieldsOf, places_from}
-use Rattle.rl_model.proofs.HeldOnce.{held_once}
-use Rattle.rl_model.specs.Rows.{refusals_of}
+use Rattle.rl_lowered.specs.Sound.{HasSmallSymbol}
+use Rattle.rl_promises.specs.Fields.{AreGiven, HasFieldsOf, places_from}
+use Rattle.rl_promises.proofs.HeldOnce.{held_once}
+use Rattle.rl_promises.specs.Rows.{refusals_of}
 use Rattle.rl_names.proofs.SymbolRange.{IsInRange, declared_in_range, parameters_in_range}
 use Rattle.rl_names.specs.Functions.{parameters_of}
 use Rattle.rl_names.specs.Names.{Names}
@@ -23,9 +23,7 @@ use Rattle.rl_unit.proofs.unit.lower_function.Goals as goal
 -- An environment in which nothing was made leaves room, whatever tables there are.
 pub lower-requires-clause-room : goal.lower-requires-clause-room
 lower-requires-clause-room c tables =
-    fresh_room _ _ (ap (λ (e : Environment). e.next_block) c.fresh_environment-env.ensures)
-    (ap (λ (e : Environment). e.next_type) c.fresh_environment-env.ensures)
-    (ap (λ (e : Environment). e.identifiers) c.fresh_environment-env.ensures) c.requires.may.few tables
+    fresh_room _ _ _ c.fresh_environment-env.ensures refl refl refl c.requires.may.few tables
 
 -- The result of a function of which nothing is said.
 pub returns-clause-lowered : goal.returns-clause-lowered
@@ -51,7 +49,7 @@ returns-clause-lowered c =
         closed = graph.closed;
         same_runs = graph.same_runs none scene _ stands;
         never_stuck = graph.never_stuck none scene _ stands;
-        held = held_once tree c.in-Ok.lowered may.covered may.fits may.apart graph.held;
+        held = held_once tree may.from may.placed may.covered may.fits c.in-Ok.lowered graph.held;
         fields = subst (λ (n : Names). HasFieldsOf n tree c.in-Ok.lowered) (sym stands.named) (record {
           span = graph.span;
           name = graph.name;

@@ -1,0 +1,3 @@
+pub mod FormulaGraphs
+pub mod FormulaSizes
+pub mod Steps
