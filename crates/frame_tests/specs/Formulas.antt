@@ -24,6 +24,6 @@ nodes (Choice' span at test here consequent there alternate) = nodes test + node
 abbrev pub share : Formula → ℕ
 share f = 64 * nodes f
 
--- So many have numbers below 2^31.
+-- Numbers below 2^31 for so many more.
 abbrev pub HasRoom : State → (more : ℕ) → Type 0
 HasRoom s more = size_of s + more < 2 ^ 31
