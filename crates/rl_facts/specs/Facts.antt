@@ -4,10 +4,10 @@ use Rattle.rl_bindings.specs.declared.bindings.Bindings.{Bindings}
 use Rattle.rl_facts.specs.declared.unit_facts.UnitFacts.{UnitFacts}
 use Rattle.rl_markers.specs.Named.{tables}
 use Rattle.rl_model.specs.Applied.{Facts}
-use Rattle.rl_model.specs.Facts.{has_kind, is_bound_in, is_const_kind, is_global_in, is_lost_at, is_module_in, is_variable_kind, of_declared}
+use Rattle.rl_model.specs.Facts.{has_kind, is_bound_in, is_global_in, is_lost_at, is_module_in, is_variable_kind, of_declared}
 use Rattle.rl_model.specs.Hoisting.{is_context_at}
 use Rattle.rl_model.specs.Supported.{is_dead_function}
-use Rattle.rl_names.specs.Names.{Names}
+use Rattle.rl_names.specs.Names.{Names, is_const_kind}
 use Rattle.rl_names.specs.Seen.{seen}
 use Rattle.rl_syntax.specs.Syntax.{Syntax, syntax}
 use Rattle.rl_syntax.specs.declared.nodes.NodeEntry.{NodeEntry}

@@ -7,16 +7,6 @@ ghost use Rattle.rl_names.specs.Names as names;
 use rl_bindings::event::BindKind;
 use rl_syntax::word::Word;
 
-/// True of the kind of constants.
-pub fn is_const_kind(kind: BindKind) -> bool
-    ensures { result ≡ model.is_const_kind kind }
-{
-    match kind {
-        BindKind::Const => true,
-        _ => false,
-    }
-}
-
 /// True of the kinds of parameters and of variables that get markers.
 pub fn is_variable_kind(kind: BindKind) -> bool
     ensures { result ≡ model.is_variable_kind kind }

@@ -9,17 +9,18 @@ ghost use Rattle.rl_names.specs.Seen.{seen};
 ghost use Rattle.rl_resolver.specs.Inside.{find_binding_in_descendants};
 ghost use Rattle.rl_resolver.specs.Lookups.{symbol_scope};
 
-use crate::kinds::{is_const_kind, is_for_in_or_of, is_variable, is_variable_kind};
+use crate::kinds::{is_for_in_or_of, is_variable, is_variable_kind};
 use rl_base::ids::{NodeId, ReferenceId, ScopeId, SymbolId};
 use rl_base::span::Span;
 use rl_base::text::Text;
 use rl_code::variables::Variables;
 use rl_markers::named::first_declaration;
+use rl_names::names::is_const_kind;
 use rl_syntax::numbered::At;
 
 /// True of a symbol whose first declaration is a constant's.
 pub fn is_const(variables: &Variables<'_>, symbol: SymbolId) -> bool
-    ensures { result ≡ model.has_kind (tables variables.now) model.is_const_kind symbol.0 }
+    ensures { result ≡ model.has_kind (tables variables.now) names.is_const_kind symbol.0 }
 {
     match first_declaration(variables, symbol.0) {
         Some(bound) => is_const_kind(bound.kind),

@@ -12,7 +12,7 @@ use Rattle.rl_bindings.specs.declared.event.BindKind.TheVariants as kind
 use Rattle.rl_bindings.specs.declared.event.Bound.{Bound}
 use Rattle.rl_context.specs.Context.{is_context, scope_node}
 use Rattle.rl_context.specs.Sites.{sites_in}
-use Rattle.rl_names.specs.Names.{Names, at_of, is_variable}
+use Rattle.rl_names.specs.Names.{Names, at_of, is_const_kind, is_variable}
 use Rattle.rl_resolver.specs.Around.{ancestors}
 use Rattle.rl_resolver.specs.Inside.{find_binding_in_descendants}
 use Rattle.rl_resolver.specs.Lookups.{name_text, symbol_of_reference, symbol_scope}
@@ -32,10 +32,6 @@ use Rattle.rl_syntax.specs.declared.word.Word.TheVariants as word
 -- The kind of a symbol's first declaration has a property.
 abbrev pub has_kind : Bindings → (BindKind → Bool) → (symbol : ℕ) → Bool
 has_kind b test symbol = of_item false (λ first. test first.kind) (slice_get b.symbols symbol)
-
-abbrev pub is_const_kind : BindKind → Bool
-is_const_kind kind.Const = true
-is_const_kind _ = false
 
 -- Names in patterns and of function declarations: variables that get markers, and parameters.
 abbrev pub is_variable_kind : BindKind → Bool

@@ -9,7 +9,6 @@ use Rattle.rl_syntax.specs.declared.numbered.At.{At}
 use Rattle.rl_syntax.specs.declared.word.Word.TheVariants as word
 use Rattle.rl_names.specs.Functions.{parameters_of}
 use Rattle.rl_names.specs.Names.{Names, at_of, function_names, is_local}
-use Rattle.rl_names.specs.Plain.{IsPlainFunction}
 use Rattle.rl_names.specs.declared.names.Meaning.TheVariants.{Local, Outer}
 
 -- Ids of a node: its own, that behind its last, and those of the next scope and the next reference. Spans are empty here.
@@ -39,9 +38,6 @@ marked = refl
 
 kept : least_broken unit ≡ None
 kept = refl
-
-plain : IsPlainFunction function
-plain = (((((tt, tt), (tt, tt)), (((tt, tt), (tt, tt)), tt)), (tt, tt)), (refl, (tt, (((refl, ((refl, (tt, tt)), tt)), ((refl, ((refl, (tt, tt)), tt)), ((refl, ((refl, (tt, tt)), tt)), tt))), tt))))
 
 -- A parameter, the function's own name (symbol 0), and a name that nothing declares.
 parameter : names.meaning 0 (codes "y") ≡ Local (record { 0 = 2 })

@@ -26,7 +26,7 @@ use Rattle.rl_names.specs.declared.parameters.Parameter.{Parameter}
 use Rattle.rl_names.specs.Plain.{ArePlainParameters}
 use Rattle.rl_names.specs.Locals.{IsApart, AreApart, AreDeclared}
 use Rattle.rl_names.proofs.NameTexts.{IsKnown, numbered_text}
-use Rattle.rl_names.proofs.PlainFunctions.{param_above, param_bounds}
+use Rattle.rl_names.proofs.PlainParameters.{param_above, param_bounds}
 use Rattle.rl_names.proofs.SymbolNumbers.{HasSymbol, number_of_bound}
 use Rattle.rl_bindings.proofs.LookUps.{by_test}
 use Rattle.rl_names.proofs.Items.{Has, has_left, has_right, each_right, each_weaker}

@@ -1,36 +1,33 @@
 -- The symbols of a unit that the declarations of a function's parameters have, and those that are local variables of the
 -- function.
-use Rattle.std.proofs.Common.{◌≡◌, ◌≢◌, ℕ, ◌+◌, ◌≤◌, ◌<◌, Bool, true, false, ◌&&◌, if◌then◌else◌, nat_le, nat_lt, le-leb, lt-ltb, true≢false, inl, inr, Option, Some, None, is_some, List, [], ◌++◌, length, map, slice_get, refl, sym, ap, subst, ◌∙◌, arith}
+use Rattle.std.proofs.Common.{◌≡◌, ◌≢◌, ℕ, ◌+◌, ◌≤◌, ◌<◌, Bool, true, false, if◌then◌else◌, nat_le, nat_lt, le-leb, lt-ltb, inl, inr, Option, Some, None, is_some, List, [], ◌++◌, length, map, slice_get, refl, sym, ap, subst, ◌∙◌, arith}
 use Rattle.std.proofs.lemmas.List.Elements.{recursion_from_All}
 use Rattle.std.proofs.lemmas.Option.{slice_get_within}
-use Rattle.rl_base.specs.declared.ids.ScopeId.{ScopeId}
 use Rattle.rl_base.specs.declared.ids.SymbolId.{SymbolId}
 use Rattle.rl_bindings.specs.Events.{top}
 use Rattle.rl_bindings.specs.NameRules.{least}
 use Rattle.rl_bindings.specs.Names.{names_in}
-use Rattle.rl_bindings.specs.Symbols.{bounds, binding}
+use Rattle.rl_bindings.specs.Symbols.{bounds}
 use Rattle.rl_bindings.specs.Tables.{declarations_in, declared_by, events_in, references_in, scopes_in, symbols_in}
 use Rattle.rl_bindings.specs.declared.event.Bound.{Bound}
 use Rattle.rl_bindings.specs.declared.event.ScopeEntry.{ScopeEntry}
 use Rattle.rl_bindings.proofs.Declarations.{each_declared}
 use Rattle.rl_semantic.specs.Buckets.{those}
 use Rattle.rl_resolver.specs.Listed.{declaration_pair, of_first}
-use Rattle.rl_resolver.specs.Lookups.{is_number, symbol_id}
-use Rattle.rl_semantic.specs.Items.{of_item}
+use Rattle.rl_resolver.specs.Lookups.{symbol_id}
 use Rattle.rl_syntax.specs.Nodes.{entries}
 use Rattle.rl_syntax.specs.Syntax.{Syntax, nodes, outset, IsPlaced}
 use Rattle.rl_syntax.specs.declared.numbered.At.{At}
 use Rattle.rl_syntax.proofs.Numbers.{table_length}
 use Rattle.rl_semantic.specs.Imports.{imports_in}
 use Rattle.rl_semantic.specs.declared.imports.ImportBindingData.{ImportBindingData}
-use Rattle.rl_names.specs.Names.{Names, is_local, is_scope_inside, is_variable, meaning_of, names_by, symbol_binding}
+use Rattle.rl_names.specs.Names.{Names, is_local, meaning_of, names_by, symbol_binding}
 use Rattle.rl_names.specs.declared.names.Meaning.TheVariants.{Local, Outer}
 use Rattle.rl_names.proofs.Declarations.{Ascends, ascends_few, ascending, declared_by_nodes}
 use Rattle.rl_names.proofs.FunctionScopes.{Splits}
 use Rattle.rl_names.proofs.ParameterNames.{IsTold}
 use Rattle.rl_names.proofs.SymbolNumbers.{ascends_within, declared_at, few_symbols, number_of_bound, symbol_of}
 use Rattle.rl_bindings.proofs.LookUps.{by_test}
-use Rattle.rl_bindings.proofs.SymbolTables.{both_right}
 use Rattle.rl_names.proofs.Items.{Has, has_cases, has_left, has_right, has_map, each_has}
 
 -- Some declarations among others are of those.
@@ -94,26 +91,6 @@ pub record IsLocal (k : ℕ) (symbols : List Bound) (symbol : ℕ) : Type 0 wher
   pub bound : Bound
   pub there : slice_get symbols symbol ≡ Some bound
   pub scope_is : bound.scope.0 ≡ k
-
-scope_chosen : (k : ℕ) (t : Bool) (scope : ScopeId) → 0 < k → (if t then scope else record { 0 = 0 }).0 ≡ k → scope.0 ≡ k
-scope_chosen k true scope above is = is
-scope_chosen k false scope above is = absurd (omega (arith, above, is))
-
--- A local variable is declared in the function's scope, if no other scope's node stands inside the function.
-pub local_bound : (at : At) (scopes : List ScopeEntry) (symbols : List Bound) (symbol : ℕ) → 0 < at.scope.0 → ((scope : ℕ) → is_scope_inside at scopes scope ≡ true → scope ≡ at.scope.0) → is_local at scopes symbols symbol ≡ true → IsLocal at.scope.0 symbols symbol
-local_bound at scopes symbols symbol above alone local = found (slice_get symbols symbol) refl local
-  where
-    found : (o : Option Bound) → slice_get symbols symbol ≡ o
-        → (of_item false (λ b. is_variable b.kind) o && is_scope_inside at scopes (of_item (record { 0 = 0 }) (λ b. if is_number symbol (binding symbols b.scope.0 b.name) then b.scope else record { 0 = 0 }) o).0) ≡ true
-        → IsLocal at.scope.0 symbols symbol
-    found None is within = absurd (true≢false (sym within))
-    found (Some b) is within = record {
-      bound = b;
-      there = is;
-      scope_is = scope_chosen at.scope.0 (is_number symbol (binding symbols b.scope.0 b.name)) b.scope above
-          (alone (if is_number symbol (binding symbols b.scope.0 b.name) then b.scope else record { 0 = 0 }).0
-          (both_right (is_variable b.kind) (is_scope_inside at scopes (if is_number symbol (binding symbols b.scope.0 b.name) then b.scope else record { 0 = 0 }).0) within));
-    }
 
 -- Names that break no rule have no two parameters of one name.
 pub not_repeated : (clashed passing repeated shared : Bool) → least clashed passing repeated shared ≡ None → repeated ≡ false

@@ -1,13 +1,11 @@
--- Functions whose local variables are their parameters: those that the lowering covers.
-use Rattle.std.specs.Prelude.{◌≡◌, ◌≢◌, ℕ, true, false, Some, is_some, List, [], ◌∷◌, All, Contains, map}
+-- Parameters that declare symbols, each its own, and texts of other names.
+use Rattle.std.specs.Prelude.{◌≡◌, ◌≢◌, ℕ, true, false, is_some, List, [], ◌∷◌, All}
 use Rattle.std.specs.Str.{IsUtf8, bytes_eq}
-use Rattle.rl_base.specs.declared.ids.SymbolId.{SymbolId}
-use Rattle.rl_names.specs.Functions.{params_in, parameters_of}
 use Rattle.rl_names.specs.Names.{Names}
 use Rattle.rl_names.specs.declared.parameters.Parameter.{Parameter}
 use Rattle.rl_hir.specs.Instructions.{binding_texts}
 use Rattle.rl_hir.specs.declared.instruction.NonLocalBinding.{NonLocalBinding}
-use Rattle.rl_names.specs.declared.names.Meaning.TheVariants.{Local, Outer}
+use Rattle.rl_names.specs.declared.names.Meaning.TheVariants.{Outer}
 use Rattle.rl_syntax.specs.Syntax.{Syntax, Node, Listed, Pieces, End, Then}
 use Rattle.rl_syntax.specs.declared.word.Word.TheVariants as word
 
@@ -35,20 +33,6 @@ pub record IsApart (p q : Parameter) : Type 0 where
 abbrev pub AreApart : List Parameter → Type 0
 AreApart [] = Unit {0}
 AreApart (p ∷ ps) = All (IsApart p) ps × AreApart ps
-
--- Each of the parameters has the name of its symbol and stands at its symbol's declaration identifier, and each local variable is one
--- of them.
-pub record AreLocals (names : Names) (parameters : List Parameter) : Type 0 where
-  pub named : All (λ p. names.name p.symbol.0 ≡ p.name) parameters
-  pub spanned : All (λ p. names.declaration p.symbol.0 ≡ Some p.declaration) parameters
-  pub locals : (reference : ℕ) (name : List ℕ) (symbol : SymbolId) → names.meaning reference name ≡ Local symbol → Contains (map (λ p. p.symbol) parameters) symbol
-
--- Each parameter of the function that is a name declares a symbol, no two have one symbol or one name, and they are the local
--- variables.
-pub record LocalsAreParameters (names : Names) (f : Syntax) : Type 0 where
-  pub declared : DeclaresAll names (params_in f)
-  pub apart : AreApart (parameters_of names f)
-  pub locals : AreLocals names (parameters_of names f)
 
 -- The texts of what is no local are UTF-8: the name, as it stands in the unit, and those of an import.
 pub record HasTexts (names : Names) : Type 0 where

@@ -43,6 +43,13 @@ pub record Names : Type 0 where
   pub name : (symbol : ℕ) → List ℕ
   -- The span of the declaration identifier of a symbol. None of a symbol without one.
   pub declaration : (symbol : ℕ) → Option Span
+  -- True of a symbol that is declared as a constant.
+  pub is_const : (symbol : ℕ) → Bool
+
+-- The local variable of a meaning. None of any other name.
+abbrev pub local_of : Meaning → Option SymbolId
+local_of (Local symbol) = Some symbol
+local_of (Outer binding) = None
 
 -- True of a node that is the one with these ids, or stands inside it.
 abbrev pub is_inside : At → NodeId → Bool
@@ -58,6 +65,11 @@ is_variable kind.TypeAlias = false
 is_variable kind.Enum = false
 is_variable kind.Namespace = false
 is_variable _ = true
+
+-- True of a declaration of a constant: by `const`, `using` or `await using`.
+abbrev pub is_const_kind : BindKind → Bool
+is_const_kind kind.Const = true
+is_const_kind _ = false
 
 abbrev pub is_program_scope : ScopeId → Bool
 is_program_scope scope = nat_eq scope.0 0
@@ -96,6 +108,7 @@ names_by at nodes imports names scopes symbols declarations references = record 
   declared = λ node. resolver.declared_symbol nodes declarations node;
   name = λ symbol. symbol_name names symbols symbol;
   declaration = λ symbol. option_map (λ b. b.span) (declaration_ident symbols symbol);
+  is_const = λ symbol. of_item false (λ b. is_const_kind b.kind) (slice_get symbols symbol);
 }
 
 -- The ids of no node.

@@ -1,4 +1,4 @@
--- Functions that declare no names but their parameters, and hold no scopes inside their own.
+-- Trees that make no scope and declare no name, and parameters that are names.
 use Rattle.std.specs.Prelude.{◌≡◌, Bool, true, false}
 use Rattle.rl_bindings.specs.Roles.{role_of}
 use Rattle.rl_bindings.specs.declared.role.Role.{Role}
@@ -41,10 +41,3 @@ ArePlainParameters (Then param params) = IsPlainParameter param × ArePlainParam
 abbrev pub HasPlainParameters : Syntax → Type 0
 HasPlainParameters (Node at word.Params (Then (Listed params) rest)) = ArePlainParameters params × ArePlain rest
 HasPlainParameters _ = ⊥
-
--- An arrow function or a function declaration whose parameters are names, and inside which no other node makes a scope or
--- declares a name.
-abbrev pub IsPlainFunction : Syntax → Type 0
-IsPlainFunction (Node at word.Arrow (Then marked (Then is_async (Then params (Then body End))))) = IsPlain marked × IsPlain is_async × HasPlainParameters params × IsPlain body
-IsPlainFunction (Node at word.Fundecl (Then marked (Then is_async (Then generator (Then name (Then params (Then body End))))))) = HasPlainParameters params × IsPlain body
-IsPlainFunction _ = ⊥

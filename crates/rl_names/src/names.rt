@@ -60,6 +60,13 @@ fn is_variable(kind: BindKind) -> bool
     }
 }
 
+/// True of a declaration of a constant: by `const`, `using` or `await using`.
+pub fn is_const_kind(kind: BindKind) -> bool
+    ensures { result ≡ spec.is_const_kind kind }
+{
+    matches!(kind, BindKind::Const)
+}
+
 /// The text, or the empty text where there is none. On `OutOfMemory`, an allocation failed.
 fn copy_or_empty(alloc: Global, text: Option<&Text>) -> Result<Text, OutOfMemory>
     ensures { IfOk result (λ copy. copy ≡ unwrap_or (option_map (λ t. t.now) text.entry) []) }
@@ -239,11 +246,37 @@ impl<'s> FunctionNames<'s> {
         }
     }
 
+    /// The local variable of the function that an identifier names. `None` of any other name.
+    pub fn local(&self, identifier: &IdentifierReference<'_>) -> Option<SymbolId>
+        ensures { result ≡ spec.local_of ((seen self.now).meaning identifier.now.at.reference.0 identifier.now.name.now) }
+    {
+        match self.resolver.resolve_reference(identifier) {
+            Some(symbol) => {
+                if self.is_local(symbol) {
+                    Some(symbol)
+                } else {
+                    None
+                }
+            }
+            None => None,
+        }
+    }
+
     /// The symbol that a `bind` node declares. `None` for a node that is no `bind` node of the unit.
     pub fn declared(&self, identifier: &BindingIdentifier<'_>) -> Option<SymbolId>
         ensures { result ≡ (seen self.now).declared identifier.now.at.id.0 }
     {
         self.resolver.declared_symbol(identifier)
+    }
+
+    /// True of a symbol that is declared as a constant. False for a number that is no symbol's.
+    pub fn is_const(&self, symbol: SymbolId) -> bool
+        ensures { result ≡ (seen self.now).is_const symbol.0 }
+    {
+        match self.first_declaration(symbol) {
+            Some(bound) => is_const_kind(bound.kind),
+            None => false,
+        }
     }
 
     /// The name of a symbol. Empty for a number that is no symbol's.
