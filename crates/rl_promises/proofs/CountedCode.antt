@@ -1,17 +1,18 @@
--- The counted nodes of covered code: calls, constructions and awaits, each counted by itself.
-use Rattle.std.proofs.Common.{◌≡◌, ℕ, Bool, true, false, true≢false, if◌then◌else◌, List, [], ◌∷◌, ◌++◌, refl, sym, ap, ◌∙◌, arith, append_assoc}
+-- The counted nodes of covered code: calls of functions and of methods, constructions and awaits, each counted by itself.
+use Rattle.std.proofs.Common.{◌≡◌, ℕ, Bool, true, false, true≢false, if◌then◌else◌, Some, List, [], ◌∷◌, ◌++◌, codes, refl, sym, ap, ◌∙◌, subst, arith, append_assoc}
 use Rattle.std.specs.List.{AllByRecursion}
-use Rattle.rl_grammar.specs.Grammar.{every, fits}
+use Rattle.rl_grammar.specs.Grammar.{each, every, fits}
 use Rattle.rl_grammar.specs.declared.kind.Field.TheVariants as field
 use Rattle.rl_grammar.specs.declared.kind.Kind.TheVariants as kind
 use Rattle.rl_grammar.proofs.Viewing.{four_fit, rest_fit, six_fit, two_fit}
 use Rattle.rl_ast.specs.FunctionTrees.{is_function as fits_function}
-use Rattle.rl_model.specs.Code.{code, code_among, flat}
+use Rattle.rl_model.specs.Code.{code, code_among, first_code, flat}
 use Rattle.rl_model.specs.Counted.{Counted, counted_at}
 use Rattle.rl_names.specs.Functions.{body_in, params_in}
 use Rattle.rl_promises.proofs.CoveredForms.{ParamNode, params_form, params_of}
+use Rattle.rl_promises.proofs.Unheld.{type_no_code, type_unheld, unheld_untallied}
 use Rattle.rl_promises.specs.Covered.{IsCovered, IsCoveredFunction, covers}
-use Rattle.rl_promises.specs.Tallies.{IsHeldKind, held_word, is_among, tallied, tallied_among}
+use Rattle.rl_promises.specs.Tallies.{IsHeldKind, call_word, held_word, is_among, tallied, tallied_among}
 use Rattle.rl_promises.specs.Tallies.IsHeldKind.{Calls, Constructions, Awaits}
 use Rattle.rl_syntax.specs.Syntax.{Syntax, Node, Listed, Said, Pieces, End, Then}
 use Rattle.rl_syntax.specs.declared.numbered.At.{At}
@@ -40,15 +41,29 @@ flat_append f [] ys = refl
 flat_append f (x ∷ xs) ys = ap (λ (l : List _). f x ++ l) (flat_append f xs ys) ∙ sym (append_assoc (f x) (flat f xs) (flat f ys))
 
 -- The counted node of a node by itself.
-pub record IsOwn (at : At) (w : Word) (key : Counted) : Type 0 where
+pub record IsOwn (at : At) (w : Word) (parts : Pieces) (key : Counted) : Type 0 where
   pub kind : IsHeldKind key.kinds
   pub place : at.span ≡ key.span
-  pub word : is_among key.kinds (held_word w) ≡ true
+  pub word : is_among key.kinds (held_word w parts) ≡ true
+
+-- A call is one of a function, or of a method.
+
+abbrev call_kinds : List (List ℕ)
+call_kinds = codes "call" ∷ codes "methodcall" ∷ []
+
+callee_among : (callee : Syntax) → is_among call_kinds (Some (call_word callee)) ≡ true
+callee_among (Node at word.Member parts) = refl
+callee_among (Node at word.Index parts) = refl
+callee_among _ = refl
+
+call_among : (parts : Pieces) → is_among call_kinds (held_word word.Call parts) ≡ true
+call_among (Then optional (Then callee arguments)) = callee_among callee
+call_among _ = refl
 
 -- Of a covered node itself a call, a construction or an `await` is counted.
 pub own_counted : (methods : List ℕ) (at : At) (w : Word) (parts : Pieces) → covers w parts ≡ true
-    → AllByRecursion (IsOwn at w) (counted_at methods (Node at w parts))
-own_counted methods at word.Call parts covered = (record { kind = Calls; place = refl; word = refl }, tt)
+    → AllByRecursion (IsOwn at w parts) (counted_at methods (Node at w parts))
+own_counted methods at word.Call parts covered = (record { kind = Calls; place = refl; word = call_among parts }, tt)
 own_counted methods at word.New parts covered = (record { kind = Constructions; place = refl; word = refl }, tt)
 own_counted methods at word.Await parts covered = (record { kind = Awaits; place = refl; word = refl }, tt)
 own_counted methods at word.Element parts covered = absurd (true≢false (sym covered))
@@ -62,17 +77,26 @@ own_counted methods at word.Assign parts covered = absurd (true≢false (sym cov
 own_counted methods at word.Funexpr parts covered = absurd (true≢false (sym covered))
 own_counted methods at _ parts covered = tt
 
--- The code of a node that is no function and no instantiation: itself, and that of its parts.
+-- The code of the first part is code of the parts.
+first_counted : (methods : List ℕ) (P : Counted → Type 0) (parts : Pieces) → AllByRecursion P (flat (counted_at methods) (code_among parts))
+    → AllByRecursion P (flat (counted_at methods) (first_code parts))
+first_counted methods P End each = tt
+first_counted methods P (Then part parts) each =
+    (each_both P (flat (counted_at methods) (code part)) (flat (counted_at methods) (code_among parts))
+    (subst (AllByRecursion P) (flat_append (counted_at methods) (code part) (code_among parts)) each)).0
+
+-- The code of a covered node, which is no function: nothing of a type, else itself, and that of its parts, or of its first part.
 pub by_tests : (methods : List ℕ) (P : Counted → Type 0) (node : Syntax) (no_code function instantiate : Bool)
-    (names first among : List Syntax) → function ≡ false → instantiate ≡ false
-    → AllByRecursion P (counted_at methods node) → AllByRecursion P (flat (counted_at methods) among)
+    (names : List Syntax) (parts : Pieces) → function ≡ false
+    → AllByRecursion P (counted_at methods node) → AllByRecursion P (flat (counted_at methods) (code_among parts))
     → AllByRecursion P (flat (counted_at methods)
-    (if no_code then [] else node ∷ (if function then names else if instantiate then first else among)))
-by_tests methods P node true function instantiate names first among plain whole own rest = tt
-by_tests methods P node false true instantiate names first among plain whole own rest = absurd (true≢false plain)
-by_tests methods P node false false true names first among plain whole own rest = absurd (true≢false whole)
-by_tests methods P node false false false names first among plain whole own rest = each_append P (counted_at methods node)
-    (flat (counted_at methods) among) own rest
+    (if no_code then [] else node ∷ (if function then names else if instantiate then first_code parts else code_among parts)))
+by_tests methods P node true function instantiate names parts plain own rest = tt
+by_tests methods P node false true instantiate names parts plain own rest = absurd (true≢false plain)
+by_tests methods P node false false true names parts plain own rest = each_append P (counted_at methods node)
+    (flat (counted_at methods) (first_code parts)) own (first_counted methods P parts rest)
+by_tests methods P node false false false names parts plain own rest = each_append P (counted_at methods node)
+    (flat (counted_at methods) (code_among parts)) own rest
 
 -- The directives of a body are texts, without code.
 abbrev pub HasTexts : Syntax → Type 0
@@ -88,15 +112,23 @@ directives_none : (directives : Syntax) → fits (field.Many kind.Text) directiv
 directives_none (Listed texts) fit = texts_none texts fit
 directives_none _ fit = absurd (cc)
 
-arrow_texts : (body : Syntax) → fits (field.One kind.ArrowBody) body ≡ true → HasTexts body
-arrow_texts (Node at word.Body (Then directives (Then (Listed statements) End))) fit =
+listed_texts : (directives : Syntax) (statements : Pieces)
+    → each (Some (field.Many kind.Text ∷ field.Many kind.Statement ∷ [])) (Then directives (Then (Listed statements) End)) ≡ true
+    → code directives ≡ []
+listed_texts directives statements fit =
     directives_none directives (two_fit _ directives (Listed statements) refl (field.Many kind.Text) (field.Many kind.Statement) fit).0
+
+arrow_texts : (body : Syntax) → fits (field.One kind.ArrowBody) body ≡ true → HasTexts body
+arrow_texts (Node at word.Body (Then directives (Then (Listed statements) End))) fit = listed_texts directives statements fit
 arrow_texts _ fit = tt
 
 body_texts : (body : Syntax) → fits (field.Maybe kind.FunctionBody) body ≡ true → HasTexts body
-body_texts (Node at word.Body (Then directives (Then (Listed statements) End))) fit =
-    directives_none directives (two_fit _ directives (Listed statements) refl (field.Many kind.Text) (field.Many kind.Statement) fit).0
+body_texts (Node at word.Body (Then directives (Then (Listed statements) End))) fit = listed_texts directives statements fit
 body_texts _ fit = tt
+
+given_texts : (body : Syntax) → fits (field.One kind.FunctionBody) body ≡ true → HasTexts body
+given_texts (Node at word.Body (Then directives (Then (Listed statements) End))) fit = listed_texts directives statements fit
+given_texts _ fit = tt
 
 -- Parameters hold no counted node.
 pub record CountsNone (params : Syntax) : Type 0 where
@@ -105,11 +137,17 @@ pub record CountsNone (params : Syntax) : Type 0 where
 
 params_none : (methods : List ℕ) (ps : List ParamNode) → flat (counted_at methods) (code_among (params_of ps) ++ []) ≡ []
 params_none methods [] = refl
-params_none methods (p ∷ ps) = params_none methods ps
+params_none methods (p ∷ ps) =
+    ap (λ (l : List Syntax). flat (counted_at methods) ((((l ++ []) ++ []) ++ code_among (params_of ps)) ++ []))
+    (type_no_code p.type p.typed)
+    ∙ params_none methods ps
 
 params_untallied : (key : Counted) (ps : List ParamNode) → tallied_among key (params_of ps) ≡ 0
 params_untallied key [] = refl
-params_untallied key (p ∷ ps) = let rest : tallied_among key (params_of ps) ≡ 0 = params_untallied key ps in omega (arith, rest)
+params_untallied key (p ∷ ps) =
+    let type : tallied key p.type ≡ 0 = unheld_untallied key p.type (type_unheld p.type p.typed) in
+    let rest : tallied_among key (params_of ps) ≡ 0 = params_untallied key ps in
+    omega (arith, type, rest)
 
 params_counted : (params : Syntax) → fits (field.One kind.FormalParameters) params ≡ true → IsCovered params → CountsNone params
 params_counted params fit covered =
@@ -135,8 +173,14 @@ parted (Node at word.Fundecl (Then marked (Then is_async (Then generator (Then n
     let fits_all = six_fit _ marked is_async generator name params body refl (field.One kind.Flag) (field.One kind.Flag)
     (field.One kind.Flag) (field.Maybe kind.BindingIdentifier) (field.One kind.FormalParameters) (field.Maybe kind.FunctionBody) fit in
     record { params = params_counted params fits_all.4 covered.1.1.1.1.0; texts = body_texts body fits_all.5 }
+parted (Node at word.Funexpr (Then marked (Then is_async (Then generator (Then name (Then params (Then body End))))))) covered fit =
+    let fits_all = six_fit _ marked is_async generator name params body refl (field.One kind.Flag) (field.One kind.Flag)
+    (field.One kind.Flag) (field.Maybe kind.BindingIdentifier) (field.One kind.FormalParameters) (field.One kind.FunctionBody) fit in
+    record { params = params_counted params fits_all.4 covered.1.1.1.1.0; texts = given_texts body fits_all.5 }
 parted (Node at word.Arrow _) covered fit =
     record { params = record { code = λ methods. refl; tally = λ key. refl }; texts = tt }
 parted (Node at word.Fundecl _) covered fit =
+    record { params = record { code = λ methods. refl; tally = λ key. refl }; texts = tt }
+parted (Node at word.Funexpr _) covered fit =
     record { params = record { code = λ methods. refl; tally = λ key. refl }; texts = tt }
 parted _ covered fit = absurd covered

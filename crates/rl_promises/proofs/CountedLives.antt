@@ -3,12 +3,12 @@ use Rattle.std.proofs.Common.{◌≡◌, ◌⊎◌, inl, inr, ℕ, Bool, true, f
 use Rattle.std.specs.List.{AllByRecursion}
 use Rattle.std.proofs.lemmas.List.Elements.{All-contains_itself, All-from_recursion, Contains-append_left, Contains-append_right, recursion_from_All}
 use Rattle.rl_ast.specs.FunctionTrees.{is_function as fits_function}
-use Rattle.rl_model.specs.Code.{code, code_among, code_of, flat, is_function, is_instantiate, is_no_code}
+use Rattle.rl_model.specs.Code.{code, code_among, code_of, flat, is_function, is_instantiate, is_no_code, name_code}
 use Rattle.rl_model.specs.Counted.{Counted, counted_at, counted_in, method_at}
 use Rattle.rl_model.specs.Dead.{dead_among, dead_in, dead_parts, lives}
 use Rattle.rl_names.specs.Functions.{body_in, params_in}
 use Rattle.rl_promises.proofs.CountedCode.{HasTexts, IsOwn, IsParted, by_tests, each_append, each_both, each_weaker, flat_append, own_counted, parted}
-use Rattle.rl_promises.proofs.CoveredWorlds.{body_covered, no_instantiate, plain_word}
+use Rattle.rl_promises.proofs.CoveredWorlds.{body_covered, plain_word}
 use Rattle.rl_promises.specs.Covered.{AreCovered, IsCovered, IsCoveredFunction}
 use Rattle.rl_promises.specs.Held.{dead_nodes}
 use Rattle.rl_promises.specs.Live.{Held, LivesOn, held_among, held_as, held_at, held_in, live_all, live_in, live_in_body}
@@ -27,8 +27,8 @@ lives_right xs ys key l =
     record { held = l.held; there = Contains-append_right xs ys l.held l.there; span = l.span; word = l.word }
 
 -- A counted node by itself.
-own_lives : (at : At) (w : Word) (key : Counted) → IsOwn at w key → LivesOn (held_at w at) key
-own_lives at w key own = by_word (held_word w) own.word
+own_lives : (at : At) (w : Word) (parts : Pieces) (key : Counted) → IsOwn at w parts key → LivesOn (held_at w parts at) key
+own_lives at w parts key own = by_word (held_word w parts) own.word
   where
     by_word : (o : Option (List ℕ)) → is_among key.kinds o ≡ true → LivesOn (held_as o at.span) key
     by_word None none = absurd (true≢false (sym none))
@@ -54,11 +54,12 @@ module _ (methods : List ℕ) where
   mutual
     all_held : (s : Syntax) → IsCovered s → AllByRecursion (LivesOn (held_in s)) (keys_of (code s))
     all_held (Node at w parts) covered =
-        by_tests methods (LivesOn (held_in (Node at w parts))) (Node at w parts) (is_no_code w parts) (is_function w) (is_instantiate w) _ _
-        (code_among parts) (plain_word w parts covered.0) (no_instantiate w parts covered.0)
-        (each_weaker _ _ (λ key own. lives_left (held_at w at) (held_among parts) key (own_lives at w key own))
+        by_tests methods (LivesOn (held_in (Node at w parts))) (Node at w parts) (is_no_code w parts) (is_function w) (is_instantiate w)
+        (name_code w parts) parts (plain_word w parts covered.0)
+        (each_weaker _ _ (λ key own. lives_left (held_at w parts at) (held_among parts) key (own_lives at w parts key own))
         (counted_at methods (Node at w parts)) (own_counted methods at w parts covered.0))
-        (each_weaker _ _ (lives_right (held_at w at) (held_among parts)) (keys_of (code_among parts)) (all_held_among parts covered.1))
+        (each_weaker _ _ (lives_right (held_at w parts at) (held_among parts)) (keys_of (code_among parts))
+        (all_held_among parts covered.1))
     all_held (Listed parts) covered = all_held_among parts covered
     all_held (Said text) covered = tt
     all_held (Count number) covered = tt

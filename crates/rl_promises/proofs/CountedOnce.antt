@@ -9,11 +9,11 @@ use Rattle.rl_ast.specs.FunctionTrees.{is_function as fits_function}
 use Rattle.rl_ast.specs.Marked.{first, marked_functions}
 use Rattle.rl_ast.specs.Units.{Spells}
 use Rattle.rl_ast.proofs.MarkedFunctions.{first_found, inside_placed}
-use Rattle.rl_model.specs.Code.{code, code_among, code_of, flat, is_function, is_instantiate, is_no_code}
+use Rattle.rl_model.specs.Code.{code, code_among, code_of, flat, is_function, is_instantiate, is_no_code, name_code}
 use Rattle.rl_model.specs.Counted.{Counted, counted_at, counted_in, method_at}
 use Rattle.rl_names.specs.Functions.{body_in, params_in}
 use Rattle.rl_promises.proofs.CountedCode.{IsOwn, IsParted, by_tests, each_append, each_weaker, flat_append, own_counted, parted}
-use Rattle.rl_promises.proofs.CoveredWorlds.{body_covered, no_instantiate, plain_word}
+use Rattle.rl_promises.proofs.CoveredWorlds.{body_covered, plain_word}
 use Rattle.rl_promises.specs.Covered.{AreCovered, IsCovered, IsCoveredFunction}
 use Rattle.rl_promises.specs.Held.{is_span}
 use Rattle.rl_promises.specs.Tallies.{IsHeldKind, held_word, is_among, tallied, tallied_among, tally_at}
@@ -53,20 +53,21 @@ and_false true = refl
 and_false false = refl
 
 -- A node that ends elsewhere is not the counted one.
-tally_none : (key : Counted) (w : Word) (at : At) → (at.span.end ≡ key.span.end → ⊥) → tally_at key w at ≡ 0
-tally_none key w at other = elim (eqb_tells at.span.end key.span.end) [
+tally_none : (key : Counted) (w : Word) (parts : Pieces) (at : At) → (at.span.end ≡ key.span.end → ⊥) → tally_at key w parts at ≡ 0
+tally_none key w parts at other = elim (eqb_tells at.span.end key.span.end) [
   | inl same ↦ absurd (other same.1)
-  | inr apart ↦ ap (λ (b : Bool). if is_among key.kinds (held_word w) && (nat_eq at.span.start key.span.start && b) then 1 else 0) apart.0
-      ∙ ap (λ (b : Bool). if is_among key.kinds (held_word w) && b then 1 else 0) (and_false (nat_eq at.span.start key.span.start))
-      ∙ ap (λ (b : Bool). if b then 1 else 0) (and_false (is_among key.kinds (held_word w)))
+  | inr apart ↦
+      ap (λ (b : Bool). if is_among key.kinds (held_word w parts) && (nat_eq at.span.start key.span.start && b) then 1 else 0) apart.0
+      ∙ ap (λ (b : Bool). if is_among key.kinds (held_word w parts) && b then 1 else 0) (and_false (nat_eq at.span.start key.span.start))
+      ∙ ap (λ (b : Bool). if b then 1 else 0) (and_false (is_among key.kinds (held_word w parts)))
 ]
 
 span_itself : (span : Span) → is_span span (Some span) ≡ true
 span_itself span =
     ap (λ (b : Bool). b && nat_eq span.end span.end) (eq-eqb span.start span.start refl) ∙ eq-eqb span.end span.end refl
 
-tally_own : (key : Counted) (w : Word) (at : At) → IsOwn at w key → tally_at key w at ≡ 1
-tally_own key w at own =
+tally_own : (key : Counted) (w : Word) (parts : Pieces) (at : At) → IsOwn at w parts key → tally_at key w parts at ≡ 1
+tally_own key w parts at own =
     ap (λ (b : Bool). if b && is_span key.span (Some at.span) then 1 else 0) own.word
     ∙ ap (λ (s : Span). if is_span key.span (Some s) then 1 else 0) own.place
     ∙ ap (λ (b : Bool). if b then 1 else 0) (span_itself key.span)
@@ -79,7 +80,7 @@ module _ (key : Counted) where
     none_in (Node at w parts) from placed out =
         let end = node_end at w parts from placed in
         let stands = placed.0.end in
-        let itself : tally_at key w at ≡ 0 = tally_none key w at (λ same. elim out [
+        let itself : tally_at key w parts at ≡ 0 = tally_none key w parts at (λ same. elim out [
           | inl before ↦ omega (arith, end, same, before)
           | inr after ↦ omega (arith, stands, same, after)
         ]) in
@@ -131,13 +132,14 @@ record IsOnceAmong (close : ℕ) (parts : Pieces) (from : Position) (key : Count
   after : from.byte < key.span.end
   before : key.span.end < from.byte + long close parts
 
-own_once : (at : At) (w : Word) (parts : Pieces) (from : Position) → IsPlaced from (Node at w parts) → (key : Counted) → IsOwn at w key
+own_once : (at : At) (w : Word) (parts : Pieces) (from : Position) → IsPlaced from (Node at w parts) → (key : Counted)
+    → IsOwn at w parts key
     → IsOnce (Node at w parts) from key
 own_once at w parts from placed key own =
     let end = node_end at w parts from placed in
     let stands = placed.0.end in
     let same : at.span.end ≡ key.span.end = ap (λ (s : Span). s.end) own.place in
-    let itself : tally_at key w at ≡ 1 = tally_own key w at own in
+    let itself : tally_at key w parts at ≡ 1 = tally_own key w parts at own in
     let rest : tallied_among key parts ≡ 0 = none_among key 41 parts (inside from w) placed.1 (inr (omega (arith, end, same))) in
     record {
       kind = own.kind;
@@ -154,7 +156,7 @@ inner_once at w parts from placed key inner =
     let after = inner.after in
     let before = inner.before in
     let rest = inner.once in
-    let itself : tally_at key w at ≡ 0 = tally_none key w at (λ same. omega (arith, end, same, before)) in
+    let itself : tally_at key w parts at ≡ 0 = tally_none key w parts at (λ same. omega (arith, end, same, before)) in
     record {
       kind = inner.kind;
       once = omega (arith, itself, rest);
@@ -210,8 +212,8 @@ module _ (methods : List ℕ) where
   mutual
     once_in : (s : Syntax) (from : Position) → IsPlaced from s → IsCovered s → AllByRecursion (IsOnce s from) (keys_of (code s))
     once_in (Node at w parts) from placed covered =
-        by_tests methods (IsOnce (Node at w parts) from) (Node at w parts) (is_no_code w parts) (is_function w) (is_instantiate w) _ _
-        (code_among parts) (plain_word w parts covered.0) (no_instantiate w parts covered.0)
+        by_tests methods (IsOnce (Node at w parts) from) (Node at w parts) (is_no_code w parts) (is_function w) (is_instantiate w)
+        (name_code w parts) parts (plain_word w parts covered.0)
         (each_weaker _ _ (own_once at w parts from placed) (counted_at methods (Node at w parts)) (own_counted methods at w parts covered.0))
         (each_weaker _ _ (inner_once at w parts from placed) (keys_of (code_among parts))
         (once_among 41 parts (inside from w) placed.1 covered.1))
@@ -248,6 +250,9 @@ body_stands (Node at word.Arrow _) from placed covered = record { from = from; p
 body_stands (Node at word.Fundecl (Then marked (Then is_async (Then generator (Then name (Then params (Then body End))))))) from placed covered =
     record { from = _; placed = placed.1.1.1.1.1.1.0 }
 body_stands (Node at word.Fundecl _) from placed covered = record { from = from; placed = tt }
+body_stands (Node at word.Funexpr (Then marked (Then is_async (Then generator (Then name (Then params (Then body End))))))) from placed covered =
+    record { from = _; placed = placed.1.1.1.1.1.1.0 }
+body_stands (Node at word.Funexpr _) from placed covered = record { from = from; placed = tt }
 body_stands _ from placed covered = absurd covered
 
 -- The counted node of a function is one node of its parameters and its body.

@@ -1,5 +1,5 @@
 -- The meanings of covered parts: callees that lend no object, expressions as arguments, and parameters that take their arguments by symbol.
-use Rattle.std.proofs.Common.{◌≡◌, ℕ, Bool, true, false, true≢false, not, if◌then◌else◌, List, [], ◌∷◌, ◌++◌, map, codes, Option, Some, None, refl, sym, ap, ◌∙◌}
+use Rattle.std.proofs.Common.{◌≡◌, ℕ, Bool, true, false, true≢false, ◌&&◌, not, if◌then◌else◌, List, [], ◌∷◌, ◌++◌, map, codes, Option, Some, None, refl, sym, ap, ◌∙◌}
 use Rattle.std.specs.Option.{is_some}
 use Rattle.rl_base.specs.declared.ids.SymbolId.{SymbolId}
 use Rattle.rl_grammar.specs.Grammar.{fits}
@@ -12,22 +12,45 @@ use Rattle.rl_machine.specs.declared.trace.Value.TheVariants as value
 use Rattle.rl_promises.proofs.CoveredForms.{ParamNode, list_of, none_fits, params_of}
 use Rattle.rl_model.specs.Actions.{Action, Ways, ◌>>=◌, ◌>>◌, give}
 use Rattle.rl_promises.specs.Covered.{IsCovered}
-use Rattle.rl_model.specs.Expressions.{first_piece, later_pieces, one_value, values_of}
+use Rattle.rl_model.specs.Expressions.{callee, eval, first_piece, later_pieces, one_value, values_of}
 use Rattle.rl_model.specs.Functions.{is_plain, take_arguments, take_params}
 use Rattle.rl_model.specs.Patterns.{bind, declare}
 use Rattle.rl_model.specs.Scene.{Scene}
-use Rattle.rl_model.specs.Shapes.{is_link, lends, lends_receiver, shape_of}
+use Rattle.rl_model.specs.Shapes.{is_link, lends, lends_receiver, lends_to_tag, shape_of}
 use Rattle.rl_names.specs.Locals.{AreDeclared}
 use Rattle.rl_names.specs.Names.{parameters_among, parameters_in}
 use Rattle.rl_names.specs.declared.parameters.Parameter.{Parameter}
+use Rattle.rl_promises.specs.Tallies.{call_word}
 use Rattle.rl_semantic.specs.Items.{of_item}
 use Rattle.rl_syntax.specs.Syntax.{Syntax, Node, Absent}
 use Rattle.rl_syntax.specs.declared.numbered.At.{At}
 use Rattle.rl_syntax.specs.declared.word.Word.TheVariants as word
 
--- In the port's run a callee that is no property lends nothing.
+-- In the port's run a callee lends its object if it is a property, and a tag lends none.
+
+pub port_lends : (scene : Scene) (e : Syntax) → scene.ported ≡ true → lends_receiver scene e ≡ is_link e
+port_lends scene e ported = ap (λ (b : Bool). if b then is_link e else lends e) ported
+
 pub port_lends_nothing : (scene : Scene) (e : Syntax) → scene.ported ≡ true → is_link e ≡ false → lends_receiver scene e ≡ false
-port_lends_nothing scene e ported none = ap (λ (b : Bool). if b then is_link e else lends e) ported ∙ none
+port_lends_nothing scene e ported none = port_lends scene e ported ∙ none
+
+pub port_tag : (scene : Scene) (tag : Syntax) → scene.ported ≡ true → lends_to_tag scene tag ≡ false
+port_tag scene tag ported = ap (λ (b : Bool). not b && lends tag) ported
+
+-- The values of a callee in the port's run, of a call that is none of a method: its own value. A property with a private name has none.
+pub port_callee : (scene : Scene) (e : Syntax) → scene.ported ≡ true → call_word e ≡ codes "call"
+    → (if lends_receiver scene e then callee scene e else one_value (eval scene e)) ≡ one_value (eval scene e)
+port_callee scene (Node at word.Member parts) ported plain = absurd (cc)
+port_callee scene (Node at word.Index parts) ported plain = absurd (cc)
+port_callee scene (Node at word.Privatemember parts) ported plain = by_order (lends_receiver scene (Node at word.Privatemember parts))
+  where
+    by_order : (lends : Bool)
+        → (if lends then callee scene (Node at word.Privatemember parts) else one_value (eval scene (Node at word.Privatemember parts)))
+        ≡ one_value (eval scene (Node at word.Privatemember parts))
+    by_order true = refl
+    by_order false = refl
+port_callee scene e ported plain =
+    ap (λ (b : Bool). if b then callee scene e else one_value (eval scene e)) (port_lends_nothing scene e ported refl)
 
 -- A covered expression, as an argument or an element, gives one value, its own.
 pub plain_value : (scene : Scene) (e : Syntax) (plain : Action Value) → fits (field.One kind.Expression) e ≡ true → IsCovered e
@@ -35,7 +58,7 @@ pub plain_value : (scene : Scene) (e : Syntax) (plain : Action Value) → fits (
 plain_value scene (Node at word.Hole parts) plain fit covered = absurd (none_fits parts fit)
 plain_value scene (Node at word.Spread parts) plain fit covered = absurd (none_fits parts fit)
 plain_value scene (Node at word.Attrspread parts) plain fit covered = absurd (true≢false (sym covered.0))
-plain_value scene (Node at word.Prop parts) plain fit covered = absurd (true≢false (sym covered.0))
+plain_value scene (Node at word.Prop parts) plain fit covered = absurd (none_fits parts fit)
 plain_value scene (Node at word.Method parts) plain fit covered = absurd (true≢false (sym covered.0))
 plain_value scene (Node at word.Get parts) plain fit covered = absurd (true≢false (sym covered.0))
 plain_value scene (Node at word.Set parts) plain fit covered = absurd (true≢false (sym covered.0))
@@ -48,7 +71,7 @@ plain_value scene _ plain fit covered = refl
 pub plain_shape : (e : Syntax) → fits (field.One kind.Expression) e ≡ true → IsCovered e → shape_of e ≡ codes "place" ∷ []
 plain_shape (Node at word.Spread parts) fit covered = absurd (none_fits parts fit)
 plain_shape (Node at word.Hole parts) fit covered = absurd (none_fits parts fit)
-plain_shape (Node at word.Prop parts) fit covered = absurd (true≢false (sym covered.0))
+plain_shape (Node at word.Prop parts) fit covered = absurd (none_fits parts fit)
 plain_shape (Node at word.Method parts) fit covered = absurd (true≢false (sym covered.0))
 plain_shape _ fit covered = refl
 

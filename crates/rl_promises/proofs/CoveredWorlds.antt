@@ -7,7 +7,7 @@ use Rattle.rl_hir.specs.declared.function.Lowered.{Lowered}
 use Rattle.rl_hir.specs.declared.function.Pair.{Pair}
 use Rattle.rl_machine.specs.Traces.{World}
 use Rattle.std.specs.Option.{option_map_or}
-use Rattle.rl_model.specs.Code.{assigned_in, below, contains, inner_functions, is_function, is_instantiate, is_kept, is_no_code, lowered_among, lowered_in, named_in, names_symbol, others, world_of}
+use Rattle.rl_model.specs.Code.{assigned_in, below, contains, inner_functions, is_function, is_instantiate, is_kept, is_no_code, first_lowered, lowered_among, lowered_in, named_in, names_symbol, others, world_of}
 use Rattle.rl_promises.specs.Covered.{AreCovered, IsCovered, IsCoveredFunction, covers}
 use Rattle.rl_model.specs.Worlds.{Function, marked_identifiers, stands_for, symbol_bound, world_in}
 use Rattle.rl_names.specs.Functions.{body_in, params_in}
@@ -34,28 +34,27 @@ plain_word word.Funexpr parts covered = absurd (true≢false (sym covered))
 plain_word word.Fundecl parts covered = absurd (true≢false (sym covered))
 plain_word _ parts covered = refl
 
-pub no_instantiate : (w : Word) (parts : Pieces) → covers w parts ≡ true → is_instantiate w ≡ false
-no_instantiate word.Instantiate parts covered = absurd (true≢false (sym covered))
-no_instantiate _ parts covered = refl
-
-by_tests : (node : Syntax) (no_code function instantiate : Bool) (first among : List Syntax) → function ≡ false → instantiate ≡ false
-    → among ≡ []
+by_tests : (node : Syntax) (no_code function instantiate : Bool) (first among : List Syntax) → function ≡ false → first ≡ [] → among ≡ []
     → (if no_code then [] else (if function then node ∷ [] else []) ++ (if instantiate then first else among)) ≡ []
 by_tests node true function instantiate first among plain whole none = refl
 by_tests node false true instantiate first among plain whole none = absurd (true≢false plain)
-by_tests node false false true first among plain whole none = absurd (true≢false whole)
+by_tests node false false true first among plain whole none = whole
 by_tests node false false false first among plain whole none = none
 
 mutual
   lowers_none : (s : Syntax) → IsCovered s → lowered_in s ≡ []
   lowers_none (Node at w parts) covered =
-      by_tests (Node at w parts) (is_no_code w parts) (is_function w) (is_instantiate w) _ (lowered_among parts)
-      (plain_word w parts covered.0) (no_instantiate w parts covered.0) (lowers_none_among parts covered.1)
+      by_tests (Node at w parts) (is_no_code w parts) (is_function w) (is_instantiate w) (first_lowered parts) (lowered_among parts)
+      (plain_word w parts covered.0) (lowers_none_first parts covered.1) (lowers_none_among parts covered.1)
   lowers_none (Listed parts) covered = lowers_none_among parts covered
   lowers_none (Said text) covered = refl
   lowers_none (Count number) covered = refl
   lowers_none (Flag flag) covered = refl
   lowers_none Absent covered = refl
+
+  lowers_none_first : (parts : Pieces) → AreCovered parts → first_lowered parts ≡ []
+  lowers_none_first End covered = refl
+  lowers_none_first (Then part parts) covered = lowers_none part covered.0
 
   lowers_none_among : (parts : Pieces) → AreCovered parts → lowered_among parts ≡ []
   lowers_none_among End covered = refl
@@ -70,6 +69,9 @@ params_covered (Node at word.Arrow _) covered = tt
 params_covered (Node at word.Fundecl (Then marked (Then is_async (Then generator (Then name (Then params (Then body End))))))) covered =
     covered.1.1.1.1.0
 params_covered (Node at word.Fundecl _) covered = tt
+params_covered (Node at word.Funexpr (Then marked (Then is_async (Then generator (Then name (Then params (Then body End))))))) covered =
+    covered.1.1.1.1.0
+params_covered (Node at word.Funexpr _) covered = tt
 params_covered _ covered = absurd covered
 
 pub body_covered : (f : Syntax) → IsCoveredFunction f → IsCovered (body_in f)
@@ -78,6 +80,9 @@ body_covered (Node at word.Arrow _) covered = tt
 body_covered (Node at word.Fundecl (Then marked (Then is_async (Then generator (Then name (Then params (Then body End))))))) covered =
     covered.1.1.1.1.1.0
 body_covered (Node at word.Fundecl _) covered = tt
+body_covered (Node at word.Funexpr (Then marked (Then is_async (Then generator (Then name (Then params (Then body End))))))) covered =
+    covered.1.1.1.1.1.0
+body_covered (Node at word.Funexpr _) covered = tt
 body_covered _ covered = absurd covered
 
 inner_none : (f : Syntax) → IsCoveredFunction f → inner_functions f ≡ []

@@ -31,7 +31,7 @@ first_last [] = refl
 first_last (id ∷ ids) = refl
 
 -- Nothing is in two lists.
-none_in : {X : Type 0} (xs ys : List X) → xs ++ ys ≡ [] → (xs ≡ []) × (ys ≡ [])
+pub none_in : {X : Type 0} (xs ys : List X) → xs ++ ys ≡ [] → (xs ≡ []) × (ys ≡ [])
 none_in [] ys none = (refl, none)
 none_in (x ∷ xs) ys none = absurd (cc)
 
@@ -60,7 +60,7 @@ mutual
 marked_covered : (at : At) (w : Word) (parts : Pieces) → first (uncovered_in (Node at w parts)) ≡ None → IsMarked (Node at w parts) → IsCoveredFunction (Node at w parts)
 marked_covered at word.Arrow parts none m = all_covered_among parts (first_none (uncovered_among parts) none)
 marked_covered at word.Fundecl parts none m = all_covered_among parts (first_none (uncovered_among parts) none)
-marked_covered at word.Funexpr parts none m = absurd (cc)
+marked_covered at word.Funexpr parts none m = all_covered_among parts (first_none (uncovered_among parts) none)
 marked_covered at w parts none m = absurd (let words : w ≡ m.word = cc in let pieces : parts ≡ m.parts = cc in cc)
 
 -- A marked function without an uncovered node is covered.

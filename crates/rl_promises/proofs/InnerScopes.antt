@@ -7,8 +7,7 @@ use Rattle.rl_bindings.specs.Tables.{scopes_in}
 use Rattle.rl_bindings.specs.declared.event.ScopeEntry.{ScopeEntry}
 use Rattle.rl_bindings.proofs.TableIds.{scopes_listed}
 use Rattle.rl_syntax.specs.Nodes.{entries_under, entries_among, entries}
-use Rattle.rl_syntax.specs.Syntax.{Syntax, Node, Listed, Said, Count, Flag, Absent, Pieces, End, Then, nodes, nodes_of, scopes, one_if, inside, next_byte, behind, outset, IsPlaced, ArePlaced}
-use Rattle.rl_syntax.specs.Tallies.{scopes_of}
+use Rattle.rl_syntax.specs.Syntax.{Syntax, Node, Listed, Said, Count, Flag, Absent, Pieces, End, Then, nodes, nodes_of, scopes, inside, next_byte, behind, outset, IsPlaced, ArePlaced}
 use Rattle.rl_syntax.specs.Words.{makes_scope}
 use Rattle.rl_syntax.specs.declared.nodes.NodeEntry.{NodeEntry}
 use Rattle.rl_syntax.specs.declared.numbered.At.{At}
@@ -16,10 +15,9 @@ use Rattle.rl_syntax.specs.declared.numbered.Position.{Position}
 use Rattle.rl_syntax.specs.declared.word.Word.{Word}
 use Rattle.rl_syntax.proofs.Numbers.{scopes_numbered}
 use Rattle.rl_names.specs.Names.{is_inside, is_scope_inside}
-use Rattle.rl_bindings.proofs.LookUps.{by_test}
 use Rattle.rl_bindings.proofs.SymbolTables.{both_left, both_right}
 use Rattle.rl_names.proofs.Items.{each-append, each_weaker}
-use Rattle.rl_promises.proofs.Nameless.{HasInner, InnerScope}
+use Rattle.rl_promises.proofs.VariableTrees.{HasInner, InnerScope}
 
 -- Entries of nodes whose ids are in the range from `low` on, `count` of them.
 abbrev AreFrom : (low count : ℕ) → List NodeEntry → Type 0
@@ -114,28 +112,6 @@ module _ (at : At) (w : Word) (ps : Pieces) where
         each-append P (entries_under parent q) (entries_among parent qs)
         (each_before P from.node (nodes q) (entries_under parent q) given r.first (in_range parent q (next_byte from) placed.0))
         (around_among P parent qs (behind (next_byte from) q) placed.1 there given)
-
-no_scope : (w : Word) (rest : ℕ) → rest + one_if makes_scope w ≡ 0 → makes_scope w ≡ false
-no_scope w rest none = by_test (makes_scope w)
-    (λ maker. let one : one_if makes_scope w ≡ 1 = ap (λ (b : Bool). if b then 1 else 0) maker in absurd (omega (arith, none, one)))
-    (λ plain. plain)
-
-abbrev AreNoMakers : List NodeEntry → Type 0
-AreNoMakers es = AllByRecursion (λ e. makes_scope e.word ≡ false) es
-
-mutual
-  -- A tree without scopes has no node that makes one.
-  pub no_makers : (parent : Option NodeId) (t : Syntax) → scopes t ≡ 0 → AreNoMakers (entries_under parent t)
-  no_makers parent (Node at w ps) none = (no_scope w (scopes_of ps) none, no_makers_among (Some at.id) ps (omega (arith, none)))
-  no_makers parent (Listed ps) none = no_makers_among parent ps none
-  no_makers parent (Said text) none = tt
-  no_makers parent (Count number) none = tt
-  no_makers parent (Flag flag) none = tt
-  no_makers parent Absent none = tt
-
-  no_makers_among : (parent : Option NodeId) (ps : Pieces) → scopes_of ps ≡ 0 → AreNoMakers (entries_among parent ps)
-  no_makers_among parent End none = tt
-  no_makers_among parent (Then p ps) none = each-append (λ e. makes_scope e.word ≡ false) (entries_under parent p) (entries_among parent ps) (no_makers parent p (omega (arith, none))) (no_makers_among parent ps (omega (arith, none)))
 
 -- The scope is that of the node with the ids `at`, or an inner one of its parts.
 abbrev pub IsOwnOrInner : At → Pieces → (scope : ℕ) → Type 0

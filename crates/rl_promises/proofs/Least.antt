@@ -7,6 +7,7 @@ use Rattle.rl_syntax.specs.Syntax.{Syntax, Node, Listed, Said, Count, Flag, Abse
 use Rattle.rl_syntax.specs.declared.numbered.Position.{Position}
 use Rattle.rl_ast.specs.Marked.{first}
 use Rattle.rl_promises.specs.Covered.{covers, uncovered, uncovered_among, uncovered_in}
+use Rattle.rl_syntax.specs.declared.word.Word.{Word}
 use Rattle.rl_syntax.specs.declared.word.Word.TheVariants as word
 
 -- The numbers ascend, from `low` to before `high`.
@@ -59,13 +60,18 @@ first_least (x ∷ xs) low high n r is =
     let rest : All (λ y. x + 1 ≤ y) xs = all_from xs (x + 1) high r.1 in
     All-cons (λ y. n ≤ y) x xs (omega (arith, same)) (λ k d within. omega (arith, same, rest k d within))
 
+-- The parts of a function.
+parts_ascend : (w : Word) (parts : Pieces) (from : Position) → ArePlaced (inside from w) parts
+    → Ascends from.node (uncovered_among parts) (from.node + (nodes_of parts + 1))
+parts_ascend w parts from placed =
+    ascends_from (uncovered_among parts) from.node (from.node + 1) (from.node + (nodes_of parts + 1)) (omega arith)
+    (ascends_to (uncovered_among parts) (from.node + 1) (from.node + 1 + nodes_of parts) (from.node + (nodes_of parts + 1)) (omega arith)
+    (uncovered_among_ascend parts (inside from w) placed))
+
 in_ascend : (f : Syntax) (from : Position) → IsPlaced from f → Ascends from.node (uncovered_in f) (from.node + nodes f)
-in_ascend (Node at word.Arrow parts) from placed =
-    ascends_from (uncovered_among parts) from.node (from.node + 1) (from.node + (nodes_of parts + 1)) (omega arith)
-    (ascends_to (uncovered_among parts) (from.node + 1) (from.node + 1 + nodes_of parts) (from.node + (nodes_of parts + 1)) (omega arith) (uncovered_among_ascend parts (inside from word.Arrow) placed.1))
-in_ascend (Node at word.Fundecl parts) from placed =
-    ascends_from (uncovered_among parts) from.node (from.node + 1) (from.node + (nodes_of parts + 1)) (omega arith)
-    (ascends_to (uncovered_among parts) (from.node + 1) (from.node + 1 + nodes_of parts) (from.node + (nodes_of parts + 1)) (omega arith) (uncovered_among_ascend parts (inside from word.Fundecl) placed.1))
+in_ascend (Node at word.Arrow parts) from placed = parts_ascend word.Arrow parts from placed.1
+in_ascend (Node at word.Fundecl parts) from placed = parts_ascend word.Fundecl parts from placed.1
+in_ascend (Node at word.Funexpr parts) from placed = parts_ascend word.Funexpr parts from placed.1
 in_ascend f from placed = uncovered_ascend f from placed
 
 -- The node that a function waits for is the least that is not covered.

@@ -1,5 +1,3 @@
-mod Examples
-mod RowExamples
 pub mod Alike
 pub mod CountedCode
 pub mod CountedLives
@@ -9,10 +7,22 @@ pub mod CoveredMeanings
 pub mod CoveredNames
 pub mod CoveredWorlds
 pub mod Covering
+mod Examples
+pub mod DeclarationSpans
+pub mod FirstDeclarations
+pub mod FunctionParts
 pub mod HeldOnce
 pub mod InnerScopes
 pub mod Least
-pub mod LocalParameters
-pub mod Nameless
-pub mod NamelessFunctions
+pub mod LeavingOut
+pub mod LocalVariables
+pub mod LowerableTrees
 pub mod OrderlyCalls
+pub mod PlainNames
+mod RowExamples
+pub mod Shaping
+pub mod Skipping
+pub mod SmallNames
+pub mod Stopping
+pub mod Unheld
+pub mod VariableTrees

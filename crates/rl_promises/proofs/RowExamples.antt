@@ -1,6 +1,7 @@
 -- The rows, the covered nodes, the live nodes and the fields of functions, each kind of node tried once.
-use Rattle.std.proofs.Common.{◌≡◌, ℕ, true, false, Option, Some, None, List, [], ◌∷◌, codes, refl}
+use Rattle.std.proofs.Common.{◌≡◌, ℕ, Bool, true, false, Option, Some, None, List, [], ◌∷◌, codes, refl}
 use Rattle.std.specs.Fmt.{digits}
+use Rattle.rl_base.specs.Diagnostics.{diagnostic_at}
 use Rattle.rl_base.specs.declared.diagnostic.Diagnostic.{Diagnostic}
 use Rattle.rl_base.specs.declared.row.Row.TheVariants as row
 use Rattle.rl_model.proofs.ExampleUnits.{arrow, body, called, function, name, node, params, span, unit, unit_of}
@@ -9,7 +10,8 @@ use Rattle.rl_promises.specs.Fields.{directives_in, places_from}
 use Rattle.rl_promises.specs.Live.{Held, held_in, live_in_body}
 use Rattle.rl_promises.specs.Tallies.{tallied}
 use Rattle.rl_model.specs.Counted.{Counted}
-use Rattle.rl_promises.specs.Rows.{refusal, refusals_of, stop_of}
+use Rattle.rl_promises.specs.Rows.{refusal, refusals_of}
+use Rattle.rl_promises.specs.Stops.{has_using, stop_of}
 use Rattle.rl_model.specs.Marked.{marked}
 use Rattle.rl_model.specs.Source.{is_orderly}
 use Rattle.rl_model.specs.Units.{names_of}
@@ -33,6 +35,16 @@ this_first = refl
 
 reserved_first : stop_in (unit_of (function (codes "a" ∷ codes "enum" ∷ codes "class" ∷ []) [])) ≡ Some (record { row = row.S1; word = codes "enum"; labels = span 6 ∷ [] })
 reserved_first = refl
+
+-- A variable of the body stops the lowering too, but not in what a row leaves out: the argument of a `yield`.
+abbrev declared_as : (kind name : List ℕ) → (init : Syntax) → Syntax
+declared_as kind name init =
+    node 11 word.Var (Said kind
+    ∷ Listed (pieces_of (node 12 word.Declarator (node 13 word.Bind (Said name ∷ Absent ∷ []) ∷ init ∷ []) ∷ [])) ∷ [])
+
+reserved_in_body : stop_in (unit_of (function [] (declared_as (codes "let") (codes "enum") Absent ∷ [])))
+    ≡ Some (record { row = row.S1; word = codes "enum"; labels = span 13 ∷ [] })
+reserved_in_body = refl
 
 goes_on : stop_in (unit_of (function (codes "eval" ∷ codes "fbt" ∷ []) [])) ≡ None
 goes_on = refl
@@ -81,6 +93,136 @@ branches_first = refl
 literals : refusals_in (unit_of (arrow [] (called 11 (node 12 word.Null []) (node 13 word.Bool (Flag false ∷ []) ∷ node 14 word.Str (Said (codes "eval") ∷ []) ∷ [])))) ≡ []
 literals = refl
 
+-- The refusals of a function that returns an expression.
+abbrev refusals_at : Syntax → List Diagnostic
+refusals_at e = refusals_in (unit_of (arrow [] e))
+
+-- Kinds that are refused by themselves: `this.#b` behind its object, `import(eval)` and `#b in eval` in front of theirs, `yield eval`
+-- without its argument, `new.target`, `super` and `1n`.
+private_member : refusals_at (node 11 word.Privatemember (Flag false ∷ node 12 word.This [] ∷ Said (codes "b") ∷ []))
+    ≡ refusal row.F18 (span 12) ∷ refusal row.F3 (span 11) ∷ []
+private_member = refl
+
+import_call : refusals_at (node 11 word.Importcall (name 12 (codes "eval") ∷ Absent ∷ []))
+    ≡ refusal row.F4 (span 11) ∷ refusal row.F2 (span 12) ∷ []
+import_call = refl
+
+private_in : refusals_at (node 11 word.Privatein (Said (codes "b") ∷ name 12 (codes "eval") ∷ []))
+    ≡ refusal row.F5 (span 11) ∷ refusal row.F2 (span 12) ∷ []
+private_in = refl
+
+yielding : refusals_at (node 11 word.Yield (Flag false ∷ name 12 (codes "eval") ∷ [])) ≡ refusal row.F14 (span 11) ∷ []
+yielding = refl
+
+three_words : refusals_at (node 11 word.Seq (Listed (pieces_of (
+    node 12 word.Newtarget [] ∷ node 13 word.Super [] ∷ node 14 word.Bigint (Said (codes "1") ∷ []) ∷ [])) ∷ []))
+    ≡ refusal row.F15 (span 12) ∷ refusal row.F17 (span 13) ∷ refusal row.F42 (span 14) ∷ []
+three_words = refl
+
+-- A `delete` of a name is refused without its argument, that of a property is not: `delete eval`, and `delete (eval.a)`.
+abbrev deleted : (argument : Syntax) → Syntax
+deleted argument = node 11 word.Unary (Said (codes "delete") ∷ argument ∷ [])
+
+abbrev property_of : (start : ℕ) → (object : Syntax) → Syntax
+property_of start object = node start word.Member (Flag false ∷ object ∷ Said (codes "a") ∷ [])
+
+lost_delete : refusals_at (deleted (name 12 (codes "eval"))) ≡ refusal row.F12 (span 11) ∷ []
+lost_delete = refl
+
+kept_delete : refusals_at (deleted (node 12 word.Paren (property_of 13 (name 14 (codes "eval")) ∷ []))) ≡ refusal row.F2 (span 14) ∷ []
+kept_delete = refl
+
+-- A tagged template whose text is not cooked as it is written is refused without its parts.
+abbrev tagged_with : (raw cooked : List ℕ) → Syntax
+tagged_with raw cooked =
+    node 11 word.Tagged (name 12 (codes "eval")
+    ∷ node 13 word.Template (Listed (pieces_of (node 14 word.Quasi (Said raw ∷ Said cooked ∷ []) ∷ [])) ∷ Listed End ∷ []) ∷ [])
+
+cooked_tag : refusals_at (tagged_with (codes "a") (codes "b")) ≡ refusal row.F13 (span 11) ∷ []
+cooked_tag = refl
+
+raw_tag : refusals_at (tagged_with (codes "a") (codes "a")) ≡ refusal row.F2 (span 12) ∷ []
+raw_tag = refl
+
+-- Keys of properties: one with a private name is refused without its value, and one that is no numeral in front of it.
+abbrev object_of : (computed : Bool) → (key : Syntax) → Syntax
+object_of computed key =
+    node 11 word.Object (Listed (pieces_of (node 12 word.Prop (Flag computed ∷ key ∷ name 16 (codes "eval") ∷ []) ∷ [])) ∷ [])
+
+private_key : refusals_at (object_of false (node 13 word.Private (Said (codes "a") ∷ []))) ≡ refusal row.F9 (span 13) ∷ []
+private_key = refl
+
+fraction_key : refusals_at (object_of false (number 13)) ≡ refusal row.F43 (span 13) ∷ refusal row.F2 (span 16) ∷ []
+unfolding digits
+fraction_key = refl
+
+name_key : refusals_at (object_of false (node 13 word.Name (Said (codes "eval") ∷ []))) ≡ refusal row.F2 (span 16) ∷ []
+name_key = refl
+
+computed_key : refusals_at (object_of true (name 13 (codes "eval"))) ≡ refusal row.F2 (span 13) ∷ refusal row.F2 (span 16) ∷ []
+computed_key = refl
+
+-- Types are not lowered: `(eval as T)`, `<T>eval` and `eval<T>`, where `T` is named `eval`.
+abbrev named_type : Syntax
+named_type = node 15 word.Type (Said (codes "other") ∷ Listed (pieces_of (name 16 (codes "eval") ∷ [])) ∷ [])
+
+types_free : refusals_at (node 11 word.Seq (Listed (pieces_of (
+    node 12 word.As (node 13 word.Null [] ∷ named_type ∷ [])
+    ∷ node 12 word.Satisfies (node 13 word.Null [] ∷ named_type ∷ [])
+    ∷ node 12 word.Assert (named_type ∷ node 13 word.Null [] ∷ [])
+    ∷ node 12 word.Instantiate (node 13 word.Null [] ∷ Listed (pieces_of (name 16 (codes "eval") ∷ [])) ∷ []) ∷ [])) ∷ []))
+    ≡ []
+types_free = refl
+
+-- `var` is refused in front of its declarators, each behind its initializer.
+var_first : refusals_in (unit_of (function [] (declared_as (codes "var") (codes "fbt") (name 14 (codes "eval")) ∷ [])))
+    ≡ refusal row.F39 (span 11) ∷ refusal row.F2 (span 14) ∷ refusal row.F40 (span 13) ∷ []
+var_first = refl
+
+let_free : refusals_in (unit_of (function [] (declared_as (codes "let") (codes "a") (node 14 word.Null []) ∷ []))) ≡ []
+let_free = refl
+
+-- Updates: of a constant, of a variable, of one named `fbt`, of a global, of a name of the module, of a property, and of a wrapped target.
+abbrev updated : (target : Syntax) → Syntax
+updated target = node 17 word.Update (Said (codes "++") ∷ Flag true ∷ target ∷ [])
+
+abbrev updates : (kind declared : List ℕ) → (target : Syntax) → List Diagnostic
+updates kind declared target =
+    refusals_in (unit_of (function [] (declared_as kind declared (node 14 word.Null []) ∷ node 16 word.Expr (updated target ∷ []) ∷ [])))
+
+constant_updated : updates (codes "const") (codes "a") (name 18 (codes "a")) ≡ diagnostic_at row.F6 (codes "a") (span 18) ∷ []
+constant_updated = refl
+
+variable_updated : updates (codes "let") (codes "a") (name 18 (codes "a")) ≡ []
+variable_updated = refl
+
+fbt_updated : updates (codes "let") (codes "fbt") (name 18 (codes "fbt"))
+    ≡ refusal row.F40 (span 13) ∷ refusal row.F40 (span 13) ∷ refusal row.F40 (span 13) ∷ []
+fbt_updated = refl
+
+global_updated : updates (codes "let") (codes "a") (name 18 (codes "b")) ≡ refusal row.F20 (span 17) ∷ []
+global_updated = refl
+
+property_updated : updates (codes "let") (codes "a") (property_of 18 (node 19 word.This [])) ≡ refusal row.F18 (span 19) ∷ []
+property_updated = refl
+
+wrapped_updated : updates (codes "let") (codes "a") (node 18 word.Nonnull (node 19 word.This [] ∷ [])) ≡ refusal row.F22 (span 17) ∷ []
+wrapped_updated = refl
+
+module_updated : refusals_in (unit (
+    declared_as (codes "let") (codes "m") Absent
+    ∷ node 20 word.Expr (arrow [] (updated (name 18 (codes "m"))) ∷ []) ∷ []))
+    ≡ refusal row.F21 (span 17) ∷ []
+module_updated = refl
+
+-- A declaration by `using`, for which a unit is skipped.
+skipped : has_using (body_in (marked (unit_of (function [] (declared_as (codes "using") (codes "a") (node 14 word.Null []) ∷ []))))) ≡ true
+skipped = refl
+
+unskipped : has_using (body_in (marked (
+    unit_of (function [] (declared_as (codes "const") (codes "a") (node 14 word.Null []) ∷ []))))) ≡ false
+unskipped = refl
+
 -- `(p) => { "use strict"; f(p, (null), true, 1 + "a"); return; }`: each covered node once.
 abbrev covered_body : Syntax
 covered_body = body (codes "use strict" ∷ []) (
@@ -124,6 +266,57 @@ more_covered = body [] (
 covered_too : pending (unit_of (arrow (codes "p" ∷ []) more_covered)) ≡ None
 covered_too = refl
 
+-- `(p) => { debugger; var a: T; const b = {p: a, [p]: p.a(), #p: 1n}; delete p.a; ++a; eval`a`; }`: declarations, properties and a method.
+abbrev typed : (start : ℕ) → Syntax
+typed start = node start word.Type (Said (codes "other") ∷ Listed (pieces_of (name start (codes "T") ∷ [])) ∷ [])
+
+abbrev method_of : (start : ℕ) → Syntax
+method_of start = called start (property_of 52 (name 53 (codes "p"))) []
+
+abbrev declarations : List Syntax
+declarations =
+    node 31 word.Debugger []
+    ∷ node 32 word.Var (Said (codes "var") ∷ Listed (pieces_of (
+    node 33 word.Declarator (node 34 word.Bind (Said (codes "a") ∷ typed 35 ∷ []) ∷ Absent ∷ []) ∷ [])) ∷ [])
+    ∷ node 36 word.Var (Said (codes "const") ∷ Listed (pieces_of (
+    node 37 word.Declarator (node 38 word.Bind (Said (codes "b") ∷ Absent ∷ []) ∷ node 39 word.Object (Listed (pieces_of (
+    node 40 word.Prop (Flag false ∷ node 41 word.Name (Said (codes "p") ∷ []) ∷ name 42 (codes "a") ∷ [])
+    ∷ node 43 word.Prop (Flag true ∷ name 44 (codes "p") ∷ method_of 45 ∷ [])
+    ∷ node 46 word.Prop (Flag false ∷ node 47 word.Private (Said (codes "p") ∷ []) ∷ node 48 word.Bigint (Said (codes "1") ∷ []) ∷ [])
+    ∷ [])) ∷ []) ∷ []) ∷ [])) ∷ [])
+    ∷ node 50 word.Expr (deleted (property_of 51 (name 52 (codes "p"))) ∷ [])
+    ∷ node 53 word.Expr (updated (name 54 (codes "a")) ∷ [])
+    ∷ node 55 word.Expr (tagged_with (codes "a") (codes "a") ∷ []) ∷ []
+
+-- The kinds that are covered besides, in a sequence.
+abbrev others : Syntax
+others = node 60 word.Seq (Listed (pieces_of (
+    node 61 word.Privatein (Said (codes "a") ∷ name 62 (codes "p") ∷ [])
+    ∷ node 63 word.Yield (Flag false ∷ Absent ∷ [])
+    ∷ node 64 word.Newtarget [] ∷ node 65 word.Super [] ∷ node 66 word.This []
+    ∷ node 67 word.Importcall (name 68 (codes "p") ∷ Absent ∷ [])
+    ∷ node 69 word.As (name 70 (codes "p") ∷ typed 71 ∷ [])
+    ∷ node 72 word.Satisfies (name 73 (codes "p") ∷ typed 74 ∷ [])
+    ∷ node 75 word.Assert (typed 76 ∷ name 77 (codes "p") ∷ [])
+    ∷ node 78 word.Instantiate (name 79 (codes "p") ∷ Listed (pieces_of (name 80 (codes "T") ∷ [])) ∷ [])
+    ∷ node 81 word.Privatemember (Flag false ∷ name 82 (codes "p") ∷ Said (codes "a") ∷ []) ∷ [])) ∷ [])
+
+declarations_covered : pending (unit_of (function (codes "p" ∷ []) declarations)) ≡ None
+declarations_covered = refl
+
+others_covered : pending (unit_of (arrow (codes "p" ∷ []) others)) ≡ None
+others_covered = refl
+
+-- A tag that is a property: the function is covered, and not orderly. A call of a property is.
+property_tag : is_orderly (unit_of (arrow [] (node 11 word.Tagged (
+    property_of 12 (name 13 (codes "f"))
+    ∷ node 14 word.Template (Listed (pieces_of (node 15 word.Quasi (Said [] ∷ Said [] ∷ []) ∷ [])) ∷ Listed End ∷ []) ∷ [])))) None
+    ≡ false
+property_tag = refl
+
+method_orderly : is_orderly (unit_of (arrow [] (called 11 (property_of 12 (name 13 (codes "f"))) []))) None ≡ true
+method_orderly = refl
+
 -- A callee that is a property in parentheses: the function is covered, and not orderly.
 abbrev parenthesized : Syntax
 parenthesized =
@@ -136,14 +329,18 @@ callee_covered = refl
 callee_not_orderly : is_orderly parenthesized None ≡ false
 callee_not_orderly = refl
 
--- Nodes outside the marked function are free. Inside it a `debugger` statement is not covered, nor is a function, nor a call or a
--- property that is optional, nor a call whose callee is a property itself, nor a `delete`, nor a sequence without expressions; the least
--- id is given.
-outside : pending (unit (node 2 word.Debugger [] ∷ node 3 word.Expr (arrow [] covered_body ∷ []) ∷ [])) ≡ None
+-- Nodes outside the marked function are free. Inside it a `throw` statement is not covered, nor is a function, nor a pattern, nor a call or
+-- a property that is optional, nor a sequence without expressions; the least id is given.
+outside : pending (unit (node 2 word.Throw (node 3 word.Null [] ∷ []) ∷ node 4 word.Expr (arrow [] covered_body ∷ []) ∷ [])) ≡ None
 outside = refl
 
-debugger_statement : pending (unit_of (function [] (node 11 word.Debugger [] ∷ node 12 word.Debugger [] ∷ []))) ≡ Some 6
-debugger_statement = refl
+throw_statement : pending (unit_of (function [] (
+    node 11 word.Throw (node 12 word.Null [] ∷ []) ∷ node 13 word.Throw (node 14 word.Null [] ∷ []) ∷ []))) ≡ Some 6
+throw_statement = refl
+
+pattern : pending (unit_of (function [] (node 11 word.Var (Said (codes "let") ∷ Listed (pieces_of (
+    node 12 word.Declarator (node 13 word.Arraypat (Listed End ∷ Absent ∷ []) ∷ node 14 word.Null [] ∷ []) ∷ [])) ∷ []) ∷ []))) ≡ Some 8
+pattern = refl
 
 unmarked : pending (unit_of (function [] (node 11 word.Expr (node 12 word.Arrow (Flag false ∷ Flag false ∷ node 13 word.Params (Listed End ∷ Absent ∷ []) ∷ node 14 word.Null [] ∷ []) ∷ []) ∷ []))) ≡ Some 7
 unmarked = refl
@@ -154,36 +351,30 @@ optional_call = refl
 optional_member : pending (unit_of (arrow [] (node 11 word.Member (Flag true ∷ name 12 (codes "f") ∷ Said (codes "a") ∷ [])))) ≡ Some 5
 optional_member = refl
 
-method_call : pending (unit_of (arrow [] (called 11 (node 12 word.Member (Flag false ∷ name 13 (codes "f") ∷ Said (codes "a") ∷ [])) []))) ≡ Some 5
-method_call = refl
-
-deletion : pending (unit_of (arrow [] (node 11 word.Unary (Said (codes "delete") ∷ node 12 word.Member (Flag false ∷ name 13 (codes "f") ∷ Said (codes "a") ∷ []) ∷ [])))) ≡ Some 5
-deletion = refl
-
 no_expressions : pending (unit_of (arrow [] (node 11 word.Seq (Listed End ∷ [])))) ≡ Some 5
 no_expressions = refl
 
--- A parameter with a default, a parameter with a type (the type is the uncovered node), and a rest parameter.
+-- A parameter with a default, and a rest parameter, are not covered; one with a type is.
 abbrev with_params : (params : Syntax) → Syntax
 with_params params = unit_of (node 3 word.Arrow (Flag true ∷ Flag false ∷ params ∷ node 10 word.Null [] ∷ []))
 
 default_parameter : pending (with_params (node 4 word.Params (Listed (pieces_of (node 5 word.Param (node 6 word.Bind (Said (codes "p") ∷ Absent ∷ []) ∷ node 7 word.Null [] ∷ []) ∷ [])) ∷ Absent ∷ []))) ≡ Some 5
 default_parameter = refl
 
-typed_parameter : pending (with_params (node 4 word.Params (Listed (pieces_of (node 5 word.Param (node 6 word.Bind (Said (codes "p") ∷ node 7 word.Type (Said (codes "other") ∷ Listed End ∷ []) ∷ []) ∷ Absent ∷ []) ∷ [])) ∷ Absent ∷ []))) ≡ Some 7
+typed_parameter : pending (with_params (node 4 word.Params (Listed (pieces_of (node 5 word.Param (node 6 word.Bind (Said (codes "p") ∷ node 7 word.Type (Said (codes "other") ∷ Listed End ∷ []) ∷ []) ∷ Absent ∷ []) ∷ [])) ∷ Absent ∷ []))) ≡ None
 typed_parameter = refl
 
 rest_parameter : pending (with_params (node 4 word.Params (Listed End ∷ node 5 word.Rest (node 6 word.Bind (Said (codes "p") ∷ Absent ∷ []) ∷ []) ∷ []))) ≡ Some 5
 rest_parameter = refl
 
--- A marked declaration is covered, a marked function expression is not.
+-- A marked declaration is covered, and so is a marked function expression.
 abbrev with_form : Word → Syntax
 with_form form = node 3 form (Flag true ∷ Flag true ∷ Flag true ∷ node 4 word.Bind (Said (codes "f") ∷ Absent ∷ []) ∷ params (codes "p" ∷ []) ∷ body (codes "use client" ∷ codes "a" ∷ []) (node 11 word.Return (name 12 (codes "f") ∷ []) ∷ []) ∷ [])
 
 declaration : pending (unit (with_form word.Fundecl ∷ [])) ≡ None
 declaration = refl
 
-expression : pending (unit_of (with_form word.Funexpr)) ≡ Some 3
+expression : pending (unit_of (with_form word.Funexpr)) ≡ None
 expression = refl
 
 -- The fields of the declaration `async function* f(p) { "use client"; "a"; return f; }`, and of an arrow function.
@@ -239,6 +430,18 @@ tallied_once = refl
 
 tallied_never : tallied (key 11) (body_in three_calls) ≡ 0
 tallied_never = refl
+
+-- `() => a.b(c[d]())`: calls of methods.
+abbrev methods : Syntax
+methods = arrow [] (called 11 (property_of 12 (name 13 (codes "a")))
+    (called 14 (node 15 word.Index (Flag false ∷ name 16 (codes "c") ∷ name 17 (codes "d") ∷ [])) [] ∷ []))
+
+methods_held : held_in (body_in methods)
+    ≡ record { word = codes "methodcall"; span = span 11 } ∷ record { word = codes "methodcall"; span = span 14 } ∷ []
+methods_held = refl
+
+method_tallied : tallied (key 14) (body_in methods) ≡ 1
+method_tallied = refl
 
 -- `() => new (await f()) + g()`: of each kind, in a body that is an expression.
 abbrev each_kind : Syntax

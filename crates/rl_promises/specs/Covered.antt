@@ -21,11 +21,11 @@ abbrev mutual
   uncovered_among End = []
   uncovered_among (Then piece pieces) = uncovered piece ++ uncovered_among pieces
 
--- The ids of the nodes of the marked function that are not covered. An arrow function and a function declaration are covered
--- themselves, a function expression is not.
+-- The ids of the nodes of the marked function that are not covered. The function itself is.
 abbrev pub uncovered_in : Syntax → List ℕ
 uncovered_in (Node at word.Arrow parts) = uncovered_among parts
 uncovered_in (Node at word.Fundecl parts) = uncovered_among parts
+uncovered_in (Node at word.Funexpr parts) = uncovered_among parts
 uncovered_in function = uncovered function
 
 -- The least id of a node of the marked function that the lowering does not cover; None if it covers the whole function.
@@ -47,8 +47,9 @@ abbrev mutual
   AreCovered End = Unit {0}
   AreCovered (Then piece pieces) = IsCovered piece × AreCovered pieces
 
--- An arrow function or a function declaration of which every node is covered.
+-- A function of which every node is covered.
 abbrev pub IsCoveredFunction : Syntax → Type 0
 IsCoveredFunction (Node at word.Arrow parts) = AreCovered parts
 IsCoveredFunction (Node at word.Fundecl parts) = AreCovered parts
+IsCoveredFunction (Node at word.Funexpr parts) = AreCovered parts
 IsCoveredFunction _ = ⊥

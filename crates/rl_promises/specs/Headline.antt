@@ -1,5 +1,6 @@
 -- The promises of a result: of each graph, and of the result as a whole.
 use Rattle.std.specs.Prelude.{◌≡◌, ℕ, ◌*◌, ◌≤◌, true, None, List, [], length}
+use Rattle.rl_promises.specs.Spans.{IsSpanned}
 use Rattle.rl_syntax.specs.Syntax.{Syntax, nodes}
 use Rattle.rl_hir.specs.Listing.{lowered}
 use Rattle.rl_hir.specs.Numbered.{IsNumbered}
@@ -63,6 +64,7 @@ pub record IsLowered (u : Syntax) (l : Lowered) : Type 0 where
   pub symbols : HaveSymbolsOf u l.pairs
   pub bounded : lowered_size l ≤ 64 * nodes u
   pub writable : IsWritable (lowered l)
+  pub spanned : IsSpanned (marked u) l.function l.identifiers
 
 -- The bytes spell a unit, and this is its result.
 abbrev pub LowersTo : List ℕ → Lowered → Type 0

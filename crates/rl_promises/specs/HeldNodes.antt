@@ -1,4 +1,4 @@
--- The instructions of a graph for the nodes of its function that are counted, as the lowering of the function tells them.
+-- The instructions of a graph for the nodes of its function that are counted, as the lowering of a function without refusals tells them.
 use Rattle.std.specs.Prelude.{◌≡◌, ◌≤◌, List, [], ◌∷◌, All}
 use Rattle.rl_names.specs.Functions.{body_in}
 use Rattle.rl_hir.specs.Blocks.{Pair as BlockPair}

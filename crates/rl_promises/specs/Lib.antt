@@ -6,6 +6,13 @@ pub mod Headline
 pub mod Held
 pub mod HeldNodes
 pub mod Live
+pub mod Locals
+pub mod Lowerable
+pub mod Outs
+pub mod PartForms
 pub mod Rows
+pub mod SeenStops
 pub mod Size
+pub mod Spans
+pub mod Stops
 pub mod Tallies

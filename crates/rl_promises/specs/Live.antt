@@ -20,13 +20,13 @@ held_as None span = []
 held_as (Some text) span = record { word = text; span = span } ∷ []
 
 -- The node itself, without its parts, where its instruction is counted.
-abbrev pub held_at : Word → At → List Held
-held_at w at = held_as (held_word w) at.span
+abbrev pub held_at : Word → Pieces → At → List Held
+held_at w parts at = held_as (held_word w parts) at.span
 
 abbrev mutual
   -- The nodes of a tree whose instructions are counted, each before those in its parts.
   pub held_in : Syntax → List Held
-  held_in (Node at w parts) = held_at w at ++ held_among parts
+  held_in (Node at w parts) = held_at w parts at ++ held_among parts
   held_in (Listed parts) = held_among parts
   held_in (Said text) = []
   held_in (Count number) = []

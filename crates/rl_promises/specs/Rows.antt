@@ -1,8 +1,7 @@
--- The rows of refusals by node: the nodes of a tree that are refused or stop the lowering, and their diagnostics.
+-- The rows of refusals by node: the nodes of a tree that are refused, and their diagnostics.
 use Rattle.std.specs.Prelude.{◌≡◌, ℕ, Bool, false, if◌then◌else◌, Option, Some, None, unwrap_or, List, [], ◌∷◌, ◌++◌, codes}
 use Rattle.std.specs.Str.{bytes_eq}
 use Rattle.rl_base.specs.Diagnostics.{diagnostic_at}
-use Rattle.rl_base.specs.Reserved.{is_reserved}
 use Rattle.rl_base.specs.declared.diagnostic.Diagnostic.{Diagnostic}
 use Rattle.rl_base.specs.declared.row.Row.{Row}
 use Rattle.rl_base.specs.declared.row.Row.TheVariants as row
@@ -10,14 +9,16 @@ use Rattle.rl_base.specs.declared.ids.SymbolId.{SymbolId}
 use Rattle.rl_base.specs.declared.span.Span.{Span}
 use Rattle.rl_text.specs.Numeral.{is_numeral}
 use Rattle.rl_syntax.specs.declared.word.Word.TheVariants as word
-use Rattle.rl_syntax.specs.Syntax.{Syntax, Node, Listed, Said, Pieces, End, Then}
+use Rattle.rl_syntax.specs.Syntax.{Syntax, Node, Listed, Said, Flag, Pieces, End, Then, span_of}
 use Rattle.rl_hir.specs.declared.instruction.NonLocalBinding.{NonLocalBinding}
 use Rattle.rl_hir.specs.declared.instruction.NonLocalBinding.TheVariants as binding
-use Rattle.rl_names.specs.Functions.{body_in, params_in, parameters_of}
+use Rattle.rl_names.specs.Functions.{body_in, params_in}
 use Rattle.rl_names.specs.Names.{Names}
-use Rattle.rl_names.specs.declared.parameters.Parameter.{Parameter}
+use Rattle.rl_promises.specs.Outs.{is_known_key, is_lost_delete, is_wrapped}
+use Rattle.rl_promises.specs.Stops.{has_using, stop_of}
 use Rattle.rl_names.specs.declared.names.Meaning.{Meaning}
 use Rattle.rl_names.specs.declared.names.Meaning.TheVariants.{Local, Outer}
+use Rattle.rl_model.specs.Shapes.{are_raw}
 use Rattle.rl_semantic.specs.Items.{of_item}
 
 -- The text is the given word.
@@ -27,10 +28,6 @@ is_text word text = bytes_eq text word
 -- The diagnostic of a row without a word.
 abbrev pub refusal : Row → Span → Diagnostic
 refusal r label = diagnostic_at r [] label
-
--- The diagnostic of a stop at a parameter, whose name is its word.
-abbrev pub stop : Row → Parameter → Diagnostic
-stop r p = diagnostic_at r p.name p.declaration
 
 -- The diagnostics of a local variable by its name: F40 of `fbt`.
 abbrev pub said_of_local : (name : List ℕ) → (label : Span) → List Diagnostic
@@ -54,23 +51,67 @@ abbrev pub said_of_name : Names → Meaning → (label : Span) → List Diagnost
 said_of_name names (Local symbol) label = said_of_local (names.name symbol.0) (label_of names symbol label)
 said_of_name names (Outer binding) label = said_of_outer binding label
 
+-- The row of an update of a name that is no local: F20 of a global, F21 of another.
+abbrev pub row_of_update : NonLocalBinding → Row
+row_of_update (binding.Global name) = row.F20
+row_of_update _ = row.F21
+
+-- The diagnostics of an update, at `at`, of a name at `there`: a local is resolved, and again where it is read. A constant is not read
+-- (row F6).
+abbrev pub said_of_update : Names → (at there : Span) → Meaning → List Diagnostic
+said_of_update names at there (Local symbol) =
+    said_of_local (names.name symbol.0) (label_of names symbol there)
+    ++ (if names.is_const symbol.0 then diagnostic_at row.F6 (names.name symbol.0) there ∷ []
+    else said_of_local (names.name symbol.0) (label_of names symbol there))
+said_of_update names at there (Outer b) = refusal (row_of_update b) at ∷ []
+
+-- The diagnostics of an update at `at` by its target, which has `inside` by itself: F22 of a wrapped target.
+abbrev pub said_of_target : Names → (at : Span) → (target : Syntax) → (inside : List Diagnostic) → List Diagnostic
+said_of_target names at (Node there word.Id (Then (Said name) End)) inside =
+    said_of_update names at there.span (names.meaning there.reference.0 name)
+said_of_target names at target inside = if is_wrapped target then refusal row.F22 at ∷ [] else inside
+
 -- The diagnostics of a node by itself.
 abbrev pub said_of : Names → Syntax → List Diagnostic
 said_of names (Node at word.Num (Then (Said text) End)) = if is_numeral text then [] else refusal row.F43 at.span ∷ []
 said_of names (Node at word.Id (Then (Said name) End)) = said_of_name names (names.meaning at.reference.0 name) at.span
 said_of names (Node at word.Bind (Then (Said name) type)) =
-    said_of_local name (of_item at.span (λ symbol. label_of names symbol at.span) (names.declared at.id.0))
+    of_item [] (λ symbol. said_of_local (names.name symbol.0) (label_of names symbol at.span)) (names.declared at.id.0)
+said_of names (Node at word.Importcall parts) = refusal row.F4 at.span ∷ []
+said_of names (Node at word.Privatein parts) = refusal row.F5 at.span ∷ []
+said_of names (Node at word.Yield parts) = refusal row.F14 at.span ∷ []
+said_of names (Node at word.Newtarget parts) = refusal row.F15 at.span ∷ []
+said_of names (Node at word.Super parts) = refusal row.F17 at.span ∷ []
+said_of names (Node at word.This parts) = refusal row.F18 at.span ∷ []
+said_of names (Node at word.Bigint parts) = refusal row.F42 at.span ∷ []
 said_of names _ = []
 
 abbrev mutual
   -- The diagnostics of a tree, in the order in which the lowering meets the nodes: a node by itself, and then its parts from left to
-  -- right. Blocks of branches are lowered before the test that leads to them.
+  -- right. Blocks of branches are lowered before the test that leads to them, a variable is declared behind its initializer, and a
+  -- private name is met behind its object. Types, the argument of a `yield`, and what a row leaves out are not lowered.
   pub refusals : Names → Syntax → List Diagnostic
   refusals names (Node at word.If (Then condition (Then consequent (Then alternate End)))) =
       refusals names consequent ++ refusals names alternate ++ refusals names condition
   refusals names (Node at word.Cond (Then condition (Then consequent (Then alternate End)))) =
       refusals names consequent ++ refusals names alternate ++ refusals names condition
   refusals names (Node at word.Logical (Then operator (Then left (Then right End)))) = refusals names right ++ refusals names left
+  refusals names (Node at word.Var (Then (Said kind) (Then declarators End))) =
+      (if bytes_eq kind (codes "var") then refusal row.F39 at.span ∷ [] else []) ++ refusals names declarators
+  refusals names (Node at word.Declarator (Then pattern (Then init End))) = refusals names init ++ refusals names pattern
+  refusals names (Node at word.Type parts) = []
+  refusals names (Node at word.Instantiate (Then expression types)) = refusals names expression
+  refusals names (Node at word.Yield parts) = said_of names (Node at word.Yield parts)
+  refusals names (Node at word.Privatemember (Then optional (Then object name))) = refusals names object ++ refusal row.F3 at.span ∷ []
+  refusals names (Node at word.Unary (Then (Said operator) (Then argument End))) =
+      if is_lost_delete operator argument then refusal row.F12 at.span ∷ [] else refusals names argument
+  refusals names (Node at word.Update (Then operator (Then prefix (Then target End)))) =
+      said_of_target names at.span target (refusals names target)
+  refusals names
+      (Node at word.Tagged (Then tag (Then (Node there word.Template (Then (Listed quasis) (Then (Listed expressions) End))) End))) =
+      if are_raw quasis then refusals names tag ++ refusals_in names expressions else refusal row.F13 at.span ∷ []
+  refusals names (Node at word.Prop (Then (Flag computed) (Then key (Then expression End)))) =
+      if is_known_key computed key then refusals names key ++ refusals names expression else refusal row.F9 (span_of key) ∷ []
   refusals names (Node at word parts) = said_of names (Node at word parts) ++ refusals_in names parts
   refusals names (Listed parts) = refusals_in names parts
   refusals names _ = []
@@ -84,23 +125,23 @@ abbrev mutual
 abbrev pub refusals_of : Names → Syntax → List Diagnostic
 refusals_of names function = refusals names (params_in function) ++ refusals names (body_in function)
 
--- The first parameter whose name passes a test.
-abbrev pub first_named : (List ℕ → Bool) → List Parameter → Option Parameter
-first_named test [] = None
-first_named test (p ∷ parameters) = if test p.name then Some p else first_named test parameters
+-- The diagnostics that are recorded for a tree are those of `refusals` in their order, but that some of row F40 may lack: the lowering
+-- refuses a variable `fbt` that got another name where it is resolved first, and not again.
+pub data IsTold : (all told : List Diagnostic) → Type 0 where
+  Nothing : IsTold [] []
+  Told : {all told : List Diagnostic} (d : Diagnostic) → IsTold all told → IsTold (d ∷ all) (d ∷ told)
+  Renamed : {all told : List Diagnostic} (d : Diagnostic) → d.row ≡ row.F40 → IsTold all told → IsTold (d ∷ all) told
 
--- The stop at the parameter, if there is one, or else the other one.
-abbrev pub stop_at : Row → Option Parameter → Option Diagnostic → Option Diagnostic
-stop_at r None other = other
-stop_at r (Some p) other = Some (stop r p)
-
--- The stop of a function: S2 at a parameter `this`, else S1 at the first parameter with a reserved name.
-abbrev pub stop_of : Names → Syntax → Option Diagnostic
-stop_of names function =
-    stop_at row.S2 (first_named (λ name. is_text (codes "this") name) (parameters_of names function))
-    (stop_at row.S1 (first_named (λ name. is_reserved name) (parameters_of names function)) None)
+-- `new` has the diagnostics `old`, and behind them those that are recorded for a tree with the refusals `all`. If there is no diagnostic
+-- then, the tree has no refusals.
+pub record Records (all old new : List Diagnostic) : Type 0 where
+  pub told : List Diagnostic
+  pub is : new ≡ old ++ told
+  pub kept : IsTold all told
+  pub none : new ≡ [] → all ≡ []
 
 -- No row applies to a function.
 pub record IsSupported (names : Names) (function : Syntax) : Type 0 where
   pub goes_on : stop_of names function ≡ None
   pub accepted : refusals_of names function ≡ []
+  pub unskipped : has_using (body_in function) ≡ false

@@ -12,7 +12,7 @@ ghost use Rattle.rl_syntax.specs.declared.numbered.Position.{Position};
 
 use crate::covered_words::covers;
 use rl_ast::function::Arrow;
-use rl_ast::function_node::{Function, FunctionForm, FunctionNode};
+use rl_ast::function_node::{Function, FunctionNode};
 use rl_base::ids::NodeId;
 use rl_grammar::tree::{Sort, Tree};
 use rl_syntax::numbered::Numbered;
@@ -82,9 +82,8 @@ fn first_in_arrow(arrow: Arrow<'_>) -> Option<NodeId>
     first_of(params, least_in(arrow.body.tree))
 }
 
-/// As `first_in_arrow`, for a function declaration.
-fn first_in_declaration(function: Function<'_>) -> Option<NodeId>
-    requires { function.form ≡ FunctionForm.Declaration }
+/// As `first_in_arrow`, for a function declaration or a function expression.
+fn first_in_function(function: Function<'_>) -> Option<NodeId>
     ensures { option_map (λ n. n.0) result ≡ first (spec.uncovered_in (seen_function function.entry)) }
 {
     let name = least_in_optional(function.name);
@@ -98,15 +97,11 @@ fn first_uncovered(function: FunctionNode<'_>) -> Option<NodeId>
 {
     match function {
         FunctionNode::Arrow(arrow) => first_in_arrow(arrow),
-        FunctionNode::Function(function) => match function.form {
-            FunctionForm::Declaration => first_in_declaration(function),
-            FunctionForm::Expression => Some(function.at.id),
-        },
+        FunctionNode::Function(function) => first_in_function(function),
     }
 }
 
-/// The least id of a node of the marked function that the lowering does not cover: its own, if it is a function expression.
-/// `None` if it covers the whole function.
+/// The least id of a node of the marked function that the lowering does not cover. `None` if it covers the whole function.
 pub fn least_uncovered(function: FunctionNode<'_>) -> Option<NodeId>
     ensures first { option_map (λ n. n.0) result ≡ first (spec.uncovered_in (seen_function_node function.entry)) }
     ensures least { (from : Position) → IsPlaced from (seen_function_node function.entry) → IfSome result (λ n. All (λ id. n.0 ≤ id) (spec.uncovered_in (seen_function_node function.entry))) }

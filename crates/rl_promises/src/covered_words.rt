@@ -4,7 +4,7 @@ ghost use Rattle.std.specs.Prelude.{◌≡◌, map};
 ghost use Rattle.rl_promises.specs.CoveredWords as spec;
 ghost use Rattle.rl_syntax.specs.Syntax.{pieces_of, syntax};
 
-use crate::conditions::{no_default, no_delete, no_method, not_empty, not_optional};
+use crate::conditions::{no_default, not_empty, not_optional};
 use rl_syntax::numbered::Numbered;
 use rl_syntax::word::Word;
 
@@ -14,38 +14,60 @@ pub(crate) fn covers(word: Word, parts: &[Numbered]) -> bool
 {
     match word {
         Word::Empty => true,
+        Word::Debugger => true,
         Word::Expr => true,
         Word::Return => true,
         Word::If => true,
         Word::Block => true,
+        Word::Var => true,
+        Word::Declarator => true,
         Word::Params => true,
         Word::Param => no_default(parts),
         Word::Body => true,
         Word::Bind => true,
+        Word::Type => true,
         Word::Id => true,
         Word::Hole => true,
+        Word::Name => true,
+        Word::Private => true,
         Word::Null => true,
         Word::Bool => true,
         Word::Num => true,
         Word::Str => true,
+        Word::Bigint => true,
         Word::Regexp => true,
+        Word::Tagged => true,
         Word::Array => true,
-        Word::Unary => no_delete(parts),
+        Word::Object => true,
+        Word::Unary => true,
+        Word::Update => true,
         Word::Binary => true,
+        Word::Privatein => true,
         Word::Logical => true,
         Word::Cond => true,
         Word::Seq => not_empty(parts),
         Word::New => true,
         Word::Await => true,
+        Word::Yield => true,
         Word::Importmeta => true,
+        Word::Newtarget => true,
+        Word::Super => true,
+        Word::This => true,
+        Word::Importcall => true,
         Word::Paren => true,
+        Word::As => true,
+        Word::Satisfies => true,
+        Word::Assert => true,
         Word::Nonnull => true,
+        Word::Instantiate => true,
         Word::Member => not_optional(parts),
         Word::Index => not_optional(parts),
-        Word::Call => not_optional(parts) && no_method(parts),
+        Word::Privatemember => not_optional(parts),
+        Word::Call => not_optional(parts),
         Word::Template => true,
         Word::Quasi => true,
         Word::Spread => true,
+        Word::Prop => true,
         _ => false,
     }
 }

@@ -4,3 +4,7 @@
 mod conditions;
 pub mod covered;
 mod covered_words;
+pub mod outs;
+mod part_forms;
+pub mod skips;
+pub mod stops;

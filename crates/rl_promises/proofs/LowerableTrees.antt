@@ -1,0 +1,156 @@
+-- Covered trees without a stop: the lowering goes through them.
+use Rattle.std.proofs.Common.{◌≡◌, ℕ, Bool, true, false, not, if◌then◌else◌, Option, Some, None, ap, sym, refl, ◌∙◌}
+use Rattle.std.specs.Option.{option_or}
+use Rattle.rl_base.specs.Reserved.{is_reserved}
+use Rattle.rl_base.specs.Diagnostics.{diagnostic_at}
+use Rattle.rl_base.specs.declared.diagnostic.Diagnostic.{Diagnostic}
+use Rattle.rl_base.specs.declared.ids.SymbolId.{SymbolId}
+use Rattle.rl_base.specs.declared.row.Row.TheVariants as row
+use Rattle.rl_base.specs.declared.span.Span.{Span}
+use Rattle.rl_model.specs.Shapes.{are_raw}
+use Rattle.rl_names.specs.Functions.{body_in, params_in}
+use Rattle.rl_names.specs.Names.{Names, local_of}
+use Rattle.rl_promises.specs.Covered.{AreCovered, IsCovered, IsCoveredFunction}
+use Rattle.rl_promises.proofs.CoveredWorlds.{body_covered, params_covered}
+use Rattle.rl_promises.specs.Locals.{DeclareIn, DeclaresIn, DeclaresVariable, HasLocals}
+use Rattle.rl_promises.specs.Lowerable.{AreLowerable, DeclaresFree, IsFree, IsLowerable, Where}
+use Rattle.rl_promises.specs.Outs.{is_known_key, is_lost_delete, is_wrapped}
+use Rattle.rl_promises.specs.Stops.{first_among, first_stop, stop_of, stop_of_local}
+use Rattle.rl_syntax.specs.Syntax.{Syntax, Node, Listed, Said, Count, Flag, Absent, Pieces, End, Then}
+use Rattle.rl_syntax.specs.declared.word.Word.TheVariants as word
+
+-- Of two searches that find nothing, neither does.
+pub none_both : {X : Type 0} (a b : Option X) → option_or a b ≡ None → (a ≡ None) × (b ≡ None)
+none_both None b none = (refl, none)
+none_both (Some x) b none = absurd (cc)
+
+not_found : {X : Type 0} (test : Bool) (x : X) → (if test then Some x else None) ≡ None → test ≡ false
+not_found true x none = absurd (cc)
+not_found false x none = refl
+
+-- A local variable without a stop has a name that is not reserved.
+free_local : (names : Names) (local : Option SymbolId) (label : Span) → stop_of_local names local label ≡ None → IsFree names local
+free_local names None label none = tt
+free_local names (Some symbol) label none =
+    not_found (is_reserved (names.name symbol.0)) (diagnostic_at row.S1 (names.name symbol.0) label) none
+
+free_declared : (names : Names) (bind : ℕ) (label : Span) → DeclaresVariable names bind → stop_of_local names (names.declared bind) label ≡ None
+    → DeclaresFree names (names.declared bind)
+free_declared names bind label d none = record {
+  symbol = d.symbol;
+  is = d.is;
+  variable = d.variable;
+  free =
+      not_found (is_reserved (names.name d.symbol.0)) (diagnostic_at row.S1 (names.name d.symbol.0) label)
+      (ap (λ o. stop_of_local names o label) (sym d.is) ∙ none);
+}
+
+-- A part that is lowered where a test holds, or where it does not.
+where_test : (test : Bool) (stop : Option Diagnostic) (A : Type 0) → (if test then stop else None) ≡ None → (stop ≡ None → A) → Where test A
+where_test true stop A none holds = holds none
+where_test false stop A none holds = tt
+
+where_not : (test : Bool) (stop : Option Diagnostic) (A : Type 0) → (if test then None else stop) ≡ None → (stop ≡ None → A)
+    → Where (not test) A
+where_not true stop A none holds = tt
+where_not false stop A none holds = holds none
+
+mutual
+  -- A covered tree without a stop whose declarations are of variables is lowerable.
+  pub lowerable : (names : Names) (t : Syntax) → IsCovered t → DeclaresIn names t → first_stop names t ≡ None → IsLowerable names t
+  lowerable names (Node at word.Id (Then (Said name) End)) covered declares none =
+      free_local names (local_of (names.meaning at.reference.0 name)) at.span none
+  lowerable names (Node at word.Bind (Then (Said name) type)) covered declares none =
+      free_declared names at.id.0 at.span declares.0 none
+  lowerable names (Node at word.Bind parts) covered declares none = (covered.0, all_lowerable names parts covered.1 declares.1 none)
+  lowerable names (Node at word.If (Then condition (Then consequent (Then alternate End)))) covered declares none =
+      let first = none_both (first_stop names consequent) (option_or (first_stop names alternate) (first_stop names condition)) none in
+      let others = none_both (first_stop names alternate) (first_stop names condition) first.1 in (
+        covered.0,
+        (
+          lowerable names condition covered.1.0 declares.0 others.1,
+          (
+            lowerable names consequent covered.1.1.0 declares.1.0 first.0,
+            (lowerable names alternate covered.1.1.1.0 declares.1.1.0 others.0, tt),
+          ),
+        ),
+      )
+  lowerable names (Node at word.Cond (Then condition (Then consequent (Then alternate End)))) covered declares none =
+      let first = none_both (first_stop names consequent) (option_or (first_stop names alternate) (first_stop names condition)) none in
+      let others = none_both (first_stop names alternate) (first_stop names condition) first.1 in (
+        covered.0,
+        (
+          lowerable names condition covered.1.0 declares.0 others.1,
+          (
+            lowerable names consequent covered.1.1.0 declares.1.0 first.0,
+            (lowerable names alternate covered.1.1.1.0 declares.1.1.0 others.0, tt),
+          ),
+        ),
+      )
+  lowerable names (Node at word.Logical (Then (Said operator) (Then left (Then right End)))) covered declares none =
+      let both = none_both (first_stop names right) (first_stop names left) none in (
+        covered.0,
+        (tt, (lowerable names left covered.1.1.0 declares.1.0 both.1, (lowerable names right covered.1.1.1.0 declares.1.1.0 both.0, tt))),
+      )
+  lowerable names (Node at word.Declarator (Then pattern (Then init End))) covered declares none =
+      let both = none_both (first_stop names init) (first_stop names pattern) none in (
+        covered.0,
+        (lowerable names pattern covered.1.0 declares.0 both.1, (lowerable names init covered.1.1.0 declares.1.0 both.0, tt)),
+      )
+  lowerable names (Node at word.Type parts) covered declares none = tt
+  lowerable names (Node at word.Instantiate (Then expression types)) covered declares none =
+      lowerable names expression covered.1.0 declares.0 none
+  lowerable names (Node at word.Yield parts) covered declares none = tt
+  lowerable names (Node at word.Unary (Then (Said operator) (Then argument End))) covered declares none =
+      where_not (is_lost_delete operator argument) (first_stop names argument) (IsLowerable names argument) none
+      (λ n. lowerable names argument covered.1.1.0 declares.1.0 n)
+  lowerable names (Node at word.Update (Then operator (Then prefix (Then target End)))) covered declares none =
+      where_not (is_wrapped target) (first_stop names target) (IsLowerable names target) none
+      (λ n. lowerable names target covered.1.1.1.0 declares.1.1.0 n)
+  lowerable names
+      (Node at word.Tagged (Then tag (Then (Node there word.Template (Then (Listed quasis) (Then (Listed expressions) End))) End)))
+      covered declares none =
+      where_test (are_raw quasis) (option_or (first_stop names tag) (first_among names expressions))
+      (IsLowerable names tag × AreLowerable names expressions) none
+      (λ n. let both = none_both (first_stop names tag) (first_among names expressions) n in (
+        lowerable names tag covered.1.0 declares.0 both.0,
+        all_lowerable names expressions covered.1.1.0.1.1.0 declares.1.0.1.0 both.1,
+      ))
+  lowerable names (Node at word.Prop (Then (Flag computed) (Then key (Then expression End)))) covered declares none =
+      where_test (is_known_key computed key) (option_or (first_stop names key) (first_stop names expression))
+      (IsLowerable names key × IsLowerable names expression) none
+      (λ n. let both = none_both (first_stop names key) (first_stop names expression) n in (
+        lowerable names key covered.1.1.0 declares.1.0 both.0,
+        lowerable names expression covered.1.1.1.0 declares.1.1.0 both.1,
+      ))
+  lowerable names (Node at w parts) covered declares none = (covered.0, all_lowerable names parts covered.1 declares none)
+  lowerable names (Listed parts) covered declares none = all_lowerable names parts covered declares none
+  lowerable names (Said text) covered declares none = tt
+  lowerable names (Count number) covered declares none = tt
+  lowerable names (Flag flag) covered declares none = tt
+  lowerable names Absent covered declares none = tt
+
+  -- As `lowerable`, for parts in a row.
+  pub all_lowerable : (names : Names) (ps : Pieces) → AreCovered ps → DeclareIn names ps → first_among names ps ≡ None → AreLowerable names ps
+  all_lowerable names End covered declares none = tt
+  all_lowerable names (Then p ps) covered declares none =
+      let both = none_both (first_stop names p) (first_among names ps) none in
+      (lowerable names p covered.0 declares.0 both.0, all_lowerable names ps covered.1 declares.1 both.1)
+
+-- Of a function without a stop neither the parameters nor the body has one.
+pub no_stops : (names : Names) (f : Syntax) → stop_of names f ≡ None
+    → (first_stop names (params_in f) ≡ None) × (first_stop names (body_in f) ≡ None)
+no_stops names f none =
+    let inside = option_or (first_stop names (params_in f)) (first_stop names (body_in f)) in
+    none_both (first_stop names (params_in f)) (first_stop names (body_in f)) (none_both _ inside none).1
+
+-- The parameters of a covered function without a stop are lowerable, and so is its body.
+pub params_lowerable : (names : Names) (f : Syntax) → IsCoveredFunction f → HasLocals names f → stop_of names f ≡ None
+    → IsLowerable names (params_in f)
+params_lowerable names f covered locals none =
+    lowerable names (params_in f) (params_covered f covered) locals.params (no_stops names f none).0
+
+pub body_lowerable : (names : Names) (f : Syntax) → IsCoveredFunction f → HasLocals names f → stop_of names f ≡ None
+    → IsLowerable names (body_in f)
+body_lowerable names f covered locals none =
+    lowerable names (body_in f) (body_covered f covered) locals.body (no_stops names f none).1

@@ -1,0 +1,43 @@
+-- Parts that do not have the form wanted.
+use Rattle.std.proofs.Common.{◌≡◌, false, None, refl}
+use Rattle.rl_promises.specs.PartForms.{is_flag_and_trees, is_text_ahead, is_text_alone, is_text_and_tree, two_lists}
+use Rattle.rl_syntax.specs.Shapes.{is_flag, is_list, is_text, is_three, is_two}
+use Rattle.rl_syntax.specs.Syntax.{Syntax, Listed, Said, Flag, Pieces, End, Then}
+
+pub no_text_ahead : (ps rest : Pieces) (t : Syntax) → ps ≡ Then t rest → is_text t ≡ false → is_text_ahead ps ≡ false
+no_text_ahead (Then (Said text) parts) rest t is none = absurd (cc)
+no_text_ahead _ rest t is none = refl
+
+pub not_alone : (ps : Pieces) → is_text_ahead ps ≡ false → is_text_alone ps ≡ false
+not_alone (Then (Said text) End) none = absurd (cc)
+not_alone _ none = refl
+
+pub not_with_tree : (ps : Pieces) → is_text_ahead ps ≡ false → is_text_and_tree ps ≡ false
+not_with_tree (Then (Said text) (Then tree End)) none = absurd (cc)
+not_with_tree _ none = refl
+
+pub ruleset texts = (no_text_ahead, not_alone, not_with_tree)
+
+pub not_three : (ps : Pieces) → is_three ps ≡ false → is_flag_and_trees ps ≡ false
+not_three (Then (Flag flag) (Then tree (Then another End))) none = absurd (cc)
+not_three _ none = refl
+
+pub no_flag : (ps : Pieces) (a b c : Syntax) → ps ≡ Then a (Then b (Then c End)) → is_flag a ≡ false → is_flag_and_trees ps ≡ false
+no_flag (Then (Flag flag) (Then tree (Then another End))) a b c is none = absurd (cc)
+no_flag _ a b c is none = refl
+
+pub ruleset flags = (not_three, no_flag)
+
+pub not_two : (ps : Pieces) → is_two ps ≡ false → None ≡ two_lists ps
+not_two (Then (Listed items) (Then (Listed others) End)) none = absurd (cc)
+not_two _ none = refl
+
+pub no_list : (ps : Pieces) (a b : Syntax) → ps ≡ Then a (Then b End) → is_list a ≡ false → None ≡ two_lists ps
+no_list (Then (Listed items) (Then (Listed others) End)) a b is none = absurd (cc)
+no_list _ a b is none = refl
+
+pub no_second_list : (ps : Pieces) (a b : Syntax) → ps ≡ Then a (Then b End) → is_list b ≡ false → None ≡ two_lists ps
+no_second_list (Then (Listed items) (Then (Listed others) End)) a b is none = absurd (cc)
+no_second_list _ a b is none = refl
+
+pub ruleset lists = (not_two, no_list, no_second_list)

@@ -1,0 +1,138 @@
+use Rattle.std.proofs.Common.{map, sym, ◌∙◌}
+use Rattle.rl_names.specs.Seen.{seen}
+use Rattle.rl_promises.proofs.Stopping.{bind_parts, cond_parts, cond_stop, declarator_parts, declarator_stop, id_parts, if_parts, if_stop, instantiate_none, instantiate_stop, logical_other}
+use Rattle.rl_promises.proofs.Stopping.{logical_parts, logical_stop, prop_parts, prop_stop, tagged_other, tagged_parts, tagged_stop, unary_parts, unary_stop, update_parts, update_stop, worded}
+use Rattle.rl_syntax.specs.Syntax.{pieces_of, syntax}
+use Rattle.rl_promises.proofs.stops.+stopping.Goals as goal
+
+pub stop_in_node-returns-in-None : goal.stop_in_node-returns-in-None
+stop_in_node-returns-in-None t c =
+    let ps = pieces_of (map syntax c.args.parts.now) in
+    worded (seen c.args.names.now) c.args.at ps _ _ _ c.in-Id.is
+    (id_parts (seen c.args.names.now) c.args.at ps _ c.in-None.ensures c.first_among.ensures)
+
+pub stop_in_node-returns-in-None-text_ahead : goal.stop_in_node-returns-in-None-text_ahead
+stop_in_node-returns-in-None-text_ahead t c =
+    let ps = pieces_of (map syntax c.args.parts.now) in
+    worded (seen c.args.names.now) c.args.at ps _ _ _ c.in-Bind.is
+    (bind_parts (seen c.args.names.now) c.args.at ps _ c.in-None-text_ahead.ensures c.first_among-in-None-text_ahead.ensures)
+
+pub stop_in_node-returns-in-Some-three : goal.stop_in_node-returns-in-Some-three
+stop_in_node-returns-in-Some-three t c =
+    let ps = pieces_of (map syntax c.args.parts.now) in
+    worded (seen c.args.names.now) c.args.at ps _ _ _ c.in-If.is
+    (if_stop (seen c.args.names.now) c.args.at ps _ _ _ _ c.in-Some-three.ensures c.first_of_three.ensures)
+
+pub stop_in_node-returns-in-None-three : goal.stop_in_node-returns-in-None-three
+stop_in_node-returns-in-None-three t c =
+    let ps = pieces_of (map syntax c.args.parts.now) in
+    worded (seen c.args.names.now) c.args.at ps _ _ _ c.in-If.is
+    (if_parts (seen c.args.names.now) c.args.at ps _ c.in-None-three.ensures c.first_among-in-None-three.ensures)
+
+pub stop_in_node-returns-in-Some-three-2 : goal.stop_in_node-returns-in-Some-three-2
+stop_in_node-returns-in-Some-three-2 t c =
+    let ps = pieces_of (map syntax c.args.parts.now) in
+    worded (seen c.args.names.now) c.args.at ps _ _ _ c.in-Cond.is
+    (cond_stop (seen c.args.names.now) c.args.at ps _ _ _ _ c.in-Some-three-2.ensures c.first_of_three-in-Some-three-2.ensures)
+
+pub stop_in_node-returns-in-None-three-2 : goal.stop_in_node-returns-in-None-three-2
+stop_in_node-returns-in-None-three-2 t c =
+    let ps = pieces_of (map syntax c.args.parts.now) in
+    worded (seen c.args.names.now) c.args.at ps _ _ _ c.in-Cond.is
+    (cond_parts (seen c.args.names.now) c.args.at ps _ c.in-None-three-2.ensures c.first_among-in-None-three-2.ensures)
+
+pub stop_in_node-returns-in-Some-two : goal.stop_in_node-returns-in-Some-two
+stop_in_node-returns-in-Some-two t c =
+    let ps = pieces_of (map syntax c.args.parts.now) in
+    worded (seen c.args.names.now) c.args.at ps _ _ _ c.in-Logical.is
+    (logical_stop (seen c.args.names.now) c.args.at ps (pieces_of (map syntax c.in-Some-text_ahead-2.operands.now)) _ _ _ _ c.in-Some-text_ahead-2.ensures c.in-Some-two.ensures c.first_of_two.ensures)
+
+pub stop_in_node-returns-in-None-two : goal.stop_in_node-returns-in-None-two
+stop_in_node-returns-in-None-two t c =
+    let ps = pieces_of (map syntax c.args.parts.now) in
+    worded (seen c.args.names.now) c.args.at ps _ _ _ c.in-Logical.is
+    (logical_other (seen c.args.names.now) c.args.at ps (pieces_of (map syntax c.in-Some-text_ahead-2.operands.now)) _ _ c.in-Some-text_ahead-2.ensures c.in-None-two.ensures c.first_among-in-None-two.ensures)
+
+pub stop_in_node-returns-in-None-text_ahead-2 : goal.stop_in_node-returns-in-None-text_ahead-2
+stop_in_node-returns-in-None-text_ahead-2 t c =
+    let ps = pieces_of (map syntax c.args.parts.now) in
+    worded (seen c.args.names.now) c.args.at ps _ _ _ c.in-Logical.is
+    (logical_parts (seen c.args.names.now) c.args.at ps _ c.in-None-text_ahead-2.ensures c.first_among-in-None-text_ahead-2.ensures)
+
+pub stop_in_node-returns-in-Some-two-2 : goal.stop_in_node-returns-in-Some-two-2
+stop_in_node-returns-in-Some-two-2 t c =
+    let ps = pieces_of (map syntax c.args.parts.now) in
+    worded (seen c.args.names.now) c.args.at ps _ _ _ c.in-Declarator.is
+    (declarator_stop (seen c.args.names.now) c.args.at ps _ _ _ c.in-Some-two-2.ensures c.first_of_two-in-Some-two-2.ensures)
+
+pub stop_in_node-returns-in-None-two-2 : goal.stop_in_node-returns-in-None-two-2
+stop_in_node-returns-in-None-two-2 t c =
+    let ps = pieces_of (map syntax c.args.parts.now) in
+    worded (seen c.args.names.now) c.args.at ps _ _ _ c.in-Declarator.is
+    (declarator_parts (seen c.args.names.now) c.args.at ps _ c.in-None-two-2.ensures c.first_among-in-None-two-2.ensures)
+
+pub stop_in_node-returns-in-Some-split_first : goal.stop_in_node-returns-in-Some-split_first
+stop_in_node-returns-in-Some-split_first t c =
+    let ps = pieces_of (map syntax c.args.parts.now) in
+    worded (seen c.args.names.now) c.args.at ps _ _ _ c.in-Instantiate.is
+    (instantiate_stop (seen c.args.names.now) c.args.at ps (pieces_of (map syntax c.in-Some-split_first._types.now)) _ _ c.in-Some-split_first.ensures c.first_stop.ensures)
+
+pub stop_in_node-returns-in-None-split_first : goal.stop_in_node-returns-in-None-split_first
+stop_in_node-returns-in-None-split_first t c =
+    let ps = pieces_of (map syntax c.args.parts.now) in
+    worded (seen c.args.names.now) c.args.at ps _ _ _ c.in-Instantiate.is
+    (instantiate_none (seen c.args.names.now) c.args.at ps c.in-None-split_first.ensures)
+
+pub stop_in_node-returns-else-is_lost_delete : goal.stop_in_node-returns-else-is_lost_delete
+stop_in_node-returns-else-is_lost_delete t c =
+    let ps = pieces_of (map syntax c.args.parts.now) in
+    worded (seen c.args.names.now) c.args.at ps _ _ _ c.in-Unary.is
+    (unary_stop (seen c.args.names.now) c.args.at ps _ _ _ c.in-Some-text_and_tree.ensures (sym c.is_lost_delete.ensures ∙ c.if-is_lost_delete.false) c.first_stop-else-is_lost_delete.ensures)
+
+pub stop_in_node-returns-in-None-text_and_tree : goal.stop_in_node-returns-in-None-text_and_tree
+stop_in_node-returns-in-None-text_and_tree t c =
+    let ps = pieces_of (map syntax c.args.parts.now) in
+    worded (seen c.args.names.now) c.args.at ps _ _ _ c.in-Unary.is
+    (unary_parts (seen c.args.names.now) c.args.at ps _ c.in-None-text_and_tree.ensures c.first_among-in-None-text_and_tree.ensures)
+
+pub stop_in_node-returns-else-is_wrapped : goal.stop_in_node-returns-else-is_wrapped
+stop_in_node-returns-else-is_wrapped t c =
+    let ps = pieces_of (map syntax c.args.parts.now) in
+    worded (seen c.args.names.now) c.args.at ps _ _ _ c.in-Update.is
+    (update_stop (seen c.args.names.now) c.args.at ps _ _ _ _ c.in-Some-three-3.ensures (sym c.is_wrapped.ensures ∙ c.if-is_wrapped.false) c.first_stop-else-is_wrapped.ensures)
+
+pub stop_in_node-returns-in-None-three-3 : goal.stop_in_node-returns-in-None-three-3
+stop_in_node-returns-in-None-three-3 t c =
+    let ps = pieces_of (map syntax c.args.parts.now) in
+    worded (seen c.args.names.now) c.args.at ps _ _ _ c.in-Update.is
+    (update_parts (seen c.args.names.now) c.args.at ps _ c.in-None-three-3.ensures c.first_among-in-None-three-3.ensures)
+
+pub stop_in_node-returns-then-are_raw : goal.stop_in_node-returns-then-are_raw
+stop_in_node-returns-then-are_raw t c =
+    let ps = pieces_of (map syntax c.args.parts.now) in
+    worded (seen c.args.names.now) c.args.at ps _ _ _ c.in-Tagged.is
+    (tagged_stop (seen c.args.names.now) c.args.at ps _ _ (pieces_of (map syntax c.in-Some-template_lists.quasis.now)) (pieces_of (map syntax c.in-Some-template_lists.expressions.now)) _ c.in-Some-two-3.ensures c.in-Some-template_lists.ensures (sym c.are_raw.ensures ∙ c.if-are_raw.true) c.first_of_tagged.ensures)
+
+pub stop_in_node-returns-in-None-template_lists : goal.stop_in_node-returns-in-None-template_lists
+stop_in_node-returns-in-None-template_lists t c =
+    let ps = pieces_of (map syntax c.args.parts.now) in
+    worded (seen c.args.names.now) c.args.at ps _ _ _ c.in-Tagged.is
+    (tagged_other (seen c.args.names.now) c.args.at ps _ _ _ c.in-Some-two-3.ensures c.in-None-template_lists.ensures c.first_among-in-None-template_lists.ensures)
+
+pub stop_in_node-returns-in-None-two-3 : goal.stop_in_node-returns-in-None-two-3
+stop_in_node-returns-in-None-two-3 t c =
+    let ps = pieces_of (map syntax c.args.parts.now) in
+    worded (seen c.args.names.now) c.args.at ps _ _ _ c.in-Tagged.is
+    (tagged_parts (seen c.args.names.now) c.args.at ps _ c.in-None-two-3.ensures c.first_among-in-None-two-3.ensures)
+
+pub stop_in_node-returns-then-is_known_key : goal.stop_in_node-returns-then-is_known_key
+stop_in_node-returns-then-is_known_key t c =
+    let ps = pieces_of (map syntax c.args.parts.now) in
+    worded (seen c.args.names.now) c.args.at ps _ _ _ c.in-Prop.is
+    (prop_stop (seen c.args.names.now) c.args.at ps _ _ _ _ c.in-Some-flag_and_trees.ensures (sym c.is_known_key.ensures ∙ c.if-is_known_key.true) c.first_of_two-then-is_known_key.ensures)
+
+pub stop_in_node-returns-in-None-flag_and_trees : goal.stop_in_node-returns-in-None-flag_and_trees
+stop_in_node-returns-in-None-flag_and_trees t c =
+    let ps = pieces_of (map syntax c.args.parts.now) in
+    worded (seen c.args.names.now) c.args.at ps _ _ _ c.in-Prop.is
+    (prop_parts (seen c.args.names.now) c.args.at ps _ c.in-None-flag_and_trees.ensures c.first_among-in-None-flag_and_trees.ensures)

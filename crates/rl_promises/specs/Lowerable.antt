@@ -1,0 +1,57 @@
+-- Trees that the lowering goes through without a stop.
+use Rattle.std.specs.Prelude.{◌≡◌, Bool, true, false, not, Option, Some, None}
+use Rattle.rl_base.specs.Reserved.{is_reserved}
+use Rattle.rl_base.specs.declared.ids.SymbolId.{SymbolId}
+use Rattle.rl_model.specs.Shapes.{are_raw}
+use Rattle.rl_names.specs.Names.{Names, local_of}
+use Rattle.rl_promises.specs.CoveredWords.{covers}
+use Rattle.rl_promises.specs.Locals.{IsVariable}
+use Rattle.rl_promises.specs.Outs.{is_known_key, is_lost_delete, is_wrapped}
+use Rattle.rl_syntax.specs.Syntax.{Syntax, Node, Listed, Said, Count, Flag, Absent, Pieces, End, Then}
+use Rattle.rl_syntax.specs.declared.word.Word.TheVariants as word
+
+-- The type, if the test holds.
+abbrev pub Where : Bool → Type 0 → Type 0
+Where true holds = holds
+Where false holds = Unit {0}
+
+-- The name of a local variable, if it is one, is not reserved.
+abbrev pub IsFree : Names → Option SymbolId → Type 0
+IsFree names None = Unit {0}
+IsFree names (Some symbol) = is_reserved (names.name symbol.0) ≡ false
+
+-- A declaration is that of a variable, whose name is not reserved.
+pub record DeclaresFree (names : Names) (declared : Option SymbolId) : Type 0 where
+  pub symbol : SymbolId
+  pub is : declared ≡ Some symbol
+  pub variable : IsVariable names symbol
+  pub free : is_reserved (names.name symbol.0) ≡ false
+
+abbrev mutual
+  -- Each node of the tree that is lowered is covered, and stops nothing.
+  pub IsLowerable : Names → Syntax → Type 0
+  IsLowerable names (Node at word.Id (Then (Said name) End)) = IsFree names (local_of (names.meaning at.reference.0 name))
+  IsLowerable names (Node at word.Bind (Then (Said name) type)) = DeclaresFree names (names.declared at.id.0)
+  IsLowerable names (Node at word.Type parts) = Unit {0}
+  IsLowerable names (Node at word.Instantiate (Then expression types)) = IsLowerable names expression
+  IsLowerable names (Node at word.Yield parts) = Unit {0}
+  IsLowerable names (Node at word.Unary (Then (Said operator) (Then argument End))) =
+      Where (not (is_lost_delete operator argument)) (IsLowerable names argument)
+  IsLowerable names (Node at word.Update (Then operator (Then prefix (Then target End)))) =
+      Where (not (is_wrapped target)) (IsLowerable names target)
+  IsLowerable names
+      (Node at word.Tagged (Then tag (Then (Node there word.Template (Then (Listed quasis) (Then (Listed expressions) End))) End))) =
+      Where (are_raw quasis) (IsLowerable names tag × AreLowerable names expressions)
+  IsLowerable names (Node at word.Prop (Then (Flag computed) (Then key (Then expression End)))) =
+      Where (is_known_key computed key) (IsLowerable names key × IsLowerable names expression)
+  IsLowerable names (Node at w parts) = (covers w parts ≡ true) × AreLowerable names parts
+  IsLowerable names (Listed parts) = AreLowerable names parts
+  IsLowerable names (Said text) = Unit {0}
+  IsLowerable names (Count number) = Unit {0}
+  IsLowerable names (Flag flag) = Unit {0}
+  IsLowerable names Absent = Unit {0}
+
+  -- As `IsLowerable`, for parts in a row.
+  pub AreLowerable : Names → Pieces → Type 0
+  AreLowerable names End = Unit {0}
+  AreLowerable names (Then piece pieces) = IsLowerable names piece × AreLowerable names pieces

@@ -1,0 +1,86 @@
+-- Forms of parts that the walks for stops and skips ask for.
+use Rattle.std.specs.Prelude.{ℕ, Bool, true, false, Option, Some, None, List}
+use Rattle.rl_model.specs.Applied.{deletes}
+use Rattle.rl_model.specs.Statements.{is_using}
+use Rattle.rl_syntax.specs.Syntax.{Syntax, Node, Listed, Said, Flag, Pieces, End, Then}
+use Rattle.rl_syntax.specs.declared.word.Word.{Word}
+use Rattle.rl_syntax.specs.declared.word.Word.TheVariants as word
+
+-- True of one part, a text.
+abbrev pub is_text_alone : Pieces → Bool
+is_text_alone (Then (Said text) End) = true
+is_text_alone _ = false
+
+-- True of parts that begin with a text.
+abbrev pub is_text_ahead : Pieces → Bool
+is_text_ahead (Then (Said text) parts) = true
+is_text_ahead _ = false
+
+-- True of two parts of which the first is a text.
+abbrev pub is_text_and_tree : Pieces → Bool
+is_text_and_tree (Then (Said text) (Then tree End)) = true
+is_text_and_tree _ = false
+
+-- True of three parts of which the first is a flag.
+abbrev pub is_flag_and_trees : Pieces → Bool
+is_flag_and_trees (Then (Flag flag) (Then tree (Then another End))) = true
+is_flag_and_trees _ = false
+
+-- The two lists that are the parts.
+abbrev pub two_lists : Pieces → Option (Pieces × Pieces)
+two_lists (Then (Listed items) (Then (Listed others) End)) = Some (items, others)
+two_lists _ = None
+
+-- The quasis and the expressions of a template, by its word and parts.
+abbrev pub template_parts : Word → Pieces → Option (Pieces × Pieces)
+template_parts word.Template parts = two_lists parts
+template_parts _ parts = None
+
+-- As `template_parts`, of a tree.
+abbrev pub template_lists : Syntax → Option (Pieces × Pieces)
+template_lists (Node at w parts) = template_parts w parts
+template_lists _ = None
+
+-- As `deletes` of rl_model, of a node by its word.
+abbrev pub node_deletes : Word → Pieces → Bool
+node_deletes word.Paren (Then expression End) = deletes expression
+node_deletes word.Member parts = true
+node_deletes word.Index parts = true
+node_deletes word.Privatemember parts = true
+node_deletes _ parts = false
+
+-- True of the word of a wrapper.
+abbrev pub wraps : Word → Bool
+wraps word.As = true
+wraps word.Satisfies = true
+wraps word.Assert = true
+wraps word.Nonnull = true
+wraps _ = false
+
+-- True of the word of a name, a text or a number.
+abbrev pub names_key : Word → Bool
+names_key word.Name = true
+names_key word.Str = true
+names_key word.Num = true
+names_key _ = false
+
+-- True of the word of a node that may stand in brackets: an expression.
+abbrev pub fits_brackets : Word → Bool
+fits_brackets word.Name = false
+fits_brackets word.Private = false
+fits_brackets _ = true
+
+-- The raw text of a quasi, and the cooked one, by its word and parts.
+abbrev pub quasi_parts : Word → Pieces → Option (List ℕ × Syntax)
+quasi_parts word.Quasi (Then (Said raw) (Then cooked End)) = Some (raw, cooked)
+quasi_parts _ parts = None
+
+-- As `quasi_parts`, of a tree.
+abbrev pub quasi_in : Syntax → Option (List ℕ × Syntax)
+quasi_in (Node at w parts) = quasi_parts w parts
+quasi_in _ = None
+
+-- True of a declaration by `using` or `await using`, by its word and parts.
+abbrev pub declares_using : Word → Pieces → Bool
+declares_using word.Var (Then (Said kind) declarators) = is_using kind
+declares_using _ parts = false

@@ -1,0 +1,89 @@
+-- The rows that end the lowering of a function at once, and declarations for which a unit is skipped.
+use Rattle.std.specs.Prelude.{ℕ, Bool, false, ◌||◌, if◌then◌else◌, Option, Some, None, List, [], ◌∷◌, codes}
+use Rattle.std.specs.Option.{option_or}
+use Rattle.std.specs.Str.{bytes_eq}
+use Rattle.rl_base.specs.Diagnostics.{diagnostic_at}
+use Rattle.rl_base.specs.Reserved.{is_reserved}
+use Rattle.rl_base.specs.declared.diagnostic.Diagnostic.{Diagnostic}
+use Rattle.rl_base.specs.declared.ids.SymbolId.{SymbolId}
+use Rattle.rl_base.specs.declared.row.Row.{Row}
+use Rattle.rl_base.specs.declared.row.Row.TheVariants as row
+use Rattle.rl_base.specs.declared.span.Span.{Span}
+use Rattle.rl_model.specs.Shapes.{are_raw}
+use Rattle.rl_model.specs.Statements.{is_using}
+use Rattle.rl_names.specs.Functions.{body_in, params_in, parameters_of}
+use Rattle.rl_names.specs.Names.{Names, local_of}
+use Rattle.rl_names.specs.declared.parameters.Parameter.{Parameter}
+use Rattle.rl_promises.specs.Outs.{is_known_key, is_lost_delete, is_wrapped}
+use Rattle.rl_syntax.specs.Syntax.{Syntax, Node, Listed, Said, Flag, Pieces, End, Then}
+use Rattle.rl_syntax.specs.declared.word.Word.TheVariants as word
+
+-- The stop at a node of a local variable, whose span is the label: S1 of a reserved name.
+abbrev pub stop_of_local : Names → Option SymbolId → (label : Span) → Option Diagnostic
+stop_of_local names None label = None
+stop_of_local names (Some symbol) label =
+    if is_reserved (names.name symbol.0) then Some (diagnostic_at row.S1 (names.name symbol.0) label) else None
+
+abbrev mutual
+  -- The first stop in a tree, in the order in which the lowering meets the nodes. What it does not lower has none.
+  pub first_stop : Names → Syntax → Option Diagnostic
+  first_stop names (Node at word.Id (Then (Said name) End)) =
+      stop_of_local names (local_of (names.meaning at.reference.0 name)) at.span
+  first_stop names (Node at word.Bind (Then (Said name) type)) = stop_of_local names (names.declared at.id.0) at.span
+  first_stop names (Node at word.If (Then condition (Then consequent (Then alternate End)))) =
+      option_or (first_stop names consequent) (option_or (first_stop names alternate) (first_stop names condition))
+  first_stop names (Node at word.Cond (Then condition (Then consequent (Then alternate End)))) =
+      option_or (first_stop names consequent) (option_or (first_stop names alternate) (first_stop names condition))
+  first_stop names (Node at word.Logical (Then (Said operator) (Then left (Then right End)))) =
+      option_or (first_stop names right) (first_stop names left)
+  first_stop names (Node at word.Declarator (Then pattern (Then init End))) =
+      option_or (first_stop names init) (first_stop names pattern)
+  first_stop names (Node at word.Type parts) = None
+  first_stop names (Node at word.Instantiate (Then expression types)) = first_stop names expression
+  first_stop names (Node at word.Yield parts) = None
+  first_stop names (Node at word.Unary (Then (Said operator) (Then argument End))) =
+      if is_lost_delete operator argument then None else first_stop names argument
+  first_stop names (Node at word.Update (Then operator (Then prefix (Then target End)))) =
+      if is_wrapped target then None else first_stop names target
+  first_stop names
+      (Node at word.Tagged (Then tag (Then (Node there word.Template (Then (Listed quasis) (Then (Listed expressions) End))) End))) =
+      if are_raw quasis then option_or (first_stop names tag) (first_among names expressions) else None
+  first_stop names (Node at word.Prop (Then (Flag computed) (Then key (Then expression End)))) =
+      if is_known_key computed key then option_or (first_stop names key) (first_stop names expression) else None
+  first_stop names (Node at word parts) = first_among names parts
+  first_stop names (Listed parts) = first_among names parts
+  first_stop names _ = None
+
+  -- As `first_stop`, for parts in a row.
+  pub first_among : Names → Pieces → Option Diagnostic
+  first_among names End = None
+  first_among names (Then piece pieces) = option_or (first_stop names piece) (first_among names pieces)
+
+-- The first parameter whose name passes a test.
+abbrev pub first_named : (List ℕ → Bool) → List Parameter → Option Parameter
+first_named test [] = None
+first_named test (p ∷ parameters) = if test p.name then Some p else first_named test parameters
+
+-- The stop at the parameter, if there is one, whose name is its word.
+abbrev pub stop_at : Row → Option Parameter → Option Diagnostic
+stop_at r None = None
+stop_at r (Some p) = Some (diagnostic_at r p.name p.declaration)
+
+-- The stop of a function: S2 at a parameter `this`, else the first S1 in the parameters and the body.
+abbrev pub stop_of : Names → (function : Syntax) → Option Diagnostic
+stop_of names function =
+    option_or (stop_at row.S2 (first_named (λ name. bytes_eq name (codes "this")) (parameters_of names function)))
+    (option_or (first_stop names (params_in function)) (first_stop names (body_in function)))
+
+abbrev mutual
+  -- True of a tree with a declaration by `using` or `await using` (skips K2 and K3).
+  pub has_using : Syntax → Bool
+  has_using (Node at word.Var (Then (Said kind) declarators)) = is_using kind || have_using declarators
+  has_using (Node at word parts) = have_using parts
+  has_using (Listed parts) = have_using parts
+  has_using _ = false
+
+  -- As `has_using`, for parts in a row.
+  pub have_using : Pieces → Bool
+  have_using End = false
+  have_using (Then piece pieces) = has_using piece || have_using pieces

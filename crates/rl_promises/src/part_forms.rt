@@ -1,0 +1,159 @@
+//! Parts by their forms, for the walks that look for stops and skips.
+
+ghost use Rattle.std.specs.Prelude.{◌≡◌, false, map, option_map, MatchOption};
+ghost use Rattle.rl_promises.specs.PartForms as spec;
+ghost use Rattle.rl_syntax.specs.Shapes.{is_flag, is_text, is_three, is_two};
+ghost use Rattle.rl_syntax.specs.Syntax.{Said, Flag, End, Then, pieces_of, syntax};
+
+use rl_base::text::Text;
+use rl_syntax::numbered::Numbered;
+use rl_syntax::parts::{as_items, split_first};
+use rl_syntax::word::Word;
+
+/// The value of a flag. `None` at any other tree.
+#[tactic(auto, using(rl_syntax::proofs::Layers::by_layer))]
+pub(crate) fn as_flag(tree: &Numbered) -> Option<bool>
+    ensures { MatchOption result (is_flag (syntax tree.now) ≡ false) (λ flag. syntax tree.now ≡ Flag flag) }
+{
+    match tree {
+        Numbered::Flag(flag) => Some(*flag),
+        Numbered::Node(_, _, _) => None,
+        Numbered::List(_) => None,
+        Numbered::Text(_) => None,
+        Numbered::Number(_) => None,
+        Numbered::Absent => None,
+    }
+}
+
+/// The value of a text. `None` at any other tree.
+#[tactic(auto, using(rl_syntax::proofs::Layers::by_layer))]
+fn as_text(tree: &Numbered) -> Option<&Text>
+    ensures { MatchOption result (is_text (syntax tree.now) ≡ false) (λ text. syntax tree.now ≡ Said text.now) }
+{
+    match tree {
+        Numbered::Text(text) => Some(text),
+        Numbered::Node(_, _, _) => None,
+        Numbered::List(_) => None,
+        Numbered::Flag(_) => None,
+        Numbered::Number(_) => None,
+        Numbered::Absent => None,
+    }
+}
+
+/// The two parts. `None` where there are more or fewer.
+pub(crate) fn two(parts: &[Numbered]) -> Option<(&Numbered, &Numbered)>
+    ensures { MatchOption result (is_two (pieces_of (map syntax parts.now)) ≡ false) (λ p. pieces_of (map syntax parts.now) ≡ Then (syntax p.0.now) (Then (syntax p.1.now) End)) }
+{
+    let (first, parts) = split_first(parts)?;
+    let (second, parts) = split_first(parts)?;
+    match split_first(parts) {
+        Some(_) => None,
+        None => Some((first, second)),
+    }
+}
+
+/// The three parts. `None` where there are more or fewer.
+pub(crate) fn three(parts: &[Numbered]) -> Option<(&Numbered, &Numbered, &Numbered)>
+    ensures { MatchOption result (is_three (pieces_of (map syntax parts.now)) ≡ false) (λ p. pieces_of (map syntax parts.now) ≡ Then (syntax p.0.now) (Then (syntax p.1.now) (Then (syntax p.2.now) End))) }
+{
+    let (first, parts) = split_first(parts)?;
+    let (second, parts) = split_first(parts)?;
+    let (third, parts) = split_first(parts)?;
+    match split_first(parts) {
+        Some(_) => None,
+        None => Some((first, second, third)),
+    }
+}
+
+/// The first part, a text, and the parts behind it. `None` of parts of another form.
+#[tactic(auto, using(crate::proofs::Shaping::texts))]
+pub(crate) fn text_ahead(parts: &[Numbered]) -> Option<(&Text, &[Numbered])>
+    ensures { MatchOption result (spec.is_text_ahead (pieces_of (map syntax parts.now)) ≡ false) (λ p. pieces_of (map syntax parts.now) ≡ Then (Said p.0.now) (pieces_of (map syntax p.1.now))) }
+{
+    let (first, parts) = split_first(parts)?;
+    match as_text(first) {
+        Some(text) => Some((text, parts)),
+        None => None,
+    }
+}
+
+/// The only part, a text. `None` of parts of another form.
+#[tactic(auto, using(crate::proofs::Shaping::texts))]
+pub(crate) fn text_alone(parts: &[Numbered]) -> Option<&Text>
+    ensures { MatchOption result (spec.is_text_alone (pieces_of (map syntax parts.now)) ≡ false) (λ text. pieces_of (map syntax parts.now) ≡ Then (Said text.now) End) }
+{
+    let (text, parts) = text_ahead(parts)?;
+    match split_first(parts) {
+        Some(_) => None,
+        None => Some(text),
+    }
+}
+
+/// The two parts, if the first is a text. `None` of parts of another form.
+#[tactic(auto, using(crate::proofs::Shaping::texts))]
+pub(crate) fn text_and_tree(parts: &[Numbered]) -> Option<(&Text, &Numbered)>
+    ensures { MatchOption result (spec.is_text_and_tree (pieces_of (map syntax parts.now)) ≡ false) (λ p. pieces_of (map syntax parts.now) ≡ Then (Said p.0.now) (Then (syntax p.1.now) End)) }
+{
+    let (text, parts) = text_ahead(parts)?;
+    let (tree, parts) = split_first(parts)?;
+    match split_first(parts) {
+        Some(_) => None,
+        None => Some((text, tree)),
+    }
+}
+
+/// The three parts, if the first is a flag. `None` of parts of another form.
+#[tactic(auto, using(crate::proofs::Shaping::flags))]
+pub(crate) fn flag_and_trees(parts: &[Numbered]) -> Option<(bool, &Numbered, &Numbered)>
+    ensures { MatchOption result (spec.is_flag_and_trees (pieces_of (map syntax parts.now)) ≡ false) (λ p. pieces_of (map syntax parts.now) ≡ Then (Flag p.0) (Then (syntax p.1.now) (Then (syntax p.2.now) End))) }
+{
+    match three(parts) {
+        Some((flag, tree, another)) => match as_flag(flag) {
+            Some(flag) => Some((flag, tree, another)),
+            None => None,
+        },
+        None => None,
+    }
+}
+
+/// The two parts, lists. `None` of parts of another form.
+#[tactic(auto, using(crate::proofs::Shaping::lists))]
+fn two_lists(parts: &[Numbered]) -> Option<(&[Numbered], &[Numbered])>
+    ensures { option_map (λ p. (pieces_of (map syntax p.0.now), pieces_of (map syntax p.1.now))) result ≡ spec.two_lists (pieces_of (map syntax parts.now)) }
+{
+    match two(parts) {
+        Some((items, others)) => match as_items(items) {
+            Some(items) => match as_items(others) {
+                Some(others) => Some((items, others)),
+                None => None,
+            },
+            None => None,
+        },
+        None => None,
+    }
+}
+
+/// The quasis and the expressions of a template, by its word and parts. `None` of any other node.
+fn template_parts(word: Word, parts: &[Numbered]) -> Option<(&[Numbered], &[Numbered])>
+    ensures { option_map (λ p. (pieces_of (map syntax p.0.now), pieces_of (map syntax p.1.now))) result ≡ spec.template_parts word (pieces_of (map syntax parts.now)) }
+{
+    match word {
+        Word::Template => two_lists(parts),
+        _ => None,
+    }
+}
+
+/// The quasis and the expressions of a template. `None` of any other tree.
+#[tactic(auto, using(rl_syntax::proofs::Layers::by_layer))]
+pub(crate) fn template_lists(tree: &Numbered) -> Option<(&[Numbered], &[Numbered])>
+    ensures { option_map (λ p. (pieces_of (map syntax p.0.now), pieces_of (map syntax p.1.now))) result ≡ spec.template_lists (syntax tree.now) }
+{
+    match tree {
+        Numbered::Node(_, word, parts) => template_parts(*word, parts.as_slice()),
+        Numbered::List(_) => None,
+        Numbered::Text(_) => None,
+        Numbered::Number(_) => None,
+        Numbered::Flag(_) => None,
+        Numbered::Absent => None,
+    }
+}
