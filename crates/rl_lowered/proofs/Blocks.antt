@@ -1,9 +1,16 @@
 -- The lowering preserves the blocks.
-use Rattle.std.proofs.Common.{◌≡◌, ℕ, ◌+◌, ◌<◌, inl, inr, List, Option, Some, None, refl, arith}
+use Rattle.std.proofs.Common.{◌≡◌, ℕ, ◌+◌, ◌<◌, inl, inr, Bool, List, Option, Some, None, refl, arith}
+use Rattle.rl_base.specs.Diagnostics.{diagnostic_at}
+use Rattle.rl_base.specs.declared.diagnostic.Diagnostic.{Diagnostic}
+use Rattle.rl_base.specs.declared.ids.SymbolId.{SymbolId}
+use Rattle.rl_base.specs.declared.operator.UpdateOperator.{UpdateOperator}
 use Rattle.rl_base.specs.declared.row.Row.TheVariants as row
 use Rattle.rl_base.specs.declared.span.Span.{Span}
+use Rattle.rl_base.specs.declared.type_kind.TypeKind.{TypeKind}
+use Rattle.rl_base.specs.declared.type_kind.TypeKind.TheVariants as types
+use Rattle.rl_base.specs.declared.variable_kind.VariableKind.{VariableKind}
+use Rattle.rl_base.specs.declared.variable_kind.VariableKind.TheVariants as kinds
 use Rattle.rl_builder.specs.Builder.{State, completed_by, ended_by, new_block, recorded, reserved}
-use Rattle.rl_builder.specs.Names.{resolved}
 use Rattle.rl_builder.specs.Temporaries.{temporary, with_value}
 use Rattle.rl_frames.proofs.IfThenBlocks.{if_then_blocks}
 use Rattle.rl_frames.proofs.Sequences.{sequence_blocks}
@@ -12,16 +19,19 @@ use Rattle.rl_frames.proofs.Wholes.{if_blocks}
 use Rattle.rl_hir.specs.Pieces.{Piece}
 use Rattle.rl_hir.specs.declared.function.BlockKind.{BlockKind}
 use Rattle.rl_hir.specs.declared.function.BlockKind.TheVariants as blocks
+use Rattle.rl_hir.specs.declared.instruction.InstructionKind.{InstructionKind}
+use Rattle.rl_hir.specs.declared.instruction.InstructionValue.{InstructionValue}
 use Rattle.rl_hir.specs.declared.instruction.InstructionValue.TheVariants as values
 use Rattle.rl_hir.specs.declared.instruction.Place.{Place}
 use Rattle.rl_hir.specs.declared.instruction.PrimitiveValue.TheVariants as primitives
 use Rattle.rl_hir.specs.declared.terminal.ReturnVariant.{ReturnVariant}
 use Rattle.rl_hir.specs.declared.terminal.ReturnVariant.TheVariants as returns
 use Rattle.rl_hir.specs.declared.terminal.Terminal.{Terminal}
-use Rattle.rl_lowered.specs.Lowered.{Asked, Block, Conditional, EarlierPart, Empty, Expression, Global, IfElse, IfThen, LastPart, Literal}
-use Rattle.rl_lowered.specs.Lowered.{Logical, Lowered, LoweredAll, LoweredBody, LoweredLast, LoweredStatement, LoweredStatements, NextHole}
-use Rattle.rl_lowered.specs.Lowered.{NextPart, NextSpread, NextStatement, NoPart, NoStatement, RefusedGlobal, RefusedNumber, Return}
-use Rattle.rl_lowered.specs.Lowered.{ReturnNothing, Same, Sequence, Statements, Value, Variable}
+use Rattle.rl_lowered.specs.Forms.{MemberKey, load_of, store_of, typed}
+use Rattle.rl_lowered.specs.Lowered.{Lowered, LoweredBody, LoweredDeclarators, LoweredLast, LoweredParts, LoweredStatement, LoweredStatements}
+use Rattle.rl_lowered.specs.Lowered.{declaring, member_loaded, member_one, member_stored, member_updated, value_span}
+use Rattle.rl_lowered.specs.Lowered as lowered
+use Rattle.rl_lowered.specs.Named.{IsFound, found}
 use Rattle.rl_names.specs.Names.{Names}
 use Rattle.rl_promises.specs.Rows.{refusal}
 use Rattle.rl_runs.proofs.BlockIds.{free_fresh, free_then, ids_counted, ids_ended, ids_then}
@@ -29,6 +39,7 @@ use Rattle.rl_runs.proofs.Moves.{contained_before, extends_completed, extends_re
 use Rattle.rl_runs.proofs.Naming.{named_ended, named_none, named_then}
 use Rattle.rl_runs.proofs.Points.{settle_returned}
 use Rattle.rl_runs.proofs.Preserving.{blocks_recorded, blocks_refl, blocks_resolved, blocks_returned, blocks_then, blocks_value}
+use Rattle.rl_runs.proofs.Types.{blocks_typed}
 use Rattle.rl_runs.proofs.Used.{below_or, ended_there, ends_more, looped_ended, notes_back, straight_ended, straight_then}
 use Rattle.rl_runs.specs.Blocks.{AreUsed, IsLedTo, PreservesBlocks, StraightBelow, StraightSince}
 use Rattle.rl_runs.specs.Facts.{Extends}
@@ -84,63 +95,144 @@ module _ (s t : State) (span : Option Span) (variant : ReturnVariant) (place : P
         looped_ended (IsLedTo c entry) t end (new_block n kind) (λ led. tt) (b.looped c (contained_before ends cover) entry old);
   }
 
+-- A value behind a look-up, or behind a diagnostic; the type of a cast, the keyword of a declaration, and an update of a property.
+
+blocks_found : (names : Names) (s : State) (symbol : SymbolId) (at : Span) (identifier : ℕ) → IsFound names s symbol at identifier
+    → PreservesBlocks s (found names s symbol at)
+blocks_found names s symbol at identifier f = blocks_resolved s (names.name symbol.0) symbol.0 (Some at) f.agree
+
+blocks_found_value : (names : Names) (s : State) (symbol : SymbolId) (at : Span) (identifier : ℕ) (v : InstructionValue)
+    (span : Option Span) → IsFound names s symbol at identifier → PreservesBlocks s (with_value (found names s symbol at) v span)
+blocks_found_value names s symbol at identifier v span f =
+    blocks_then s (found names s symbol at) _ (blocks_found names s symbol at identifier f) (blocks_value (found names s symbol at) v span)
+
+blocks_noted_value : (s : State) (d : Diagnostic) (v : InstructionValue) (span : Option Span)
+    → PreservesBlocks s (with_value (recorded s d) v span)
+blocks_noted_value s d v span = blocks_then s (recorded s d) _ (blocks_recorded s d) (blocks_value (recorded s d) v span)
+
+pub blocks_cast : (s : State) (k : TypeKind) → PreservesBlocks s (typed s k)
+blocks_cast s types.Array = blocks_refl s
+blocks_cast s types.Primitive = blocks_refl s
+blocks_cast s types.Other = blocks_typed s
+
+pub blocks_declaring : (s : State) (k : VariableKind) (at : Span) → PreservesBlocks s (declaring s k at)
+blocks_declaring s kinds.Var at = blocks_recorded s (refusal row.F39 at)
+blocks_declaring s _ at = blocks_refl s
+
+pub blocks_member : (t : State) (object : Place) (key : MemberKey) (operator : UpdateOperator) (there : Span)
+    → PreservesBlocks t (member_stored t object key operator there)
+blocks_member t object key operator there =
+    let loaded : State = member_loaded t object key there in
+    let one : State = member_one t object key there in
+    let updated : State = member_updated t object key operator there in
+    blocks_then t loaded _ (blocks_value t (load_of object key) (Some there))
+    (blocks_then loaded one _ (blocks_value loaded (values.Primitive (primitives.Number 1)) None)
+    (blocks_then one updated _ (blocks_value one _ (Some there))
+    (blocks_value updated (store_of object key (temporary one (Some there))) (Some there))))
+
 mutual
   pub expression_blocks : {names : Names} {e : Syntax} {s t : State} {p : Place} → Lowered names e s t p → PreservesBlocks s t
-  expression_blocks (Literal at w fields p s is) = blocks_value s (values.Primitive p) (Some at.span)
-  expression_blocks (RefusedNumber at text s is) =
-      blocks_then s (recorded s (refusal row.F43 at.span)) _ (blocks_recorded s (refusal row.F43 at.span))
-      (blocks_value (recorded s (refusal row.F43 at.span)) (values.Primitive primitives.Undefined) (Some at.span))
-  expression_blocks {names} (Variable at name symbol identifier s means named bound agrees) =
-      blocks_then s (resolved s (names.name symbol.0) symbol.0 (Some at.span)) _
-      (blocks_resolved s (names.name symbol.0) symbol.0 (Some at.span) agrees)
-      (blocks_value (resolved s (names.name symbol.0) symbol.0 (Some at.span)) _ (Some at.span))
-  expression_blocks (Global at name binding s means other) = blocks_value s (values.LoadGlobal binding) (Some at.span)
-  expression_blocks (RefusedGlobal at name binding s means is) =
-      blocks_then s (recorded s (refusal row.F2 at.span)) _ (blocks_recorded s (refusal row.F2 at.span))
-      (blocks_value (recorded s (refusal row.F2 at.span)) (values.LoadGlobal binding) (Some at.span))
-  expression_blocks (Same at w e s t p is d) = expression_blocks d
-  expression_blocks (Asked at w fields parts pieces v s t form d) =
+  expression_blocks (lowered.Literal at w fields p s is) = blocks_value s (values.Primitive p) (Some at.span)
+  expression_blocks (lowered.Refused at w fields r s is) =
+      blocks_noted_value s (refusal r at.span) (values.Primitive primitives.Undefined) (Some at.span)
+  expression_blocks (lowered.RefusedBefore at w fields parts r pieces s t is l) =
+      let noted : State = recorded s (refusal r at.span) in
+      blocks_then s noted _ (blocks_recorded s (refusal r at.span))
+      (blocks_then noted t _ (all_blocks l) (blocks_value t (values.Primitive primitives.Undefined) (Some at.span)))
+  expression_blocks (lowered.RefusedBehind at object name s t p l) =
+      blocks_then s t _ (expression_blocks l)
+      (blocks_noted_value t (refusal row.F3 at.span) (values.Primitive primitives.Undefined) (Some at.span))
+  expression_blocks (lowered.Private at w fields e s t p is l) = expression_blocks l
+  expression_blocks {names} (lowered.Variable at name symbol identifier s is f) =
+      blocks_found_value names s symbol at.span identifier _ (Some at.span) f
+  expression_blocks {names} (lowered.UpdatedVariable at there name symbol identifier operator prefix s is mutable f g) =
+      let first : State = found names s symbol there.span in
+      blocks_then s first _ (blocks_found names s symbol there.span identifier f)
+      (blocks_found_value names first symbol there.span identifier _ (Some at.span) g)
+  expression_blocks {names} (lowered.UpdatedConstant at there name symbol identifier operator prefix s is constant f) =
+      let first : State = found names s symbol there.span in
+      blocks_then s first _ (blocks_found names s symbol there.span identifier f)
+      (blocks_noted_value first (diagnostic_at row.F6 (names.name symbol.0) there.span) (values.Primitive primitives.Undefined)
+      (Some at.span))
+  expression_blocks (lowered.UpdatedMember at there w fields parts pieces object key operator prefix s t is l) =
+      blocks_then s t _ (all_blocks l) (blocks_member t object key operator there.span)
+  expression_blocks (lowered.Method at there w fields parts es pieces given_pieces object key given s t u is l given_are m) =
+      let loaded : State = with_value t (load_of object key) (Some there.span) in
+      blocks_then s t _ (all_blocks l)
+      (blocks_then t loaded _ (blocks_value t (load_of object key) (Some there.span))
+      (blocks_then loaded u _ (all_blocks given_are) (blocks_value u _ (Some at.span))))
+  expression_blocks (lowered.Cast at there w fields e type k s t p is annotated l) =
+      blocks_then s t _ (expression_blocks l)
+      (blocks_then t (typed t k) _ (blocks_cast t k) (blocks_value (typed t k) _ (Some at.span)))
+  expression_blocks (lowered.Global at name binding s means other) = blocks_value s (values.LoadGlobal binding) (Some at.span)
+  expression_blocks (lowered.RefusedGlobal at name binding s means is) =
+      blocks_noted_value s (refusal row.F2 at.span) (values.LoadGlobal binding) (Some at.span)
+  expression_blocks (lowered.Same at w fields e s t p is d) = expression_blocks d
+  expression_blocks (lowered.Asked at w fields parts pieces v s t form d) =
       blocks_then s t _ (all_blocks d) (blocks_value t v (Some at.span))
-  expression_blocks (Logical at operator left right s s2 s3 l r dr dl) =
-      logical_blocks s s2 s3 operator r l at.span (span_of left) (span_of right) (expression_blocks dr) (expression_blocks dl)
-  expression_blocks (Conditional at test consequent alternate s s2 s3 s4 c a p dc da dt) =
+  expression_blocks (lowered.Object at es pieces properties s t is l) =
+      blocks_then s t _ (all_blocks l) (blocks_value t (values.ObjectExpression properties) (Some at.span))
+  expression_blocks (lowered.Logical at operator left right s s2 s3 l r dr dl) =
+      logical_blocks s s2 s3 operator r l at.span (span_of left) (value_span r right) (expression_blocks dr) (expression_blocks dl)
+  expression_blocks (lowered.Conditional at test consequent alternate s s2 s3 s4 c a p dc da dt) =
       ternary_blocks s s2 s3 s4 c a p at.span (span_of consequent) (span_of alternate) (expression_blocks dc) (expression_blocks da)
       (expression_blocks dt)
-  expression_blocks (Sequence at e es s s2 p d) = sequence_blocks s s2 p at.span at.span (last_blocks d)
+  expression_blocks (lowered.Sequence at e es s s2 p d) = sequence_blocks s s2 p at.span at.span (last_blocks d)
 
-  pub all_blocks : {names : Names} {es : Pieces} {s t : State} {pieces : List Piece} → LoweredAll names es s t pieces
+  pub all_blocks : {names : Names} {of_object : Bool} {es : Pieces} {s t : State} {pieces : List Piece} → LoweredParts names of_object es s t pieces
       → PreservesBlocks s t
-  all_blocks (NoPart s) = blocks_refl s
-  all_blocks (NextPart e es s t u p pieces d ds) = blocks_then s t u (expression_blocks d) (all_blocks ds)
-  all_blocks (NextSpread at e es s t u p pieces d ds) = blocks_then s t u (expression_blocks d) (all_blocks ds)
-  all_blocks (NextHole at es s u pieces ds) = all_blocks ds
+  all_blocks (lowered.NoPart s) = blocks_refl s
+  all_blocks (lowered.NextPart e es s t u p pieces d ds) = blocks_then s t u (expression_blocks d) (all_blocks ds)
+  all_blocks (lowered.NextSpread at e es s t u p pieces d ds) = blocks_then s t u (expression_blocks d) (all_blocks ds)
+  all_blocks (lowered.NextHole at es s u pieces ds) = all_blocks ds
+  all_blocks (lowered.NextProperty at computed key e text es s t u p pieces is d ds) =
+      blocks_then s t u (expression_blocks d) (all_blocks ds)
+  all_blocks (lowered.NextComputed at key e es s r t u p q pieces is k d ds) =
+      blocks_then s r u (expression_blocks k) (blocks_then r t u (expression_blocks d) (all_blocks ds))
+  all_blocks (lowered.NextFraction at there e text es s t u p pieces is d ds) =
+      let noted : State = recorded s (refusal row.F43 there.span) in
+      blocks_then s noted u (blocks_recorded s (refusal row.F43 there.span)) (blocks_then noted t u (expression_blocks d) (all_blocks ds))
+  all_blocks (lowered.NextUnknown at computed key e es s u pieces is ds) =
+      blocks_then s (recorded s (refusal row.F9 (span_of key))) u (blocks_recorded s (refusal row.F9 (span_of key))) (all_blocks ds)
 
   pub last_blocks : {names : Names} {es : Pieces} {s t : State} {p : Place} → LoweredLast names es s t p
       → PreservesBlocks s t
-  last_blocks (LastPart e s t p d) = expression_blocks d
-  last_blocks (EarlierPart e next es s t u p q d ds) = blocks_then s t u (expression_blocks d) (last_blocks ds)
+  last_blocks (lowered.LastPart e s t p d) = expression_blocks d
+  last_blocks (lowered.EarlierPart e next es s t u p q d ds) = blocks_then s t u (expression_blocks d) (last_blocks ds)
+
+pub declarators_blocks : {names : Names} {at : Span} {k : InstructionKind} {es : Pieces} {s t : State}
+    → LoweredDeclarators names at k es s t → PreservesBlocks s t
+declarators_blocks (lowered.NoDeclarator s) = blocks_refl s
+declarators_blocks {names} (lowered.NextDeclared there bind name type more symbol identifier s u annotated is f d) =
+    blocks_then s _ u (blocks_found_value names s symbol bind.span identifier _ (Some bind.span) f) (declarators_blocks d)
+declarators_blocks {names} {at} (lowered.NextInitialized there bind name type init more symbol identifier s t u p annotated is d f ds) =
+    blocks_then s t u (expression_blocks d)
+    (blocks_then t _ u (blocks_found_value names t symbol bind.span identifier _ (Some at) f) (declarators_blocks ds))
 
 mutual
   pub statement_blocks : {names : Names} {e : Syntax} {s t : State} → LoweredStatement names e s t → PreservesBlocks s t
-  statement_blocks (Empty at s) = blocks_refl s
-  statement_blocks (Expression at e s t p d) = expression_blocks d
-  statement_blocks (ReturnNothing at s) =
+  statement_blocks (lowered.Empty at s) = blocks_refl s
+  statement_blocks (lowered.Expression at e s t p d) = expression_blocks d
+  statement_blocks (lowered.Debugger at s) = blocks_value s values.Debugger (Some at.span)
+  statement_blocks (lowered.Variables at k declarators s t d) =
+      blocks_then s (declaring s k at.span) t (blocks_declaring s k at.span) (declarators_blocks d)
+  statement_blocks (lowered.ReturnNothing at s) =
       let t : State = with_value s (values.Primitive primitives.Undefined) None in
       blocks_then s t _ (blocks_value s (values.Primitive primitives.Undefined) None)
       (blocks_returned t (Some at.span) returns.Explicit (temporary s None) blocks.Block)
-  statement_blocks (Return at e s t p d) =
+  statement_blocks (lowered.Return at e s t p d) =
       blocks_then s t _ (expression_blocks d) (blocks_returned t (Some at.span) returns.Explicit p blocks.Block)
-  statement_blocks (Block at statements s t d) = statements_blocks d
-  statement_blocks (IfThen at test consequent s s2 s3 p dc dt) =
+  statement_blocks (lowered.Block at statements s t d) = statements_blocks d
+  statement_blocks (lowered.IfThen at test consequent s s2 s3 p dc dt) =
       if_then_blocks s s2 s3 p at.span (span_of consequent) (statement_blocks dc) (expression_blocks dt)
-  statement_blocks (IfElse at test consequent alternate s s2 s3 s4 p dc da dt) =
+  statement_blocks (lowered.IfElse at test consequent alternate s s2 s3 s4 p dc da dt) =
       if_blocks s s2 s3 s4 p at.span (span_of consequent) (span_of alternate) (statement_blocks dc) (statement_blocks da)
       (expression_blocks dt)
 
   pub statements_blocks : {names : Names} {es : Pieces} {s t : State} → LoweredStatements names es s t → PreservesBlocks s t
-  statements_blocks (NoStatement s) = blocks_refl s
-  statements_blocks (NextStatement e es s t u d ds) = blocks_then s t u (statement_blocks d) (statements_blocks ds)
+  statements_blocks (lowered.NoStatement s) = blocks_refl s
+  statements_blocks (lowered.NextStatement e es s t u d ds) = blocks_then s t u (statement_blocks d) (statements_blocks ds)
 
 pub body_blocks : {names : Names} {e : Syntax} {s t : State} → LoweredBody names e s t → PreservesBlocks s t
-body_blocks (Statements at directives statements s t texts d) = statements_blocks d
-body_blocks (Value e s t p d) = blocks_value_returned s t None returns.Implicit p blocks.Block (expression_blocks d)
+body_blocks (lowered.Statements at directives statements s t texts d) = statements_blocks d
+body_blocks (lowered.Value e s t p d) = blocks_value_returned s t None returns.Implicit p blocks.Block (expression_blocks d)

@@ -24,8 +24,8 @@ told_body named l = record {
   blocks = body_blocks l;
   lists = body_lists l;
   refused = body_refused l;
-  tallies = λ key held. body_tallies key held l;
-  lives = body_lives l;
-  sound = body_sound named.texts l;
-  runs = λ none scene same ported. body_runs l none scene same ported;
+  tallies = λ none key held. body_tallies key held l none;
+  lives = λ none. body_lives l none;
+  sound = body_sound named.knows l;
+  runs = λ none unused scene same ported. body_runs l none unused scene same ported;
 }

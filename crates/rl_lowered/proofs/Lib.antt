@@ -1,6 +1,9 @@
 pub mod Blocks
 pub mod Bodies
+pub mod Clean
 pub mod Forms
+pub mod HeldParts
+pub mod Keys
 pub mod Listed
 pub mod Listing
 pub mod LiveFrames
@@ -9,6 +12,7 @@ pub mod Meant
 pub mod Names
 pub mod Passing
 pub mod Plain
+pub mod Refusals
 pub mod Refused
 pub mod Runs
 pub mod Sizes
@@ -17,7 +21,13 @@ pub mod SoundForms
 pub mod SoundFrames
 pub mod SoundListing
 pub mod SoundMoves
+pub mod SoundNames
 pub mod SoundTrees
+pub mod Spanned
+pub mod SpannedForms
+pub mod SpannedFrames
+pub mod SpannedMoves
+pub mod SpannedTrees
 pub mod StatementRuns
 pub mod Tallies
 pub mod Told

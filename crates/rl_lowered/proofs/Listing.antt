@@ -7,13 +7,20 @@ use Rattle.std.proofs.lemmas.Bool.{le-leb, lt-leb, lt-ltb, le-ltb, ne_eqb}
 use Rattle.std.proofs.lemmas.Bool.Decides.{leb_tells}
 use Rattle.std.proofs.lemmas.List.{map-append}
 use Rattle.std.proofs.lemmas.List.Elements.{All-append, All-cons, All-head, All-nil, All-push, All-tail}
+use Rattle.rl_base.specs.Diagnostics.{diagnostic_at}
+use Rattle.rl_base.specs.declared.diagnostic.Diagnostic.{Diagnostic}
 use Rattle.rl_base.specs.declared.ids.BlockId.{BlockId}
 use Rattle.rl_base.specs.declared.ids.InstructionId.{InstructionId}
+use Rattle.rl_base.specs.declared.ids.SymbolId.{SymbolId}
+use Rattle.rl_base.specs.declared.operator.UpdateOperator.{UpdateOperator}
 use Rattle.rl_base.specs.declared.row.Row.TheVariants as row
 use Rattle.rl_base.specs.declared.span.Span.{Span}
+use Rattle.rl_base.specs.declared.type_kind.TypeKind.{TypeKind}
+use Rattle.rl_base.specs.declared.type_kind.TypeKind.TheVariants as types
+use Rattle.rl_base.specs.declared.variable_kind.VariableKind.{VariableKind}
+use Rattle.rl_base.specs.declared.variable_kind.VariableKind.TheVariants as declared
 use Rattle.rl_builder.specs.Builder.{State, completed_by, ended_by, innermost, maybe_throw, new_block, plainly_pushed, pushed, pushed_under}
-use Rattle.rl_builder.specs.Builder.{recorded, reserved, with_temporary}
-use Rattle.rl_builder.specs.Names.{resolved}
+use Rattle.rl_builder.specs.Builder.{recorded, reserved, with_temporary, with_type}
 use Rattle.rl_builder.specs.declared.blocks.WipBlock.{WipBlock}
 use Rattle.rl_builder.specs.Dropped.{is_function_expression}
 use Rattle.rl_builder.specs.Temporaries.{temporary, unordered, with_value}
@@ -28,6 +35,7 @@ use Rattle.rl_hir.specs.Blocks.{Pair as BlockPair}
 use Rattle.rl_hir.specs.Pieces.{Piece}
 use Rattle.rl_hir.specs.declared.function.BlockKind.{BlockKind}
 use Rattle.rl_hir.specs.declared.function.BlockKind.TheVariants as blocks
+use Rattle.rl_hir.specs.declared.instruction.InstructionKind.{InstructionKind}
 use Rattle.rl_hir.specs.declared.instruction.InstructionKind.TheVariants as variables
 use Rattle.rl_hir.specs.declared.instruction.InstructionValue.TheVariants as values
 use Rattle.rl_hir.specs.declared.instruction.Place.{Place}
@@ -40,11 +48,13 @@ use Rattle.rl_hir.specs.Numbered.{listed_in}
 use Rattle.rl_hir.specs.declared.instruction.Instruction.{Instruction}
 use Rattle.rl_hir.specs.declared.instruction.InstructionValue.{InstructionValue}
 use Rattle.rl_hir.specs.declared.terminal.Terminal.{Terminal}
-use Rattle.rl_lowered.specs.Forms.{IsForm}
+use Rattle.rl_lowered.specs.Forms.{IsForm, MemberKey, delete_of, load_of, store_of, typed}
 use Rattle.rl_lowered.specs.Forms as forms
-use Rattle.rl_lowered.specs.Lowered.{Lowered, LoweredAll, LoweredBody, LoweredLast, LoweredStatement, LoweredStatements}
+use Rattle.rl_lowered.specs.Lowered.{Lowered, LoweredBody, LoweredDeclarators, LoweredLast, LoweredParts, LoweredStatement, LoweredStatements}
+use Rattle.rl_lowered.specs.Lowered.{declaring, member_loaded, member_one, member_stored, member_updated, update_of, value_span}
 use Rattle.rl_lowered.specs.Lowered as lowered
 use Rattle.rl_lowered.specs.Listing.{ListsSince, ListsTable, all_listed, occurrences, one_within}
+use Rattle.rl_lowered.specs.Named.{found}
 use Rattle.rl_names.specs.Names.{Names}
 use Rattle.rl_order.specs.Numbering.{orders_of}
 use Rattle.rl_promises.specs.Rows.{refusal}
@@ -413,47 +423,121 @@ lists_sequence_ended f s value part none =
 lists_if_ended : (f : IfParts) (s : State) (test : Place) → f.behind.instructions ≡ [] → ListsSince s (if_ended f s test)
 lists_if_ended f s test none = lists_completed s (if_end f.behind.id.0 f.consequent f.alternate test f.span) f.behind none refl
 
--- No kind of the table makes a function.
+-- No value that an expression leaves makes a function.
+
+load_plain : (object : Place) (key : MemberKey) → is_function_expression (load_of object key) ≡ false
+load_plain object (forms.Fixed key) = refl
+load_plain object (forms.Computed key) = refl
+
+store_plain : (object : Place) (key : MemberKey) (value : Place) → is_function_expression (store_of object key value) ≡ false
+store_plain object (forms.Fixed key) value = refl
+store_plain object (forms.Computed key) value = refl
+
+delete_plain : (object : Place) (key : MemberKey) → is_function_expression (delete_of object key) ≡ false
+delete_plain object (forms.Fixed key) = refl
+delete_plain object (forms.Computed key) = refl
+
+update_plain : (prefix : Bool) (operator : UpdateOperator) (variable : Place)
+    → is_function_expression (update_of prefix operator variable) ≡ false
+update_plain true operator variable = refl
+update_plain false operator variable = refl
+
 form_plain : {w : Word} {fields parts : Pieces} {pieces : List Piece} {v : InstructionValue} → IsForm w fields parts pieces v
     → is_function_expression v ≡ false
-form_plain forms.Binary = refl
-form_plain (forms.Unary plain) = refl
-form_plain forms.Await = refl
-form_plain forms.Member = refl
-form_plain (forms.Index other) = refl
-form_plain (forms.NumberIndex is) = refl
-form_plain (forms.Call plain given) = refl
-form_plain (forms.New given) = refl
-form_plain (forms.Array given) = refl
-form_plain (forms.Template texts given) = refl
-form_plain forms.RegExp = refl
-form_plain forms.ImportMeta = refl
+form_plain (forms.Load {object} {key} is) = load_plain object key
+form_plain (forms.Delete operator {object} {key} is inside member) = delete_plain object key
+form_plain _ = refl
+
+-- A look-up, a diagnostic, the type of a cast, the keyword of a declaration, and a value behind some of these.
+
+lists_found : (names : Names) (s : State) (symbol : SymbolId) (at : Span) → ListsSince s (found names s symbol at)
+lists_found names s symbol at = lists_same s (found names s symbol at) refl
+
+lists_found_value : (names : Names) (s : State) (symbol : SymbolId) (at : Span) (v : InstructionValue) (span : Option Span)
+    → is_function_expression v ≡ false → ListsSince s (with_value (found names s symbol at) v span)
+lists_found_value names s symbol at v span plain =
+    lists_then s (found names s symbol at) _ (lists_found names s symbol at) (lists_value (found names s symbol at) v span plain)
+
+lists_noted : (s : State) (d : Diagnostic) → ListsSince s (recorded s d)
+lists_noted s d = lists_same s (recorded s d) refl
+
+lists_noted_value : (s : State) (d : Diagnostic) (v : InstructionValue) (span : Option Span) → is_function_expression v ≡ false
+    → ListsSince s (with_value (recorded s d) v span)
+lists_noted_value s d v span plain = lists_then s (recorded s d) _ (lists_noted s d) (lists_value (recorded s d) v span plain)
+
+lists_undefined : (s : State) (d : Diagnostic) (at : Span)
+    → ListsSince s (with_value (recorded s d) (values.Primitive primitives.Undefined) (Some at))
+lists_undefined s d at = lists_noted_value s d (values.Primitive primitives.Undefined) (Some at) refl
+
+lists_typed : (s : State) (k : TypeKind) → ListsSince s (typed s k)
+lists_typed s types.Array = lists_refl s
+lists_typed s types.Primitive = lists_refl s
+lists_typed s types.Other = lists_same s (with_type s) refl
+
+lists_declaring : (s : State) (k : VariableKind) (at : Span) → ListsSince s (declaring s k at)
+lists_declaring s declared.Var at = lists_noted s (refusal row.F39 at)
+lists_declaring s _ at = lists_refl s
+
+lists_member : (t : State) (object : Place) (key : MemberKey) (operator : UpdateOperator) (there : Span)
+    → ListsSince t (member_stored t object key operator there)
+lists_member t object key operator there =
+    let loaded : State = member_loaded t object key there in
+    let one : State = member_one t object key there in
+    let updated : State = member_updated t object key operator there in
+    let kept : Place = temporary one (Some there) in
+    lists_then t loaded _ (lists_value t (load_of object key) (Some there) (load_plain object key))
+    (lists_then loaded one _ (lists_value loaded (values.Primitive (primitives.Number 1)) None refl)
+    (lists_then one updated _ (lists_value one _ (Some there) refl)
+    (lists_value updated (store_of object key kept) (Some there) (store_plain object key kept))))
 
 mutual
   pub expression_lists : {names : Names} {e : Syntax} {s t : State} {p : Place} → Lowered names e s t p → ListsSince s t
   expression_lists (lowered.Literal at w fields p s is) = lists_value s (values.Primitive p) (Some at.span) refl
-  expression_lists (lowered.RefusedNumber at text s is) =
-      let noted : State = recorded s (refusal row.F43 at.span) in
-      lists_then s noted _ (lists_same s noted refl) (lists_value noted (values.Primitive primitives.Undefined) (Some at.span) refl)
-  expression_lists {names} (lowered.Variable at name symbol identifier s is named bound agree) =
-      let found : State = resolved s (names.name symbol.0) symbol.0 (Some at.span) in
-      lists_then s found _ (lists_same s found refl)
-      (lists_value found (values.LoadLocal (record { identifier = record { 0 = identifier }; span = Some at.span })) (Some at.span) refl)
+  expression_lists (lowered.Refused at w fields r s is) = lists_undefined s (refusal r at.span) at.span
+  expression_lists (lowered.RefusedBefore at w fields parts r pieces s t is l) =
+      let noted : State = recorded s (refusal r at.span) in
+      lists_then s noted _ (lists_noted s (refusal r at.span))
+      (lists_then noted t _ (all_lists l) (lists_value t (values.Primitive primitives.Undefined) (Some at.span) refl))
+  expression_lists (lowered.RefusedBehind at object name s t p l) =
+      lists_then s t _ (expression_lists l) (lists_undefined t (refusal row.F3 at.span) at.span)
+  expression_lists (lowered.Private at w fields e s t p is l) = expression_lists l
+  expression_lists {names} (lowered.Variable at name symbol identifier s is f) =
+      lists_found_value names s symbol at.span _ (Some at.span) refl
+  expression_lists {names} (lowered.UpdatedVariable at there name symbol identifier operator prefix s is mutable f g) =
+      let first : State = found names s symbol there.span in
+      lists_then s first _ (lists_found names s symbol there.span)
+      (lists_found_value names first symbol there.span _ (Some at.span)
+      (update_plain prefix operator (record { identifier = record { 0 = identifier }; span = Some there.span })))
+  expression_lists {names} (lowered.UpdatedConstant at there name symbol identifier operator prefix s is constant f) =
+      let first : State = found names s symbol there.span in
+      lists_then s first _ (lists_found names s symbol there.span)
+      (lists_undefined first (diagnostic_at row.F6 (names.name symbol.0) there.span) at.span)
+  expression_lists (lowered.UpdatedMember at there w fields parts pieces object key operator prefix s t is l) =
+      lists_then s t _ (all_lists l) (lists_member t object key operator there.span)
+  expression_lists (lowered.Method at there w fields parts es pieces given_pieces object key given s t u is l given_are m) =
+      let loaded : State = with_value t (load_of object key) (Some there.span) in
+      lists_then s t _ (all_lists l)
+      (lists_then t loaded _ (lists_value t (load_of object key) (Some there.span) (load_plain object key))
+      (lists_then loaded u _ (all_lists given_are) (lists_value u _ (Some at.span) refl)))
+  expression_lists (lowered.Cast at there w fields e type k s t p is annotated l) =
+      lists_then s t _ (expression_lists l)
+      (lists_then t (typed t k) _ (lists_typed t k) (lists_value (typed t k) _ (Some at.span) refl))
   expression_lists (lowered.Global at name binding s is plain) = lists_value s (values.LoadGlobal binding) (Some at.span) refl
   expression_lists (lowered.RefusedGlobal at name binding s is refused) =
-      let noted : State = recorded s (refusal row.F2 at.span) in
-      lists_then s noted _ (lists_same s noted refl) (lists_value noted (values.LoadGlobal binding) (Some at.span) refl)
-  expression_lists (lowered.Same at w e s t p is l) = expression_lists l
+      lists_noted_value s (refusal row.F2 at.span) (values.LoadGlobal binding) (Some at.span) refl
+  expression_lists (lowered.Same at w fields e s t p is l) = expression_lists l
   expression_lists (lowered.Asked at w fields parts pieces v s t is l) =
       lists_then s t (with_value t v (Some at.span)) (all_lists l) (lists_value t v (Some at.span) (form_plain is))
+  expression_lists (lowered.Object at es pieces properties s t is l) =
+      lists_then s t _ (all_lists l) (lists_value t (values.ObjectExpression properties) (Some at.span) refl)
   expression_lists (lowered.Logical at operator left right s s2 s3 l r second first) =
       let outer : List InstructionId = s.current.instructions in
       let f : LogicalParts = logical_at s at.span operator (span_of left) in
       let begun : State = logical_begun s at.span (span_of left) in
-      let righted : State = logical_righted f s2 r (span_of right) in
+      let righted : State = logical_righted f s2 r (value_span r right) in
       lists_then s (beside outer begun) _ (lists_logical_begun s at.span (span_of left))
       (lists_then (beside outer begun) (beside outer s2) _ (lists_beside outer begun s2 (expression_lists second))
-      (lists_then (beside outer s2) righted _ (lists_logical_righted f s2 r (span_of right) refl)
+      (lists_then (beside outer s2) righted _ (lists_logical_righted f s2 r (value_span r right) refl)
       (lists_then righted s3 _ (expression_lists first) (lists_logical_ended (logical_after f) s3 l refl))))
   expression_lists (lowered.Conditional at test consequent alternate s s2 s3 s4 c a p second third first) =
       let outer : List InstructionId = s.current.instructions in
@@ -478,16 +562,35 @@ mutual
       (lists_then (beside outer begun) (beside outer s2) _ (lists_beside outer begun s2 (last_lists l))
       (lists_sequence_ended (sequence_at s at.span) s2 p at.span refl))
 
-  pub all_lists : {names : Names} {es : Pieces} {s t : State} {pieces : List Piece} → LoweredAll names es s t pieces → ListsSince s t
+  pub all_lists : {names : Names} {of_object : Bool} {es : Pieces} {s t : State} {pieces : List Piece}
+      → LoweredParts names of_object es s t pieces → ListsSince s t
   all_lists (lowered.NoPart s) = lists_refl s
   all_lists (lowered.NextPart e es s t u p pieces l more) = lists_then s t u (expression_lists l) (all_lists more)
   all_lists (lowered.NextSpread at e es s t u p pieces l more) = lists_then s t u (expression_lists l) (all_lists more)
   all_lists (lowered.NextHole at es s u pieces more) = all_lists more
+  all_lists (lowered.NextProperty at computed key e text es s t u p pieces is l more) =
+      lists_then s t u (expression_lists l) (all_lists more)
+  all_lists (lowered.NextComputed at key e es s r t u p q pieces is k l more) =
+      lists_then s r u (expression_lists k) (lists_then r t u (expression_lists l) (all_lists more))
+  all_lists (lowered.NextFraction at there e text es s t u p pieces is l more) =
+      let noted : State = recorded s (refusal row.F43 there.span) in
+      lists_then s noted u (lists_noted s (refusal row.F43 there.span)) (lists_then noted t u (expression_lists l) (all_lists more))
+  all_lists (lowered.NextUnknown at computed key e es s u pieces is more) =
+      lists_then s (recorded s (refusal row.F9 (span_of key))) u (lists_noted s (refusal row.F9 (span_of key))) (all_lists more)
 
   pub last_lists : {names : Names} {es : Pieces} {s t : State} {p : Place} → LoweredLast names es s t p
       → ListsSince s t
   last_lists (lowered.LastPart e s t p l) = expression_lists l
   last_lists (lowered.EarlierPart e next es s t u p q l more) = lists_then s t u (expression_lists l) (last_lists more)
+
+declarators_lists : {names : Names} {at : Span} {k : InstructionKind} {es : Pieces} {s t : State}
+    → LoweredDeclarators names at k es s t → ListsSince s t
+declarators_lists (lowered.NoDeclarator s) = lists_refl s
+declarators_lists {names} (lowered.NextDeclared there bind name type more symbol identifier s u annotated is f l) =
+    lists_then s _ u (lists_found_value names s symbol bind.span _ (Some bind.span) refl) (declarators_lists l)
+declarators_lists {names} {at} (lowered.NextInitialized there bind name type init more symbol identifier s t u p annotated is l f ls) =
+    lists_then s t u (expression_lists l)
+    (lists_then t _ u (lists_found_value names t symbol bind.span _ (Some at) refl) (declarators_lists ls))
 
 lists_returned : (s : State) (span : Option Span) (place : Place) → ListsSince s (returned_from s span returns.Explicit place blocks.Block)
 lists_returned s span place =
@@ -498,6 +601,9 @@ mutual
   pub statement_lists : {names : Names} {e : Syntax} {s t : State} → LoweredStatement names e s t → ListsSince s t
   statement_lists (lowered.Empty at s) = lists_refl s
   statement_lists (lowered.Expression at e s t p l) = expression_lists l
+  statement_lists (lowered.Debugger at s) = lists_value s values.Debugger (Some at.span) refl
+  statement_lists (lowered.Variables at k declarators s t l) =
+      lists_then s (declaring s k at.span) t (lists_declaring s k at.span) (declarators_lists l)
   statement_lists (lowered.ReturnNothing at s) =
       let valued : State = with_value s (values.Primitive primitives.Undefined) None in
       lists_then s valued _ (lists_value s (values.Primitive primitives.Undefined) None refl)

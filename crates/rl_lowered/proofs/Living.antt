@@ -1,88 +1,70 @@
--- Live calls, constructions and awaits have an instruction in a block that is reached.
-use Rattle.std.proofs.Common.{◌≡◌, ℕ, ◌++◌, ◌||◌, Bool, true, false, List, [], Option, Some, None, refl, sym, ap, ◌∙◌, subst, append-nil}
+-- Live calls, constructions and awaits have an instruction in a block that is reached, where nothing was refused.
+use Rattle.std.proofs.Common.{◌≡◌, ℕ, ◌++◌, ◌||◌, Bool, true, false, List, [], ◌∷◌, Option, Some, None, codes, refl, sym, ap, subst, append-nil}
 use Rattle.std.proofs.lemmas.List.{append_assoc}
-use Rattle.rl_base.specs.declared.row.Row.TheVariants as row
+use Rattle.rl_base.specs.Operators.{update_text}
+use Rattle.rl_base.specs.declared.ids.SymbolId.{SymbolId}
+use Rattle.rl_base.specs.declared.operator.UpdateOperator.{UpdateOperator}
 use Rattle.rl_base.specs.declared.span.Span.{Span}
-use Rattle.rl_builder.specs.Builder.{State, completed_by, new_block, recorded, reserved}
-use Rattle.rl_builder.specs.Names.{resolved}
+use Rattle.rl_base.specs.declared.type_kind.TypeKind.{TypeKind}
+use Rattle.rl_base.specs.declared.type_kind.TypeKind.TheVariants as types
+use Rattle.rl_base.specs.declared.variable_kind.VariableKind.{VariableKind}
+use Rattle.rl_base.specs.declared.variable_kind.VariableKind.TheVariants as kinds
+use Rattle.rl_builder.specs.Builder.{State, completed_by, new_block, reserved}
 use Rattle.rl_builder.specs.Temporaries.{temporary, with_value}
 use Rattle.rl_frames.proofs.Lives.{if_lives}
 use Rattle.rl_frames.proofs.ValueLives.{if_then_lives}
 use Rattle.rl_hir.specs.Pieces.{Piece}
 use Rattle.rl_hir.specs.Written.{value_word}
 use Rattle.rl_hir.specs.declared.function.BlockKind.TheVariants as blocks
+use Rattle.rl_hir.specs.declared.instruction.InstructionKind.{InstructionKind}
 use Rattle.rl_hir.specs.declared.instruction.InstructionValue.{InstructionValue}
 use Rattle.rl_hir.specs.declared.instruction.InstructionValue.TheVariants as values
 use Rattle.rl_hir.specs.declared.instruction.Place.{Place}
-use Rattle.rl_hir.specs.declared.instruction.PrimitiveValue.{PrimitiveValue}
 use Rattle.rl_hir.specs.declared.instruction.PrimitiveValue.TheVariants as primitives
-use Rattle.rl_hir.specs.declared.instruction.TemplateQuasi.{TemplateQuasi}
 use Rattle.rl_hir.specs.declared.terminal.ReturnVariant.TheVariants as returns
-use Rattle.rl_lowered.proofs.Blocks.{all_blocks, expression_blocks, last_blocks, statement_blocks, statements_blocks}
-use Rattle.rl_lowered.proofs.LiveFrames.{lives_ahead, lives_left, logical_lives, row_lives, sequence_lives, ternary_lives, value_keyed}
-use Rattle.rl_lowered.proofs.LiveFrames.{value_keyless}
-use Rattle.rl_lowered.specs.Forms.{AreQuasis, Array, Await, Call, IsForm, IsLiteral, IsWrapper, New, NextQuasi, NextUncooked, NonNull}
-use Rattle.rl_lowered.specs.Forms.{NoQuasi, Null, Parenthesized, Template}
-use Rattle.rl_lowered.specs.Lowered.{Asked, Block, Conditional, EarlierPart, Empty, Expression, Global, IfElse, IfThen, LastPart, Literal}
-use Rattle.rl_lowered.specs.Lowered.{Logical, Lowered, LoweredAll, LoweredBody, LoweredLast, LoweredStatement, LoweredStatements, NextHole}
-use Rattle.rl_lowered.specs.Lowered.{NextPart, NextSpread, NextStatement, NoPart, NoStatement, RefusedGlobal, RefusedNumber, Return}
-use Rattle.rl_lowered.specs.Lowered.{ReturnNothing, Same, Sequence, Statements, Value, Variable}
+use Rattle.rl_lowered.proofs.Blocks.{all_blocks, blocks_cast, blocks_member, declarators_blocks, expression_blocks, last_blocks}
+use Rattle.rl_lowered.proofs.Blocks.{statement_blocks, statements_blocks}
+use Rattle.rl_lowered.proofs.Clean.{branches_clean, cast_clean, computed_row_clean, constant_update_never, first_none, form_clean}
+use Rattle.rl_lowered.proofs.Clean.{fraction_row_never, method_clean, outer_never, private_clean, private_never, property_row_clean}
+use Rattle.rl_lowered.proofs.Clean.{refused_never, refusing_never, row_clean, second_none, spread_row_clean, unknown_row_never}
+use Rattle.rl_lowered.proofs.Clean.{updated_member_clean, wrapper_clean}
+use Rattle.rl_lowered.proofs.HeldParts.{HeldBy, IsHeldAs, Unheld, cast_held, computed_held, declarator_held, form_held, form_word}
+use Rattle.rl_lowered.proofs.HeldParts.{literal_held, method_held, property_held, updated_held, wrapper_held}
+use Rattle.rl_lowered.proofs.LiveFrames.{lives_ahead, lives_left, lives_on, logical_lives, row_lives, sequence_lives, ternary_lives}
+use Rattle.rl_lowered.proofs.LiveFrames.{value_keyed, value_keyless}
+use Rattle.rl_lowered.proofs.Meant.{private_member_never}
+use Rattle.rl_lowered.proofs.Plain.{lowered_plain}
+use Rattle.rl_lowered.specs.Forms.{MemberKey, load_of, store_of, type_of, typed}
+use Rattle.rl_lowered.specs.Lowered.{Asked, Block, Cast, Conditional, Debugger, EarlierPart, Empty, Expression, Global, IfElse, IfThen, LastPart}
+use Rattle.rl_lowered.specs.Lowered.{Literal, Logical, Lowered, LoweredBody, LoweredDeclarators, LoweredLast, LoweredParts, LoweredStatement}
+use Rattle.rl_lowered.specs.Lowered.{LoweredStatements, Method, NextComputed, NextDeclared, NextFraction, NextHole, NextInitialized, NextPart}
+use Rattle.rl_lowered.specs.Lowered.{NextProperty, NextSpread, NextStatement, NextUnknown, NoDeclarator, NoPart, NoStatement, Object, Private}
+use Rattle.rl_lowered.specs.Lowered.{Refused, RefusedBefore, RefusedBehind, RefusedGlobal, Return, ReturnNothing, Same, Sequence, Statements}
+use Rattle.rl_lowered.specs.Lowered.{UpdatedConstant, UpdatedMember, UpdatedVariable, Value, Variable, Variables}
+use Rattle.rl_lowered.specs.Lowered.{declaring, member_loaded, member_one, member_stored, member_updated, update_of, value_span}
+use Rattle.rl_lowered.specs.Named.{found}
 use Rattle.rl_lowered.specs.Promised.{body_falls, held_by}
 use Rattle.rl_model.specs.Dead.{lives, lives_all}
 use Rattle.rl_names.specs.Names.{Names}
 use Rattle.rl_promises.specs.Live.{Held, held_among, held_as, held_in, live_all, live_in, live_in_body}
-use Rattle.rl_promises.specs.Rows.{refusal}
+use Rattle.rl_promises.specs.Rows.{refusals, refusals_in}
 use Rattle.rl_promises.specs.Tallies.{held_word}
 use Rattle.rl_runs.proofs.Living.{lives_none, lives_refl, lives_then}
-use Rattle.rl_runs.proofs.Moves.{extends_completed, extends_value}
+use Rattle.rl_runs.proofs.Moves.{extends_completed, extends_resolved, extends_then, extends_value}
 use Rattle.rl_runs.proofs.Statements.{extends_returned}
 use Rattle.rl_runs.specs.Blocks.{Lives}
+use Rattle.rl_runs.specs.Facts.{Extends}
 use Rattle.rl_runs.specs.Moves.{return_of, returned_from}
-use Rattle.rl_syntax.specs.declared.numbered.At.{At}
-use Rattle.rl_syntax.specs.declared.word.Word.{Word}
-use Rattle.rl_syntax.specs.Syntax.{Syntax, Node, Pieces, End, Then, span_of}
-
--- The instruction of a kind is held for its node, or no instruction is.
-pub data IsHeldAs (word : Option (List ℕ)) (v : InstructionValue) : Type 0 where
-  Unheld : word ≡ None → IsHeldAs word v
-  HeldBy : word ≡ Some (value_word v) → IsHeldAs word v
-
-quasis_held : {texts : Pieces} {quasis : List TemplateQuasi} → AreQuasis texts quasis → held_among texts ≡ []
-quasis_held NoQuasi = refl
-quasis_held (NextQuasi more) = quasis_held more
-quasis_held (NextUncooked more) = quasis_held more
-
--- The parts that are lowered hold what the fields do.
-form_held : {w : Word} {fields parts : Pieces} {pieces : List Piece} {v : InstructionValue} → IsForm w fields parts pieces v
-    → held_among fields ≡ held_among parts
-form_held (Call {callee} {es} lent given) = ap (λ l. held_in callee ++ l) (append-nil (held_among es))
-form_held (New {callee} {es} given) = ap (λ l. held_in callee ++ l) (append-nil (held_among es))
-form_held (Array {es} given) = append-nil (held_among es)
-form_held (Template {texts} {es} quasis given) = ap (λ l. l ++ (held_among es ++ [])) (quasis_held quasis) ∙ append-nil (held_among es)
-form_held _ = refl
-
-form_word : {w : Word} {fields parts : Pieces} {pieces : List Piece} {v : InstructionValue} → IsForm w fields parts pieces v
-    → IsHeldAs (held_word w) v
-form_word (Call lent given) = HeldBy refl
-form_word (New given) = HeldBy refl
-form_word Await = HeldBy refl
-form_word _ = Unheld refl
-
-literal_held : {w : Word} {fields : Pieces} {p : PrimitiveValue} → IsLiteral w fields p → (at : At) → held_in (Node at w fields) ≡ []
-literal_held Null at = refl
-literal_held _ at = refl
-
-wrapper_word : {w : Word} → IsWrapper w → held_word w ≡ None
-wrapper_word Parenthesized = refl
-wrapper_word NonNull = refl
+use Rattle.rl_syntax.specs.declared.word.Word.TheVariants as word
+use Rattle.rl_syntax.specs.Syntax.{Syntax, Node, Said, Flag, Absent, Pieces, End, Then, span_of}
 
 -- The instruction of a value, and what its node holds itself.
 computed_lives : (word : Option (List ℕ)) (s : State) (v : InstructionValue) (span : Span) → IsHeldAs word v
     → Lives held_by (held_as word span) true s (with_value s v (Some span))
-computed_lives word s v span (Unheld is) =
+computed_lives word s v span (Unheld is unheld) =
     subst (λ (w : Option (List ℕ)). Lives held_by (held_as w span) true s (with_value s v (Some span))) (sym is)
     (value_keyless held_by s v (Some span))
-computed_lives word s v span (HeldBy is) =
+computed_lives word s v span (HeldBy is counted) =
     subst (λ (w : Option (List ℕ)). Lives held_by (held_as w span) true s (with_value s v (Some span))) (sym is)
     (value_keyed held_by s v (Some span) (record { word = value_word v; span = span }) refl)
 
@@ -101,127 +83,231 @@ falls_same : {live : List Held} {falls other : Bool} {s t : State} → other ≡
     → Lives held_by live other s t
 falls_same {live} {falls} {other} {s} {t} is l = subst (λ (b : Bool). Lives held_by live b s t) (sym is) l
 
+-- Moves without live instructions behind a part, and before it.
+
+lives_behind : {live : List Held} (s : State) {t u : State} → Extends t u → Lives held_by [] true t u → Lives held_by live true s t
+    → Lives held_by live true s u
+lives_behind s g m l = lives_on held_by s g (m.onward refl) l
+
+typed_lives : (t : State) (k : TypeKind) (v : InstructionValue) (span : Option Span)
+    → Lives held_by [] true t (with_value (typed t k) v span)
+typed_lives t types.Array v span = value_keyless held_by t v span
+typed_lives t types.Primitive v span = value_keyless held_by t v span
+typed_lives t types.Other v span =
+    let l = value_keyless held_by (typed t types.Other) v span in record { onward = l.onward; stands = l.stands }
+
+found_lives : (names : Names) (s : State) (symbol : SymbolId) (at : Span) (v : InstructionValue) (span : Option Span)
+    → Lives held_by [] true s (with_value (found names s symbol at) v span)
+found_lives names s symbol at v span =
+    let l = value_keyless held_by (found names s symbol at) v span in record { onward = l.onward; stands = l.stands }
+
+declaring_lives : {live : List Held} (s t : State) (k : VariableKind) (at : Span) → Lives held_by live true (declaring s k at) t
+    → Lives held_by live true s t
+declaring_lives s t kinds.Var at l = record { onward = l.onward; stands = l.stands }
+declaring_lives s t _ at l = l
+
+member_lives : (t : State) (object : Place) (key : MemberKey) (operator : UpdateOperator) (there : Span)
+    → Lives held_by [] true t (member_stored t object key operator there)
+member_lives t object key operator there =
+    let loaded : State = member_loaded t object key there in
+    let one : State = member_one t object key there in
+    let updated : State = member_updated t object key operator there in
+    let last : InstructionValue = store_of object key (temporary one (Some there)) in
+    lives_behind t (extends_value updated last (Some there)) (value_keyless held_by updated last (Some there))
+    (lives_behind t (extends_value one _ (Some there)) (value_keyless held_by one _ (Some there))
+    (lives_behind t (extends_value loaded (values.Primitive (primitives.Number 1)) None)
+    (value_keyless held_by loaded (values.Primitive (primitives.Number 1)) None)
+    (value_keyless held_by t (load_of object key) (Some there))))
+
 mutual
-  pub expression_lives : {names : Names} {e : Syntax} {s t : State} {p : Place} → Lowered names e s t p
+  pub expression_lives : {names : Names} {e : Syntax} {s t : State} {p : Place} → Lowered names e s t p → refusals names e ≡ []
       → Lives held_by (held_in e) true s t
-  expression_lives (Literal at w fields p s is) =
+  expression_lives (Literal at w fields p s is) none =
       lives_same (literal_held is at) (value_keyless held_by s (values.Primitive p) (Some at.span))
-  expression_lives (RefusedNumber at text s is) =
-      let l = value_keyless held_by (recorded s (refusal row.F43 at.span)) (values.Primitive primitives.Undefined) (Some at.span) in
+  expression_lives {names} (Refused at w fields r s is) none = absurd (refused_never names at is none)
+  expression_lives {names} (RefusedBefore at w fields parts r pieces s t is d) none = absurd (refusing_never names at is none)
+  expression_lives {names} (RefusedBehind at object name s t p d) none =
+      absurd (private_never names at (Flag false) object (Said name) none)
+  expression_lives {names} (Private at w fields e s t p is d) none = absurd (private_member_never is d (private_clean is names at none))
+  expression_lives {names} (Variable at name symbol identifier s means f) none = found_lives names s symbol at.span _ (Some at.span)
+  expression_lives {names} (UpdatedVariable at there name symbol identifier operator prefix s means mutable f g) none =
+      let l = found_lives names (found names s symbol there.span) symbol there.span
+      (update_of prefix operator (record { identifier = record { 0 = identifier }; span = Some there.span })) (Some at.span) in
       record { onward = l.onward; stands = l.stands }
-  expression_lives {names} (Variable at name symbol identifier s means named bound agrees) =
-      let l = value_keyless held_by (resolved s (names.name symbol.0) symbol.0 (Some at.span))
-      (values.LoadLocal (record { identifier = record { 0 = identifier }; span = Some at.span })) (Some at.span) in
-      record { onward = l.onward; stands = l.stands }
-  expression_lives (Global at name binding s means other) = value_keyless held_by s (values.LoadGlobal binding) (Some at.span)
-  expression_lives (RefusedGlobal at name binding s means is) =
-      let l = value_keyless held_by (recorded s (refusal row.F2 at.span)) (values.LoadGlobal binding) (Some at.span) in
-      record { onward = l.onward; stands = l.stands }
-  expression_lives (Same at w e s t p is d) =
-      lives_same
-      (ap (λ (word : Option (List ℕ)). held_as word at.span ++ (held_in e ++ [])) (wrapper_word is) ∙ append-nil (held_in e))
-      (expression_lives d)
-  expression_lives (Asked at w fields parts pieces v s t form d) =
-      lives_same (ap (λ (l : List Held). held_as (held_word w) at.span ++ l) (form_held form))
-      (lives_ahead held_by s t _ (held_among parts) (held_as (held_word w) at.span) (extends_value t v (Some at.span))
-      (all_lives d) (computed_lives (held_word w) t v at.span (form_word form)))
-  expression_lives (Logical at operator left right s s2 s3 l r dr dl) =
+  expression_lives {names} (UpdatedConstant at there name symbol identifier operator prefix s means constant f) none =
+      absurd (constant_update_never names at there operator prefix name symbol means constant none)
+  expression_lives {names} (UpdatedMember at there w fields parts pieces object key operator prefix s t is d) none =
+      let text : List ℕ = update_text operator in
+      lives_same (updated_held is at there text prefix)
+      (lives_behind s (blocks_member t object key operator there.span).extends (member_lives t object key operator there.span)
+      (all_lives d (updated_member_clean is names at there (Said text) (Flag prefix) none)))
+  expression_lives {names} (Method at there w fields parts es pieces given_pieces object key given s t u is d ds given_are) none =
+      let clean = method_clean is names at there es none in
+      let loaded : State = with_value t (load_of object key) (Some there.span) in
+      let call : InstructionValue =
+      values.MethodCall (record { receiver = object; property = temporary t (Some there.span); arguments = given }) in
+      lives_same (method_held is at there es)
+      (lives_ahead held_by s u _ (held_among parts ++ held_among es) (record { word = codes "methodcall"; span = at.span } ∷ [])
+      (extends_value u call (Some at.span))
+      (lives_then held_by s loaded u (held_among parts) (held_among es) true true (all_blocks ds).extends refl
+      (lives_behind s (extends_value t (load_of object key) (Some there.span))
+      (value_keyless held_by t (load_of object key) (Some there.span)) (all_lives d clean.0))
+      (all_lives ds clean.1))
+      (value_keyed held_by u call (Some at.span) (record { word = codes "methodcall"; span = at.span }) refl))
+  expression_lives {names} (Cast at there w fields e type k s t p is annotated d) none =
+      let v : InstructionValue = values.TypeCastExpression p (type_of t k) (Some there.span) in
+      lives_same (cast_held is annotated at)
+      (lives_behind s (extends_then (blocks_cast t k).extends (extends_value (typed t k) v (Some at.span)))
+      (typed_lives t k v (Some at.span)) (expression_lives d (cast_clean is names at none)))
+  expression_lives (Global at name binding s means other) none = value_keyless held_by s (values.LoadGlobal binding) (Some at.span)
+  expression_lives {names} (RefusedGlobal at name binding s means is) none = absurd (outer_never names at name binding means is none)
+  expression_lives {names} (Same at w fields e s t p is d) none =
+      lives_same (wrapper_held is at) (expression_lives d (wrapper_clean is names at none))
+  expression_lives {names} (Asked at w fields parts pieces v s t form d) none =
+      lives_same (ap (λ (l : List Held). held_as (held_word w fields) at.span ++ l) (form_held form))
+      (lives_ahead held_by s t _ (held_among parts) (held_as (held_word w fields) at.span) (extends_value t v (Some at.span))
+      (all_lives d (form_clean form names at none)) (computed_lives (held_word w fields) t v at.span (form_word form)))
+  expression_lives {names} (Object at es pieces properties s t is d) none =
+      let v : InstructionValue = values.ObjectExpression properties in
+      lives_same (append-nil (held_among es))
+      (lives_behind s (extends_value t v (Some at.span)) (value_keyless held_by t v (Some at.span))
+      (all_lives d (first_none (refusals_in names es) [] none)))
+  expression_lives {names} (Logical at operator left right s s2 s3 l r dr dl) none =
       lives_same (none_behind_two (held_in left) (held_in right))
-      (logical_lives held_by s s2 s3 operator r l at.span (span_of left) (span_of right) (held_in left) (held_in right)
-      (expression_blocks dr) (expression_blocks dl) (expression_lives dr) (expression_lives dl))
-  expression_lives (Conditional at test consequent alternate s s2 s3 s4 c a p dc da dt) =
+      (logical_lives held_by s s2 s3 operator r l at.span (span_of left) (value_span r right) (held_in left) (held_in right)
+      (expression_blocks dr) (expression_blocks dl)
+      (expression_lives dr (first_none (refusals names right) (refusals names left) none))
+      (expression_lives dl (second_none (refusals names right) (refusals names left) none)))
+  expression_lives {names} (Conditional at test consequent alternate s s2 s3 s4 c a p dc da dt) none =
+      let clean = branches_clean names consequent alternate test none in
       lives_same (none_behind_three (held_in test) (held_in consequent) (held_in alternate))
       (ternary_lives held_by s s2 s3 s4 c a p at.span (span_of consequent) (span_of alternate) (held_in test) (held_in consequent)
-      (held_in alternate) (expression_blocks da) (expression_blocks dt) (expression_lives dc) (expression_lives da) (expression_lives dt))
-  expression_lives (Sequence at e es s s2 p d) =
+      (held_in alternate) (expression_blocks da) (expression_blocks dt) (expression_lives dc clean.0) (expression_lives da clean.1)
+      (expression_lives dt clean.2))
+  expression_lives {names} (Sequence at e es s s2 p d) none =
       lives_same (append-nil (held_in e ++ held_among es))
-      (sequence_lives held_by s s2 p at.span at.span (held_in e ++ held_among es) (last_lives d))
+      (sequence_lives held_by s s2 p at.span at.span (held_in e ++ held_among es)
+      (last_lives d (first_none (refusals_in names (Then e es)) [] none)))
 
-  pub all_lives : {names : Names} {es : Pieces} {s t : State} {pieces : List Piece} → LoweredAll names es s t pieces
-      → Lives held_by (held_among es) true s t
-  all_lives (NoPart s) = lives_refl held_by s
-  all_lives (NextPart e es s t u p pieces d ds) =
-      lives_then held_by s t u (held_in e) (held_among es) true true (all_blocks ds).extends refl (expression_lives d) (all_lives ds)
-  all_lives (NextSpread at e es s t u p pieces d ds) =
+  pub all_lives : {names : Names} {of_object : Bool} {es : Pieces} {s t : State} {pieces : List Piece}
+      → LoweredParts names of_object es s t pieces → refusals_in names es ≡ [] → Lives held_by (held_among es) true s t
+  all_lives (NoPart s) none = lives_refl held_by s
+  all_lives {names} (NextPart e es s t u p pieces d ds) none =
+      let clean = row_clean names e es none in
+      lives_then held_by s t u (held_in e) (held_among es) true true (all_blocks ds).extends refl (expression_lives d clean.0)
+      (all_lives ds clean.1)
+  all_lives {names} (NextSpread at e es s t u p pieces d ds) none =
+      let clean = spread_row_clean names at e es none in
       lives_same (ap (λ (l : List Held). l ++ held_among es) (append-nil (held_in e)))
-      (lives_then held_by s t u (held_in e) (held_among es) true true (all_blocks ds).extends refl (expression_lives d) (all_lives ds))
-  all_lives (NextHole at es s u pieces ds) = all_lives ds
+      (lives_then held_by s t u (held_in e) (held_among es) true true (all_blocks ds).extends refl (expression_lives d clean.0)
+      (all_lives ds clean.1))
+  all_lives (NextHole at es s u pieces ds) none = all_lives ds none
+  all_lives {names} (NextProperty at computed key e text es s t u p pieces is d ds) none =
+      let clean = property_row_clean names at computed key e (46 ∷ text) es is none in
+      lives_same (ap (λ (l : List Held). l ++ held_among es) (property_held at computed key e (46 ∷ text) is))
+      (lives_then held_by s t u (held_in e) (held_among es) true true (all_blocks ds).extends refl (expression_lives d clean.0)
+      (all_lives ds clean.1))
+  all_lives {names} (NextComputed at key e es s r t u p q pieces is first d ds) none =
+      let clean = computed_row_clean names at key e es (lowered_plain first).key none in
+      lives_same (ap (λ (l : List Held). l ++ held_among es) (computed_held at key e))
+      (lives_then held_by s t u (held_in key ++ held_in e) (held_among es) true true (all_blocks ds).extends refl
+      (lives_then held_by s r t (held_in key) (held_in e) true true (expression_blocks d).extends refl (expression_lives first clean.0)
+      (expression_lives d clean.1))
+      (all_lives ds clean.2))
+  all_lives {names} (NextFraction at there e text es s t u p pieces is d ds) none =
+      absurd (fraction_row_never names at there text e es is none)
+  all_lives {names} (NextUnknown at computed key e es s u pieces is ds) none = absurd (unknown_row_never names at computed key e es is none)
 
-  pub last_lives : {names : Names} {es : Pieces} {s t : State} {p : Place} → LoweredLast names es s t p
+  pub last_lives : {names : Names} {es : Pieces} {s t : State} {p : Place} → LoweredLast names es s t p → refusals_in names es ≡ []
       → Lives held_by (held_among es) true s t
-  last_lives (LastPart e s t p d) = lives_same (append-nil (held_in e)) (expression_lives d)
-  last_lives (EarlierPart e next es s t u p q d ds) =
+  last_lives {names} (LastPart e s t p d) none =
+      lives_same (append-nil (held_in e)) (expression_lives d (row_clean names e End none).0)
+  last_lives {names} (EarlierPart e next es s t u p q d ds) none =
+      let clean = row_clean names e (Then next es) none in
       lives_then held_by s t u (held_in e) (held_in next ++ held_among es) true true (last_blocks ds).extends refl
-      (expression_lives d) (last_lives ds)
+      (expression_lives d clean.0) (last_lives ds clean.1)
+
+-- Declarations of variables.
+declarators_lives : {names : Names} {at : Span} {k : InstructionKind} {es : Pieces} {s t : State} → LoweredDeclarators names at k es s t
+    → refusals_in names es ≡ [] → Lives held_by (held_among es) true s t
+declarators_lives (NoDeclarator s) none = lives_refl held_by s
+declarators_lives {names} {at} {k} (NextDeclared there bind name type more symbol identifier s u annotated is f d) none =
+    let pattern : Syntax = Node bind word.Bind (Then (Said name) (Then type End)) in
+    lives_same (ap (λ (l : List Held). l ++ held_among more) (declarator_held there bind name type Absent annotated))
+    (lives_then held_by s _ u [] (held_among more) true true (declarators_blocks d).extends refl
+    (found_lives names s symbol bind.span
+    (values.DeclareLocal k (record { identifier = record { 0 = identifier }; span = Some bind.span })) (Some bind.span))
+    (declarators_lives d (row_clean names (Node there word.Declarator (Then pattern (Then Absent End))) more none).1))
+declarators_lives {names} {at} {k} (NextInitialized there bind name type init more symbol identifier s t u p annotated is d f ds) none =
+    let pattern : Syntax = Node bind word.Bind (Then (Said name) (Then type End)) in
+    let clean = row_clean names (Node there word.Declarator (Then pattern (Then init End))) more none in
+    let v : InstructionValue = values.StoreLocal k (record { identifier = record { 0 = identifier }; span = Some at }) p in
+    lives_same (ap (λ (l : List Held). l ++ held_among more) (declarator_held there bind name type init annotated))
+    (lives_then held_by s _ u (held_in init) (held_among more) true true (declarators_blocks ds).extends refl
+    (lives_behind s
+    (extends_then (extends_resolved t (names.name symbol.0) symbol.0 (Some bind.span) f.agree)
+    (extends_value (found names t symbol bind.span) v (Some at)))
+    (found_lives names t symbol bind.span v (Some at))
+    (expression_lives d (first_none (refusals names init) (refusals names pattern) clean.0)))
+    (declarators_lives ds clean.1))
 
 or_true : (b : Bool) → (b || true) ≡ true
 or_true true = refl
 or_true false = refl
 
 mutual
-  pub statement_lives : {names : Names} {e : Syntax} {s t : State} → LoweredStatement names e s t
+  pub statement_lives : {names : Names} {e : Syntax} {s t : State} → LoweredStatement names e s t → refusals names e ≡ []
       → Lives held_by (live_in e) (lives None e).outs.falls s t
-  statement_lives (Empty at s) = lives_refl held_by s
-  statement_lives (Expression at e s t p d) = lives_same (append-nil (held_in e)) (expression_lives d)
-  statement_lives (ReturnNothing at s) =
+  statement_lives (Empty at s) none = lives_refl held_by s
+  statement_lives {names} (Expression at e s t p d) none =
+      lives_same (append-nil (held_in e)) (expression_lives d (first_none (refusals names e) [] none))
+  statement_lives (Debugger at s) none = value_keyless held_by s values.Debugger (Some at.span)
+  statement_lives {names} (Variables at k declarators s t d) none =
+      lives_same (append-nil (held_among declarators))
+      (declaring_lives s t k at.span (declarators_lives d (second_none _ (refusals_in names declarators) none)))
+  statement_lives (ReturnNothing at s) none =
       lives_none held_by s
       (returned_from (with_value s (values.Primitive primitives.Undefined) None) (Some at.span) returns.Explicit (temporary s None)
       blocks.Block)
       false (λ is. absurd (cc))
-  statement_lives (Return at e s t p d) =
+  statement_lives {names} (Return at e s t p d) none =
       lives_same (append-nil (held_in e))
-      (lives_left held_by s (extends_returned t (Some at.span) returns.Explicit p blocks.Block) (expression_lives d))
-  statement_lives (Block at statements s t d) = statements_lives d
-  statement_lives (IfThen at test consequent s s2 s3 p dc dt) =
+      (lives_left held_by s (extends_returned t (Some at.span) returns.Explicit p blocks.Block)
+      (expression_lives d (first_none (refusals names e) [] none)))
+  statement_lives {names} (Block at statements s t d) none =
+      statements_lives d (first_none (refusals_in names statements) [] none)
+  statement_lives {names} (IfThen at test consequent s s2 s3 p dc dt) none =
+      let clean = branches_clean names consequent Absent test none in
       falls_same (or_true (lives None consequent).outs.falls)
       (lives_same (append-nil (held_in test ++ live_in consequent))
       (if_then_lives held_by s s2 s3 p at.span (span_of consequent) (held_in test) (live_in consequent) (lives None consequent).outs.falls
-      (expression_blocks dt).extends (statement_lives dc) (expression_lives dt)))
-  statement_lives (IfElse at test consequent alternate s s2 s3 s4 p dc da dt) =
+      (expression_blocks dt).extends (statement_lives dc clean.0) (expression_lives dt clean.2)))
+  statement_lives {names} (IfElse at test consequent alternate s s2 s3 s4 p dc da dt) none =
+      let clean = branches_clean names consequent alternate test none in
       lives_same (append_assoc (held_in test) (live_in consequent) (live_in alternate))
       (if_lives held_by s s2 s3 s4 p at.span (span_of consequent) (span_of alternate) (held_in test) (live_in consequent)
       (live_in alternate) (lives None consequent).outs.falls (lives None alternate).outs.falls
       (statement_blocks dc).extends (statement_blocks da).extends (expression_blocks dt).extends
-      (statement_lives dc) (statement_lives da) (expression_lives dt))
+      (statement_lives dc clean.0) (statement_lives da clean.1) (expression_lives dt clean.2))
 
-  pub statements_lives : {names : Names} {es : Pieces} {s t : State} → LoweredStatements names es s t
+  pub statements_lives : {names : Names} {es : Pieces} {s t : State} → LoweredStatements names es s t → refusals_in names es ≡ []
       → Lives held_by (live_all es) (lives_all es).outs.falls s t
-  statements_lives (NoStatement s) = lives_refl held_by s
-  statements_lives (NextStatement e es s t u d ds) =
+  statements_lives (NoStatement s) none = lives_refl held_by s
+  statements_lives {names} (NextStatement e es s t u d ds) none =
+      let clean = row_clean names e es none in
       row_lives held_by (lives None e).outs (lives_all es).outs (live_in e) (live_all es) s t u (statements_blocks ds).extends
-      (statement_lives d) (statements_lives ds)
+      (statement_lives d clean.0) (statements_lives ds clean.1)
 
--- An expression is no list of statements.
-
-form_alone : {w : Word} {fields parts : Pieces} {pieces : List Piece} {v : InstructionValue} → IsForm w fields parts pieces v
-    → (at : At) → (held_in (Node at w fields) ≡ live_in_body (Node at w fields)) × (body_falls (Node at w fields) ≡ false)
-form_alone Await at = (refl, refl)
-form_alone _ at = (refl, refl)
-
-literal_alone : {w : Word} {fields : Pieces} {p : PrimitiveValue} → IsLiteral w fields p
-    → (at : At) → (held_in (Node at w fields) ≡ live_in_body (Node at w fields)) × (body_falls (Node at w fields) ≡ false)
-literal_alone Null at = (refl, refl)
-literal_alone _ at = (refl, refl)
-
-wrapper_alone : {w : Word} → IsWrapper w → (at : At) (fields : Pieces)
-    → (held_in (Node at w fields) ≡ live_in_body (Node at w fields)) × (body_falls (Node at w fields) ≡ false)
-wrapper_alone Parenthesized at fields = (refl, refl)
-wrapper_alone NonNull at fields = (refl, refl)
-
-expression_alone : {names : Names} {e : Syntax} {s t : State} {p : Place} → Lowered names e s t p
-    → (held_in e ≡ live_in_body e) × (body_falls e ≡ false)
-expression_alone (Literal at w fields p s is) = literal_alone is at
-expression_alone (Same at w e s t p is d) = wrapper_alone is at (Then e End)
-expression_alone (Asked at w fields parts pieces v s t form d) = form_alone form at
-expression_alone _ = (refl, refl)
-
-pub body_lives : {names : Names} {b : Syntax} {s t : State} → LoweredBody names b s t → Lives held_by (live_in_body b) (body_falls b) s t
-body_lives (Statements at directives statements s t texts d) = statements_lives d
-body_lives (Value e s t p d) =
+pub body_lives : {names : Names} {b : Syntax} {s t : State} → LoweredBody names b s t → refusals names b ≡ []
+    → Lives held_by (live_in_body b) (body_falls b) s t
+body_lives {names} (Statements at directives statements s t texts d) none =
+    statements_lives d
+    (first_none (refusals_in names statements) [] (second_none (refusals_in names directives) (refusals_in names statements ++ []) none))
+body_lives (Value e s t p d) none =
     let last : State = completed_by t (return_of None returns.Implicit p) (new_block s.env.next_block blocks.Block) in
     let l : Lives held_by (held_in e) false (reserved s) last =
     lives_left held_by (reserved s)
     (extends_completed t (return_of None returns.Implicit p) (new_block s.env.next_block blocks.Block) (λ none. refl))
-    (expression_lives d) in
+    (expression_lives d none) in
     let m : Lives held_by (held_in e) false s last = record { onward = l.onward; stands = l.stands } in
-    lives_same (sym (expression_alone d).0) (falls_same (expression_alone d).1 m)
+    lives_same (sym (lowered_plain d).alone) (falls_same (lowered_plain d).ends m)

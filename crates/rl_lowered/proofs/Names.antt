@@ -1,11 +1,24 @@
 -- The names that the lowering of a part keeps: identifiers that have a name, pairs, and functions.
-use Rattle.std.proofs.Common.{◌≡◌, ℕ, ◌++◌, true, false, List, All, Option, Some, None, slice_get, refl, sym, ap, ◌∙◌, subst}
+use Rattle.std.proofs.Common.{◌≡◌, ◌≢◌, ℕ, ◌++◌, ◌&&◌, Bool, true, false, if◌then◌else◌, nat_eq, List, [], ◌∷◌, All, length, Option, Some, None}
+use Rattle.std.proofs.Common.{slice_get, ◌+◌, ◌<◌, length-append, arith, refl, sym, ap, ◌∙◌, subst}
+use Rattle.std.proofs.lemmas.Bool.{eqb-true}
+use Rattle.std.proofs.lemmas.Cmp.{nat_list_eq_equiv}
+use Rattle.std.proofs.lemmas.List.Elements.{All-push}
+use Rattle.std.proofs.lemmas.Option.{cond_some, same_Some}
+use Rattle.std.specs.Str.{bytes_eq}
 use Rattle.rl_base.specs.declared.diagnostic.Diagnostic.{Diagnostic}
 use Rattle.rl_base.specs.declared.ids.BlockId.{BlockId}
+use Rattle.rl_base.specs.Diagnostics.{diagnostic_at}
+use Rattle.rl_base.specs.declared.ids.SymbolId.{SymbolId}
+use Rattle.rl_base.specs.declared.operator.UpdateOperator.{UpdateOperator}
 use Rattle.rl_base.specs.declared.row.Row.TheVariants as row
 use Rattle.rl_base.specs.declared.span.Span.{Span}
+use Rattle.rl_base.specs.declared.type_kind.TypeKind.{TypeKind}
+use Rattle.rl_base.specs.declared.type_kind.TypeKind.TheVariants as types
+use Rattle.rl_base.specs.declared.variable_kind.VariableKind.{VariableKind}
+use Rattle.rl_base.specs.declared.variable_kind.VariableKind.TheVariants as kinds
 use Rattle.rl_builder.specs.Builder.{State, completed_by, new_block, pushed, pushed_under, innermost, recorded, reserved, with_temporary}
-use Rattle.rl_builder.specs.Names.{resolved, resolved_by}
+use Rattle.rl_builder.specs.Names.{fbt_label, fresh_identifier, resolved_by}
 use Rattle.rl_builder.specs.Temporaries.{temporary, unordered, with_value}
 use Rattle.rl_frames.specs.Frames.{IfParts, if_after_consequent, if_alternate, if_at, if_consequent, if_ended, if_shut}
 use Rattle.rl_frames.specs.Frames.{LogicalParts, logical_after, logical_at, logical_ended, logical_righted}
@@ -14,31 +27,40 @@ use Rattle.rl_frames.specs.Frames.{TernaryParts, ternary_after, ternary_at, tern
 use Rattle.rl_frames.specs.Frames.{ternary_alternated, ternary_consequent}
 use Rattle.rl_frames.specs.Parts.{if_begun, loads, logical_begun, logical_entered, logical_left, logical_place}
 use Rattle.rl_frames.specs.Parts.{sequence_begun, ternary_begun}
-use Rattle.rl_hir.specs.Pairs.{identifier_of}
+use Rattle.rl_hir.specs.Pairs.{identifier_of, pair}
 use Rattle.rl_hir.specs.Pieces.{Piece}
 use Rattle.rl_hir.specs.declared.function.Identifier.{Identifier}
+use Rattle.rl_hir.specs.declared.function.IdentifierName.TheVariants.{Named}
 use Rattle.rl_hir.specs.declared.function.InnerFunction.{InnerFunction}
 use Rattle.rl_hir.specs.declared.function.Pair.{Pair}
 use Rattle.rl_hir.specs.declared.function.ReactFunctionType.{ReactFunctionType}
 use Rattle.rl_hir.specs.declared.function.BlockKind.TheVariants as blocks
 use Rattle.rl_hir.specs.declared.instruction.Instruction.{Instruction}
+use Rattle.rl_hir.specs.declared.instruction.InstructionKind.{InstructionKind}
 use Rattle.rl_hir.specs.declared.instruction.InstructionKind.TheVariants as variables
 use Rattle.rl_hir.specs.declared.instruction.InstructionValue.{InstructionValue}
 use Rattle.rl_hir.specs.declared.instruction.InstructionValue.TheVariants as values
 use Rattle.rl_hir.specs.declared.instruction.Place.{Place}
 use Rattle.rl_hir.specs.declared.instruction.PrimitiveValue.TheVariants as primitives
 use Rattle.rl_hir.specs.declared.terminal.ReturnVariant.TheVariants as returns
-use Rattle.rl_lowered.specs.Lowered.{Lowered, LoweredAll, LoweredBody, LoweredLast, LoweredStatement, LoweredStatements}
+use Rattle.rl_lowered.specs.Forms.{MemberKey, load_of, store_of, typed}
+use Rattle.rl_lowered.specs.Lowered.{Lowered, LoweredBody, LoweredDeclarators, LoweredLast, LoweredParts, LoweredStatement, LoweredStatements}
+use Rattle.rl_lowered.specs.Lowered.{declaring, member_loaded, member_one, member_stored, member_updated, value_span}
 use Rattle.rl_lowered.specs.Lowered as lowered
-use Rattle.rl_lowered.specs.Named.{KeepsNames, declared_span}
+use Rattle.rl_lowered.specs.Named.{IsFound, IsNamed, KeepsNames, declared_span, found}
 use Rattle.rl_names.specs.Names.{Names}
-use Rattle.rl_promises.specs.Fields.{IsNamedPair}
+use Rattle.rl_names.specs.Candidates.{candidate}
+use Rattle.rl_promises.specs.Fields.{IsNamedPair, name_at}
+use Rattle.rl_promises.specs.Locals.{IsVariable}
 use Rattle.rl_promises.specs.Rows.{refusal}
 use Rattle.rl_runs.proofs.Steps.{get_more}
 use Rattle.rl_runs.specs.Moves.{return_of, returned_from, stored_in}
 use Rattle.rl_semantic.specs.declared.semantic.Semantic.{Semantic}
 use Rattle.rl_syntax.specs.Syntax.{Syntax, Pieces, span_of}
-use Rattle.rl_used_names.proofs.NameLaws.{name_of-append}
+use Rattle.rl_used_names.proofs.NameLaws.{identifier_of-append_none, identifier_of-append_some, name_of-append, name_of-last}
+use Rattle.rl_used_names.specs.Choosing.{chosen, free_place}
+use Rattle.rl_used_names.specs.IdentifierNames.{fbt, fbt_diagnostic}
+use Rattle.rl_used_names.specs.UsedName.{UsedName}
 
 -- All of a state that names speak of.
 record Known : Type 0 where
@@ -46,8 +68,10 @@ record Known : Type 0 where
   pub pairs : List Pair
   pub functions : List InnerFunction
   pub fn_type : ReactFunctionType
+  pub skip : Bool
   pub bindings : List Pair
   pub semantic : Semantic
+  pub diagnostics : List Diagnostic
 
 abbrev known_by : State → Known
 known_by s = record {
@@ -55,12 +79,21 @@ known_by s = record {
   pairs = s.env.pairs;
   functions = s.env.functions;
   fn_type = s.env.fn_type;
+  skip = s.env.skip;
   bindings = s.bindings;
   semantic = s.semantic;
+  diagnostics = s.env.diagnostics;
 }
 
 pub names_refl : {names : Names} (s : State) → KeepsNames names s s
-names_refl s = record { named = λ n. n; identifiers = λ identifier known is named. is; pairs = λ p. p; functions = refl; fn_type = refl }
+names_refl s = record {
+  named = λ n. n;
+  identifiers = λ identifier known is named. is;
+  pairs = λ p. p;
+  functions = refl;
+  fn_type = refl;
+  skip = refl;
+}
 
 pub names_then : {names : Names} (a b c : State) → KeepsNames names a b → KeepsNames names b c → KeepsNames names a c
 names_then a b c j k = record {
@@ -69,27 +102,27 @@ names_then a b c j k = record {
   pairs = λ p. k.pairs (j.pairs p);
   functions = k.functions ∙ j.functions;
   fn_type = k.fn_type ∙ j.fn_type;
+  skip = k.skip ∙ j.skip;
 }
 
 -- A move that changes none of it.
 pub names_same : {names : Names} (s t : State) → known_by s ≡ known_by t → KeepsNames names s t
 names_same {names} s t same = record {
   named = λ n. record {
-    texts = n.texts;
+    knows = n.knows;
     declared = λ symbol. n.declared symbol ∙ ap (λ (k : Known). declared_span k.semantic symbol) same;
-    each = λ reference name symbol is.
-        let h = n.each reference name symbol is in record {
-          identifier = h.identifier;
-          bound = ap (λ (k : Known). identifier_of k.bindings symbol.0) (sym same) ∙ h.bound;
-          known = h.known;
-          made = ap (λ (k : Known). slice_get k.identifiers h.identifier) (sym same) ∙ h.made;
-          named = h.named;
-        };
+    made = λ symbol identifier is.
+        let below = n.made symbol identifier (ap (λ (k : Known). identifier_of k.bindings symbol) same ∙ is) in
+        let count = ap (λ (k : Known). length k.identifiers) same in
+        omega (arith, below, count);
+    noted = λ symbol identifier is name none. n.noted symbol identifier (ap (λ (k : Known). identifier_of k.bindings symbol) same ∙ is) name
+        (ap (λ (k : Known). k.diagnostics) same ∙ none);
   };
   identifiers = λ identifier known is named. ap (λ (k : Known). slice_get k.identifiers identifier) (sym same) ∙ is;
   pairs = λ p. subst (λ (k : Known). All (IsNamedPair names k.identifiers) k.pairs) same p;
   functions = ap (λ (k : Known). k.functions) (sym same);
   fn_type = ap (λ (k : Known). k.fn_type) (sym same);
+  skip = ap (λ (k : Known). k.skip) (sym same);
 }
 
 named_pairs : (names : Names) (identifiers more : List Identifier) (pairs : List Pair) → All (IsNamedPair names identifiers) pairs
@@ -101,21 +134,18 @@ named_pairs names identifiers more pairs all place default within =
 pub names_temporary : {names : Names} (s : State) (span : Option Span) → KeepsNames names s (with_temporary s span)
 names_temporary {names} s span = record {
   named = λ n. record {
-    texts = n.texts;
+    knows = n.knows;
     declared = n.declared;
-    each = λ reference name symbol is.
-        let h = n.each reference name symbol is in record {
-          identifier = h.identifier;
-          bound = h.bound;
-          known = h.known;
-          made = get_more s.env.identifiers _ h.identifier h.known h.made;
-          named = h.named;
-        };
+    made = λ symbol identifier is.
+        let below = n.made symbol identifier is in
+        omega (arith, below, length-append s.env.identifiers (record { name = None; span = span; type_id = record { 0 = s.env.next_type } } ∷ []));
+    noted = n.noted;
   };
   identifiers = λ identifier known is named. get_more s.env.identifiers _ identifier known is;
   pairs = λ p. named_pairs names s.env.identifiers _ s.env.pairs p;
   functions = refl;
   fn_type = refl;
+  skip = refl;
 }
 
 names_under : {names : Names} (o : Option BlockId) (s : State) (i : Instruction) → KeepsNames names s (pushed_under o s i)
@@ -130,14 +160,146 @@ names_value s v span =
     names_then s (with_temporary s span) (with_value s v span) (names_temporary s span)
     (names_pushed (with_temporary s span) (unordered (temporary s span) v span))
 
-pub names_recorded : {names : Names} (s : State) (d : Diagnostic) → KeepsNames names s (recorded s d)
-names_recorded s d = names_same s (recorded s d) refl
+-- A diagnostic is recorded.
 
--- A symbol that has an identifier.
-pub names_resolved : {names : Names} (s : State) (name : List ℕ) (symbol : ℕ) (given : Option Span) (identifier : ℕ)
-    → identifier_of s.bindings symbol ≡ Some identifier → KeepsNames names s (resolved s name symbol given)
-names_resolved s name symbol given identifier bound =
-    names_same s (resolved s name symbol given) (sym (ap (λ (o : Option ℕ). known_by (resolved_by o s name symbol given)) bound))
+some_last : (ds : List Diagnostic) (d : Diagnostic) → ds ++ d ∷ [] ≢ []
+some_last [] d e = cc
+some_last (x ∷ ds) d e = cc
+
+pub some_front : (ds more : List Diagnostic) → ds ≢ [] → ds ++ more ≢ []
+some_front [] more some e = absurd (some refl)
+some_front (x ∷ ds) more some e = cc
+
+pub names_recorded : {names : Names} (s : State) (d : Diagnostic) → KeepsNames names s (recorded s d)
+names_recorded s d = record {
+  named = λ n. record {
+    knows = n.knows;
+    declared = n.declared;
+    made = n.made;
+    noted = λ symbol identifier is name. some_last s.env.diagnostics d;
+  };
+  identifiers = λ identifier known is named. is;
+  pairs = λ p. p;
+  functions = refl;
+  fn_type = refl;
+  skip = refl;
+}
+
+-- A variable is looked up: a new identifier is named for its symbol, and a name `fbt` is refused.
+
+fresh_named : (identifiers : List Identifier) (used : List UsedName) (symbol : ℕ) (name : List ℕ) (span : Option Span) (type : ℕ)
+    → name_at (identifiers ++ fresh_identifier (chosen used symbol name) span type ∷ []) (length identifiers)
+    ≡ Some (Named (candidate name (free_place used symbol name)))
+unfolding chosen
+fresh_named identifiers used symbol name span type = name_of-last identifiers (fresh_identifier (chosen used symbol name) span type)
+
+-- A symbol that has an identifier behind the look-up, and whose name is `fbt`.
+module _ (names : Names) (s : State) (symbol : SymbolId) (at : Span) where
+  abbrev made : State
+  made = resolved_by None s (names.name symbol.0) symbol.0 (Some at)
+
+  one_more : length made.env.identifiers ≡ length s.env.identifiers + 1
+  one_more = length-append s.env.identifiers _
+
+  made_noted : names.name symbol.0 ≡ fbt → made.env.diagnostics ≢ []
+  made_noted name none =
+      let test : bytes_eq (names.name symbol.0) fbt ≡ true = ap (λ (l : List ℕ). bytes_eq l fbt) name ∙ nat_list_eq_equiv.refl fbt in
+      let label : Span = fbt_label s symbol.0 (Some at) in
+      some_last s.env.diagnostics (fbt_diagnostic label)
+      (sym (ap (λ (b : Bool). s.env.diagnostics ++ (if b && true then fbt_diagnostic label ∷ [] else [])) test) ∙ none)
+
+  noted_by : (o : Option ℕ) (other identifier : ℕ) → identifier_of s.bindings other ≡ o → IsNamed names s
+      → identifier_of made.bindings other ≡ Some identifier → names.name other ≡ fbt → made.env.diagnostics ≢ []
+  noted_by (Some old) other identifier is n bound name = some_front s.env.diagnostics _ (n.noted other old is name)
+  noted_by None other identifier is n bound name =
+      let last = cond_some (nat_eq symbol.0 other) (length s.env.identifiers) identifier
+      (sym (identifier_of-append_none s.bindings (pair symbol.0 (length s.env.identifiers) ∷ []) other is) ∙ bound) in
+      made_noted (ap (λ (n : ℕ). names.name n) (eqb-true symbol.0 other last.0) ∙ name)
+
+  made_by : (o : Option ℕ) (other identifier : ℕ) → identifier_of s.bindings other ≡ o → IsNamed names s
+      → identifier_of made.bindings other ≡ Some identifier → identifier < length made.env.identifiers
+  made_by (Some old) other identifier is n bound =
+      let kept = identifier_of-append_some s.bindings (pair symbol.0 (length s.env.identifiers) ∷ []) other old is in
+      let same : old ≡ identifier = same_Some old identifier (sym kept ∙ bound) in
+      let below = n.made other old is in
+      omega (arith, same, below, one_more)
+  made_by None other identifier is n bound =
+      let last = cond_some (nat_eq symbol.0 other) (length s.env.identifiers) identifier
+      (sym (identifier_of-append_none s.bindings (pair symbol.0 (length s.env.identifiers) ∷ []) other is) ∙ bound) in
+      omega (arith, last.1, one_more)
+
+  names_by : (known : Option ℕ) → IsVariable names symbol
+      → KeepsNames names s (resolved_by known s (names.name symbol.0) symbol.0 (Some at))
+  names_by (Some known) v = record {
+    named = λ n. record {
+      knows = n.knows;
+      declared = n.declared;
+      made = n.made;
+      noted = λ other identifier is name. some_front s.env.diagnostics _ (n.noted other identifier is name);
+    };
+    identifiers = λ identifier known is named. is;
+    pairs = λ p. p;
+    functions = refl;
+    fn_type = refl;
+    skip = refl;
+  }
+  names_by None v = record {
+    named = λ n. record {
+      knows = n.knows;
+      declared = n.declared;
+      made = λ other identifier is. made_by (identifier_of s.bindings other) other identifier refl n is;
+      noted = λ other identifier is name. noted_by (identifier_of s.bindings other) other identifier refl n is name;
+    };
+    identifiers = λ identifier known is named. get_more s.env.identifiers _ identifier known is;
+    pairs = λ p. All-push (IsNamedPair names made.env.identifiers) s.env.pairs (pair symbol.0 (length s.env.identifiers))
+        (named_pairs names s.env.identifiers _ s.env.pairs p)
+        (record {
+          at = v.at;
+          declared = v.declared;
+          index = free_place s.used_names symbol.0 (names.name symbol.0);
+          named = fresh_named s.env.identifiers s.used_names symbol.0 (names.name symbol.0) _ s.env.next_type;
+        });
+    functions = refl;
+    fn_type = refl;
+    skip = refl;
+  }
+
+pub names_found : {names : Names} (s : State) (symbol : SymbolId) (at : Span) (identifier : ℕ) → IsFound names s symbol at identifier
+    → KeepsNames names s (found names s symbol at)
+names_found {names} s symbol at identifier f = names_by names s symbol at (identifier_of s.bindings symbol.0) f.variable
+
+-- A value behind a look-up, or behind a diagnostic.
+
+names_found_value : {names : Names} (s : State) (symbol : SymbolId) (at : Span) (identifier : ℕ) (v : InstructionValue) (span : Option Span)
+    → IsFound names s symbol at identifier → KeepsNames names s (with_value (found names s symbol at) v span)
+names_found_value {names} s symbol at identifier v span f =
+    names_then s (found names s symbol at) _ (names_found s symbol at identifier f) (names_value (found names s symbol at) v span)
+
+names_noted_value : {names : Names} (s : State) (d : Diagnostic) (v : InstructionValue) (span : Option Span)
+    → KeepsNames names s (with_value (recorded s d) v span)
+names_noted_value s d v span = names_then s (recorded s d) _ (names_recorded s d) (names_value (recorded s d) v span)
+
+-- The type of a cast, the keyword of a declaration, and the values of an update of a property.
+
+names_typed : {names : Names} (s : State) (k : TypeKind) → KeepsNames names s (typed s k)
+names_typed s types.Array = names_refl s
+names_typed s types.Primitive = names_refl s
+names_typed s types.Other = names_same s (typed s types.Other) refl
+
+pub names_declaring : {names : Names} (s : State) (k : VariableKind) (at : Span) → KeepsNames names s (declaring s k at)
+names_declaring s kinds.Var at = names_recorded s (refusal row.F39 at)
+names_declaring s _ at = names_refl s
+
+names_member : {names : Names} (t : State) (object : Place) (key : MemberKey) (operator : UpdateOperator) (there : Span)
+    → KeepsNames names t (member_stored t object key operator there)
+names_member t object key operator there =
+    let loaded : State = member_loaded t object key there in
+    let one : State = member_one t object key there in
+    let updated : State = member_updated t object key operator there in
+    names_then t loaded _ (names_value t (load_of object key) (Some there))
+    (names_then loaded one _ (names_value loaded (values.Primitive (primitives.Number 1)) None)
+    (names_then one updated _ (names_value one _ (Some there))
+    (names_value updated (store_of object key (temporary one (Some there))) (Some there))))
 
 -- The states between the holes of a construct.
 
@@ -198,28 +360,52 @@ names_sequence_ended f s value part =
 mutual
   pub expression_names : {names : Names} {e : Syntax} {s t : State} {p : Place} → Lowered names e s t p → KeepsNames names s t
   expression_names (lowered.Literal at w fields p s is) = names_value s (values.Primitive p) (Some at.span)
-  expression_names (lowered.RefusedNumber at text s is) =
-      let noted : State = recorded s (refusal row.F43 at.span) in
-      names_then s noted _ (names_recorded s (refusal row.F43 at.span))
-      (names_value noted (values.Primitive primitives.Undefined) (Some at.span))
-  expression_names {names} (lowered.Variable at name symbol identifier s is named bound agree) =
-      let found : State = resolved s (names.name symbol.0) symbol.0 (Some at.span) in
-      names_then s found _ (names_resolved s (names.name symbol.0) symbol.0 (Some at.span) identifier bound)
-      (names_value found (values.LoadLocal (record { identifier = record { 0 = identifier }; span = Some at.span })) (Some at.span))
+  expression_names (lowered.Refused at w fields r s is) =
+      names_noted_value s (refusal r at.span) (values.Primitive primitives.Undefined) (Some at.span)
+  expression_names (lowered.RefusedBefore at w fields parts r pieces s t is l) =
+      let noted : State = recorded s (refusal r at.span) in
+      names_then s noted _ (names_recorded s (refusal r at.span))
+      (names_then noted t _ (all_names l) (names_value t (values.Primitive primitives.Undefined) (Some at.span)))
+  expression_names (lowered.RefusedBehind at object name s t p l) =
+      names_then s t _ (expression_names l)
+      (names_noted_value t (refusal row.F3 at.span) (values.Primitive primitives.Undefined) (Some at.span))
+  expression_names (lowered.Private at w fields e s t p is l) = expression_names l
+  expression_names (lowered.Variable at name symbol identifier s is f) =
+      names_found_value s symbol at.span identifier _ (Some at.span) f
+  expression_names {names} (lowered.UpdatedVariable at there name symbol identifier operator prefix s is mutable f g) =
+      let first : State = found names s symbol there.span in
+      names_then s first _ (names_found s symbol there.span identifier f)
+      (names_found_value first symbol there.span identifier _ (Some at.span) g)
+  expression_names {names} (lowered.UpdatedConstant at there name symbol identifier operator prefix s is constant f) =
+      let first : State = found names s symbol there.span in
+      names_then s first _ (names_found s symbol there.span identifier f)
+      (names_noted_value first (diagnostic_at row.F6 (names.name symbol.0) there.span) (values.Primitive primitives.Undefined)
+      (Some at.span))
+  expression_names (lowered.UpdatedMember at there w fields parts pieces object key operator prefix s t is l) =
+      names_then s t _ (all_names l) (names_member t object key operator there.span)
+  expression_names (lowered.Method at there w fields parts es pieces given_pieces object key given s t u is l given_are m) =
+      let loaded : State = with_value t (load_of object key) (Some there.span) in
+      names_then s t _ (all_names l)
+      (names_then t loaded _ (names_value t (load_of object key) (Some there.span))
+      (names_then loaded u _ (all_names given_are) (names_value u _ (Some at.span))))
+  expression_names (lowered.Cast at there w fields e type k s t p is annotated l) =
+      names_then s t _ (expression_names l)
+      (names_then t (typed t k) _ (names_typed t k) (names_value (typed t k) _ (Some at.span)))
   expression_names (lowered.Global at name binding s is plain) = names_value s (values.LoadGlobal binding) (Some at.span)
   expression_names (lowered.RefusedGlobal at name binding s is refused) =
-      let noted : State = recorded s (refusal row.F2 at.span) in
-      names_then s noted _ (names_recorded s (refusal row.F2 at.span)) (names_value noted (values.LoadGlobal binding) (Some at.span))
-  expression_names (lowered.Same at w e s t p is l) = expression_names l
+      names_noted_value s (refusal row.F2 at.span) (values.LoadGlobal binding) (Some at.span)
+  expression_names (lowered.Same at w fields e s t p is l) = expression_names l
   expression_names (lowered.Asked at w fields parts pieces v s t is l) =
       names_then s t (with_value t v (Some at.span)) (all_names l) (names_value t v (Some at.span))
+  expression_names (lowered.Object at es pieces properties s t is l) =
+      names_then s t _ (all_names l) (names_value t (values.ObjectExpression properties) (Some at.span))
   expression_names (lowered.Logical at operator left right s s2 s3 l r second first) =
       let f : LogicalParts = logical_at s at.span operator (span_of left) in
       let begun : State = logical_begun s at.span (span_of left) in
-      let righted : State = logical_righted f s2 r (span_of right) in
+      let righted : State = logical_righted f s2 r (value_span r right) in
       names_then s begun _ (names_logical_begun s at.span (span_of left))
       (names_then begun s2 _ (expression_names second)
-      (names_then s2 righted _ (names_logical_righted f s2 r (span_of right))
+      (names_then s2 righted _ (names_logical_righted f s2 r (value_span r right))
       (names_then righted s3 _ (expression_names first) (names_logical_ended (logical_after f) s3 l))))
   expression_names (lowered.Conditional at test consequent alternate s s2 s3 s4 c a p second third first) =
       let f : TernaryParts = ternary_at s at.span in
@@ -238,22 +424,45 @@ mutual
       names_then s begun _ (names_sequence_begun s at.span)
       (names_then begun s2 _ (last_names l) (names_sequence_ended (sequence_at s at.span) s2 p at.span))
 
-  pub all_names : {names : Names} {es : Pieces} {s t : State} {pieces : List Piece} → LoweredAll names es s t pieces
+  pub all_names : {names : Names} {of_object : Bool} {es : Pieces} {s t : State} {pieces : List Piece} → LoweredParts names of_object es s t pieces
       → KeepsNames names s t
   all_names (lowered.NoPart s) = names_refl s
   all_names (lowered.NextPart e es s t u p pieces l more) = names_then s t u (expression_names l) (all_names more)
   all_names (lowered.NextSpread at e es s t u p pieces l more) = names_then s t u (expression_names l) (all_names more)
   all_names (lowered.NextHole at es s u pieces more) = all_names more
+  all_names (lowered.NextProperty at computed key e text es s t u p pieces is l more) =
+      names_then s t u (expression_names l) (all_names more)
+  all_names (lowered.NextComputed at key e es s r t u p q pieces is k l more) =
+      names_then s r u (expression_names k) (names_then r t u (expression_names l) (all_names more))
+  all_names (lowered.NextFraction at there e text es s t u p pieces is l more) =
+      let noted : State = recorded s (refusal row.F43 there.span) in
+      names_then s noted u (names_recorded s (refusal row.F43 there.span))
+      (names_then noted t u (expression_names l) (all_names more))
+  all_names (lowered.NextUnknown at computed key e es s u pieces is more) =
+      let noted : State = recorded s (refusal row.F9 (span_of key)) in
+      names_then s noted u (names_recorded s (refusal row.F9 (span_of key))) (all_names more)
 
   pub last_names : {names : Names} {es : Pieces} {s t : State} {p : Place} → LoweredLast names es s t p
       → KeepsNames names s t
   last_names (lowered.LastPart e s t p l) = expression_names l
   last_names (lowered.EarlierPart e next es s t u p q l more) = names_then s t u (expression_names l) (last_names more)
 
+declarators_names : {names : Names} {at : Span} {k : InstructionKind} {es : Pieces} {s t : State} → LoweredDeclarators names at k es s t
+    → KeepsNames names s t
+declarators_names (lowered.NoDeclarator s) = names_refl s
+declarators_names {names} (lowered.NextDeclared there bind name type more symbol identifier s u annotated is f l) =
+    names_then s _ u (names_found_value s symbol bind.span identifier _ (Some bind.span) f) (declarators_names l)
+declarators_names {names} {at} (lowered.NextInitialized there bind name type init more symbol identifier s t u p annotated is l f m) =
+    names_then s t u (expression_names l)
+    (names_then t _ u (names_found_value t symbol bind.span identifier _ (Some at) f) (declarators_names m))
+
 mutual
   pub statement_names : {names : Names} {e : Syntax} {s t : State} → LoweredStatement names e s t → KeepsNames names s t
   statement_names (lowered.Empty at s) = names_refl s
   statement_names (lowered.Expression at e s t p l) = expression_names l
+  statement_names (lowered.Debugger at s) = names_value s values.Debugger (Some at.span)
+  statement_names (lowered.Variables at k declarators s t l) =
+      names_then s (declaring s k at.span) t (names_declaring s k at.span) (declarators_names l)
   statement_names (lowered.ReturnNothing at s) =
       let valued : State = with_value s (values.Primitive primitives.Undefined) None in
       names_then s valued _ (names_value s (values.Primitive primitives.Undefined) None)

@@ -1,58 +1,112 @@
--- A lowered expression is an argument by itself: it has one value, in one place.
-use Rattle.std.proofs.Common.{◌≡◌, ℕ, ◌++◌, List, [], ◌∷◌, codes, refl, sym, ap, ◌∙◌}
+-- A lowered expression is one by itself: as an argument it has one value, in one place, and as a body it is no list of statements.
+use Rattle.std.proofs.Common.{◌≡◌, ℕ, ◌++◌, Bool, false, true, List, [], ◌∷◌, None, Option, codes, unwrap_or, refl, sym, ap, ◌∙◌}
+use Rattle.rl_base.specs.declared.row.Row.{Row}
 use Rattle.rl_builder.specs.Builder.{State}
 use Rattle.rl_hir.specs.declared.instruction.InstructionValue.{InstructionValue}
 use Rattle.rl_hir.specs.declared.instruction.Place.{Place}
 use Rattle.rl_hir.specs.declared.instruction.PrimitiveValue.{PrimitiveValue}
+use Rattle.rl_hir.specs.declared.terminal.ReturnVariant.TheVariants as returns
 use Rattle.rl_hir.specs.Pieces.{Piece, texts}
-use Rattle.rl_lowered.specs.Forms.{IsForm, IsLiteral, IsWrapper}
-use Rattle.rl_lowered.specs.Forms.{Binary}
-use Rattle.rl_lowered.specs.Forms.{Null, Parenthesized}
-use Rattle.rl_lowered.specs.Lowered.{Lowered, Literal, Same, Asked}
-use Rattle.rl_lowered.specs.Lowered.{LoweredAll, NoPart, NextPart, NextSpread, NextHole}
+use Rattle.rl_lowered.proofs.Clean.{computed_row_clean, fraction_row_never, property_row_clean, row_clean, spread_row_clean, unknown_row_never}
+use Rattle.rl_lowered.specs.Forms.{IsCast, IsForm, IsLiteral, IsMember, IsPrivate, IsRefused, IsRefusing, IsWrapper, MemberKey}
+use Rattle.rl_lowered.specs.Forms as forms
+use Rattle.rl_lowered.specs.Lowered.{Lowered, LoweredParts}
+use Rattle.rl_lowered.specs.Lowered as lowered
+use Rattle.rl_lowered.specs.Promised.{body_falls, exec_before_end}
 use Rattle.rl_machine.specs.declared.trace.Value.{Value}
-use Rattle.rl_model.specs.Actions.{Action, ◌>>=◌, give}
+use Rattle.rl_model.specs.Actions.{Action, ◌>>=◌, give, return_with}
 use Rattle.rl_model.specs.Expressions.{eval, one_value, values, values_of}
 use Rattle.rl_model.specs.Scene.{Scene}
-use Rattle.rl_model.specs.Shapes.{shape_of, shapes}
+use Rattle.rl_model.specs.Shapes.{is_computed, key_text, shape_of, shapes}
 use Rattle.rl_names.specs.Names.{Names}
+use Rattle.rl_promises.specs.Live.{held_in, live_in_body}
+use Rattle.rl_promises.specs.Outs.{is_known_key}
+use Rattle.rl_promises.specs.Rows.{refusals_in}
 use Rattle.rl_syntax.specs.declared.numbered.At.{At}
 use Rattle.rl_syntax.specs.declared.word.Word.{Word}
+use Rattle.rl_syntax.specs.declared.word.Word.TheVariants as word
 use Rattle.rl_syntax.specs.Syntax.{Syntax, Node, Pieces, End, Then}
 
--- The argument has one value, its own.
+-- The argument has one value, its own; the body returns it; and a key in brackets may be computed.
 pub record IsPlain (e : Syntax) : Type 0 where
   pub shape : shape_of e ≡ codes "place" ∷ []
   pub value : (scene : Scene) (plain : Action Value) → values_of scene e plain ≡ one_value plain
+  pub last : (scene : Scene) → exec_before_end scene e ≡ (eval scene e >>= (λ v. return_with scene returns.Implicit v))
+  pub key : is_known_key true e ≡ true
+  pub alone : held_in e ≡ live_in_body e
+  pub ends : body_falls e ≡ false
 
 literal_plain : {w : Word} {fields : Pieces} {p : PrimitiveValue} → IsLiteral w fields p → (at : At) → IsPlain (Node at w fields)
-literal_plain Null at = record { shape = refl; value = λ scene plain. refl }
-literal_plain _ at = record { shape = refl; value = λ scene plain. refl }
+literal_plain forms.Null at = record { shape = refl; value = λ scene plain. refl; last = λ scene. refl; key = refl; alone = refl; ends = refl }
+literal_plain _ at = record { shape = refl; value = λ scene plain. refl; last = λ scene. refl; key = refl; alone = refl; ends = refl }
 
-wrapper_plain : {w : Word} → IsWrapper w → (at : At) (e : Syntax) → IsPlain (Node at w (Then e End))
-wrapper_plain Parenthesized at e = record { shape = refl; value = λ scene plain. refl }
-wrapper_plain _ at e = record { shape = refl; value = λ scene plain. refl }
+refused_plain : {names : Names} {w : Word} {fields : Pieces} {r : Row} → IsRefused names w fields r → (at : At) → IsPlain (Node at w fields)
+refused_plain forms.Super at = record { shape = refl; value = λ scene plain. refl; last = λ scene. refl; key = refl; alone = refl; ends = refl }
+refused_plain _ at = record { shape = refl; value = λ scene plain. refl; last = λ scene. refl; key = refl; alone = refl; ends = refl }
+
+refusing_plain : {w : Word} {fields parts : Pieces} {r : Row} → IsRefusing w fields parts r → (at : At) → IsPlain (Node at w fields)
+refusing_plain forms.PrivateIn at = record { shape = refl; value = λ scene plain. refl; last = λ scene. refl; key = refl; alone = refl; ends = refl }
+refusing_plain _ at = record { shape = refl; value = λ scene plain. refl; last = λ scene. refl; key = refl; alone = refl; ends = refl }
+
+private_plain : {w : Word} {fields : Pieces} {e : Syntax} → IsPrivate w fields e → (at : At) → IsPlain (Node at w fields)
+private_plain forms.PrivateUpdate at = record { shape = refl; value = λ scene plain. refl; last = λ scene. refl; key = refl; alone = refl; ends = refl }
+private_plain _ at = record { shape = refl; value = λ scene plain. refl; last = λ scene. refl; key = refl; alone = refl; ends = refl }
+
+wrapper_plain : {w : Word} {fields : Pieces} {e : Syntax} → IsWrapper w fields e → (at : At) → IsPlain (Node at w fields)
+wrapper_plain forms.Parenthesized at = record { shape = refl; value = λ scene plain. refl; last = λ scene. refl; key = refl; alone = refl; ends = refl }
+wrapper_plain _ at = record { shape = refl; value = λ scene plain. refl; last = λ scene. refl; key = refl; alone = refl; ends = refl }
+
+cast_plain : {w : Word} {fields : Pieces} {e type : Syntax} → IsCast w fields e type → (at : At) → IsPlain (Node at w fields)
+cast_plain forms.As at = record { shape = refl; value = λ scene plain. refl; last = λ scene. refl; key = refl; alone = refl; ends = refl }
+cast_plain _ at = record { shape = refl; value = λ scene plain. refl; last = λ scene. refl; key = refl; alone = refl; ends = refl }
+
+member_plain : {w : Word} {fields parts : Pieces} {pieces : List Piece} {object : Place} {key : MemberKey}
+    → IsMember w fields parts pieces object key → (at : At) → IsPlain (Node at w fields)
+member_plain forms.Static at = record { shape = refl; value = λ scene plain. refl; last = λ scene. refl; key = refl; alone = refl; ends = refl }
+member_plain _ at = record { shape = refl; value = λ scene plain. refl; last = λ scene. refl; key = refl; alone = refl; ends = refl }
 
 form_plain : {w : Word} {fields parts : Pieces} {pieces : List Piece} {v : InstructionValue} → IsForm w fields parts pieces v → (at : At)
     → IsPlain (Node at w fields)
-form_plain Binary at = record { shape = refl; value = λ scene plain. refl }
-form_plain _ at = record { shape = refl; value = λ scene plain. refl }
+form_plain (forms.Load is) at = member_plain is at
+form_plain _ at = record { shape = refl; value = λ scene plain. refl; last = λ scene. refl; key = refl; alone = refl; ends = refl }
 
 pub lowered_plain : {names : Names} {e : Syntax} {s t : State} {p : Place} → Lowered names e s t p → IsPlain e
-lowered_plain (Literal at w fields p s is) = literal_plain is at
-lowered_plain (Same at w e s t p is by) = wrapper_plain is at e
-lowered_plain (Asked at w fields parts pieces v s t form all) = form_plain form at
-lowered_plain _ = record { shape = refl; value = λ scene plain. refl }
+lowered_plain (lowered.Literal at w fields p s is) = literal_plain is at
+lowered_plain (lowered.Refused at w fields r s is) = refused_plain is at
+lowered_plain (lowered.RefusedBefore at w fields parts r pieces s t is all) = refusing_plain is at
+lowered_plain (lowered.Private at w fields e s t p is by) = private_plain is at
+lowered_plain (lowered.Same at w fields e s t p is by) = wrapper_plain is at
+lowered_plain (lowered.Cast at there w fields e type k s t p is annotated by) = cast_plain is at
+lowered_plain (lowered.Asked at w fields parts pieces v s t form all) = form_plain form at
+lowered_plain _ = record { shape = refl; value = λ scene plain. refl; last = λ scene. refl; key = refl; alone = refl; ends = refl }
 
--- The pieces that parts give have the shapes of the parts.
-pub all_shapes : {names : Names} {es : Pieces} {s t : State} {pieces : List Piece} → LoweredAll names es s t pieces
-    → texts pieces ≡ shapes es
-all_shapes (NoPart s) = refl
-all_shapes (NextPart e es s t u p pieces by all) =
-    ap (λ (l : List (List ℕ)). codes "place" ∷ l) (all_shapes all)
+-- A key that is computed has no text.
+pub computed_textless : (key : Syntax) → is_computed true key ≡ true → key_text true key ≡ None
+computed_textless (Node at word.Str parts) is = absurd (cc)
+computed_textless _ is = refl
+
+-- The pieces that parts give have the shapes of the parts, where none of them is refused.
+pub all_shapes : {names : Names} {of_object : Bool} {es : Pieces} {s t : State} {pieces : List Piece}
+    → LoweredParts names of_object es s t pieces
+    → refusals_in names es ≡ [] → texts pieces ≡ shapes es
+all_shapes (lowered.NoPart s) none = refl
+all_shapes {names} (lowered.NextPart e es s t u p pieces by all) none =
+    ap (λ (l : List (List ℕ)). codes "place" ∷ l) (all_shapes all (row_clean names e es none).1)
     ∙ ap (λ (l : List (List ℕ)). l ++ shapes es) (sym (lowered_plain by).shape)
-all_shapes (NextSpread at e es s t u p pieces by all) = ap (λ (l : List (List ℕ)). codes "spread" ∷ l) (all_shapes all)
-all_shapes (NextHole at es s u pieces all) = ap (λ (l : List (List ℕ)). codes "hole" ∷ l) (all_shapes all)
+all_shapes {names} (lowered.NextSpread at e es s t u p pieces by all) none =
+    ap (λ (l : List (List ℕ)). codes "spread" ∷ l) (all_shapes all (spread_row_clean names at e es none).1)
+all_shapes (lowered.NextHole at es s u pieces all) none = ap (λ (l : List (List ℕ)). codes "hole" ∷ l) (all_shapes all none)
+all_shapes {names} (lowered.NextProperty at computed key e text es s t u p pieces is by all) none =
+    ap (λ (l : List (List ℕ)). (46 ∷ text) ∷ codes "place" ∷ l)
+    (all_shapes all (property_row_clean names at computed key e (46 ∷ text) es is none).1)
+    ∙ ap (λ (o : Option (List ℕ)). unwrap_or o (codes "place") ∷ codes "place" ∷ shapes es) (sym is)
+all_shapes {names} (lowered.NextComputed at key e es s r t u p q pieces is first by all) none =
+    ap (λ (l : List (List ℕ)). codes "place" ∷ codes "place" ∷ l) (all_shapes all (computed_row_clean names at key e es (lowered_plain first).key none).2)
+    ∙ ap (λ (o : Option (List ℕ)). unwrap_or o (codes "place") ∷ codes "place" ∷ shapes es) (sym (computed_textless key is))
+all_shapes {names} (lowered.NextFraction at there e text es s t u p pieces is by all) none =
+    absurd (fraction_row_never names at there text e es is none)
+all_shapes {names} (lowered.NextUnknown at computed key e es s u pieces is all) none =
+    absurd (unknown_row_never names at computed key e es is none)
 
 -- The values of parts of which the first is plain, of one part, and of two.
 

@@ -1,69 +1,104 @@
 -- The diagnostics that the lowering of a part records: the part's refusals, in the order of the walk.
-use Rattle.std.proofs.Common.{◌≡◌, ℕ, ◌&&◌, ◌++◌, Bool, true, false, if◌then◌else◌, List, [], ◌∷◌, Option, Some, None}
-use Rattle.std.proofs.Common.{append-nil, append_assoc, refl, sym, ap, ◌∙◌, unwrap_or}
+use Rattle.std.proofs.Common.{◌≡◌, ◌≢◌, ℕ, ◌&&◌, ◌++◌, Bool, true, false, if◌then◌else◌, List, [], ◌∷◌, Option, Some, None, codes}
+use Rattle.std.proofs.Common.{append-nil, append_assoc, refl, sym, ap, ◌∙◌, subst, unwrap_or}
+use Rattle.std.proofs.lemmas.Slice.Eq.{bytes_eq-Decides}
 use Rattle.std.specs.Option.{option_map, option_map_or}
 use Rattle.std.specs.Str.{bytes_eq}
+use Rattle.rl_base.specs.Diagnostics.{diagnostic_at}
+use Rattle.rl_base.specs.Operators.{update_text}
+use Rattle.rl_base.specs.VariableKinds.{variable_text}
 use Rattle.rl_base.specs.declared.diagnostic.Diagnostic.{Diagnostic}
 use Rattle.rl_base.specs.declared.ids.BlockId.{BlockId}
 use Rattle.rl_base.specs.declared.ids.SymbolId.{SymbolId}
+use Rattle.rl_base.specs.declared.operator.UpdateOperator.{UpdateOperator}
 use Rattle.rl_base.specs.declared.row.Row.TheVariants as row
 use Rattle.rl_base.specs.declared.span.Span.{Span}
+use Rattle.rl_base.specs.declared.type_kind.TypeKind.{TypeKind}
+use Rattle.rl_base.specs.declared.type_kind.TypeKind.TheVariants as types
+use Rattle.rl_base.specs.declared.variable_kind.VariableKind.{VariableKind}
+use Rattle.rl_base.specs.declared.variable_kind.VariableKind.TheVariants as kinds
 use Rattle.rl_builder.specs.Builder.{State, innermost, pushed, pushed_under, recorded, with_temporary}
-use Rattle.rl_builder.specs.Names.{fbt_label, refused_name, resolved, resolved_by}
+use Rattle.rl_builder.specs.Names.{fbt_label, resolved_by}
 use Rattle.rl_builder.specs.Temporaries.{temporary, unordered, with_value}
 use Rattle.rl_frames.specs.Frames.{LogicalParts, logical_at}
 use Rattle.rl_frames.specs.Frames.{sequence_at}
 use Rattle.rl_frames.specs.Frames.{TernaryParts, ternary_at}
 use Rattle.rl_frames.specs.Parts.{loads, logical_begun, logical_entered, logical_left, logical_place}
-use Rattle.rl_grammar.proofs.Viewing.{rest_fit}
-use Rattle.rl_grammar.specs.Grammar.{every}
-use Rattle.rl_grammar.specs.declared.kind.Kind.TheVariants as sort
+use Rattle.rl_hir.specs.Pairs.{identifier_of}
 use Rattle.rl_hir.specs.Pieces.{Piece}
-use Rattle.rl_hir.specs.declared.function.Identifier.{Identifier}
-use Rattle.rl_hir.specs.declared.function.IdentifierName.{IdentifierName}
-use Rattle.rl_hir.specs.declared.function.IdentifierName.TheVariants.{Named}
 use Rattle.rl_hir.specs.declared.instruction.Instruction.{Instruction}
+use Rattle.rl_hir.specs.declared.instruction.InstructionKind.{InstructionKind}
 use Rattle.rl_hir.specs.declared.instruction.InstructionKind.TheVariants as variables
 use Rattle.rl_hir.specs.declared.instruction.InstructionValue.{InstructionValue}
 use Rattle.rl_hir.specs.declared.instruction.InstructionValue.TheVariants as values
-use Rattle.rl_hir.specs.declared.instruction.NonLocalBinding.{NonLocalBinding}
 use Rattle.rl_hir.specs.declared.instruction.Place.{Place}
-use Rattle.rl_hir.specs.declared.instruction.PrimitiveValue.{PrimitiveValue}
 use Rattle.rl_hir.specs.declared.instruction.PrimitiveValue.TheVariants as primitives
-use Rattle.rl_hir.specs.declared.instruction.TemplateQuasi.{TemplateQuasi}
-use Rattle.rl_lowered.specs.Forms.{AreQuasis, IsForm, IsLiteral, IsWrapper}
-use Rattle.rl_lowered.specs.Forms as forms
-use Rattle.rl_lowered.specs.Lowered.{Lowered, LoweredAll, LoweredBody, LoweredLast, LoweredStatement, LoweredStatements}
+use Rattle.rl_lowered.proofs.Plain.{lowered_plain}
+use Rattle.rl_lowered.proofs.Refusals.{bind_refuses, cast_refuses, computed_refuses, constant_refuses, form_refuses, fraction_refuses, literal_refuses}
+use Rattle.rl_lowered.proofs.Refusals.{method_refuses, name_refuses, outer_refuses, private_refuses, property_refuses, refused_refuses}
+use Rattle.rl_lowered.proofs.Refusals.{refusing_refuses, texts_refuse, unknown_refuses, update_refuses, updated_member_refuses, wrapper_refuses}
+use Rattle.rl_lowered.specs.Forms.{MemberKey, load_of, store_of, typed}
+use Rattle.rl_lowered.specs.Lowered.{Lowered, LoweredBody, LoweredDeclarators, LoweredLast, LoweredParts, LoweredStatement, LoweredStatements}
+use Rattle.rl_lowered.specs.Lowered.{declaring, member_loaded, member_one, member_stored, member_updated, value_span}
 use Rattle.rl_lowered.specs.Lowered as lowered
-use Rattle.rl_lowered.specs.Named.{HasIdentifier, TellDeclarations}
+use Rattle.rl_lowered.specs.Named.{IsFound, TellDeclarations, found}
 use Rattle.rl_names.specs.Names.{Names}
-use Rattle.rl_names.specs.declared.names.Meaning.{Meaning}
-use Rattle.rl_names.specs.declared.names.Meaning.TheVariants.{Local, Outer}
-use Rattle.rl_promises.specs.Rows.{is_eval, label_of, refusal, refusals, refusals_in, said_of_local, said_of_name}
+use Rattle.rl_names.specs.declared.names.Meaning.TheVariants.{Local}
+use Rattle.rl_promises.proofs.Covering.{none_in}
+use Rattle.rl_promises.specs.Rows.{IsTold, Nothing, Records, Renamed, Told, label_of, refusal, refusals, refusals_in, said_of_local}
 use Rattle.rl_resolver.specs.Lookups.{declaration_ident}
 use Rattle.rl_runs.specs.Moves.{stored_in}
 use Rattle.rl_bindings.specs.declared.event.Bound.{Bound}
-use Rattle.rl_syntax.specs.Syntax.{Syntax, Node, Said, Pieces, End, Then, span_of}
-use Rattle.rl_syntax.specs.declared.numbered.At.{At}
-use Rattle.rl_syntax.specs.declared.word.Word.{Word}
-use Rattle.rl_syntax.specs.declared.word.Word.TheVariants as word
-use Rattle.rl_text.specs.Numeral.{is_numeral}
+use Rattle.rl_syntax.specs.Syntax.{Syntax, Said, Flag, Pieces, Then, span_of}
 use Rattle.rl_used_names.specs.IdentifierNames.{fbt, fbt_diagnostic, is_named, name_of}
 
 -- The diagnostics so far.
 abbrev pub said : State → List Diagnostic
 said s = s.env.diagnostics
 
--- A state between moves that record nothing.
-between : (xs a b c d : List Diagnostic) → b ≡ a → c ≡ b ++ xs → d ≡ c → d ≡ a ++ xs
-between xs a b c d before is behind = behind ∙ is ∙ ap (λ (l : List Diagnostic). l ++ xs) before
+-- The diagnostics that are recorded for a tree, and for others behind it.
 
-said_then : (xs ys a b c : List Diagnostic) → b ≡ a ++ xs → c ≡ b ++ ys → c ≡ a ++ (xs ++ ys)
-said_then xs ys a b c first second = second ∙ ap (λ (l : List Diagnostic). l ++ ys) first ∙ append_assoc a xs ys
+told_all : (ds : List Diagnostic) → IsTold ds ds
+told_all [] = Nothing
+told_all (d ∷ ds) = Told d (told_all ds)
 
--- Nothing is recorded for a part without refusals.
-nothing_said : (a b xs : List Diagnostic) → b ≡ a → xs ≡ [] → b ≡ a ++ xs
-nothing_said a b xs same none = same ∙ sym (append-nil a) ∙ ap (λ (l : List Diagnostic). a ++ l) (sym none)
+told_append : {xs ts ys us : List Diagnostic} → IsTold xs ts → IsTold ys us → IsTold (xs ++ ys) (ts ++ us)
+told_append Nothing more = more
+told_append (Told d rest) more = Told d (told_append rest more)
+told_append (Renamed d is rest) more = Renamed d is (told_append rest more)
+
+pub records_all : (all old new : List Diagnostic) → new ≡ old ++ all → Records all old new
+records_all all old new is =
+    record { told = all; is = is; kept = told_all all; none = λ none. (none_in old all (sym is ∙ none)).1 }
+
+pub records_then : (xs ys a b c : List Diagnostic) → Records xs a b → Records ys b c → Records (xs ++ ys) a c
+records_then xs ys a b c j k = record {
+  told = j.told ++ k.told;
+  is = k.is ∙ ap (λ (l : List Diagnostic). l ++ k.told) j.is ∙ append_assoc a j.told k.told;
+  kept = told_append j.kept k.kept;
+  none = λ none.
+      let before : b ≡ [] = (none_in b k.told (sym k.is ∙ none)).0 in
+      ap (λ (l : List Diagnostic). l ++ ys) (j.none before) ∙ k.none none;
+}
+
+-- A tree without refusals, and none of it behind another.
+pub records_none : (all old new : List Diagnostic) → all ≡ [] → new ≡ old → Records all old new
+records_none all old new none same =
+    records_all all old new (same ∙ sym (append-nil old) ∙ ap (λ (l : List Diagnostic). old ++ l) (sym none))
+
+pub records_same : (all others old new : List Diagnostic) → all ≡ others → Records others old new → Records all old new
+records_same all others old new is r = subst (λ (l : List Diagnostic). Records l old new) (sym is) r
+
+records_unit : (all old new : List Diagnostic) → Records all old new → Records (all ++ []) old new
+records_unit all old new r = records_same (all ++ []) all old new (append-nil all) r
+
+-- Moves that record nothing, behind a part and before it.
+
+records_behind : (all old new last : List Diagnostic) → last ≡ new → Records all old new → Records all old last
+records_behind all old new last same r = subst (λ (l : List Diagnostic). Records all old l) (sym same) r
+
+records_before : (all first old new : List Diagnostic) → old ≡ first → Records all old new → Records all first new
+records_before all first old new same r = subst (λ (l : List Diagnostic). Records all l new) same r
 
 -- Moves that record nothing.
 
@@ -83,68 +118,36 @@ stored_said s place value part = value_said s (values.StoreLocal variables.Const
 begun_said : (s : State) (span left : Span) → said (logical_begun s span left) ≡ said s
 begun_said s span left = stored_said (logical_entered s span left) (logical_place s span) (logical_left s left) left
 
--- The refusals of nodes.
+typed_said : (s : State) (k : TypeKind) → said (typed s k) ≡ said s
+typed_said s types.Array = refl
+typed_said s types.Primitive = refl
+typed_said s types.Other = refl
 
-literal_refuses : (names : Names) (at : At) {w : Word} {fields : Pieces} {p : PrimitiveValue} → IsLiteral w fields p
-    → refusals names (Node at w fields) ≡ []
-literal_refuses names at forms.Null = refl
-literal_refuses names at forms.Boolean = refl
-literal_refuses names at forms.String = refl
-literal_refuses names at (forms.Number is) = ap (λ (b : Bool). (if b then [] else refusal row.F43 at.span ∷ []) ++ []) is
+member_said : (t : State) (object : Place) (key : MemberKey) (operator : UpdateOperator) (there : Span)
+    → said (member_stored t object key operator there) ≡ said t
+member_said t object key operator there =
+    let loaded : State = member_loaded t object key there in
+    let one : State = member_one t object key there in
+    let updated : State = member_updated t object key operator there in
+    value_said updated (store_of object key (temporary one (Some there))) (Some there)
+    ∙ value_said one _ (Some there) ∙ value_said loaded (values.Primitive (primitives.Number 1)) None
+    ∙ value_said t (load_of object key) (Some there)
 
-number_refuses : (names : Names) (at : At) (text : List ℕ) → is_numeral text ≡ false
-    → refusals names (Node at word.Num (Then (Said text) End)) ≡ refusal row.F43 at.span ∷ []
-number_refuses names at text is = ap (λ (b : Bool). (if b then [] else refusal row.F43 at.span ∷ []) ++ []) is
+-- A diagnostic, and a value behind it.
+noted_said : (s : State) (d : Diagnostic) (v : InstructionValue) (span : Option Span)
+    → Records (d ∷ []) (said s) (said (with_value (recorded s d) v span))
+noted_said s d v span = records_all (d ∷ []) (said s) _ (value_said (recorded s d) v span)
 
-name_refuses : (names : Names) (at : At) (name : List ℕ) (m : Meaning) → names.meaning at.reference.0 name ≡ m
-    → refusals names (Node at word.Id (Then (Said name) End)) ≡ said_of_name names m at.span
-name_refuses names at name m is =
-    append-nil (said_of_name names (names.meaning at.reference.0 name) at.span) ∙ ap (λ (m : Meaning). said_of_name names m at.span) is
+-- The keyword of a declaration.
+declaring_said : (s : State) (k : VariableKind) (at : Span)
+    → Records (if bytes_eq (variable_text k) (codes "var") then refusal row.F39 at ∷ [] else []) (said s) (said (declaring s k at))
+declaring_said s kinds.Var at = records_all (refusal row.F39 at ∷ []) (said s) _ refl
+declaring_said s kinds.Let at = records_none [] (said s) _ refl refl
+declaring_said s kinds.Const at = records_none [] (said s) _ refl refl
+declaring_said s kinds.Using at = records_none [] (said s) _ refl refl
+declaring_said s kinds.AwaitUsing at = records_none [] (said s) _ refl refl
 
-outer_refuses : (names : Names) (at : At) (name : List ℕ) (binding : NonLocalBinding) (b : Bool)
-    → names.meaning at.reference.0 name ≡ Outer binding → is_eval binding ≡ b
-    → refusals names (Node at word.Id (Then (Said name) End)) ≡ (if b then refusal row.F2 at.span ∷ [] else [])
-outer_refuses names at name binding b is eval =
-    name_refuses names at name (Outer binding) is ∙ ap (λ (b : Bool). if b then refusal row.F2 at.span ∷ [] else []) eval
-
-wrapper_refuses : (names : Names) (at : At) (e : Syntax) {w : Word} → IsWrapper w
-    → refusals names (Node at w (Then e End)) ≡ refusals names e
-wrapper_refuses names at e forms.Parenthesized = append-nil (refusals names e)
-wrapper_refuses names at e forms.NonNull = append-nil (refusals names e)
-
-quasis_refuse : (names : Names) {texts : Pieces} {quasis : List TemplateQuasi} → AreQuasis texts quasis → refusals_in names texts ≡ []
-quasis_refuse names forms.NoQuasi = refl
-quasis_refuse names (forms.NextQuasi more) = quasis_refuse names more
-quasis_refuse names (forms.NextUncooked more) = quasis_refuse names more
-
--- The texts of directives have none.
-texts_refuse : (names : Names) (texts : Pieces) → every sort.Text texts ≡ true → refusals_in names texts ≡ []
-texts_refuse names End fit = refl
-texts_refuse names (Then (Said text) texts) fit =
-    texts_refuse names texts (rest_fit sort.Text (Then (Said text) texts) (Said text) texts refl fit)
-texts_refuse names (Then _ texts) fit = absurd (cc)
-
--- A kind of the table has the refusals of its parts.
-form_refuses : (names : Names) (at : At) {w : Word} {fields parts : Pieces} {pieces : List Piece} {v : InstructionValue}
-    → IsForm w fields parts pieces v → refusals names (Node at w fields) ≡ refusals_in names parts
-form_refuses names at forms.Binary = refl
-form_refuses names at (forms.Unary plain) = refl
-form_refuses names at forms.Await = refl
-form_refuses names at forms.Member = refl
-form_refuses names at (forms.Index other) = refl
-form_refuses names at (forms.NumberIndex {object} {there} {text} is) =
-    ap (λ (b : Bool). refusals names object ++ (((if b then [] else refusal row.F43 there.span ∷ []) ++ []) ++ [])) is
-form_refuses names at (forms.Call {callee} {es} plain given) =
-    ap (λ (l : List Diagnostic). refusals names callee ++ l) (append-nil (refusals_in names es))
-form_refuses names at (forms.New {callee} {es} given) =
-    ap (λ (l : List Diagnostic). refusals names callee ++ l) (append-nil (refusals_in names es))
-form_refuses names at (forms.Array {es} given) = append-nil (refusals_in names es)
-form_refuses names at (forms.Template {texts} {es} are given) =
-    ap (λ (l : List Diagnostic). l ++ (refusals_in names es ++ [])) (quasis_refuse names are) ∙ append-nil (refusals_in names es)
-form_refuses names at forms.RegExp = refl
-form_refuses names at forms.ImportMeta = refl
-
--- A local variable.
+-- A variable is looked up.
 
 label_by : (o : Option Bound) (at : Span) → option_map_or (λ b. b.span) o at ≡ unwrap_or (option_map (λ b. b.span) o) at
 label_by None at = refl
@@ -156,122 +159,201 @@ label_told : (names : Names) (s : State) (symbol : SymbolId) (at : Span) → Tel
 label_told names s symbol at told =
     label_by (declaration_ident s.semantic.bindings.symbols symbol.0) at ∙ ap (λ (o : Option Span). unwrap_or o at) (sym (told symbol.0))
 
-name_known : (s : State) (name : List ℕ) (symbol : ℕ) → (h : HasIdentifier s symbol name)
-    → name_of s.env.identifiers h.identifier ≡ Some (Named name)
-name_known s name symbol h = ap (λ (o : Option Identifier). option_map_or (λ i. i.name) o None) h.made ∙ h.named
+-- A name `fbt`, and an identifier that still has it.
+known_said : (is still : Bool) (label : Span) (old : List Diagnostic) → (is ≡ true → old ≢ [])
+    → Records (if is then fbt_diagnostic label ∷ [] else []) old (old ++ (if is && still then fbt_diagnostic label ∷ [] else []))
+known_said false still label old noted = records_all [] old _ refl
+known_said true true label old noted = records_all (fbt_diagnostic label ∷ []) old _ refl
+known_said true false label old noted = record {
+  told = [];
+  is = refl;
+  kept = Renamed (fbt_diagnostic label) refl Nothing;
+  none = λ none. absurd (noted refl (sym (append-nil old) ∙ none));
+}
 
-both : (b : Bool) (label : Span) → (if b && b then fbt_diagnostic label ∷ [] else []) ≡ (if b then refusal row.F40 label ∷ [] else [])
-both true label = refl
-both false label = refl
+fresh_said : (is : Bool) (label : Span) (old : List Diagnostic)
+    → Records (if is then fbt_diagnostic label ∷ [] else []) old (old ++ (if is && true then fbt_diagnostic label ∷ [] else []))
+fresh_said false label old = records_all [] old _ refl
+fresh_said true label old = records_all (fbt_diagnostic label ∷ []) old _ refl
 
-refused_local : (s : State) (name : List ℕ) (symbol : ℕ) (label : Span) → (h : HasIdentifier s symbol name)
-    → refused_name (Some h.identifier) s.env.identifiers name label ≡ said_of_local name label
-refused_local s name symbol label h =
-    ap (λ (o : Option IdentifierName). if bytes_eq name fbt && is_named o fbt then fbt_diagnostic label ∷ [] else [])
-    (name_known s name symbol h)
-    ∙ both (bytes_eq name fbt) label
+found_by : (names : Names) (s : State) (symbol : SymbolId) (at : Span) (identifier : ℕ) (known : Option ℕ)
+    → identifier_of s.bindings symbol.0 ≡ known → IsFound names s symbol at identifier
+    → Records (said_of_local (names.name symbol.0) (fbt_label s symbol.0 (Some at))) (said s)
+    (said (resolved_by known s (names.name symbol.0) symbol.0 (Some at)))
+found_by names s symbol at identifier None is f =
+    fresh_said (bytes_eq (names.name symbol.0) fbt) (fbt_label s symbol.0 (Some at)) (said s)
+found_by names s symbol at identifier (Some known) is f =
+    known_said (bytes_eq (names.name symbol.0) fbt) (is_named (name_of s.env.identifiers known) fbt) (fbt_label s symbol.0 (Some at))
+    (said s) (λ test. f.named.noted symbol.0 known is ((bytes_eq-Decides (names.name symbol.0) fbt).0 test))
 
-resolved_said : (names : Names) (s : State) (symbol : SymbolId) (at : Span) → TellDeclarations names s.semantic
-    → HasIdentifier s symbol.0 (names.name symbol.0)
-    → said (resolved s (names.name symbol.0) symbol.0 (Some at))
-    ≡ said s ++ said_of_local (names.name symbol.0) (label_of names symbol at)
-resolved_said names s symbol at told h =
-    ap (λ (o : Option ℕ). said (resolved_by o s (names.name symbol.0) symbol.0 (Some at))) h.bound
-    ∙ ap (λ (l : List Diagnostic). said s ++ l)
-    (refused_local s (names.name symbol.0) symbol.0 (fbt_label s symbol.0 (Some at)) h
-    ∙ ap (λ (label : Span). said_of_local (names.name symbol.0) label) (label_told names s symbol at told))
+found_said : (names : Names) (s : State) (symbol : SymbolId) (at : Span) (identifier : ℕ) → IsFound names s symbol at identifier
+    → Records (said_of_local (names.name symbol.0) (label_of names symbol at)) (said s) (said (found names s symbol at))
+found_said names s symbol at identifier f =
+    records_same _ _ (said s) _
+    (ap (λ (label : Span). said_of_local (names.name symbol.0) label) (sym (label_told names s symbol at f.named.declared)))
+    (found_by names s symbol at identifier (identifier_of s.bindings symbol.0) refl f)
+
+-- A value behind a look-up.
+found_value_said : (names : Names) (s : State) (symbol : SymbolId) (at : Span) (identifier : ℕ) (v : InstructionValue) (span : Option Span)
+    → IsFound names s symbol at identifier
+    → Records (said_of_local (names.name symbol.0) (label_of names symbol at)) (said s) (said (with_value (found names s symbol at) v span))
+found_value_said names s symbol at identifier v span f =
+    records_behind _ (said s) (said (found names s symbol at)) _ (value_said (found names s symbol at) v span)
+    (found_said names s symbol at identifier f)
 
 mutual
   pub expression_refused : {names : Names} {e : Syntax} {s t : State} {p : Place} → Lowered names e s t p
-      → said t ≡ said s ++ refusals names e
+      → Records (refusals names e) (said s) (said t)
   expression_refused {names} (lowered.Literal at w fields p s is) =
-      nothing_said (said s) _ (refusals names (Node at w fields)) (value_said s (values.Primitive p) (Some at.span))
-      (literal_refuses names at is)
-  expression_refused {names} (lowered.RefusedNumber at text s is) =
-      value_said (recorded s (refusal row.F43 at.span)) (values.Primitive primitives.Undefined) (Some at.span)
-      ∙ ap (λ (l : List Diagnostic). said s ++ l) (sym (number_refuses names at text is))
-  expression_refused {names} (lowered.Variable at name symbol identifier s is named bound agree) =
-      let found : State = resolved s (names.name symbol.0) symbol.0 (Some at.span) in
-      let h = named.each at.reference.0 name symbol is in
-      value_said found (values.LoadLocal (record { identifier = record { 0 = identifier }; span = Some at.span })) (Some at.span)
-      ∙ resolved_said names s symbol at.span named.declared h
-      ∙ ap (λ (l : List Diagnostic). said s ++ l) (sym (name_refuses names at name (Local symbol) is))
+      records_none _ (said s) _ (literal_refuses names at is) (value_said s (values.Primitive p) (Some at.span))
+  expression_refused {names} (lowered.Refused at w fields r s is) =
+      records_same _ _ (said s) _ (refused_refuses names at is)
+      (noted_said s (refusal r at.span) (values.Primitive primitives.Undefined) (Some at.span))
+  expression_refused {names} (lowered.RefusedBefore at w fields parts r pieces s t is l) =
+      records_same _ _ (said s) _ (refusing_refuses names at is)
+      (records_behind _ (said s) (said t) _ (value_said t (values.Primitive primitives.Undefined) (Some at.span))
+      (records_then (refusal r at.span ∷ []) (refusals_in names parts) (said s) (said (recorded s (refusal r at.span))) (said t)
+      (records_all (refusal r at.span ∷ []) (said s) _ refl) (all_refused l)))
+  expression_refused {names} (lowered.RefusedBehind at object name s t p l) =
+      records_then (refusals names object) (refusal row.F3 at.span ∷ []) (said s) (said t) _ (expression_refused l)
+      (noted_said t (refusal row.F3 at.span) (values.Primitive primitives.Undefined) (Some at.span))
+  expression_refused {names} (lowered.Private at w fields e s t p is l) =
+      records_same _ _ (said s) (said t) (private_refuses names at is) (expression_refused l)
+  expression_refused {names} (lowered.Variable at name symbol identifier s is f) =
+      records_same _ _ (said s) _ (name_refuses names at name (Local symbol) is)
+      (found_value_said names s symbol at.span identifier _ (Some at.span) f)
+  expression_refused {names} (lowered.UpdatedVariable at there name symbol identifier operator prefix s is mutable f g) =
+      let first : State = found names s symbol there.span in
+      records_same _ _ (said s) _ (update_refuses names at there (Said (update_text operator)) (Flag prefix) name symbol is mutable)
+      (records_then _ _ (said s) (said first) _ (found_said names s symbol there.span identifier f)
+      (found_value_said names first symbol there.span identifier _ (Some at.span) g))
+  expression_refused {names} (lowered.UpdatedConstant at there name symbol identifier operator prefix s is constant f) =
+      let first : State = found names s symbol there.span in
+      records_same _ _ (said s) _ (constant_refuses names at there operator prefix name symbol is constant)
+      (records_then _ _ (said s) (said first) _ (found_said names s symbol there.span identifier f)
+      (noted_said first (diagnostic_at row.F6 (names.name symbol.0) there.span) (values.Primitive primitives.Undefined) (Some at.span)))
+  expression_refused {names} (lowered.UpdatedMember at there w fields parts pieces object key operator prefix s t is l) =
+      records_same _ _ (said s) _ (updated_member_refuses names at there (Said (update_text operator)) (Flag prefix) is)
+      (records_behind _ (said s) (said t) _ (member_said t object key operator there.span) (all_refused l))
+  expression_refused {names} (lowered.Method at there w fields parts es pieces given_pieces object key given s t u is l given_are m) =
+      records_same _ _ (said s) _ (method_refuses names at there es is)
+      (records_behind _ (said s) (said u) _ (value_said u _ (Some at.span))
+      (records_then (refusals_in names parts) (refusals_in names es) (said s) (said t) (said u) (all_refused l)
+      (records_before _ (said t) _ (said u) (value_said t (load_of object key) (Some there.span)) (all_refused given_are))))
+  expression_refused {names} (lowered.Cast at there w fields e type k s t p is annotated l) =
+      records_same _ _ (said s) _ (cast_refuses names at there is)
+      (records_behind _ (said s) (said t) _ (value_said (typed t k) _ (Some at.span) ∙ typed_said t k) (expression_refused l))
   expression_refused {names} (lowered.Global at name binding s is plain) =
-      nothing_said (said s) _ (refusals names (Node at word.Id (Then (Said name) End)))
-      (value_said s (values.LoadGlobal binding) (Some at.span)) (outer_refuses names at name binding false is plain)
+      records_none _ (said s) _ (outer_refuses names at name binding false is plain) (value_said s (values.LoadGlobal binding) (Some at.span))
   expression_refused {names} (lowered.RefusedGlobal at name binding s is refused) =
-      value_said (recorded s (refusal row.F2 at.span)) (values.LoadGlobal binding) (Some at.span)
-      ∙ ap (λ (l : List Diagnostic). said s ++ l) (sym (outer_refuses names at name binding true is refused))
-  expression_refused {names} (lowered.Same at w e s t p is l) =
-      expression_refused l ∙ ap (λ (l : List Diagnostic). said s ++ l) (sym (wrapper_refuses names at e is))
+      records_same _ _ (said s) _ (outer_refuses names at name binding true is refused)
+      (noted_said s (refusal row.F2 at.span) (values.LoadGlobal binding) (Some at.span))
+  expression_refused {names} (lowered.Same at w fields e s t p is l) =
+      records_same _ _ (said s) (said t) (wrapper_refuses names at is) (expression_refused l)
   expression_refused {names} (lowered.Asked at w fields parts pieces v s t is l) =
-      value_said t v (Some at.span) ∙ all_refused l ∙ ap (λ (l : List Diagnostic). said s ++ l) (sym (form_refuses names at is))
+      records_same _ _ (said s) _ (form_refuses names at is)
+      (records_behind _ (said s) (said t) _ (value_said t v (Some at.span)) (all_refused l))
+  expression_refused {names} (lowered.Object at es pieces properties s t is l) =
+      records_behind _ (said s) (said t) _ (value_said t (values.ObjectExpression properties) (Some at.span))
+      (records_unit (refusals_in names es) (said s) (said t) (all_refused l))
   expression_refused {names} (lowered.Logical at operator left right s s2 s3 l r second first) =
       let f : LogicalParts = logical_at s at.span operator (span_of left) in
-      said_then (refusals names right) (refusals names left) (said s) (said s2) _
-      (between (refusals names right) (said s) _ (said s2) (said s2) (begun_said s at.span (span_of left)) (expression_refused second) refl)
-      (between (refusals names left) (said s2) _ (said s3) _ (stored_said s2 f.place r (span_of right)) (expression_refused first)
-      (pushed_said s3 (loads f.left l f.span)))
+      records_then (refusals names right) (refusals names left) (said s) (said s2) _
+      (records_before _ (said s) _ (said s2) (begun_said s at.span (span_of left)) (expression_refused second))
+      (records_behind _ (said s2) (said s3) _ (pushed_said s3 (loads f.left l f.span))
+      (records_before _ (said s2) _ (said s3) (stored_said s2 f.place r (value_span r right)) (expression_refused first)))
   expression_refused {names} (lowered.Conditional at test consequent alternate s s2 s3 s4 c a p second third first) =
       let f : TernaryParts = ternary_at s at.span in
-      said_then (refusals names consequent ++ refusals names alternate) (refusals names test) (said s) (said s3) (said s4)
-      (said_then (refusals names consequent) (refusals names alternate) (said s) (said s2) (said s3) (expression_refused second)
-      (between (refusals names alternate) (said s2) _ (said s3) (said s3) (stored_said s2 f.place c at.span)
-      (expression_refused third) refl))
-      (between (refusals names test) (said s3) _ (said s4) (said s4) (stored_said s3 f.place a at.span)
-      (expression_refused first) refl)
+      records_then (refusals names consequent ++ refusals names alternate) (refusals names test) (said s) (said s3) (said s4)
+      (records_then (refusals names consequent) (refusals names alternate) (said s) (said s2) (said s3) (expression_refused second)
+      (records_before _ (said s2) _ (said s3) (stored_said s2 f.place c at.span) (expression_refused third)))
+      (records_before _ (said s3) _ (said s4) (stored_said s3 f.place a at.span) (expression_refused first))
   expression_refused {names} (lowered.Sequence at e es s s2 p l) =
-      stored_said s2 (sequence_at s at.span).place p at.span ∙ last_refused l
-      ∙ ap (λ (l : List Diagnostic). said s ++ l) (sym (append-nil (refusals_in names (Then e es))))
+      records_behind _ (said s) (said s2) _ (stored_said s2 (sequence_at s at.span).place p at.span)
+      (records_unit (refusals_in names (Then e es)) (said s) (said s2) (last_refused l))
 
-  pub all_refused : {names : Names} {es : Pieces} {s t : State} {pieces : List Piece} → LoweredAll names es s t pieces
-      → said t ≡ said s ++ refusals_in names es
-  all_refused (lowered.NoPart s) = sym (append-nil (said s))
+  pub all_refused : {names : Names} {of_object : Bool} {es : Pieces} {s t : State} {pieces : List Piece} → LoweredParts names of_object es s t pieces
+      → Records (refusals_in names es) (said s) (said t)
+  all_refused (lowered.NoPart s) = records_none [] (said s) (said s) refl refl
   all_refused {names} (lowered.NextPart e es s t u p pieces l more) =
-      said_then (refusals names e) (refusals_in names es) (said s) (said t) (said u) (expression_refused l) (all_refused more)
+      records_then (refusals names e) (refusals_in names es) (said s) (said t) (said u) (expression_refused l) (all_refused more)
   all_refused {names} (lowered.NextSpread at e es s t u p pieces l more) =
-      said_then (refusals names e ++ []) (refusals_in names es) (said s) (said t) (said u)
-      (expression_refused l ∙ ap (λ (l : List Diagnostic). said s ++ l) (sym (append-nil (refusals names e)))) (all_refused more)
+      records_then (refusals names e ++ []) (refusals_in names es) (said s) (said t) (said u)
+      (records_unit (refusals names e) (said s) (said t) (expression_refused l)) (all_refused more)
   all_refused (lowered.NextHole at es s u pieces more) = all_refused more
+  all_refused {names} (lowered.NextProperty at computed key e text es s t u p pieces is l more) =
+      records_then _ (refusals_in names es) (said s) (said t) (said u)
+      (records_same _ _ (said s) (said t) (property_refuses names at computed key e _ is) (expression_refused l)) (all_refused more)
+  all_refused {names} (lowered.NextComputed at key e es s r t u p q pieces is k l more) =
+      records_then _ (refusals_in names es) (said s) (said t) (said u)
+      (records_same _ _ (said s) (said t) (computed_refuses names at key e (lowered_plain k).key)
+      (records_then (refusals names key) (refusals names e) (said s) (said r) (said t) (expression_refused k) (expression_refused l)))
+      (all_refused more)
+  all_refused {names} (lowered.NextFraction at there e text es s t u p pieces is l more) =
+      let d : Diagnostic = refusal row.F43 there.span in
+      records_then _ (refusals_in names es) (said s) (said t) (said u)
+      (records_same _ _ (said s) (said t) (fraction_refuses names at there text e is)
+      (records_then (d ∷ []) (refusals names e) (said s) (said (recorded s d)) (said t) (records_all (d ∷ []) (said s) _ refl)
+      (expression_refused l)))
+      (all_refused more)
+  all_refused {names} (lowered.NextUnknown at computed key e es s u pieces is more) =
+      let d : Diagnostic = refusal row.F9 (span_of key) in
+      records_then _ (refusals_in names es) (said s) (said (recorded s d)) (said u)
+      (records_same _ _ (said s) _ (unknown_refuses names at computed key e is) (records_all (d ∷ []) (said s) _ refl))
+      (all_refused more)
 
   pub last_refused : {names : Names} {es : Pieces} {s t : State} {p : Place} → LoweredLast names es s t p
-      → said t ≡ said s ++ refusals_in names es
-  last_refused {names} (lowered.LastPart e s t p l) =
-      expression_refused l ∙ ap (λ (l : List Diagnostic). said s ++ l) (sym (append-nil (refusals names e)))
+      → Records (refusals_in names es) (said s) (said t)
+  last_refused {names} (lowered.LastPart e s t p l) = records_unit (refusals names e) (said s) (said t) (expression_refused l)
   last_refused {names} (lowered.EarlierPart e next es s t u p q l more) =
-      said_then (refusals names e) (refusals_in names (Then next es)) (said s) (said t) (said u) (expression_refused l) (last_refused more)
+      records_then (refusals names e) (refusals_in names (Then next es)) (said s) (said t) (said u) (expression_refused l) (last_refused more)
+
+declarators_refused : {names : Names} {at : Span} {k : InstructionKind} {es : Pieces} {s t : State} → LoweredDeclarators names at k es s t
+    → Records (refusals_in names es) (said s) (said t)
+declarators_refused (lowered.NoDeclarator s) = records_none [] (said s) (said s) refl refl
+declarators_refused {names} (lowered.NextDeclared there bind name type more symbol identifier s u annotated is f l) =
+    records_then _ (refusals_in names more) (said s) _ (said u)
+    (records_same _ _ (said s) _ (bind_refuses names bind name type symbol annotated is)
+    (found_value_said names s symbol bind.span identifier _ (Some bind.span) f)) (declarators_refused l)
+declarators_refused {names} {at} (lowered.NextInitialized there bind name type init more symbol identifier s t u p annotated is l f m) =
+    records_then _ (refusals_in names more) (said s) _ (said u)
+    (records_then (refusals names init) _ (said s) (said t) _ (expression_refused l)
+    (records_same _ _ (said t) _ (bind_refuses names bind name type symbol annotated is)
+    (found_value_said names t symbol bind.span identifier _ (Some at) f))) (declarators_refused m)
 
 mutual
   pub statement_refused : {names : Names} {e : Syntax} {s t : State} → LoweredStatement names e s t
-      → said t ≡ said s ++ refusals names e
-  statement_refused (lowered.Empty at s) = sym (append-nil (said s))
+      → Records (refusals names e) (said s) (said t)
+  statement_refused (lowered.Empty at s) = records_none [] (said s) (said s) refl refl
   statement_refused {names} (lowered.Expression at e s t p l) =
-      expression_refused l ∙ ap (λ (l : List Diagnostic). said s ++ l) (sym (append-nil (refusals names e)))
+      records_unit (refusals names e) (said s) (said t) (expression_refused l)
+  statement_refused {names} (lowered.Debugger at s) = records_none [] (said s) _ refl (value_said s values.Debugger (Some at.span))
+  statement_refused {names} (lowered.Variables at k declarators s t l) =
+      records_then _ (refusals_in names declarators) (said s) (said (declaring s k at.span)) (said t) (declaring_said s k at.span)
+      (declarators_refused l)
   statement_refused {names} (lowered.ReturnNothing at s) =
-      nothing_said (said s) _ [] (value_said s (values.Primitive primitives.Undefined) None) refl
+      records_none [] (said s) _ refl (value_said s (values.Primitive primitives.Undefined) None)
   statement_refused {names} (lowered.Return at e s t p l) =
-      expression_refused l ∙ ap (λ (l : List Diagnostic). said s ++ l) (sym (append-nil (refusals names e)))
+      records_unit (refusals names e) (said s) (said t) (expression_refused l)
   statement_refused {names} (lowered.Block at statements s t l) =
-      statements_refused l ∙ ap (λ (l : List Diagnostic). said s ++ l) (sym (append-nil (refusals_in names statements)))
+      records_unit (refusals_in names statements) (said s) (said t) (statements_refused l)
   statement_refused {names} (lowered.IfThen at test consequent s s2 s3 p second first) =
-      said_then (refusals names consequent ++ []) (refusals names test) (said s) (said s2) (said s3)
-      (statement_refused second ∙ ap (λ (l : List Diagnostic). said s ++ l) (sym (append-nil (refusals names consequent))))
-      (expression_refused first)
+      records_then (refusals names consequent ++ []) (refusals names test) (said s) (said s2) (said s3)
+      (records_unit (refusals names consequent) (said s) (said s2) (statement_refused second)) (expression_refused first)
   statement_refused {names} (lowered.IfElse at test consequent alternate s s2 s3 s4 p second third first) =
-      said_then (refusals names consequent ++ refusals names alternate) (refusals names test) (said s) (said s3) (said s4)
-      (said_then (refusals names consequent) (refusals names alternate) (said s) (said s2) (said s3) (statement_refused second)
+      records_then (refusals names consequent ++ refusals names alternate) (refusals names test) (said s) (said s3) (said s4)
+      (records_then (refusals names consequent) (refusals names alternate) (said s) (said s2) (said s3) (statement_refused second)
       (statement_refused third)) (expression_refused first)
 
   pub statements_refused : {names : Names} {es : Pieces} {s t : State} → LoweredStatements names es s t
-      → said t ≡ said s ++ refusals_in names es
-  statements_refused (lowered.NoStatement s) = sym (append-nil (said s))
+      → Records (refusals_in names es) (said s) (said t)
+  statements_refused (lowered.NoStatement s) = records_none [] (said s) (said s) refl refl
   statements_refused {names} (lowered.NextStatement e es s t u l more) =
-      said_then (refusals names e) (refusals_in names es) (said s) (said t) (said u) (statement_refused l) (statements_refused more)
+      records_then (refusals names e) (refusals_in names es) (said s) (said t) (said u) (statement_refused l) (statements_refused more)
 
-pub body_refused : {names : Names} {b : Syntax} {s t : State} → LoweredBody names b s t → said t ≡ said s ++ refusals names b
+pub body_refused : {names : Names} {b : Syntax} {s t : State} → LoweredBody names b s t → Records (refusals names b) (said s) (said t)
 body_refused {names} (lowered.Statements at directives statements s t texts l) =
-    statements_refused l
-    ∙ ap (λ (l : List Diagnostic). said s ++ l)
-    (sym (ap (λ (l : List Diagnostic). l ++ (refusals_in names statements ++ [])) (texts_refuse names directives texts)
-    ∙ append-nil (refusals_in names statements)))
+    records_same _ _ (said s) (said t)
+    (ap (λ (l : List Diagnostic). l ++ (refusals_in names statements ++ [])) (texts_refuse names directives texts)
+    ∙ append-nil (refusals_in names statements)) (statements_refused l)
 body_refused (lowered.Value e s t p l) = expression_refused l

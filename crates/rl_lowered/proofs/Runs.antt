@@ -1,109 +1,102 @@
 -- Lowered expressions have the runs of the source, where nothing of them was refused.
-use Rattle.std.proofs.Common.{◌≡◌, ℕ, ◌++◌, Bool, true, if◌then◌else◌, List, [], ◌∷◌, length, map, append-nil, Option, Some, refl, sym, ap}
-use Rattle.std.proofs.Common.{◌∙◌, subst, arith}
-use Rattle.rl_base.specs.declared.diagnostic.Diagnostic.{Diagnostic}
+use Rattle.std.proofs.Common.{◌≡◌, ℕ, ◌++◌, Bool, true, false, if◌then◌else◌, is_some, List, [], ◌∷◌, length, map, codes, Option, Some, refl, sym}
+use Rattle.std.proofs.Common.{ap, ◌∙◌, subst, arith}
+use Rattle.rl_base.specs.Operators.{logical_text, operator_text, update_text}
+use Rattle.rl_base.specs.declared.ids.SymbolId.{SymbolId}
 use Rattle.rl_base.specs.declared.operator.LogicalOperator.{LogicalOperator}
 use Rattle.rl_base.specs.declared.operator.LogicalOperator.TheVariants as logical
-use Rattle.rl_base.specs.declared.row.Row.TheVariants as row
+use Rattle.rl_base.specs.declared.operator.UpdateOperator.{UpdateOperator}
+use Rattle.rl_base.specs.declared.operator.UpdateOperator.TheVariants as updates
 use Rattle.rl_base.specs.declared.span.Span.{Span}
-use Rattle.rl_base.specs.Operators.{logical_text}
+use Rattle.rl_base.specs.declared.type_kind.TypeKind.{TypeKind}
+use Rattle.rl_base.specs.declared.type_kind.TypeKind.TheVariants as types
 use Rattle.rl_builder.specs.Builder.{State}
-use Rattle.rl_builder.specs.Names.{resolved, resolved_by}
-use Rattle.rl_builder.specs.Temporaries.{with_value}
+use Rattle.rl_builder.specs.Temporaries.{temporary, with_value}
 use Rattle.rl_frames.proofs.Logicals.{logical_runs}
 use Rattle.rl_frames.proofs.Meant.{and_meant, coalesce_meant, cond_meant, or_meant}
 use Rattle.rl_frames.proofs.Sequences.{sequence_runs}
 use Rattle.rl_frames.proofs.Ternaries.{ternary_runs}
 use Rattle.rl_frames.specs.Meanings.{connected}
-use Rattle.rl_hir.specs.declared.instruction.InstructionValue.{InstructionValue}
 use Rattle.rl_hir.specs.declared.instruction.InstructionValue.TheVariants as values
 use Rattle.rl_hir.specs.declared.instruction.NonLocalBinding.{NonLocalBinding}
 use Rattle.rl_hir.specs.declared.instruction.NonLocalBinding.TheVariants as bindings
+use Rattle.rl_hir.specs.declared.instruction.ObjectProperty.{ObjectProperty}
 use Rattle.rl_hir.specs.declared.instruction.Place.{Place}
+use Rattle.rl_hir.specs.declared.instruction.PlaceOrSpread.{PlaceOrSpread}
 use Rattle.rl_hir.specs.declared.instruction.PrimitiveValue.{PrimitiveValue}
 use Rattle.rl_hir.specs.declared.instruction.PrimitiveValue.TheVariants as primitives
+use Rattle.rl_hir.specs.declared.instruction.PropertyLiteral.TheVariants as keys
 use Rattle.rl_hir.specs.Instructions.{binding_texts}
-use Rattle.rl_hir.specs.Pieces.{Piece}
+use Rattle.rl_hir.specs.Pieces.{Piece, argument_pieces, gathered, property_pieces, texts}
 use Rattle.rl_lowered.proofs.Blocks.{all_blocks, expression_blocks, last_blocks}
-use Rattle.rl_lowered.proofs.Forms.{form_acts, form_event, identifiers_in}
-use Rattle.rl_lowered.proofs.Meant.{both_none, form_means}
-use Rattle.rl_lowered.proofs.Plain.{first_value, lowered_plain}
-use Rattle.rl_lowered.specs.Forms.{IsForm, IsLiteral, IsWrapper, places_in}
-use Rattle.rl_lowered.specs.Forms.{NumberIndex, Call, New, Array, Template, RegExp}
-use Rattle.rl_lowered.specs.Forms.{Null, Boolean, String, Number, Parenthesized}
-use Rattle.rl_lowered.specs.Lowered.{Asked, Conditional, EarlierPart, Global, LastPart, Literal, Logical, Lowered, LoweredAll, LoweredLast}
-use Rattle.rl_lowered.specs.Lowered.{NextHole, NextPart, NextSpread, NoPart, RefusedGlobal, RefusedNumber, Same, Sequence, Variable}
+use Rattle.rl_lowered.proofs.Clean.{branches_clean, cast_clean, computed_row_clean, constant_update_never, first_none, form_clean}
+use Rattle.rl_lowered.proofs.Clean.{fraction_row_never, method_clean, outer_never, private_clean, private_never, property_row_clean}
+use Rattle.rl_lowered.proofs.Clean.{refused_never, refusing_never, second_none, unknown_row_never, updated_member_clean, wrapper_clean}
+use Rattle.rl_lowered.proofs.Forms.{event_with, form_acts, form_event, given_values, identifiers_in, key_by, load_acts, object_acts, store_acts}
+use Rattle.rl_lowered.proofs.Keys.{HasText, Name, has_text}
+use Rattle.rl_lowered.proofs.Meant.{form_means, member_means, private_member_never}
+use Rattle.rl_lowered.proofs.Plain.{all_shapes, first_value, lowered_plain}
+use Rattle.rl_lowered.specs.Forms.{IsCast, IsLiteral, IsMember, IsWrapper, MemberKey, load_of, places_in, store_of, type_of, typed}
+use Rattle.rl_lowered.specs.Forms.{As, Boolean, Computed, Fixed, Indexed, Null, Number, Numbered, Parenthesized, Static, String}
+use Rattle.rl_lowered.specs.Lowered.{Asked, Cast, Conditional, EarlierPart, Global, LastPart, Literal, Logical, Lowered, LoweredLast}
+use Rattle.rl_lowered.specs.Lowered.{LoweredParts, Method, NextComputed, NextFraction, NextHole, NextPart, NextProperty, NextSpread}
+use Rattle.rl_lowered.specs.Lowered.{NextUnknown, NoPart, Object, Private, Refused, RefusedBefore, RefusedBehind, RefusedGlobal, Same}
+use Rattle.rl_lowered.specs.Lowered.{Sequence, UpdatedConstant, UpdatedMember, UpdatedVariable, Variable}
+use Rattle.rl_lowered.specs.Lowered.{binary_of, member_one, member_result, member_stored, update_of, value_span}
+use Rattle.rl_lowered.specs.Named.{IsFound, found}
 use Rattle.rl_machine.specs.Acts.{Asks, act, gives}
 use Rattle.rl_machine.specs.declared.trace.Answer.{Answer}
+use Rattle.rl_machine.specs.declared.trace.Event.{Event}
 use Rattle.rl_machine.specs.declared.trace.Value.{Value}
 use Rattle.rl_machine.specs.Traces.{Store, ValueCont, World}
 use Rattle.rl_machine.specs.declared.trace.Value.TheVariants as value
-use Rattle.rl_hir.specs.Pairs.{identifier_of}
-use Rattle.rl_model.specs.Actions.{Action, Ways, ask, give, no_meaning, variable}
-use Rattle.rl_model.specs.Events.{global}
-use Rattle.rl_model.specs.Expressions.{eval, eval_last, read, values as values_in}
+use Rattle.rl_model.specs.Actions.{Action, Ways, ◌>>=◌, ask, give, no_meaning}
+use Rattle.rl_model.specs.Events.{event, global, load}
+use Rattle.rl_model.specs.Expressions.{call_kind, callee, eval, eval_last, first_piece, one_value, place, property_key, read}
+use Rattle.rl_model.specs.Expressions.{update_name, update_property, values as values_in}
 use Rattle.rl_model.specs.Scene.{Scene}
+use Rattle.rl_model.specs.Shapes.{first_character, is_computed, key_text, lends_receiver, shapes}
 use Rattle.rl_names.specs.Names.{Names}
 use Rattle.rl_names.specs.declared.names.Meaning.{Meaning}
 use Rattle.rl_names.specs.declared.names.Meaning.TheVariants.{Local, Outer}
-use Rattle.rl_promises.specs.Rows.{refusal, refusals, refusals_in, said_of_name}
-use Rattle.rl_runs.proofs.Expressions.{all_asked, literal_runs, local_runs, means_same, next_runs, none_run}
+use Rattle.rl_promises.specs.Rows.{refusals, refusals_in}
+use Rattle.rl_runs.proofs.Expressions.{all_asked, literal_runs, means_same, next_runs, none_run}
 use Rattle.rl_runs.proofs.Holes.{same_throws, use_expression}
-use Rattle.rl_runs.proofs.Moves.{contained_before, extends_refl, inside}
+use Rattle.rl_runs.proofs.Moves.{contained_before, extends_refl, extends_resolved, extends_then, inside}
+use Rattle.rl_runs.proofs.Properties.{method_runs, property_postfix_runs, property_prefix_runs}
 use Rattle.rl_runs.proofs.Steps.{since_start}
+use Rattle.rl_runs.proofs.Types.{cast_runs, variable_cast_runs}
+use Rattle.rl_runs.proofs.Variables.{postfix_runs, prefix_runs, read_runs}
 use Rattle.rl_runs.specs.Continuations.{between}
 use Rattle.rl_runs.specs.Facts.{Extends}
 use Rattle.rl_runs.specs.Simulation.{RunsAll, RunsExpression}
 use Rattle.rl_syntax.specs.declared.numbered.At.{At}
 use Rattle.rl_syntax.specs.declared.word.Word.{Word}
 use Rattle.rl_syntax.specs.declared.word.Word.TheVariants as word
-use Rattle.rl_syntax.specs.Syntax.{Syntax, Node, Said, Pieces, End, Then, span_of}
+use Rattle.rl_syntax.specs.Syntax.{Syntax, Node, Listed, Said, Flag, Pieces, End, Then, span_of}
 use Rattle.rl_text.specs.Numeral.{number_of}
-
-never : {d : Diagnostic} {ds : List Diagnostic} → d ∷ ds ≡ [] → ⊥
-never e = cc
-
--- The refusals of a node are those of parts of it.
-
-pub first_none : (xs ys : List Diagnostic) → xs ++ ys ≡ [] → xs ≡ []
-first_none xs ys none = (both_none xs ys none).0
-
-pub second_none : (xs ys : List Diagnostic) → xs ++ ys ≡ [] → ys ≡ []
-second_none xs ys none = (both_none xs ys none).1
-
-pub branches_clean : (names : Names) (consequent alternate test : Syntax)
-    → refusals names consequent ++ refusals names alternate ++ refusals names test ≡ []
-    → (refusals names consequent ≡ []) × (refusals names alternate ≡ []) × (refusals names test ≡ [])
-branches_clean names consequent alternate test none =
-    let front = both_none (refusals names consequent) (refusals names alternate) (first_none _ (refusals names test) none) in
-    (front.0, front.1, second_none (refusals names consequent ++ refusals names alternate) (refusals names test) none)
-
-wrapper_clean : {w : Word} → IsWrapper w → (names : Names) (at : At) (e : Syntax) → refusals names (Node at w (Then e End)) ≡ []
-    → refusals names e ≡ []
-wrapper_clean Parenthesized names at e none = first_none (refusals names e) [] none
-wrapper_clean _ names at e none = first_none (refusals names e) [] none
-
-form_clean : {w : Word} {fields parts : Pieces} {pieces : List Piece} {v : InstructionValue} → IsForm w fields parts pieces v
-    → (names : Names) (at : At) → refusals names (Node at w fields) ≡ [] → refusals_in names parts ≡ []
-form_clean (NumberIndex {object} {there} {text} numeral) names at none =
-    append-nil (refusals names object) ∙ first_none (refusals names object) _ none
-form_clean (Call {callee} {es} plain is) names at none =
-    ap (λ (l : List Diagnostic). refusals names callee ++ l) (sym (append-nil (refusals_in names es))) ∙ none
-form_clean (New {callee} {es} is) names at none =
-    ap (λ (l : List Diagnostic). refusals names callee ++ l) (sym (append-nil (refusals_in names es))) ∙ none
-form_clean (Array {es} is) names at none = first_none (refusals_in names es) [] none
-form_clean (Template {texts = said} {es} are is) names at none =
-    first_none (refusals_in names es) [] (second_none (refusals_in names said) (refusals_in names es ++ []) none)
-form_clean RegExp names at none = refl
-form_clean _ names at none = none
 
 -- Literals, wrappers and names.
 
-wrapper_runs : {w : Word} → IsWrapper w → (at : At) (e : Syntax) (scene : Scene) (s t : State) (identifier : ℕ)
+wrapper_runs : {w : Word} {fields : Pieces} {e : Syntax} → IsWrapper w fields e → (at : At) (scene : Scene) (s t : State) (identifier : ℕ)
     → RunsExpression scene.world (eval scene e) s t identifier
-    → RunsExpression scene.world (eval scene (Node at w (Then e End))) s t identifier
-wrapper_runs Parenthesized at e scene s t identifier r = r
-wrapper_runs _ at e scene s t identifier r = r
+    → RunsExpression scene.world (eval scene (Node at w fields)) s t identifier
+wrapper_runs Parenthesized at scene s t identifier r = r
+wrapper_runs _ at scene s t identifier r = r
+
+cast_means : {w : Word} {fields : Pieces} {e type : Syntax} → IsCast w fields e type → (at : At) (scene : Scene) (s t : State)
+    (identifier : ℕ) → RunsExpression scene.world (eval scene e) s t identifier
+    → RunsExpression scene.world (eval scene (Node at w fields)) s t identifier
+cast_means As at scene s t identifier r = r
+cast_means _ at scene s t identifier r = r
+
+typed_runs : (world : World) (s t : State) (d : Action Value) (p : Place) (k : TypeKind) (there span : Span) → Extends s t
+    → RunsExpression world d s t p.identifier.0
+    → RunsExpression world d s (with_value (typed t k) (values.TypeCastExpression p (type_of t k) (Some there)) (Some span))
+    (length (typed t k).env.identifiers)
+typed_runs world s t d p types.Array there span g r = cast_runs world s t d p (type_of t types.Array) (Some there) (Some span) g r
+typed_runs world s t d p types.Primitive there span g r = cast_runs world s t d p (type_of t types.Primitive) (Some there) (Some span) g r
+typed_runs world s t d p types.Other there span g r = variable_cast_runs world s t d p (type_of t types.Other) (Some there) (Some span) g r
 
 literal_means : {w : Word} {fields : Pieces} {p : PrimitiveValue} → IsLiteral w fields p → (at : At) (scene : Scene) (s : State)
     → RunsExpression scene.world (eval scene (Node at w fields)) s (with_value s (values.Primitive p) (Some at.span))
@@ -125,18 +118,27 @@ name_means : (scene : Scene) (names : Names) (at : At) (name : List ℕ) (m : Me
 name_means scene names at name m same is =
     ap (λ (n : Names). read scene (n.meaning at.reference.0 name)) same ∙ ap (λ (o : Meaning). read scene o) is
 
-variable_runs : (world : World) (s : State) (name : List ℕ) (symbol : ℕ) (given : Option Span) (p : Place) (o : Option ℕ)
-    → o ≡ Some p.identifier.0 → identifier_of s.bindings symbol ≡ Some p.identifier.0
-    → RunsExpression world (variable symbol) s (with_value (resolved_by o s name symbol given) (values.LoadLocal p) given)
-    (length s.env.identifiers)
-variable_runs world s name symbol given p o is bound =
-    subst
-    (λ (known : Option ℕ). RunsExpression world (variable symbol) s (with_value (resolved_by known s name symbol given) (values.LoadLocal p) given) (length s.env.identifiers))
-    (sym is) (record { fresh = r.fresh; made = r.made; free = r.free; runs = r.runs })
-  where
-    r : RunsExpression world (variable symbol) (resolved_by (Some p.identifier.0) s name symbol given)
-        (with_value (resolved_by (Some p.identifier.0) s name symbol given) (values.LoadLocal p) given) (length s.env.identifiers)
-    r = local_runs world (resolved_by (Some p.identifier.0) s name symbol given) symbol p given bound
+twice : (names : Names) (s : State) (symbol : SymbolId) (there : Span) (identifier : ℕ) → IsFound names s symbol there identifier
+    → IsFound names (found names s symbol there) symbol there identifier
+    → Extends s (found names (found names s symbol there) symbol there)
+twice names s symbol there identifier f g =
+    extends_then (extends_resolved s (names.name symbol.0) symbol.0 (Some there) f.agree)
+    (extends_resolved (found names s symbol there) (names.name symbol.0) symbol.0 (Some there) g.agree)
+
+-- A variable is updated, behind its two look-ups.
+updated_runs : (scene : Scene) (names : Names) (s : State) (symbol : SymbolId) (there : Span) (identifier : ℕ) (operator : UpdateOperator)
+    (prefix : Bool) (span : Option Span) → IsFound names s symbol there identifier
+    → IsFound names (found names s symbol there) symbol there identifier
+    → RunsExpression scene.world (update_name scene prefix (update_text operator) (Local symbol)) s
+    (with_value (found names (found names s symbol there) symbol there)
+    (update_of prefix operator (record { identifier = record { 0 = identifier }; span = Some there })) span)
+    (length (found names (found names s symbol there) symbol there).env.identifiers)
+updated_runs scene names s symbol there identifier operator true span f g =
+    prefix_runs scene s (found names (found names s symbol there) symbol there) symbol operator
+    (record { identifier = record { 0 = identifier }; span = Some there }) span (twice names s symbol there identifier f g) refl g.bound
+updated_runs scene names s symbol there identifier operator false span f g =
+    postfix_runs scene s (found names (found names s symbol there) symbol there) symbol operator
+    (record { identifier = record { 0 = identifier }; span = Some there }) span (twice names s symbol there identifier f g) refl g.bound
 
 global_acts : (binding : NonLocalBinding) (id : ℕ) (store : Store)
     → act id (values.LoadGlobal binding) store ≡ Asks (global (binding_texts binding)) (gives id)
@@ -175,31 +177,204 @@ logical_means scene at logical.And left right ways k source answers = sym (and_m
 logical_means scene at logical.Or left right ways k source answers = sym (or_meant scene at left right ways k source answers)
 logical_means scene at logical.Coalesce left right ways k source answers = sym (coalesce_meant scene at left right ways k source answers)
 
--- The place of an identifier at a node.
-abbrev there : ℕ → At → Place
-there identifier at = record { identifier = record { 0 = identifier }; span = Some at.span }
+-- Updates of properties, and calls of methods.
+
+operator_same : (operator : UpdateOperator) → operator_text (binary_of operator) ≡ first_character (update_text operator)
+operator_same updates.Increment = refl
+operator_same updates.Decrement = refl
+
+update_means : {w : Word} {fields parts : Pieces} {pieces : List Piece} {object : Place} {key : MemberKey}
+    → IsMember w fields parts pieces object key → (scene : Scene) (at there : At) (operator : List ℕ) (prefix : Bool)
+    → (place scene (Node there w fields) >>= (λ p. update_property scene prefix operator p.0 p.1))
+    ≡ eval scene (Node at word.Update (Then (Said operator) (Then (Flag prefix) (Then (Node there w fields) End))))
+update_means Static scene at there operator prefix = refl
+update_means _ scene at there operator prefix = refl
+
+stored_property_runs : {w : Word} {fields parts : Pieces} {pieces : List Piece} {object : Place} {key : MemberKey}
+    (is : IsMember w fields parts pieces object key) (scene : Scene) (s t : State) (operator : UpdateOperator) (prefix : Bool) (there : Span)
+    → Extends s t → RunsAll scene.world (values_in scene parts) s t (identifiers_in pieces)
+    → RunsExpression scene.world
+    (λ ways k. values_in scene parts ways (λ vs. update_property scene prefix (update_text operator) (first_piece vs) (key_by key vs) ways k))
+    s (member_stored t object key operator there) (member_result t object key operator prefix there).identifier.0
+stored_property_runs {parts} {pieces} {object} {key} is scene s t operator true there g rs =
+    property_prefix_runs scene s t (values_in scene parts) (identifiers_in pieces) first_piece (key_by key) (load_of object key)
+    (store_of object key (temporary (member_one t object key there) (Some there))) (binary_of operator) (update_text operator) there g rs
+    (λ store. load_acts is (length t.env.identifiers) store)
+    (λ store. store_acts is _ (temporary (member_one t object key there) (Some there)) store) (operator_same operator)
+stored_property_runs {parts} {pieces} {object} {key} is scene s t operator false there g rs =
+    property_postfix_runs scene s t (values_in scene parts) (identifiers_in pieces) first_piece (key_by key) (load_of object key)
+    (store_of object key (temporary (member_one t object key there) (Some there))) (binary_of operator) (update_text operator) there g rs
+    (λ store. load_acts is (length t.env.identifiers) store)
+    (λ store. store_acts is _ (temporary (member_one t object key there) (Some there)) store) (operator_same operator)
+
+-- The callee of a method call gives the object and the function.
+callee_means : {w : Word} {fields parts : Pieces} {pieces : List Piece} {object : Place} {key : MemberKey}
+    → IsMember w fields parts pieces object key → (scene : Scene) (there : At) → scene.ported ≡ true
+    → (place scene (Node there w fields) >>= (λ p. ask scene (load p.0 p.1) >>= (λ f. give (p.0 ∷ f ∷ []))))
+    ≡ (if lends_receiver scene (Node there w fields) then callee scene (Node there w fields) else one_value (eval scene (Node there w fields)))
+callee_means {fields} Static scene there ported =
+    sym (ap (λ (b : Bool). if (if b then true else true) then callee scene (Node there word.Member fields)
+    else one_value (eval scene (Node there word.Member fields))) ported)
+callee_means {fields} _ scene there ported =
+    sym (ap (λ (b : Bool). if (if b then true else true) then callee scene (Node there word.Index fields)
+    else one_value (eval scene (Node there word.Index fields))) ported)
+
+method_acts : (object method : Place) (given : List PlaceOrSpread) (pieces : List Piece) → gathered argument_pieces given ≡ pieces
+    → (id : ℕ) (store : Store)
+    → act id (values.MethodCall (record { receiver = object; property = method; arguments = given })) store
+    ≡ Asks (event (codes "methodcall") (texts pieces)
+    (store object.identifier.0 ∷ store method.identifier.0 ∷ map store (identifiers_in pieces))) (gives id)
+method_acts object method given pieces is id store =
+    ap (λ (l : List Value). Asks (event (codes "methodcall") (texts (gathered argument_pieces given))
+    (store object.identifier.0 ∷ store method.identifier.0 ∷ l)) (gives id)) (given_values given store)
+    ∙ ap (λ (l : List Piece). Asks (event (codes "methodcall") (texts l)
+    (store object.identifier.0 ∷ store method.identifier.0 ∷ map store (identifiers_in l))) (gives id)) is
+
+-- The event of the call of a method.
+abbrev called_with : List Piece → List Value → Event
+called_with pieces vs = event (codes "methodcall") (texts pieces) vs
+
+called_runs : {w : Word} {fields parts : Pieces} {pieces : List Piece} {object : Place} {key : MemberKey}
+    (is : IsMember w fields parts pieces object key) (scene : Scene) (s t u : State) (es : Action (List Value)) (more : List Piece)
+    (given : List PlaceOrSpread) (there span : Span) → gathered argument_pieces given ≡ more
+    → Extends s t → Extends (with_value t (load_of object key) (Some there)) u
+    → RunsAll scene.world (values_in scene parts) s t (identifiers_in pieces)
+    → RunsAll scene.world es (with_value t (load_of object key) (Some there)) u (identifiers_in more)
+    → RunsExpression scene.world
+    (λ ways k. values_in scene parts ways (λ vs. ask scene (load (first_piece vs) (key_by key vs)) ways
+    (λ f. es ways (λ ws. ask scene (called_with more (first_piece vs ∷ f ∷ ws)) ways k)))) s
+    (with_value u (values.MethodCall (record { receiver = object; property = temporary t (Some there); arguments = given })) (Some span))
+    (length u.env.identifiers)
+called_runs (Static {object = e} {key} {p}) scene s t u es more given there span is g h rs more_rs =
+    method_runs scene.world s t u (values_in scene (Then e End)) es p.identifier.0 [] (identifiers_in more) (key_by (Fixed (keys.String key)))
+    (load_of p (Fixed (keys.String key))) _ (Some there) (Some span) (called_with more) g h (λ store. refl)
+    (λ store. method_acts p (temporary t (Some there)) given more is (length u.env.identifiers) store) rs more_rs
+called_runs (Indexed {object = e} {property} {p} {q} other) scene s t u es more given there span is g h rs more_rs =
+    method_runs scene.world s t u (values_in scene (Then e (Then property End))) es p.identifier.0 (q.identifier.0 ∷ [])
+    (identifiers_in more) (key_by (Computed q)) (load_of p (Computed q)) _ (Some there) (Some span) (called_with more) g h (λ store. refl)
+    (λ store. method_acts p (temporary t (Some there)) given more is (length u.env.identifiers) store) rs more_rs
+called_runs (Numbered {object = e} {text} {p} numeral) scene s t u es more given there span is g h rs more_rs =
+    method_runs scene.world s t u (values_in scene (Then e End)) es p.identifier.0 [] (identifiers_in more)
+    (key_by (Fixed (keys.Number (number_of text)))) (load_of p (Fixed (keys.Number (number_of text)))) _ (Some there) (Some span)
+    (called_with more) g h (λ store. refl)
+    (λ store. method_acts p (temporary t (Some there)) given more is (length u.env.identifiers) store) rs more_rs
+
+-- Properties of object literals.
+
+textual : {computed : Bool} {key : Syntax} {text : List ℕ} → HasText computed key text → is_computed computed key ≡ false
+textual (Name at said) = refl
+textual _ = refl
+
+-- A key that has a text is not evaluated.
+key_silent : (computed : Bool) (key : Syntax) (text : List ℕ) (value : Action Value) → key_text computed key ≡ Some text
+    → property_key computed key value ≡ give []
+key_silent computed key text value is =
+    ap (λ (b : Bool). if b then one_value value else if is_some (key_text computed key) then give [] else no_meaning)
+    (textual (has_text computed key text is))
+    ∙ ap (λ (o : Option (List ℕ)). if is_some o then give [] else no_meaning) is
+
+property_values : (scene : Scene) (at : At) (computed : Bool) (key e : Syntax) (es : Pieces) (text : List ℕ)
+    → key_text computed key ≡ Some text
+    → values_in scene (Then (Node at word.Prop (Then (Flag computed) (Then key (Then e End)))) es)
+    ≡ (λ ways k. eval scene e ways (λ v. values_in scene es ways (λ vs. k (v ∷ vs))))
+property_values scene at computed key e es text is =
+    ap (λ (a : Action (List Value)). (a >>= (λ vs. eval scene e >>= (λ v. give (vs ++ v ∷ []))))
+    >>= (λ vs. values_in scene es >>= (λ ws. give (vs ++ ws)))) (key_silent computed key text (eval scene key) is)
+
+computed_values : (scene : Scene) (at : At) (key e : Syntax) (es : Pieces) → is_computed true key ≡ true
+    → values_in scene (Then (Node at word.Prop (Then (Flag true) (Then key (Then e End)))) es)
+    ≡ (λ ways k. eval scene key ways (λ w. eval scene e ways (λ v. values_in scene es ways (λ vs. k (w ∷ v ∷ vs)))))
+computed_values scene at key e es is =
+    ap (λ (b : Bool). ((if b then one_value (eval scene key) else if is_some (key_text true key) then give [] else no_meaning)
+    >>= (λ vs. eval scene e >>= (λ v. give (vs ++ v ∷ []))))
+    >>= (λ vs. values_in scene es >>= (λ ws. give (vs ++ ws)))) is
+
+-- An object literal.
+object_runs : (scene : Scene) (at : At) (es : Pieces) (pieces : List Piece) (given : List ObjectProperty) (s t : State)
+    → gathered property_pieces given ≡ pieces → texts pieces ≡ shapes es → Extends s t
+    → RunsAll scene.world (values_in scene es) s t (identifiers_in pieces)
+    → RunsExpression scene.world (eval scene (Node at word.Object (Then (Listed es) End))) s
+    (with_value t (values.ObjectExpression given) (Some at.span)) (length t.env.identifiers)
+object_runs scene at es pieces given s t is shaped g rs =
+    means_same scene.world s _ (length t.env.identifiers)
+    (λ ways k source answers. ap (λ (l : List (List ℕ)). values_in scene es ways (λ vs. ask scene (event (codes "object") l vs) ways k)
+    source answers) (ap texts is ∙ shaped))
+    (all_asked scene.world s t (values_in scene es) (identifiers_in pieces) (values.ObjectExpression given) (Some at.span) g
+    (event_with (values.ObjectExpression given))
+    (λ store. object_acts given (length t.env.identifiers) store
+    ∙ ap (λ (l : List Piece). Asks (event_with (values.ObjectExpression given) (map store (identifiers_in l)))
+    (gives (length t.env.identifiers))) is)
+    rs)
+
+-- The place of an identifier at a span.
+abbrev there : ℕ → Span → Place
+there identifier span = record { identifier = record { 0 = identifier }; span = Some span }
 
 mutual
   pub expression_runs : {names : Names} {e : Syntax} {s t : State} {p : Place} → Lowered names e s t p → refusals names e ≡ []
       → (scene : Scene) → scene.names ≡ names → scene.ported ≡ true → RunsExpression scene.world (eval scene e) s t p.identifier.0
   expression_runs (Literal at w fields p s is) none scene same ported = literal_means is at scene s
-  expression_runs (RefusedNumber at text s is) none scene same ported =
-      absurd (never (sym (ap (λ (b : Bool). (if b then [] else refusal row.F43 at.span ∷ []) ++ []) is) ∙ none))
-  expression_runs {names} (Variable at name symbol identifier s is named bound agrees) none scene same ported =
+  expression_runs {names} (Refused at w fields r s is) none scene same ported = absurd (refused_never names at is none)
+  expression_runs {names} (RefusedBefore at w fields parts r pieces s t is all) none scene same ported =
+      absurd (refusing_never names at is none)
+  expression_runs {names} (RefusedBehind at object name s t p by) none scene same ported =
+      absurd (private_never names at (Flag false) object (Said name) none)
+  expression_runs {names} (Private at w fields e s t p is by) none scene same ported =
+      absurd (private_member_never is by (private_clean is names at none))
+  expression_runs {names} (Variable at name symbol identifier s is f) none scene same ported =
       subst (λ (d : Action Value). RunsExpression scene.world d s
-      (with_value (resolved s (names.name symbol.0) symbol.0 (Some at.span)) (values.LoadLocal (there identifier at)) (Some at.span))
-      (length s.env.identifiers))
+      (with_value (found names s symbol at.span) (values.LoadLocal (there identifier at.span)) (Some at.span))
+      (length (found names s symbol at.span).env.identifiers))
       (sym (name_means scene names at name (Local symbol) same is))
-      (variable_runs scene.world s (names.name symbol.0) symbol.0 (Some at.span) (there identifier at) (identifier_of s.bindings symbol.0) bound bound)
+      (read_runs scene.world s (names.name symbol.0) symbol.0 (Some at.span) (there identifier at.span) (Some at.span) f.agree f.bound)
+  expression_runs {names} (UpdatedVariable at inner name symbol identifier operator prefix s is mutable f g) none scene same ported =
+      subst (λ (d : Action Value). RunsExpression scene.world d s
+      (with_value (found names (found names s symbol inner.span) symbol inner.span) (update_of prefix operator (there identifier inner.span))
+      (Some at.span))
+      (length (found names (found names s symbol inner.span) symbol inner.span).env.identifiers))
+      (sym (ap (λ (n : Names). update_name scene prefix (update_text operator) (n.meaning inner.reference.0 name)) same
+      ∙ ap (λ (m : Meaning). update_name scene prefix (update_text operator) m) is))
+      (updated_runs scene names s symbol inner.span identifier operator prefix (Some at.span) f g)
+  expression_runs {names} (UpdatedConstant at inner name symbol identifier operator prefix s is constant f) none scene same ported =
+      absurd (constant_update_never names at inner operator prefix name symbol is constant none)
+  expression_runs {names} (UpdatedMember at inner w fields parts pieces object key operator prefix s t is all) none scene same ported =
+      let clean = updated_member_clean is names at inner (Said (update_text operator)) (Flag prefix) none in
+      means_same scene.world s _ _
+      (λ ways k source answers.
+      member_means is all clean scene inner ways (λ p. update_property scene prefix (update_text operator) p.0 p.1 ways k) source answers
+      ∙ ap (λ (a : Action Value). a ways k source answers) (update_means is scene at inner (update_text operator) prefix))
+      (stored_property_runs is scene s t operator prefix inner.span (all_blocks all).extends (all_runs all clean scene same ported))
+  expression_runs {names} (Method at inner w fields parts es pieces given_pieces object key given s t u is all more given_are) none
+      scene same ported =
+      let clean = method_clean is names at inner es none in
+      means_same scene.world s _ (length u.env.identifiers)
+      (λ ways k source answers.
+      member_means is all clean.0 scene inner ways
+      (λ p. ask scene (load p.0 p.1) ways
+      (λ f. values_in scene es ways (λ ws. ask scene (called_with given_pieces (p.0 ∷ f ∷ ws)) ways k))) source answers
+      ∙ ap (λ (l : List (List ℕ)). place scene (Node inner w fields) ways (λ p. ask scene (load p.0 p.1) ways
+      (λ f. values_in scene es ways (λ ws. ask scene (event (codes "methodcall") l (p.0 ∷ f ∷ ws)) ways k))) source answers)
+      (all_shapes more clean.1)
+      ∙ ap (λ (a : Action (List Value)). a ways
+      (λ head. values_in scene es ways (λ vs. ask scene (event (call_kind head) (shapes es) (head ++ vs)) ways k)) source answers)
+      (callee_means is scene inner ported))
+      (called_runs is scene s t u (values_in scene es) given_pieces given inner.span at.span given_are (all_blocks all).extends
+      (all_blocks more).extends (all_runs all clean.0 scene same ported) (all_runs more clean.1 scene same ported))
+  expression_runs {names} (Cast at inner w fields e type k s t p is annotated by) none scene same ported =
+      cast_means is at scene s _ (length (typed t k).env.identifiers)
+      (typed_runs scene.world s t (eval scene e) p k inner.span at.span (expression_blocks by).extends
+      (expression_runs by (cast_clean is names at none) scene same ported))
+  expression_runs {names} (Object at es pieces properties s t is all) none scene same ported =
+      let clean = first_none (refusals_in names es) [] none in
+      object_runs scene at es pieces properties s t is (all_shapes all clean) (all_blocks all).extends (all_runs all clean scene same ported)
   expression_runs {names} (Global at name binding s is other) none scene same ported =
       subst (λ (d : Action Value). RunsExpression scene.world d s (with_value s (values.LoadGlobal binding) (Some at.span))
       (length s.env.identifiers))
       (sym (name_means scene names at name (Outer binding) same is)) (global_runs scene s binding (Some at.span))
   expression_runs {names} (RefusedGlobal at name binding s is refused) none scene same ported =
-      absurd (never (sym (ap (λ (m : Meaning). said_of_name names m at.span ++ []) is
-      ∙ ap (λ (b : Bool). (if b then refusal row.F2 at.span ∷ [] else []) ++ []) refused) ∙ none))
-  expression_runs {names} (Same at w e s t p is by) none scene same ported =
-      wrapper_runs is at e scene s t p.identifier.0 (expression_runs by (wrapper_clean is names at e none) scene same ported)
+      absurd (outer_never names at name binding is refused none)
+  expression_runs {names} (Same at w fields e s t p is by) none scene same ported =
+      wrapper_runs is at scene s t p.identifier.0 (expression_runs by (wrapper_clean is names at none) scene same ported)
   expression_runs {names} (Asked at w fields parts pieces v s t form all) none scene same ported =
       means_same scene.world s _ (length t.env.identifiers)
       (λ ways k source answers. form_means form all (form_clean form names at none) scene ported at ways k source answers)
@@ -208,7 +383,7 @@ mutual
   expression_runs {names} (Logical at operator left right s s2 s3 l r by_right by_left) none scene same ported =
       means_same scene.world s _ (length s.env.identifiers)
       (λ ways k source answers. logical_means scene at operator left right ways k source answers)
-      (logical_runs s s2 s3 operator r l at.span (span_of left) (span_of right)
+      (logical_runs s s2 s3 operator r l at.span (span_of left) (value_span r right)
       (expression_blocks by_right).extends (expression_blocks by_left).extends
       scene.world (eval scene left) (eval scene right)
       (expression_runs by_right (first_none (refusals names right) (refusals names left) none) scene same ported)
@@ -226,7 +401,8 @@ mutual
       sequence_runs s s2 p at.span at.span (last_blocks by).extends scene.world (eval_last scene (Then e es))
       (last_runs by (first_none (refusals_in names (Then e es)) [] none) scene same ported)
 
-  pub all_runs : {names : Names} {es : Pieces} {s t : State} {pieces : List Piece} → LoweredAll names es s t pieces
+  pub all_runs : {names : Names} {of_object : Bool} {es : Pieces} {s t : State} {pieces : List Piece}
+      → LoweredParts names of_object es s t pieces
       → refusals_in names es ≡ []
       → (scene : Scene) → scene.names ≡ names → scene.ported ≡ true
       → RunsAll scene.world (values_in scene es) s t (map (λ (q : Place). q.identifier.0) (places_in pieces))
@@ -244,6 +420,28 @@ mutual
       (expression_runs by (first_none (refusals names e) [] (first_none (refusals names e ++ []) (refusals_in names es) none)) scene same ported)
       (all_runs all (second_none (refusals names e ++ []) (refusals_in names es) none) scene same ported)
   all_runs {names} (NextHole at es s u pieces all) none scene same ported = all_runs all none scene same ported
+  all_runs {names} (NextProperty at computed key e text es s t u p pieces is by all) none scene same ported =
+      let clean = property_row_clean names at computed key e (46 ∷ text) es is none in
+      subst (λ (d : Action (List Value)). RunsAll scene.world d s u (p.identifier.0 ∷ identifiers_in pieces))
+      (sym (property_values scene at computed key e es (46 ∷ text) is))
+      (next_runs scene.world s t u (eval scene e) (values_in scene es) p.identifier.0 (identifiers_in pieces)
+      (expression_blocks by).extends (all_blocks all).extends
+      (expression_runs by clean.0 scene same ported) (all_runs all clean.1 scene same ported))
+  all_runs {names} (NextComputed at key e es s r t u p q pieces is first by all) none scene same ported =
+      let clean = computed_row_clean names at key e es (lowered_plain first).key none in
+      subst (λ (d : Action (List Value)). RunsAll scene.world d s u (p.identifier.0 ∷ q.identifier.0 ∷ identifiers_in pieces))
+      (sym (computed_values scene at key e es is))
+      (next_runs scene.world s r u (eval scene key) (λ ways k. eval scene e ways (λ v. values_in scene es ways (λ vs. k (v ∷ vs))))
+      p.identifier.0 (q.identifier.0 ∷ identifiers_in pieces)
+      (expression_blocks first).extends (extends_then (expression_blocks by).extends (all_blocks all).extends)
+      (expression_runs first clean.0 scene same ported)
+      (next_runs scene.world r t u (eval scene e) (values_in scene es) q.identifier.0 (identifiers_in pieces)
+      (expression_blocks by).extends (all_blocks all).extends
+      (expression_runs by clean.1 scene same ported) (all_runs all clean.2 scene same ported)))
+  all_runs {names} (NextFraction at inner e text es s t u p pieces is by all) none scene same ported =
+      absurd (fraction_row_never names at inner text e es is none)
+  all_runs {names} (NextUnknown at computed key e es s u pieces is all) none scene same ported =
+      absurd (unknown_row_never names at computed key e es is none)
 
   pub last_runs : {names : Names} {es : Pieces} {s t : State} {p : Place} → LoweredLast names es s t p
       → refusals_in names es ≡ [] → (scene : Scene) → scene.names ≡ names → scene.ported ≡ true

@@ -1,9 +1,18 @@
 -- The numbers of blocks, types, identifiers and instructions that the lowering of a part adds, together: a bound by the part's nodes.
-use Rattle.std.proofs.Common.{◌≡◌, ℕ, ◌+◌, ◌≤◌, true, false, Option, Some, None, List, ap, arith}
+use Rattle.std.proofs.Common.{ℕ, ◌+◌, ◌≤◌, Bool, true, false, Option, Some, None, List, [], ◌∷◌, length-append, arith}
+use Rattle.rl_base.specs.declared.row.Row.{Row}
 use Rattle.rl_base.specs.declared.row.Row.TheVariants as row
 use Rattle.rl_base.specs.declared.span.Span.{Span}
+use Rattle.rl_base.specs.Diagnostics.{diagnostic_at}
+use Rattle.rl_base.specs.declared.ids.SymbolId.{SymbolId}
+use Rattle.rl_base.specs.declared.operator.UpdateOperator.{UpdateOperator}
+use Rattle.rl_base.specs.declared.type_kind.TypeKind.{TypeKind}
+use Rattle.rl_base.specs.declared.type_kind.TypeKind.TheVariants as types
+use Rattle.rl_base.specs.declared.variable_kind.VariableKind.{VariableKind}
+use Rattle.rl_base.specs.declared.variable_kind.VariableKind.TheVariants as kinds
 use Rattle.rl_builder.specs.Builder.{State, recorded}
-use Rattle.rl_builder.specs.Names.{resolved, resolved_by}
+use Rattle.rl_builder.specs.Temporaries.{temporary}
+use Rattle.rl_builder.specs.Names.{fresh_identifier, new_span, resolved_by}
 use Rattle.rl_frames.proofs.FrameSizes.{if_alternate_size, if_begun_size, if_consequent_size, logical_begun_size, logical_ended_size}
 use Rattle.rl_frames.proofs.FrameSizes.{logical_righted_size, sequence_begun_size, sequence_ended_size, ternary_alternated_size}
 use Rattle.rl_frames.proofs.FrameSizes.{ternary_begun_size, ternary_consequent_size}
@@ -11,26 +20,91 @@ use Rattle.rl_frames.specs.Frames.{IfParts, LogicalParts, TernaryParts, if_after
 use Rattle.rl_frames.specs.Frames.{ternary_at, ternary_parted}
 use Rattle.rl_hir.specs.Pairs.{identifier_of}
 use Rattle.rl_hir.specs.Pieces.{Piece}
+use Rattle.rl_hir.specs.declared.instruction.InstructionKind.{InstructionKind}
 use Rattle.rl_hir.specs.declared.instruction.InstructionValue.{InstructionValue}
 use Rattle.rl_hir.specs.declared.instruction.InstructionValue.TheVariants as values
 use Rattle.rl_hir.specs.declared.instruction.Place.{Place}
 use Rattle.rl_hir.specs.declared.instruction.PrimitiveValue.TheVariants as primitives
-use Rattle.rl_lowered.specs.Forms.{IsForm}
+use Rattle.rl_lowered.specs.Forms.{IsCast, IsForm, IsInside, IsMember, IsPrivate, IsRefusing, IsWrapper, MemberKey, load_of, store_of, type_of, typed}
 use Rattle.rl_lowered.specs.Forms as forms
-use Rattle.rl_lowered.specs.Lowered.{Lowered, LoweredAll, LoweredBody, LoweredLast, LoweredStatement, LoweredStatements}
+use Rattle.rl_lowered.specs.Lowered.{Lowered, LoweredBody, LoweredDeclarators, LoweredLast, LoweredParts, LoweredStatement, LoweredStatements}
+use Rattle.rl_lowered.specs.Lowered.{binary_of, declaring, member_loaded, member_one, member_stored, member_updated, update_of, value_span}
 use Rattle.rl_lowered.specs.Lowered as lowered
+use Rattle.rl_lowered.specs.Named.{found}
 use Rattle.rl_lowered.specs.Promised.{share}
 use Rattle.rl_names.specs.Names.{Names}
 use Rattle.rl_promises.specs.Rows.{refusal}
 use Rattle.rl_runs.proofs.Sizes.{size_value}
 use Rattle.rl_runs.specs.Blocks.{size_of}
 use Rattle.rl_syntax.specs.Syntax.{Syntax, Pieces, nodes, nodes_of, span_of}
+use Rattle.rl_used_names.specs.Choosing.{chosen}
 use Rattle.rl_syntax.specs.declared.word.Word.{Word}
 
--- A symbol that has an identifier adds none.
-pub resolved_size : (s : State) (name : List ℕ) (symbol : ℕ) (given : Option Span) (identifier : ℕ)
-    → identifier_of s.bindings symbol ≡ Some identifier → size_of (resolved s name symbol given) ≡ size_of s
-resolved_size s name symbol given identifier bound = ap (λ (o : Option ℕ). size_of (resolved_by o s name symbol given)) bound
+-- A look-up makes an identifier of a type of its own, or nothing.
+
+by_size : (known : Option ℕ) (s : State) (name : List ℕ) (symbol : ℕ) (given : Option Span)
+    → size_of (resolved_by known s name symbol given) ≤ size_of s + 2
+by_size None s name symbol given =
+    let one = length-append s.env.identifiers
+    (fresh_identifier (chosen s.used_names symbol name) (new_span s symbol given) s.env.next_type ∷ []) in
+    omega (arith, one)
+by_size (Some known) s name symbol given = omega arith
+
+pub found_size : (names : Names) (s : State) (symbol : SymbolId) (at : Span) → size_of (found names s symbol at) ≤ size_of s + 2
+found_size names s symbol at = by_size (identifier_of s.bindings symbol.0) s (names.name symbol.0) symbol.0 (Some at)
+
+typed_size : (s : State) (k : TypeKind) → size_of (typed s k) ≤ size_of s + 1
+typed_size s types.Array = omega arith
+typed_size s types.Primitive = omega arith
+typed_size s types.Other = omega arith
+
+declaring_size : (s : State) (k : VariableKind) (at : Span) → size_of (declaring s k at) ≤ size_of s
+declaring_size s kinds.Var at = omega arith
+declaring_size s _ at = omega arith
+
+member_size : (t : State) (object : Place) (key : MemberKey) (operator : UpdateOperator) (there : Span)
+    → size_of (member_stored t object key operator there) ≤ size_of t + 16
+member_size t object key operator there =
+    let loaded : State = member_loaded t object key there in
+    let one : State = member_one t object key there in
+    let updated : State = member_updated t object key operator there in
+    let first = size_value t (load_of object key) (Some there) in
+    let second = size_value loaded (values.Primitive (primitives.Number 1)) None in
+    let third = size_value one
+    (values.BinaryExpression (binary_of operator) (temporary t (Some there)) (temporary loaded None)) (Some there) in
+    let fourth = size_value updated (store_of object key (temporary one (Some there))) (Some there) in
+    omega (arith, first, second, third, fourth)
+
+-- Parts in fields.
+
+inside_nodes : {e inner : Syntax} → IsInside e inner → nodes inner ≤ nodes e
+inside_nodes forms.Bare = omega arith
+inside_nodes (forms.Around more) = let less = inside_nodes more in omega (arith, less)
+
+member_nodes : {w : Word} {fields parts : Pieces} {pieces : List Piece} {object : Place} {key : MemberKey}
+    → IsMember w fields parts pieces object key → nodes_of parts ≤ nodes_of fields
+member_nodes forms.Static = omega arith
+member_nodes (forms.Indexed other) = omega arith
+member_nodes (forms.Numbered is) = omega arith
+
+wrapper_nodes : {w : Word} {fields : Pieces} {e : Syntax} → IsWrapper w fields e → nodes e ≤ nodes_of fields
+wrapper_nodes forms.Parenthesized = omega arith
+wrapper_nodes forms.NonNull = omega arith
+wrapper_nodes (forms.Instantiated fit) = omega arith
+
+cast_nodes : {w : Word} {fields : Pieces} {e type : Syntax} → IsCast w fields e type → nodes e ≤ nodes_of fields
+cast_nodes forms.As = omega arith
+cast_nodes forms.Satisfies = omega arith
+cast_nodes forms.Assert = omega arith
+
+private_nodes : {w : Word} {fields : Pieces} {e : Syntax} → IsPrivate w fields e → nodes e ≤ nodes_of fields
+private_nodes forms.PrivateUpdate = omega arith
+private_nodes (forms.PrivateDelete operator deletes inside) = omega (arith, inside_nodes inside)
+
+refusing_nodes : {w : Word} {fields parts : Pieces} {r : Row} → IsRefusing w fields parts r → nodes_of parts ≤ nodes_of fields
+refusing_nodes forms.PrivateIn = omega arith
+refusing_nodes forms.ImportCall = omega arith
+refusing_nodes forms.ImportCallWith = omega arith
 
 -- The parts of a kind of the table are among its fields.
 pub form_nodes : {w : Word} {fields parts : Pieces} {pieces : List Piece} {v : InstructionValue} → IsForm w fields parts pieces v
@@ -38,13 +112,13 @@ pub form_nodes : {w : Word} {fields parts : Pieces} {pieces : List Piece} {v : I
 form_nodes forms.Binary = omega arith
 form_nodes (forms.Unary plain) = omega arith
 form_nodes forms.Await = omega arith
-form_nodes forms.Member = omega arith
-form_nodes (forms.Index other) = omega arith
-form_nodes (forms.NumberIndex is) = omega arith
+form_nodes (forms.Load is) = member_nodes is
+form_nodes (forms.Delete operator deletes inside is) = omega (arith, inside_nodes inside, member_nodes is)
 form_nodes (forms.Call plain given) = omega arith
 form_nodes (forms.New given) = omega arith
 form_nodes (forms.Array given) = omega arith
 form_nodes (forms.Template texts given) = omega arith
+form_nodes (forms.Tagged raw texts given) = omega arith
 form_nodes forms.RegExp = omega arith
 form_nodes forms.ImportMeta = omega arith
 
@@ -52,23 +126,60 @@ mutual
   pub expression_size : {names : Names} {e : Syntax} {s t : State} {p : Place} → Lowered names e s t p
       → size_of t ≤ size_of s + share (nodes e)
   expression_size (lowered.Literal at w fields p s is) = omega (arith, size_value s (values.Primitive p) (Some at.span))
-  expression_size (lowered.RefusedNumber at text s is) =
-      omega (arith, size_value (recorded s (refusal row.F43 at.span)) (values.Primitive primitives.Undefined) (Some at.span))
-  expression_size {names} (lowered.Variable at name symbol identifier s is named bound agree) =
-      let found : State = resolved s (names.name symbol.0) symbol.0 (Some at.span) in
+  expression_size (lowered.Refused at w fields r s is) =
+      omega (arith, size_value (recorded s (refusal r at.span)) (values.Primitive primitives.Undefined) (Some at.span))
+  expression_size (lowered.RefusedBefore at w fields parts r pieces s t is l) =
+      omega (arith, refusing_nodes is, all_size l, size_value t (values.Primitive primitives.Undefined) (Some at.span))
+  expression_size (lowered.RefusedBehind at object name s t p l) =
+      omega (arith, expression_size l, size_value (recorded t (refusal row.F3 at.span)) (values.Primitive primitives.Undefined) (Some at.span))
+  expression_size (lowered.Private at w fields e s t p is l) = omega (arith, private_nodes is, expression_size l)
+  expression_size {names} (lowered.Variable at name symbol identifier s is f) =
       let place : Place = record { identifier = record { 0 = identifier }; span = Some at.span } in
-      let same = resolved_size s (names.name symbol.0) symbol.0 (Some at.span) identifier bound in
-      omega (arith, same, size_value found (values.LoadLocal place) (Some at.span))
+      omega (arith, found_size names s symbol at.span, size_value (found names s symbol at.span) (values.LoadLocal place) (Some at.span))
+  expression_size {names} (lowered.UpdatedVariable at there name symbol identifier operator prefix s is mutable f g) =
+      let first : State = found names s symbol there.span in
+      let place : Place = record { identifier = record { 0 = identifier }; span = Some there.span } in
+      omega (
+        arith,
+        found_size names s symbol there.span,
+        found_size names first symbol there.span,
+        size_value (found names first symbol there.span) (update_of prefix operator place) (Some at.span),
+      )
+  expression_size {names} (lowered.UpdatedConstant at there name symbol identifier operator prefix s is constant f) =
+      let noted : State = recorded (found names s symbol there.span) (diagnostic_at row.F6 (names.name symbol.0) there.span) in
+      omega (arith, found_size names s symbol there.span, size_value noted (values.Primitive primitives.Undefined) (Some at.span))
+  expression_size (lowered.UpdatedMember at there w fields parts pieces object key operator prefix s t is l) =
+      omega (arith, member_nodes is, all_size l, member_size t object key operator there.span)
+  expression_size (lowered.Method at there w fields parts es pieces given_pieces object key given s t u is l given_are m) =
+      omega (
+        arith,
+        member_nodes is,
+        all_size l,
+        size_value t (load_of object key) (Some there.span),
+        all_size given_are,
+        size_value u (values.MethodCall (record { receiver = object; property = temporary t (Some there.span); arguments = given }))
+            (Some at.span),
+      )
+  expression_size (lowered.Cast at there w fields e type k s t p is annotated l) =
+      omega (
+        arith,
+        cast_nodes is,
+        expression_size l,
+        typed_size t k,
+        size_value (typed t k) (values.TypeCastExpression p (type_of t k) (Some there.span)) (Some at.span),
+      )
   expression_size (lowered.Global at name binding s is plain) = omega (arith, size_value s (values.LoadGlobal binding) (Some at.span))
   expression_size (lowered.RefusedGlobal at name binding s is refused) =
       omega (arith, size_value (recorded s (refusal row.F2 at.span)) (values.LoadGlobal binding) (Some at.span))
-  expression_size (lowered.Same at w e s t p is l) = omega (arith, expression_size l)
+  expression_size (lowered.Same at w fields e s t p is l) = omega (arith, wrapper_nodes is, expression_size l)
   expression_size (lowered.Asked at w fields parts pieces v s t is l) =
       omega (arith, form_nodes is, all_size l, size_value t v (Some at.span))
+  expression_size (lowered.Object at es pieces properties s t is l) =
+      omega (arith, all_size l, size_value t (values.ObjectExpression properties) (Some at.span))
   expression_size (lowered.Logical at operator left right s s2 s3 l r second first) =
       let f : LogicalParts = logical_at s at.span operator (span_of left) in
       let begun = logical_begun_size s at.span (span_of left) in
-      let righted = logical_righted_size f s2 r (span_of right) in
+      let righted = logical_righted_size f s2 r (value_span r right) in
       let ended = logical_ended_size (logical_after f) s3 l in
       omega (arith, begun, expression_size second, righted, expression_size first, ended)
   expression_size (lowered.Conditional at test consequent alternate s s2 s3 s4 c a p second third first) =
@@ -80,23 +191,51 @@ mutual
   expression_size (lowered.Sequence at e es s s2 p l) =
       omega (arith, last_size l, sequence_begun_size s at.span, sequence_ended_size (sequence_at s at.span) s2 p at.span)
 
-  pub all_size : {names : Names} {es : Pieces} {s t : State} {pieces : List Piece} → LoweredAll names es s t pieces
+  pub all_size : {names : Names} {of_object : Bool} {es : Pieces} {s t : State} {pieces : List Piece} → LoweredParts names of_object es s t pieces
       → size_of t ≤ size_of s + share (nodes_of es)
   all_size (lowered.NoPart s) = omega arith
   all_size (lowered.NextPart e es s t u p pieces l more) = omega (arith, expression_size l, all_size more)
   all_size (lowered.NextSpread at e es s t u p pieces l more) = omega (arith, expression_size l, all_size more)
   all_size (lowered.NextHole at es s u pieces more) = omega (arith, all_size more)
+  all_size (lowered.NextProperty at computed key e text es s t u p pieces is l more) = omega (arith, expression_size l, all_size more)
+  all_size (lowered.NextComputed at key e es s r t u p q pieces is k l more) =
+      omega (arith, expression_size k, expression_size l, all_size more)
+  all_size (lowered.NextFraction at there e text es s t u p pieces is l more) = omega (arith, expression_size l, all_size more)
+  all_size (lowered.NextUnknown at computed key e es s u pieces is more) = omega (arith, all_size more)
 
   pub last_size : {names : Names} {es : Pieces} {s t : State} {p : Place} → LoweredLast names es s t p
       → size_of t ≤ size_of s + share (nodes_of es)
   last_size (lowered.LastPart e s t p l) = omega (arith, expression_size l)
   last_size (lowered.EarlierPart e next es s t u p q l more) = omega (arith, expression_size l, last_size more)
 
+declarators_size : {names : Names} {at : Span} {k : InstructionKind} {es : Pieces} {s t : State} → LoweredDeclarators names at k es s t
+    → size_of t ≤ size_of s + share (nodes_of es)
+declarators_size (lowered.NoDeclarator s) = omega arith
+declarators_size {names} {at} {k} (lowered.NextDeclared there bind name type more symbol identifier s u annotated is f l) =
+    let place : Place = record { identifier = record { 0 = identifier }; span = Some bind.span } in
+    omega (
+      arith,
+      found_size names s symbol bind.span,
+      size_value (found names s symbol bind.span) (values.DeclareLocal k place) (Some bind.span),
+      declarators_size l,
+    )
+declarators_size {names} {at} {k} (lowered.NextInitialized there bind name type init more symbol identifier s t u p annotated is l f m) =
+    let place : Place = record { identifier = record { 0 = identifier }; span = Some at } in
+    omega (
+      arith,
+      expression_size l,
+      found_size names t symbol bind.span,
+      size_value (found names t symbol bind.span) (values.StoreLocal k place p) (Some at),
+      declarators_size m,
+    )
+
 mutual
   pub statement_size : {names : Names} {e : Syntax} {s t : State} → LoweredStatement names e s t
       → size_of t ≤ size_of s + share (nodes e)
   statement_size (lowered.Empty at s) = omega arith
   statement_size (lowered.Expression at e s t p l) = omega (arith, expression_size l)
+  statement_size (lowered.Debugger at s) = omega (arith, size_value s values.Debugger (Some at.span))
+  statement_size (lowered.Variables at k declarators s t l) = omega (arith, declaring_size s k at.span, declarators_size l)
   statement_size (lowered.ReturnNothing at s) = omega (arith, size_value s (values.Primitive primitives.Undefined) None)
   statement_size (lowered.Return at e s t p l) = omega (arith, expression_size l)
   statement_size (lowered.Block at statements s t l) = omega (arith, statements_size l)

@@ -1,13 +1,18 @@
 -- Lowering a part keeps places known and parts writable, and its value is in a place that was made.
-use Rattle.std.proofs.Common.{◌≡◌, ℕ, ◌++◌, ◌<◌, true, false, List, [], ◌∷◌, length, map, All, Option, Some, None, refl, sym, ap, ◌∙◌, subst, arith}
-use Rattle.std.proofs.lemmas.List.Elements.{All-cons, All-nil, All-weaker}
-use Rattle.std.proofs.lemmas.Option.{slice_get_within}
-use Rattle.rl_base.specs.declared.diagnostic.Diagnostic.{Diagnostic}
-use Rattle.rl_base.specs.Operators.{logical_text}
+use Rattle.std.proofs.Common.{◌≡◌, ℕ, ◌++◌, ◌<◌, Bool, true, false, List, [], ◌∷◌, length, map, All, Some, None, refl, sym, subst, arith}
+use Rattle.std.proofs.lemmas.List.Elements.{All-append, All-cons, All-head, All-nil, All-tail, All-weaker}
+use Rattle.rl_base.specs.Diagnostics.{diagnostic_at}
+use Rattle.rl_base.specs.Operators.{logical_text, update_text}
+use Rattle.rl_base.specs.VariableKinds.{variable_text}
+use Rattle.rl_base.specs.declared.ids.SymbolId.{SymbolId}
 use Rattle.rl_base.specs.declared.operator.LogicalOperator.{LogicalOperator}
+use Rattle.rl_base.specs.declared.operator.UpdateOperator.{UpdateOperator}
+use Rattle.rl_base.specs.declared.row.Row.TheVariants as row
 use Rattle.rl_base.specs.declared.span.Span.{Span}
+use Rattle.rl_base.specs.declared.type_kind.TypeKind.{TypeKind}
+use Rattle.rl_base.specs.declared.variable_kind.VariableKind.{VariableKind}
+use Rattle.rl_base.specs.declared.variable_kind.VariableKind.TheVariants as kinds
 use Rattle.rl_builder.specs.Builder.{State, completed_by, new_block, recorded, reserved}
-use Rattle.rl_builder.specs.Names.{fbt_label, refused_name, resolved, resolved_by}
 use Rattle.rl_builder.specs.Temporaries.{temporary, with_value}
 use Rattle.rl_frames.specs.Frames.{if_alternate, if_after_consequent, if_at, if_consequent, if_ended, if_shut}
 use Rattle.rl_frames.specs.Frames.{logical_after, logical_at, logical_ended, logical_righted}
@@ -16,40 +21,55 @@ use Rattle.rl_frames.specs.Frames.{ternary_after, ternary_alternated, ternary_at
 use Rattle.rl_frames.specs.Parts.{if_begun, logical_begun, logical_place, sequence_begun, sequence_place, ternary_begun, ternary_place}
 use Rattle.rl_hir.specs.Instructions.{binding_texts}
 use Rattle.rl_hir.specs.Listing as listing
-use Rattle.rl_hir.specs.Pairs.{identifier_of}
-use Rattle.rl_hir.specs.Pieces.{Piece, Says, operands}
+use Rattle.rl_hir.specs.Pieces.{Piece, Says, argument_pieces, gathered, operands}
 use Rattle.rl_hir.specs.declared.function.BlockKind.TheVariants as blocks
+use Rattle.rl_hir.specs.declared.instruction.InstructionKind.{InstructionKind}
 use Rattle.rl_hir.specs.declared.instruction.InstructionValue.{InstructionValue}
 use Rattle.rl_hir.specs.declared.instruction.InstructionValue.TheVariants as values
 use Rattle.rl_hir.specs.declared.instruction.NonLocalBinding.{NonLocalBinding}
 use Rattle.rl_hir.specs.declared.instruction.Place.{Place}
+use Rattle.rl_hir.specs.declared.instruction.PlaceOrSpread.{PlaceOrSpread}
 use Rattle.rl_hir.specs.declared.instruction.PrimitiveValue.TheVariants as primitives
 use Rattle.rl_hir.specs.declared.terminal.ReturnVariant.TheVariants as returns
 use Rattle.rl_model.specs.WellFormed.{AreKnown, operand_places, value_places}
 use Rattle.rl_names.specs.Locals.{HasTexts}
 use Rattle.rl_names.specs.Names.{Names}
 use Rattle.rl_names.specs.declared.names.Meaning.TheVariants.{Outer}
+use Rattle.rl_promises.specs.Locals.{IsSmallSpan, KnowsNames}
+use Rattle.rl_promises.specs.Rows.{refusal}
 use Rattle.rl_runs.specs.Moves.{return_of, returned_from}
 use Rattle.rl_syntax.specs.declared.numbered.At.{At}
 use Rattle.rl_syntax.specs.declared.word.Word.{Word}
 use Rattle.rl_syntax.specs.declared.word.Word.TheVariants as word
-use Rattle.rl_syntax.specs.Syntax.{Syntax, Node, Listed, Said, Absent, Pieces, End, Then, span_of}
+use Rattle.rl_syntax.specs.Syntax.{Syntax, Node, Listed, Said, Flag, Absent, Pieces, End, Then, span_of}
 use Rattle.rl_text.specs.Notation.{IsWritable}
-use Rattle.rl_lowered.specs.Forms.{IsForm, places_in}
-use Rattle.rl_lowered.specs.Lowered.{Lowered, LoweredAll, LoweredBody, LoweredLast, LoweredStatement, LoweredStatements}
-use Rattle.rl_lowered.specs.Lowered.{Asked, Conditional, Global, Literal, Logical, RefusedGlobal, RefusedNumber, Same, Sequence, Variable}
-use Rattle.rl_lowered.specs.Lowered.{EarlierPart, LastPart, NextHole, NextPart, NextSpread, NoPart}
-use Rattle.rl_lowered.specs.Lowered.{Block, Empty, Expression, IfElse, IfThen, NextStatement, NoStatement, Return, ReturnNothing}
-use Rattle.rl_lowered.specs.Lowered.{Statements, Value}
-use Rattle.rl_lowered.specs.Named.{HasIdentifier}
-use Rattle.rl_lowered.specs.Sound.{AreSmallTrees, HasSmallCounters, HasSmallSpans, HaveSmallSpans, IsSmallSpan, IsSmallTree, IsSoundPlace, StaysSound}
-use Rattle.rl_lowered.proofs.SoundForms.{form_places, form_small, form_writable, literal_writable}
+use Rattle.rl_lowered.specs.Forms.{IsForm, IsMember, Indexed, MemberKey, Numbered, Static, load_of, places_in, store_of, type_of, typed}
+use Rattle.rl_lowered.specs.Lowered.{Lowered, LoweredBody, LoweredDeclarators, LoweredLast, LoweredParts, LoweredStatement, LoweredStatements}
+use Rattle.rl_lowered.specs.Lowered.{Asked, Cast, Conditional, Global, Literal, Logical, Method, Object, Private, Refused, RefusedBefore}
+use Rattle.rl_lowered.specs.Lowered.{RefusedBehind, RefusedGlobal, Same, Sequence, UpdatedConstant, UpdatedMember, UpdatedVariable, Variable}
+use Rattle.rl_lowered.specs.Lowered.{EarlierPart, LastPart, NextComputed, NextFraction, NextHole, NextPart, NextProperty, NextSpread}
+use Rattle.rl_lowered.specs.Lowered.{NextDeclared, NextInitialized, NextUnknown, NoDeclarator, NoPart}
+use Rattle.rl_lowered.specs.Lowered.{Block, Debugger, Empty, Expression, IfElse, IfThen, NextStatement, NoStatement, Return, ReturnNothing}
+use Rattle.rl_lowered.specs.Lowered.{Statements, Value, Variables}
+use Rattle.rl_lowered.specs.Lowered.{binary_of, declaring, member_loaded, member_one, member_result, member_stored, member_updated, update_of}
+use Rattle.rl_lowered.specs.Lowered.{value_span}
+use Rattle.rl_lowered.specs.Named.{IsFound, found}
+use Rattle.rl_lowered.specs.Sound.{AreSmallTrees, HasSmallCounters, IsSmallTree, IsSoundPlace, StaysSound}
+use Rattle.rl_lowered.proofs.Keys.{has_text}
+use Rattle.rl_lowered.proofs.SoundForms.{AreWritten, cast_small, debugger_writable, form_places, form_small, form_writable, hole_utf8}
+use Rattle.rl_lowered.proofs.SoundForms.{key_utf8, literal_writable, load_writable, member_places, member_small, method_places}
+use Rattle.rl_lowered.proofs.SoundForms.{method_writable, object_places, object_writable, private_small, refusing_small, store_writable}
+use Rattle.rl_lowered.proofs.SoundForms.{stored_places, wrapper_small}
 use Rattle.rl_lowered.proofs.SoundFrames.{if_else_sound, if_then_sound, logical_sound, sequence_sound, ternary_sound}
-use Rattle.rl_lowered.proofs.SoundListing.{local_writable, outer_writable, place_writable, span_writable, undefined_writable}
-use Rattle.rl_lowered.proofs.SoundMoves.{empty_writable, none_known, one_known, place_later, place_weaker}
-use Rattle.rl_lowered.proofs.SoundMoves.{sound_diagnostics, sound_next, sound_recorded, sound_refl, sound_reserved}
-use Rattle.rl_lowered.proofs.SoundMoves.{sound_return, sound_returned, sound_then, sound_value, sound_weaker, value_place, with_diagnostics}
-use Rattle.rl_lowered.proofs.SoundTrees.{span_small}
+use Rattle.rl_lowered.proofs.SoundListing.{binary_writable, cast_writable, declared_writable, initialized_writable, local_writable}
+use Rattle.rl_lowered.proofs.SoundListing.{number_writable, outer_writable, span_writable, sum_utf8, type_writable, undefined_writable}
+use Rattle.rl_lowered.proofs.SoundListing.{updated_writable}
+use Rattle.rl_lowered.proofs.SoundMoves.{counters_before, empty_writable, none_known, one_known, place_later, place_made, place_next}
+use Rattle.rl_lowered.proofs.SoundMoves.{place_weaker, sound_next, sound_recorded, sound_refl, sound_reserved, sound_return, sound_returned}
+use Rattle.rl_lowered.proofs.SoundMoves.{sound_then, sound_typed, sound_value, sound_weaker, value_place}
+use Rattle.rl_lowered.proofs.SoundNames.{found_below, sound_found}
+use Rattle.rl_lowered.proofs.SoundTrees.{each_small, span_small}
+use Rattle.rl_lowered.proofs.Spanned.{value_spanned}
 
 -- A value behind what came before
 
@@ -62,25 +82,66 @@ value_sound small s t v span before places written at = (
   value_place small t v (Some span) places written (λ holds. span_writable span (at holds)),
 )
 
--- A name
+-- Places that were made
 
-variable_sound : (at : At) (text name : List ℕ) (symbol identifier : ℕ) (s : State) → HasIdentifier s symbol name
-    → identifier_of s.bindings symbol ≡ Some identifier
+places_known : (small : Type 0) (t : State) (ps : List Place) → All (IsSoundPlace small t) ps → AreKnown (length t.env.identifiers) ps
+places_known small t ps all =
+    All-weaker (IsSoundPlace small t) (λ (q : Place). q.identifier.0 < length t.env.identifiers) (λ q known. known.known) ps all
+
+places_written : (small : Type 0) (t : State) (ps : List Place) → All (IsSoundPlace small t) ps → small → HasSmallCounters t
+    → All (λ (q : Place). IsWritable (listing.place q)) ps
+places_written small t ps all holds fits =
+    All-weaker (IsSoundPlace small t) (λ (q : Place). IsWritable (listing.place q)) (λ q known. known.writable holds fits) ps all
+
+places_next : (small : Type 0) (mid new : State) (ps : List Place) → StaysSound small mid new → All (IsSoundPlace small mid) ps
+    → All (IsSoundPlace small new) ps
+places_next small mid new ps j all =
+    All-weaker (IsSoundPlace small mid) (IsSoundPlace small new) (λ q known. place_next small mid new q j known) ps all
+
+places_weaker : (P R : Type 0) (t : State) (ps : List Place) → (R → P) → All (IsSoundPlace P t) ps → All (IsSoundPlace R t) ps
+places_weaker P R t ps first all =
+    All-weaker (IsSoundPlace P t) (IsSoundPlace R t) (λ q known. place_weaker P R t q first known) ps all
+
+one_place : (small : Type 0) (t : State) (p : Place) → IsSoundPlace small t p → All (IsSoundPlace small t) (p ∷ [])
+one_place small t p place = All-cons (IsSoundPlace small t) p [] place (All-nil (IsSoundPlace small t))
+
+abbrev IsSound : (small : Type 0) → (s t : State) → Place → Type 0
+IsSound small s t p = StaysSound small s t × IsSoundPlace small t p
+
+-- A value over places
+
+over_sound : (small : Type 0) (s t : State) (v : InstructionValue) (span : Span) (ps : List Place) → StaysSound small s t
+    → All (IsSoundPlace small t) ps → value_places v ≡ ps
+    → (small → HasSmallCounters t → All (λ (q : Place). IsWritable (listing.place q)) ps → IsWritable (listing.value v))
+    → (small → IsSmallSpan span)
+    → StaysSound small s (with_value t v (Some span)) × IsSoundPlace small (with_value t v (Some span)) (temporary t (Some span))
+over_sound small s t v span ps before all same written at =
+    value_sound small s t v span before (subst (AreKnown (length t.env.identifiers)) (sym same) (places_known small t ps all))
+    (λ holds fits. written holds fits (places_written small t ps all holds fits)) at
+
+-- A variable
+
+variable_place : (small : Type 0) (names : Names) (s : State) (symbol : SymbolId) (at span : Span) (identifier : ℕ)
+    → IsFound names s symbol at identifier → (small → IsSmallSpan span)
+    → IsSoundPlace small (found names s symbol at) (record { identifier = record { 0 = identifier }; span = Some span })
+variable_place small names s symbol at span identifier f small_span =
+    place_made small (found names s symbol at) identifier span (found_below names s symbol at identifier f) small_span
+
+variable_sound : (names : Names) (at : At) (text : List ℕ) (symbol : SymbolId) (identifier : ℕ) (s : State)
+    → IsFound names s symbol at.span identifier
     → StaysSound (IsSmallTree (Node at word.Id (Then (Said text) End))) s
-    (with_value (resolved s name symbol (Some at.span))
+    (with_value (found names s symbol at.span)
     (values.LoadLocal (record { identifier = record { 0 = identifier }; span = Some at.span })) (Some at.span))
     × IsSoundPlace (IsSmallTree (Node at word.Id (Then (Said text) End)))
-    (with_value (resolved s name symbol (Some at.span))
-    (values.LoadLocal (record { identifier = record { 0 = identifier }; span = Some at.span })) (Some at.span)) (temporary s (Some at.span))
-variable_sound at text name symbol identifier s h bound =
-    subst (λ (n : State). StaysSound small s (with_value n (values.LoadLocal variable) (Some at.span))
-    × IsSoundPlace small (with_value n (values.LoadLocal variable) (Some at.span)) (temporary s (Some at.span)))
-    (sym (ap (λ (o : Option ℕ). resolved_by o s name symbol (Some at.span)) bound))
-    (value_sound small s (with_diagnostics s said) (values.LoadLocal variable) at.span (sound_diagnostics small s said)
-    (one_known (length s.env.identifiers) variable below)
-    (λ holds fits. local_writable variable
-    (place_writable variable (omega (arith, below, fits.identifiers)) (span_writable at.span holds.0.0)))
-    (λ holds. holds.0.0))
+    (with_value (found names s symbol at.span)
+    (values.LoadLocal (record { identifier = record { 0 = identifier }; span = Some at.span })) (Some at.span))
+    (temporary (found names s symbol at.span) (Some at.span))
+variable_sound names at text symbol identifier s f =
+    over_sound small s (found names s symbol at.span) (values.LoadLocal variable) at.span (variable ∷ [])
+    (sound_found small names s symbol at.span identifier f (λ holds. holds.0.0))
+    (one_place small _ variable (variable_place small names s symbol at.span at.span identifier f (λ holds. holds.0.0))) refl
+    (λ holds fits all. local_writable variable (All-head (λ (q : Place). IsWritable (listing.place q)) variable [] all))
+    (λ holds. holds.0.0)
   where
     small : Type 0
     small = IsSmallTree (Node at word.Id (Then (Said text) End))
@@ -88,15 +149,47 @@ variable_sound at text name symbol identifier s h bound =
     variable : Place
     variable = record { identifier = record { 0 = identifier }; span = Some at.span }
 
-    said : List Diagnostic
-    said = s.env.diagnostics ++ refused_name (Some identifier) s.env.identifiers name (fbt_label s symbol (Some at.span))
+update_places : (prefix : Bool) (operator : UpdateOperator) (p : Place) → value_places (update_of prefix operator p) ≡ p ∷ p ∷ []
+update_places true operator p = refl
+update_places false operator p = refl
 
-    below : identifier < length s.env.identifiers
-    below =
-        let told : Some h.identifier ≡ Some identifier = sym h.bound ∙ bound in
-        let same : h.identifier ≡ identifier = cc in
-        let made : h.identifier < length s.env.identifiers = slice_get_within s.env.identifiers h.identifier h.known h.made in
-        omega (arith, same, made)
+updated_sound : (names : Names) (at there : At) (name : List ℕ) (symbol : SymbolId) (identifier : ℕ) (operator : UpdateOperator)
+    (prefix : Bool) (s : State) (small : Type 0)
+    → small ≡ IsSmallTree (Node at word.Update
+    (Then (Said (update_text operator)) (Then (Flag prefix) (Then (Node there word.Id (Then (Said name) End)) End))))
+    → IsFound names s symbol there.span identifier → IsFound names (found names s symbol there.span) symbol there.span identifier
+    → IsSound small s
+    (with_value (found names (found names s symbol there.span) symbol there.span)
+    (update_of prefix operator (record { identifier = record { 0 = identifier }; span = Some there.span })) (Some at.span))
+    (temporary (found names (found names s symbol there.span) symbol there.span) (Some at.span))
+updated_sound names at there name symbol identifier operator prefix s small is f g =
+    over_sound small s second (update_of prefix operator variable) at.span (variable ∷ variable ∷ [])
+    (sound_next small s first second (sound_found small names s symbol there.span identifier f there_small)
+    (sound_found small names first symbol there.span identifier g there_small))
+    (All-cons (IsSoundPlace small second) variable (variable ∷ []) place (one_place small second variable place))
+    (update_places prefix operator variable)
+    (λ holds fits all. updated_writable prefix operator variable (tree holds).1.1.0
+    (All-head (λ (q : Place). IsWritable (listing.place q)) variable (variable ∷ []) all))
+    (λ holds. (tree holds).0.0)
+  where
+    first : State
+    first = found names s symbol there.span
+
+    second : State
+    second = found names first symbol there.span
+
+    variable : Place
+    variable = record { identifier = record { 0 = identifier }; span = Some there.span }
+
+    tree : small → IsSmallTree (Node at word.Update
+        (Then (Said (update_text operator)) (Then (Flag prefix) (Then (Node there word.Id (Then (Said name) End)) End))))
+    tree holds = subst (λ (A : Type 0). A) is holds
+
+    there_small : small → IsSmallSpan there.span
+    there_small holds = (tree holds).0.1.1.1.0.0
+
+    place : IsSoundPlace small second variable
+    place = variable_place small names first symbol there.span there.span identifier g there_small
 
 -- A name that no local variable has reads no place
 outer_places : (said : List (List ℕ)) → operand_places (operands (map Says said)) ≡ []
@@ -140,19 +233,144 @@ next_sound P Q R s t u p ps first second part rest = (
       (All-weaker (IsSoundPlace Q u) (IsSoundPlace R u) (λ q known. place_weaker Q R u q second known) ps rest.1),
 )
 
--- Constructs, from what their parts keep
+-- Updates of properties, and calls of methods
 
-abbrev IsSound : (small : Type 0) → (s t : State) → Place → Type 0
-IsSound small s t p = StaysSound small s t × IsSoundPlace small t p
+member_object : (P : Place → Type 0) {w : Word} {fields parts : Pieces} {pieces : List Piece} {object : Place} {key : MemberKey}
+    → IsMember w fields parts pieces object key → All P (places_in pieces) → P object
+member_object P (Static {p}) all = All-head P p [] all
+member_object P (Indexed {p} {q} other) all = All-head P p (q ∷ []) all
+member_object P (Numbered {p} numeral) all = All-head P p [] all
+
+loaded_sound : (small : Type 0) (t : State) (there : At) {w : Word} {fields parts : Pieces} {pieces : List Piece} {object : Place}
+    {key : MemberKey} → IsMember w fields parts pieces object key → All (IsSoundPlace small t) (places_in pieces)
+    → (small → IsSmallTree (Node there w fields))
+    → IsSound small t (with_value t (load_of object key) (Some there.span)) (temporary t (Some there.span))
+loaded_sound small t there {pieces} {object} {key} is all inner =
+    over_sound small t t (load_of object key) there.span (places_in pieces) (sound_refl small t) all (member_places is).0
+    (λ holds fits written. load_writable is there (inner holds) written) (λ holds. (inner holds).0.0)
+
+member_update_sound : (small : Type 0) (s t : State) (there : At) (operator : UpdateOperator) (prefix : Bool) {w : Word}
+    {fields parts : Pieces} {pieces : List Piece} {object : Place} {key : MemberKey} → IsMember w fields parts pieces object key
+    → StaysSound small s t → All (IsSoundPlace small t) (places_in pieces) → (small → IsSmallTree (Node there w fields))
+    → IsSound small s (member_stored t object key operator there.span) (member_result t object key operator prefix there.span)
+member_update_sound small s t there operator prefix {pieces} {object} {key} is before all inner = (
+  sound_next small s t stored before
+      (sound_next small t loaded stored first.0 (sound_next small loaded one stored second (sound_next small one updated stored third.0 fourth.0))),
+  result prefix,
+)
+  where
+    loaded : State
+    loaded = member_loaded t object key there.span
+
+    one : State
+    one = member_one t object key there.span
+
+    updated : State
+    updated = member_updated t object key operator there.span
+
+    stored : State
+    stored = member_stored t object key operator there.span
+
+    old : Place
+    old = temporary t (Some there.span)
+
+    new : Place
+    new = temporary one (Some there.span)
+
+    first : IsSound small t loaded old
+    first = loaded_sound small t there is all inner
+
+    second : StaysSound small loaded one
+    second =
+        sound_value small loaded (values.Primitive (primitives.Number 1)) None (none_known (length loaded.env.identifiers))
+        (λ holds fits. number_writable 1 (omega arith)) (λ holds. tt)
+
+    one_made : IsSoundPlace small one (temporary loaded None)
+    one_made =
+        value_place small loaded (values.Primitive (primitives.Number 1)) None (none_known (length loaded.env.identifiers))
+        (λ holds fits. number_writable 1 (omega arith)) (λ holds. tt)
+
+    old_one : IsSoundPlace small one old
+    old_one = place_next small loaded one old second first.1
+
+    third : IsSound small one updated new
+    third =
+        value_sound small one one (values.BinaryExpression (binary_of operator) old (temporary loaded None)) there.span (sound_refl small one)
+        (All-cons (λ (q : Place). q.identifier.0 < length one.env.identifiers) old (temporary loaded None ∷ []) old_one.known
+        (one_known (length one.env.identifiers) (temporary loaded None) one_made.known))
+        (λ holds fits. binary_writable (binary_of operator) old (temporary loaded None) (sum_utf8 operator) (old_one.writable holds fits)
+        (one_made.writable holds fits)) (λ holds. (inner holds).0.0)
+
+    those : All (IsSoundPlace small updated) (places_in pieces ++ new ∷ [])
+    those =
+        All-append (IsSoundPlace small updated) (places_in pieces) (new ∷ [])
+        (places_next small t updated (places_in pieces)
+        (sound_next small t loaded updated first.0 (sound_next small loaded one updated second third.0)) all)
+        (one_place small updated new third.1)
+
+    fourth : IsSound small updated stored (temporary updated (Some there.span))
+    fourth =
+        over_sound small updated updated (store_of object key new) there.span (places_in pieces ++ new ∷ []) (sound_refl small updated)
+        those (stored_places is new) (λ holds fits written. store_writable is there new (inner holds) written)
+        (λ holds. (inner holds).0.0)
+
+    result : (prefix : Bool) → IsSoundPlace small stored (member_result t object key operator prefix there.span)
+    result true = fourth.1
+    result false = place_next small updated stored old fourth.0 (place_next small one updated old third.0 old_one)
+
+method_sound : (small : Type 0) (s t u : State) (at there : At) (given_pieces : List Piece) (given : List PlaceOrSpread) {w : Word}
+    {fields parts : Pieces} {pieces : List Piece} {object : Place} {key : MemberKey} → IsMember w fields parts pieces object key
+    → gathered argument_pieces given ≡ given_pieces → StaysSound small s t → All (IsSoundPlace small t) (places_in pieces)
+    → StaysSound small (with_value t (load_of object key) (Some there.span)) u → All (IsSoundPlace small u) (places_in given_pieces)
+    → (small → IsSmallTree (Node there w fields)) → (small → IsSmallSpan at.span)
+    → IsSound small s
+    (with_value u
+    (values.MethodCall (record { receiver = object; property = temporary t (Some there.span); arguments = given })) (Some at.span))
+    (temporary u (Some at.span))
+method_sound small s t u at there given_pieces given {pieces} {object} {key} is given_are before all behind rest inner span =
+    over_sound small s u (values.MethodCall (record { receiver = object; property = method; arguments = given })) at.span
+    (object ∷ method ∷ places_in given_pieces)
+    (sound_next small s t u before (sound_next small t loaded u first.0 behind))
+    (All-cons (IsSoundPlace small u) object (method ∷ places_in given_pieces)
+    (place_next small t u object (sound_next small t loaded u first.0 behind) (member_object (IsSoundPlace small t) is all))
+    (All-cons (IsSoundPlace small u) method (places_in given_pieces) (place_next small loaded u method behind first.1) rest))
+    (method_places object method given given_pieces given_are)
+    (λ holds fits written. method_writable object method given given_pieces given_are written) span
+  where
+    loaded : State
+    loaded = with_value t (load_of object key) (Some there.span)
+
+    method : Place
+    method = temporary t (Some there.span)
+
+    first : IsSound small t loaded method
+    first = loaded_sound small t there is all inner
+
+-- A value under a type
+
+cast_sound : (small : Type 0) (s t : State) (p : Place) (k : TypeKind) (there at : Span) → StaysSound small s t → IsSoundPlace small t p
+    → (small → IsSmallSpan there) → (small → IsSmallSpan at)
+    → IsSound small s (with_value (typed t k) (values.TypeCastExpression p (type_of t k) (Some there)) (Some at))
+    (temporary (typed t k) (Some at))
+cast_sound small s t p k there at before place there_small at_small =
+    over_sound small s (typed t k) (values.TypeCastExpression p (type_of t k) (Some there)) at (p ∷ [])
+    (sound_next small s t (typed t k) before (sound_typed small t k))
+    (one_place small (typed t k) p (place_next small t (typed t k) p (sound_typed small t k) place)) refl
+    (λ holds fits written.
+    cast_writable p (type_of t k) there (All-head (λ (q : Place). IsWritable (listing.place q)) p [] written)
+    (type_writable t k (counters_before t (typed t k) (sound_typed small t k).counters fits).types) (there_small holds)) at_small
+
+-- Constructs, from what their parts keep
 
 logical_tree_sound : (at : At) (operator : LogicalOperator) (left right : Syntax) (s s2 s3 : State) (l r : Place)
     → IsSound (IsSmallTree right) (logical_begun s at.span (span_of left)) s2 r
-    → IsSound (IsSmallTree left) (logical_righted (logical_at s at.span operator (span_of left)) s2 r (span_of right)) s3 l
+    → IsSound (IsSmallTree left) (logical_righted (logical_at s at.span operator (span_of left)) s2 r (value_span r right)) s3 l
+    → (IsSmallTree right → IsSmallSpan (value_span r right))
     → IsSound (IsSmallTree (Node at word.Logical (Then (Said (logical_text operator)) (Then left (Then right End))))) s
     (logical_ended (logical_after (logical_at s at.span operator (span_of left))) s3 l) (logical_place s at.span)
-logical_tree_sound at operator left right s s2 s3 l r second first =
-    logical_sound small s s2 s3 at.span (span_of left) (span_of right) operator l r (λ holds. holds.0.0)
-    (λ holds. span_small left (left_small holds).0) (λ holds. span_small right (right_small holds).0) (λ holds. holds.1.1.0)
+logical_tree_sound at operator left right s s2 s3 l r second first value =
+    logical_sound small s s2 s3 at.span (span_of left) (value_span r right) operator l r (λ holds. holds.0.0)
+    (λ holds. span_small left (left_small holds).0) (λ holds. value (right_small holds)) (λ holds. holds.1.1.0)
     (sound_weaker (IsSmallTree right) small _ s2 right_small second.0) (place_weaker (IsSmallTree right) small s2 r right_small second.1)
     (sound_weaker (IsSmallTree left) small _ s3 left_small first.0) (place_weaker (IsSmallTree left) small s3 l left_small first.1)
   where
@@ -207,68 +425,181 @@ sequence_tree_sound at es s s2 p inner =
     all_small : small → AreSmallTrees es
     all_small holds = (holds.0.1.0, holds.1.1.0)
 
+-- The notation has the texts of the pieces that small parts give
+
+parts_written : {names : Names} {of_object : Bool} {es : Pieces} {s t : State} {pieces : List Piece}
+    → LoweredParts names of_object es s t pieces → AreSmallTrees es → AreWritten pieces
+parts_written (NoPart s) small = tt
+parts_written (NextPart e es s t u p pieces first rest) small = parts_written rest (small.0.1, small.1.1)
+parts_written (NextSpread at e es s t u p pieces first rest) small = parts_written rest (small.0.1, small.1.1)
+parts_written (NextHole at es s u pieces rest) small = (hole_utf8, parts_written rest (small.0.1, small.1.1))
+parts_written (NextProperty at computed key e text es s t u p pieces is first rest) small =
+    (key_utf8 (has_text computed key (46 ∷ text) is) small.1.0.1.1.0, parts_written rest (small.0.1, small.1.1))
+parts_written (NextComputed at key e es s r t u p q pieces is first second rest) small = parts_written rest (small.0.1, small.1.1)
+parts_written (NextFraction at there e text es s t u p pieces is first rest) small = parts_written rest (small.0.1, small.1.1)
+parts_written (NextUnknown at computed key e es s u pieces is rest) small = parts_written rest (small.0.1, small.1.1)
+
 -- Expressions
 
 mutual
-  -- The texts of names that are no local variable's are UTF-8.
-  pub expression_sound : {names : Names} {e : Syntax} {s t : State} {p : Place} → HasTexts names → Lowered names e s t p
+  -- Names are UTF-8, and spans of declarations are small.
+  pub expression_sound : {names : Names} {e : Syntax} {s t : State} {p : Place} → KnowsNames names → Lowered names e s t p
       → StaysSound (IsSmallTree e) s t × IsSoundPlace (IsSmallTree e) t p
-  expression_sound texts (Literal at w fields p s literal) =
+  expression_sound knows (Literal at w fields p s literal) =
       value_sound (IsSmallTree (Node at w fields)) s s (values.Primitive p) at.span (sound_refl _ s)
       (none_known (length s.env.identifiers)) (λ holds fits. literal_writable literal at holds) (λ holds. holds.0.0)
-  expression_sound texts (RefusedNumber at text s other) =
-      value_sound (IsSmallTree (Node at word.Num (Then (Said text) End))) s (recorded s _) (values.Primitive primitives.Undefined) at.span
+  expression_sound knows (Refused at w fields r s is) =
+      value_sound (IsSmallTree (Node at w fields)) s (recorded s _) (values.Primitive primitives.Undefined) at.span
       (sound_recorded _ s _) (none_known (length s.env.identifiers)) (λ holds fits. undefined_writable) (λ holds. holds.0.0)
-  expression_sound {names} texts (Variable at name symbol identifier s is named bound agree) =
-      variable_sound at name (names.name symbol.0) symbol.0 identifier s (named.each at.reference.0 name symbol is) bound
-  expression_sound {names} texts (Global at name binding s is plain) =
-      global_sound names texts at name binding s s is (sound_refl _ s)
-  expression_sound {names} texts (RefusedGlobal at name binding s is other) =
-      global_sound names texts at name binding s (recorded s _) is (sound_recorded _ s _)
-  expression_sound texts (Same at w e s t p wrapper by) =
-      let inner = expression_sound texts by in (
-        sound_weaker (IsSmallTree e) (IsSmallTree (Node at w (Then e End))) s t (λ small. (small.0.1.0, small.1.1.0)) inner.0,
-        place_weaker (IsSmallTree e) (IsSmallTree (Node at w (Then e End))) t p (λ small. (small.0.1.0, small.1.1.0)) inner.1,
+  expression_sound knows (RefusedBefore at w fields parts r pieces s t is all) =
+      let small : Type 0 = IsSmallTree (Node at w fields) in
+      let noted : State = recorded s (refusal r at.span) in
+      value_sound small s t (values.Primitive primitives.Undefined) at.span
+      (sound_next small s noted t (sound_recorded small s (refusal r at.span))
+      (sound_weaker (AreSmallTrees parts) small noted t (refusing_small is at) (all_sound knows all).0))
+      (none_known (length t.env.identifiers)) (λ holds fits. undefined_writable) (λ holds. holds.0.0)
+  expression_sound knows (RefusedBehind at object name s t p by) =
+      let small : Type 0 = IsSmallTree (Node at word.Privatemember (Then (Flag false) (Then object (Then (Said name) End)))) in
+      let noted : State = recorded t (refusal row.F3 at.span) in
+      value_sound small s noted (values.Primitive primitives.Undefined) at.span
+      (sound_next small s t noted
+      (sound_weaker (IsSmallTree object) small s t (λ holds. (holds.0.1.1.0, holds.1.1.1.0)) (expression_sound knows by).0)
+      (sound_recorded small t (refusal row.F3 at.span)))
+      (none_known (length t.env.identifiers)) (λ holds fits. undefined_writable) (λ holds. holds.0.0)
+  expression_sound knows (Private at w fields e s t p is by) =
+      let inner = expression_sound knows by in (
+        sound_weaker (IsSmallTree e) (IsSmallTree (Node at w fields)) s t (private_small is at) inner.0,
+        place_weaker (IsSmallTree e) (IsSmallTree (Node at w fields)) t p (private_small is at) inner.1,
       )
-  expression_sound texts (Asked at w fields parts pieces v s t form all) =
-      asked_sound at w fields parts pieces v s t form (all_sound texts all)
-  expression_sound texts (Logical at operator left right s s2 s3 l r second first) =
-      logical_tree_sound at operator left right s s2 s3 l r (expression_sound texts second) (expression_sound texts first)
-  expression_sound texts (Conditional at test consequent alternate s s2 s3 s4 c a p first second third) =
-      conditional_tree_sound at test consequent alternate s s2 s3 s4 c a p (expression_sound texts first)
-      (expression_sound texts second) (expression_sound texts third)
-  expression_sound texts (Sequence at e es s s2 p last) =
-      sequence_tree_sound at (Then e es) s s2 p (last_sound texts last)
+  expression_sound {names} knows (Variable at name symbol identifier s is f) = variable_sound names at name symbol identifier s f
+  expression_sound {names} knows (UpdatedVariable at there name symbol identifier operator prefix s is mutable f g) =
+      updated_sound names at there name symbol identifier operator prefix s
+      (IsSmallTree (Node at word.Update
+      (Then (Said (update_text operator)) (Then (Flag prefix) (Then (Node there word.Id (Then (Said name) End)) End))))) refl f g
+  expression_sound {names} knows (UpdatedConstant at there name symbol identifier operator prefix s is constant f) =
+      let small : Type 0 =
+      IsSmallTree (Node at word.Update (Then operator (Then prefix (Then (Node there word.Id (Then (Said name) End)) End)))) in
+      let first : State = found names s symbol there.span in
+      let noted : State = recorded first (diagnostic_at row.F6 (names.name symbol.0) there.span) in
+      value_sound small s noted (values.Primitive primitives.Undefined) at.span
+      (sound_next small s first noted (sound_found small names s symbol there.span identifier f (λ holds. holds.0.1.1.1.0.0))
+      (sound_recorded small first (diagnostic_at row.F6 (names.name symbol.0) there.span)))
+      (none_known (length first.env.identifiers)) (λ holds fits. undefined_writable) (λ holds. holds.0.0)
+  expression_sound knows (UpdatedMember at there w fields parts pieces object key operator prefix s t is all) =
+      let small : Type 0 =
+      IsSmallTree (Node at word.Update (Then (Said (update_text operator)) (Then (Flag prefix) (Then (Node there w fields) End)))) in
+      let inner = all_sound knows all in
+      let node : small → IsSmallTree (Node there w fields) = λ holds. (holds.0.1.1.1.0, holds.1.1.1.1.0) in
+      let parts_small : small → AreSmallTrees parts = λ holds. member_small is there (node holds) in
+      member_update_sound small s t there operator prefix is (sound_weaker (AreSmallTrees parts) small s t parts_small inner.0)
+      (places_weaker (AreSmallTrees parts) small t (places_in pieces) parts_small inner.1) node
+  expression_sound knows (Method at there w fields parts es pieces given_pieces object key given s t u is all more given_are) =
+      let small : Type 0 =
+      IsSmallTree (Node at word.Call (Then (Flag false) (Then (Node there w fields) (Then (Listed es) End)))) in
+      let inner = all_sound knows all in
+      let rest = all_sound knows more in
+      let node : small → IsSmallTree (Node there w fields) = λ holds. (holds.0.1.1.0, holds.1.1.1.0) in
+      let parts_small : small → AreSmallTrees parts = λ holds. member_small is there (node holds) in
+      let given_small : small → AreSmallTrees es = λ holds. (holds.0.1.1.1.0, holds.1.1.1.1.0) in
+      method_sound small s t u at there given_pieces given is given_are
+      (sound_weaker (AreSmallTrees parts) small s t parts_small inner.0)
+      (places_weaker (AreSmallTrees parts) small t (places_in pieces) parts_small inner.1)
+      (sound_weaker (AreSmallTrees es) small (with_value t (load_of object key) (Some there.span)) u given_small rest.0)
+      (places_weaker (AreSmallTrees es) small u (places_in given_pieces) given_small rest.1) node (λ holds. holds.0.0)
+  expression_sound knows (Cast at there w fields e type k s t p is annotated by) =
+      let small : Type 0 = IsSmallTree (Node at w fields) in
+      let inner = expression_sound knows by in
+      let part : small → IsSmallTree e = λ holds. (cast_small is at holds).0 in
+      cast_sound small s t p k there.span at.span (sound_weaker (IsSmallTree e) small s t part inner.0)
+      (place_weaker (IsSmallTree e) small t p part inner.1) (λ holds. (cast_small is at holds).1.0.0) (λ holds. holds.0.0)
+  expression_sound knows (Object at es pieces properties s t is all) =
+      let small : Type 0 = IsSmallTree (Node at word.Object (Then (Listed es) End)) in
+      let inner = all_sound knows all in
+      let part : small → AreSmallTrees es = λ holds. (holds.0.1.0, holds.1.1.0) in
+      over_sound small s t (values.ObjectExpression properties) at.span (places_in pieces)
+      (sound_weaker (AreSmallTrees es) small s t part inner.0)
+      (places_weaker (AreSmallTrees es) small t (places_in pieces) part inner.1) (object_places properties pieces is)
+      (λ holds fits written. object_writable properties pieces is (parts_written all (part holds)) written) (λ holds. holds.0.0)
+  expression_sound {names} knows (Global at name binding s is plain) =
+      global_sound names knows.outer at name binding s s is (sound_refl _ s)
+  expression_sound {names} knows (RefusedGlobal at name binding s is other) =
+      global_sound names knows.outer at name binding s (recorded s _) is (sound_recorded _ s _)
+  expression_sound knows (Same at w fields e s t p wrapper by) =
+      let inner = expression_sound knows by in (
+        sound_weaker (IsSmallTree e) (IsSmallTree (Node at w fields)) s t (wrapper_small wrapper at) inner.0,
+        place_weaker (IsSmallTree e) (IsSmallTree (Node at w fields)) t p (wrapper_small wrapper at) inner.1,
+      )
+  expression_sound knows (Asked at w fields parts pieces v s t form all) =
+      asked_sound at w fields parts pieces v s t form (all_sound knows all)
+  expression_sound knows (Logical at operator left right s s2 s3 l r second first) =
+      logical_tree_sound at operator left right s s2 s3 l r (expression_sound knows second) (expression_sound knows first)
+      (λ small. value_spanned IsSmallSpan second (each_small right small.0))
+  expression_sound knows (Conditional at test consequent alternate s s2 s3 s4 c a p first second third) =
+      conditional_tree_sound at test consequent alternate s s2 s3 s4 c a p (expression_sound knows first)
+      (expression_sound knows second) (expression_sound knows third)
+  expression_sound knows (Sequence at e es s s2 p last) =
+      sequence_tree_sound at (Then e es) s s2 p (last_sound knows last)
 
-  pub all_sound : {names : Names} {es : Pieces} {s t : State} {pieces : List Piece} → HasTexts names → LoweredAll names es s t pieces
+  pub all_sound : {names : Names} {of_object : Bool} {es : Pieces} {s t : State} {pieces : List Piece} → KnowsNames names
+      → LoweredParts names of_object es s t pieces
       → StaysSound (AreSmallTrees es) s t × All (IsSoundPlace (AreSmallTrees es) t) (places_in pieces)
-  all_sound texts (NoPart s) = (sound_refl (AreSmallTrees End) s, All-nil (IsSoundPlace (AreSmallTrees End) s))
-  all_sound texts (NextPart e es s t u p pieces first rest) =
+  all_sound knows (NoPart s) = (sound_refl (AreSmallTrees End) s, All-nil (IsSoundPlace (AreSmallTrees End) s))
+  all_sound knows (NextPart e es s t u p pieces first rest) =
       next_sound (IsSmallTree e) (AreSmallTrees es) (AreSmallTrees (Then e es)) s t u p (places_in pieces)
-      (λ small. (small.0.0, small.1.0)) (λ small. (small.0.1, small.1.1)) (expression_sound texts first) (all_sound texts rest)
-  all_sound texts (NextSpread at e es s t u p pieces first rest) =
+      (λ small. (small.0.0, small.1.0)) (λ small. (small.0.1, small.1.1)) (expression_sound knows first) (all_sound knows rest)
+  all_sound knows (NextSpread at e es s t u p pieces first rest) =
       next_sound (IsSmallTree e) (AreSmallTrees es) (AreSmallTrees (Then (Node at word.Spread (Then e End)) es)) s t u p
-      (places_in pieces) (λ small. (small.0.0.1.0, small.1.0.1.0)) (λ small. (small.0.1, small.1.1)) (expression_sound texts first)
-      (all_sound texts rest)
-  all_sound texts (NextHole at es s u pieces rest) =
-      let others = all_sound texts rest in (
+      (places_in pieces) (λ small. (small.0.0.1.0, small.1.0.1.0)) (λ small. (small.0.1, small.1.1)) (expression_sound knows first)
+      (all_sound knows rest)
+  all_sound knows (NextHole at es s u pieces rest) =
+      let others = all_sound knows rest in (
         sound_weaker (AreSmallTrees es) (AreSmallTrees (Then (Node at word.Hole End) es)) s u (λ small. (small.0.1, small.1.1)) others.0,
         All-weaker (IsSoundPlace (AreSmallTrees es) u) (IsSoundPlace (AreSmallTrees (Then (Node at word.Hole End) es)) u)
             (λ q known. place_weaker (AreSmallTrees es) (AreSmallTrees (Then (Node at word.Hole End) es)) u q
             (λ small. (small.0.1, small.1.1)) known) (places_in pieces) others.1,
       )
+  all_sound knows (NextProperty at computed key e text es s t u p pieces is first rest) =
+      next_sound (IsSmallTree e) (AreSmallTrees es)
+      (AreSmallTrees (Then (Node at word.Prop (Then (Flag computed) (Then key (Then e End)))) es)) s t u p (places_in pieces)
+      (λ small. (small.0.0.1.1.1.0, small.1.0.1.1.1.0)) (λ small. (small.0.1, small.1.1)) (expression_sound knows first)
+      (all_sound knows rest)
+  all_sound knows (NextComputed at key e es s r t u p q pieces is first second rest) =
+      let whole : Type 0 = AreSmallTrees (Then (Node at word.Prop (Then (Flag true) (Then key (Then e End)))) es) in
+      next_sound (IsSmallTree key) whole whole s r u p (q ∷ places_in pieces)
+      (λ small. (small.0.0.1.1.0, small.1.0.1.1.0)) (λ small. small) (expression_sound knows first)
+      (next_sound (IsSmallTree e) (AreSmallTrees es) whole r t u q (places_in pieces)
+      (λ small. (small.0.0.1.1.1.0, small.1.0.1.1.1.0)) (λ small. (small.0.1, small.1.1)) (expression_sound knows second)
+      (all_sound knows rest))
+  all_sound knows (NextFraction at there e text es s t u p pieces is first rest) =
+      let whole : Type 0 =
+      AreSmallTrees (Then (Node at word.Prop (Then (Flag false) (Then (Node there word.Num (Then (Said text) End)) (Then e End)))) es) in
+      let noted : State = recorded s (refusal row.F43 there.span) in
+      let others = all_sound knows rest in (
+        sound_next whole s noted u (sound_recorded whole s (refusal row.F43 there.span))
+            (sound_then (IsSmallTree e) (AreSmallTrees es) whole noted t u (λ small. (small.0.0.1.1.1.0, small.1.0.1.1.1.0))
+            (λ small. (small.0.1, small.1.1)) (expression_sound knows first).0 others.0),
+        places_weaker (AreSmallTrees es) whole u (places_in pieces) (λ small. (small.0.1, small.1.1)) others.1,
+      )
+  all_sound knows (NextUnknown at computed key e es s u pieces is rest) =
+      let whole : Type 0 = AreSmallTrees (Then (Node at word.Prop (Then (Flag computed) (Then key (Then e End)))) es) in
+      let noted : State = recorded s (refusal row.F9 (span_of key)) in
+      let others = all_sound knows rest in (
+        sound_next whole s noted u (sound_recorded whole s (refusal row.F9 (span_of key)))
+            (sound_weaker (AreSmallTrees es) whole noted u (λ small. (small.0.1, small.1.1)) others.0),
+        places_weaker (AreSmallTrees es) whole u (places_in pieces) (λ small. (small.0.1, small.1.1)) others.1,
+      )
 
-  pub last_sound : {names : Names} {es : Pieces} {s t : State} {p : Place} → HasTexts names
+  pub last_sound : {names : Names} {es : Pieces} {s t : State} {p : Place} → KnowsNames names
       → LoweredLast names es s t p → StaysSound (AreSmallTrees es) s t × IsSoundPlace (AreSmallTrees es) t p
-  last_sound texts (LastPart e s t p by) =
-      let inner = expression_sound texts by in (
+  last_sound knows (LastPart e s t p by) =
+      let inner = expression_sound knows by in (
         sound_weaker (IsSmallTree e) (AreSmallTrees (Then e End)) s t (λ small. (small.0.0, small.1.0)) inner.0,
         place_weaker (IsSmallTree e) (AreSmallTrees (Then e End)) t p (λ small. (small.0.0, small.1.0)) inner.1,
       )
-  last_sound texts (EarlierPart e next es s t u p q first rest) =
-      let others = last_sound texts rest in (
+  last_sound knows (EarlierPart e next es s t u p q first rest) =
+      let others = last_sound knows rest in (
         sound_then (IsSmallTree e) (AreSmallTrees (Then next es)) (AreSmallTrees (Then e (Then next es))) s t u
-            (λ small. (small.0.0, small.1.0)) (λ small. (small.0.1, small.1.1)) (expression_sound texts first).0 others.0,
+            (λ small. (small.0.0, small.1.0)) (λ small. (small.0.1, small.1.1)) (expression_sound knows first).0 others.0,
         place_weaker (AreSmallTrees (Then next es)) (AreSmallTrees (Then e (Then next es))) u q (λ small. (small.0.1, small.1.1)) others.1,
       )
 
@@ -350,30 +681,82 @@ if_else_tree_sound at test consequent alternate s s2 s3 s4 p first second third 
     alternate_small : small → IsSmallTree alternate
     alternate_small holds = (holds.0.1.1.1.0, holds.1.1.1.1.0)
 
-mutual
-  pub statement_sound : {names : Names} {e : Syntax} {s t : State} → HasTexts names → LoweredStatement names e s t
-      → StaysSound (IsSmallTree e) s t
-  statement_sound texts (Empty at s) = sound_refl (IsSmallTree (Node at word.Empty End)) s
-  statement_sound texts (Expression at e s t p by) =
-      sound_weaker (IsSmallTree e) (IsSmallTree (Node at word.Expr (Then e End))) s t (λ small. (small.0.1.0, small.1.1.0))
-      (expression_sound texts by).0
-  statement_sound texts (ReturnNothing at s) = return_nothing_sound at s
-  statement_sound texts (Return at e s t p by) = return_sound at e s t p (expression_sound texts by)
-  statement_sound texts (Block at statements s t all) =
-      sound_weaker (AreSmallTrees statements) (IsSmallTree (Node at word.Block (Then (Listed statements) End))) s t
-      (λ small. (small.0.1.0, small.1.1.0)) (statements_sound texts all)
-  statement_sound texts (IfThen at test consequent s s2 s3 p first second) =
-      if_then_tree_sound at test consequent s s2 s3 p (statement_sound texts first) (expression_sound texts second)
-  statement_sound texts (IfElse at test consequent alternate s s2 s3 s4 p first second third) =
-      if_else_tree_sound at test consequent alternate s s2 s3 s4 p (statement_sound texts first) (statement_sound texts second)
-      (expression_sound texts third)
+-- Declarations of variables
 
-  pub statements_sound : {names : Names} {es : Pieces} {s t : State} → HasTexts names → LoweredStatements names es s t
+declarators_sound : {names : Names} {at : Span} {k : InstructionKind} {es : Pieces} {s t : State} → KnowsNames names
+    → LoweredDeclarators names at k es s t → StaysSound (IsSmallSpan at × AreSmallTrees es) s t
+declarators_sound {at} knows (NoDeclarator s) = sound_refl (IsSmallSpan at × AreSmallTrees End) s
+declarators_sound {names} {at} {k} knows (NextDeclared there bind name type more symbol identifier s u annotated is f rest) =
+    let declarator : Syntax = Node there word.Declarator (Then (Node bind word.Bind (Then (Said name) (Then type End))) (Then Absent End)) in
+    let small : Type 0 = IsSmallSpan at × AreSmallTrees (Then declarator more) in
+    let variable : Place = record { identifier = record { 0 = identifier }; span = Some bind.span } in
+    let mid : State = found names s symbol bind.span in
+    let first = over_sound small s mid (values.DeclareLocal k variable) bind.span (variable ∷ [])
+    (sound_found small names s symbol bind.span identifier f (λ holds. holds.1.0.0.1.0.0))
+    (one_place small mid variable (variable_place small names s symbol bind.span bind.span identifier f (λ holds. holds.1.0.0.1.0.0))) refl
+    (λ holds fits all. declared_writable k variable (All-head (λ (q : Place). IsWritable (listing.place q)) variable [] all))
+    (λ holds. holds.1.0.0.1.0.0) in
+    sound_then small (IsSmallSpan at × AreSmallTrees more) small s
+    (with_value mid (values.DeclareLocal k variable) (Some bind.span)) u (λ holds. holds)
+    (λ holds. (holds.0, (holds.1.0.1, holds.1.1.1))) first.0 (declarators_sound knows rest)
+declarators_sound {names} {at} {k} knows (NextInitialized there bind name type init more symbol identifier s t u p annotated is by f rest) =
+    let declarator : Syntax = Node there word.Declarator (Then (Node bind word.Bind (Then (Said name) (Then type End))) (Then init End)) in
+    let small : Type 0 = IsSmallSpan at × AreSmallTrees (Then declarator more) in
+    let part : small → IsSmallTree init = λ holds. (holds.1.0.0.1.1.0, holds.1.1.0.1.1.0) in
+    let variable : Place = record { identifier = record { 0 = identifier }; span = Some at } in
+    let mid : State = found names t symbol bind.span in
+    let inner = expression_sound knows by in
+    let looked : StaysSound small t mid = sound_found small names t symbol bind.span identifier f (λ holds. holds.1.0.0.1.0.0) in
+    let first = over_sound small s mid (values.StoreLocal k variable p) at (variable ∷ p ∷ [])
+    (sound_next small s t mid (sound_weaker (IsSmallTree init) small s t part inner.0) looked)
+    (All-cons (IsSoundPlace small mid) variable (p ∷ [])
+    (variable_place small names t symbol bind.span at identifier f (λ holds. holds.0))
+    (one_place small mid p (place_next small t mid p looked (place_weaker (IsSmallTree init) small t p part inner.1)))) refl
+    (λ holds fits all. initialized_writable k variable p
+    (All-head (λ (q : Place). IsWritable (listing.place q)) variable (p ∷ []) all)
+    (All-head (λ (q : Place). IsWritable (listing.place q)) p []
+    (All-tail (λ (q : Place). IsWritable (listing.place q)) variable (p ∷ []) all)))
+    (λ holds. holds.0) in
+    sound_then small (IsSmallSpan at × AreSmallTrees more) small s (with_value mid (values.StoreLocal k variable p) (Some at)) u
+    (λ holds. holds) (λ holds. (holds.0, (holds.1.0.1, holds.1.1.1))) first.0 (declarators_sound knows rest)
+
+declaring_sound : (small : Type 0) (s : State) (k : VariableKind) (at : Span) → StaysSound small s (declaring s k at)
+declaring_sound small s kinds.Var at = sound_recorded small s (refusal row.F39 at)
+declaring_sound small s _ at = sound_refl small s
+
+mutual
+  pub statement_sound : {names : Names} {e : Syntax} {s t : State} → KnowsNames names → LoweredStatement names e s t
+      → StaysSound (IsSmallTree e) s t
+  statement_sound knows (Empty at s) = sound_refl (IsSmallTree (Node at word.Empty End)) s
+  statement_sound knows (Expression at e s t p by) =
+      sound_weaker (IsSmallTree e) (IsSmallTree (Node at word.Expr (Then e End))) s t (λ small. (small.0.1.0, small.1.1.0))
+      (expression_sound knows by).0
+  statement_sound knows (Debugger at s) =
+      let small : Type 0 = IsSmallTree (Node at word.Debugger End) in
+      sound_value small s values.Debugger (Some at.span) (none_known (length s.env.identifiers)) (λ holds fits. debugger_writable)
+      (λ holds. span_writable at.span holds.0.0)
+  statement_sound knows (Variables at k declarators s t all) =
+      let small : Type 0 = IsSmallTree (Node at word.Var (Then (Said (variable_text k)) (Then (Listed declarators) End))) in
+      sound_next small s (declaring s k at.span) t (declaring_sound small s k at.span)
+      (sound_weaker (IsSmallSpan at.span × AreSmallTrees declarators) small (declaring s k at.span) t
+      (λ holds. (holds.0.0, (holds.0.1.1.0, holds.1.1.1.0))) (declarators_sound knows all))
+  statement_sound knows (ReturnNothing at s) = return_nothing_sound at s
+  statement_sound knows (Return at e s t p by) = return_sound at e s t p (expression_sound knows by)
+  statement_sound knows (Block at statements s t all) =
+      sound_weaker (AreSmallTrees statements) (IsSmallTree (Node at word.Block (Then (Listed statements) End))) s t
+      (λ small. (small.0.1.0, small.1.1.0)) (statements_sound knows all)
+  statement_sound knows (IfThen at test consequent s s2 s3 p first second) =
+      if_then_tree_sound at test consequent s s2 s3 p (statement_sound knows first) (expression_sound knows second)
+  statement_sound knows (IfElse at test consequent alternate s s2 s3 s4 p first second third) =
+      if_else_tree_sound at test consequent alternate s s2 s3 s4 p (statement_sound knows first) (statement_sound knows second)
+      (expression_sound knows third)
+
+  pub statements_sound : {names : Names} {es : Pieces} {s t : State} → KnowsNames names → LoweredStatements names es s t
       → StaysSound (AreSmallTrees es) s t
-  statements_sound texts (NoStatement s) = sound_refl (AreSmallTrees End) s
-  statements_sound texts (NextStatement e es s t u first rest) =
+  statements_sound knows (NoStatement s) = sound_refl (AreSmallTrees End) s
+  statements_sound knows (NextStatement e es s t u first rest) =
       sound_then (IsSmallTree e) (AreSmallTrees es) (AreSmallTrees (Then e es)) s t u (λ small. (small.0.0, small.1.0))
-      (λ small. (small.0.1, small.1.1)) (statement_sound texts first) (statements_sound texts rest)
+      (λ small. (small.0.1, small.1.1)) (statement_sound knows first) (statements_sound knows rest)
 
 -- Bodies
 
@@ -387,10 +770,10 @@ value_body_sound e s t p inner =
     (sound_return (IsSmallTree e) t None returns.Implicit p (new_block s.env.next_block blocks.Block) (λ small. tt) inner.1
     (λ fits. empty_writable s.env.next_block blocks.Block (omega (arith, grow.blocks, fits.blocks)))))
 
-pub body_sound : {names : Names} {b : Syntax} {s t : State} → HasTexts names → LoweredBody names b s t
+pub body_sound : {names : Names} {b : Syntax} {s t : State} → KnowsNames names → LoweredBody names b s t
     → StaysSound (IsSmallTree b) s t
-body_sound texts (Statements at directives statements s t said all) =
+body_sound knows (Statements at directives statements s t said all) =
     sound_weaker (AreSmallTrees statements)
     (IsSmallTree (Node at word.Body (Then (Listed directives) (Then (Listed statements) End)))) s t
-    (λ small. (small.0.1.1.0, small.1.1.1.0)) (statements_sound texts all)
-body_sound texts (Value e s t p by) = value_body_sound e s t p (expression_sound texts by)
+    (λ small. (small.0.1.1.0, small.1.1.1.0)) (statements_sound knows all)
+body_sound knows (Value e s t p by) = value_body_sound e s t p (expression_sound knows by)

@@ -1,17 +1,20 @@
 -- The table of kinds: the parts of a small tree are small, and the instruction names the places of its pieces and is writable.
-use Rattle.std.proofs.Common.{◌≡◌, ℕ, ◌++◌, List, [], ◌∷◌, All, codes, lit<, refl, sym, ap, ◌∙◌, subst}
+use Rattle.std.proofs.Common.{◌≡◌, ℕ, ◌++◌, Bool, true, List, [], ◌∷◌, All, codes, lit<, refl, sym, ap}
+use Rattle.std.proofs.Common.{◌∙◌, subst}
 use Rattle.std.specs.Str.{IsUtf8}
 use Rattle.std.proofs.lemmas.List.Elements.{All-head, All-tail}
 use Rattle.std.proofs.lemmas.Str.{IsUtf8-append, IsUtf8-nil}
 use Rattle.rl_base.specs.Operators.{operator_text, unary_text}
+use Rattle.rl_base.specs.declared.row.Row.{Row}
 use Rattle.rl_hir.specs.Listing as listing
 use Rattle.rl_hir.specs.Pieces.{Key, Piece, Says, Names, Gives, Spreads, Takes, Use, argument_pieces, element_pieces}
-use Rattle.rl_hir.specs.Pieces.{gathered, operand_tree, operands, quasi_pieces, row_parts, used, value_pieces}
+use Rattle.rl_hir.specs.Pieces.{gathered, operand_tree, operands, property_pieces, quasi_pieces, row_parts, used, value_pieces}
 use Rattle.rl_hir.specs.Values.{Asks, form_tree}
 use Rattle.rl_hir.specs.declared.instruction.ArrayElement.{ArrayElement}
 use Rattle.rl_hir.specs.declared.instruction.ArrayElement.TheVariants as elements
 use Rattle.rl_hir.specs.declared.instruction.InstructionValue.{InstructionValue}
 use Rattle.rl_hir.specs.declared.instruction.InstructionValue.TheVariants as values
+use Rattle.rl_hir.specs.declared.instruction.ObjectProperty.{ObjectProperty}
 use Rattle.rl_hir.specs.declared.instruction.Place.{Place}
 use Rattle.rl_hir.specs.declared.instruction.PlaceOrSpread.{PlaceOrSpread}
 use Rattle.rl_hir.specs.declared.instruction.PlaceOrSpread.TheVariants as arguments
@@ -21,31 +24,68 @@ use Rattle.rl_hir.specs.declared.instruction.TemplateQuasi.{TemplateQuasi}
 use Rattle.rl_hir.specs.declared.pieces.Row.TheVariants as rows
 use Rattle.rl_model.specs.WellFormed.{operand_places, value_places}
 use Rattle.rl_syntax.specs.declared.numbered.At.{At}
-use Rattle.rl_syntax.specs.declared.word.Word.{Word}
-use Rattle.rl_syntax.specs.Syntax.{Node, Pieces, plain, plain_parts}
+use Rattle.rl_syntax.specs.declared.word.Word.{Word as NodeWord}
+use Rattle.rl_syntax.specs.Syntax.{Syntax, Node, Pieces, plain, plain_parts}
 use Rattle.rl_text.specs.Notation.{IsWord, IsWritable, AreWritable}
-use Rattle.rl_text.specs.Numeral.{number_of}
-use Rattle.rl_lowered.specs.Forms.{AreQuasis, IsForm, IsLiteral, NextQuasi, NextUncooked, NoQuasi, places_in}
-use Rattle.rl_lowered.specs.Forms.{Array, Await, Binary, Call, ImportMeta, Index, Member, New, NumberIndex, RegExp, Template, Unary}
+use Rattle.rl_text.specs.Numeral.{is_numeral, number_of}
+use Rattle.rl_lowered.specs.Forms.{AreQuasis, IsCast, IsForm, IsInside, IsLiteral, IsMember, IsPrivate, IsRefusing, IsWrapper, MemberKey}
+use Rattle.rl_lowered.specs.Forms.{NextQuasi, NextUncooked, NoQuasi, delete_of, load_of, places_in, store_of}
+use Rattle.rl_lowered.specs.Forms.{Array, Await, Binary, Call, Delete, ImportMeta, Load, New, RegExp, Tagged, Template, Unary}
 use Rattle.rl_lowered.specs.Forms.{Boolean, Null, Number, String}
+use Rattle.rl_lowered.specs.Forms.{Around, As, Assert, Bare, ImportCall, ImportCallWith, Indexed, Numbered, Parenthesized, PrivateDelete}
+use Rattle.rl_lowered.specs.Forms.{PrivateIn, PrivateUpdate, Satisfies, Static}
 use Rattle.rl_lowered.specs.Sound.{AreSmallTrees, IsSmallTree}
+use Rattle.rl_lowered.proofs.Keys.{HasText, Bracketed, Name, Number as Digits, Word}
 use Rattle.rl_lowered.proofs.SoundListing.{boolean_writable, null_writable, number_writable, string_writable}
 use Rattle.rl_lowered.proofs.SoundTrees.{numeral_fits}
 
 -- The parts
 
-pub form_small : {w : Word} {fields parts : Pieces} {pieces : List Piece} {v : InstructionValue} → IsForm w fields parts pieces v
+inside_small : {e inner : Syntax} → IsInside e inner → IsSmallTree e → IsSmallTree inner
+inside_small Bare small = small
+inside_small (Around more) small = inside_small more (small.0.1.0, small.1.1.0)
+
+pub member_small : {w : NodeWord} {fields parts : Pieces} {pieces : List Piece} {object : Place} {key : MemberKey}
+    → IsMember w fields parts pieces object key → (at : At) → IsSmallTree (Node at w fields) → AreSmallTrees parts
+member_small Static at small = ((small.0.1.1.0, tt), (small.1.1.1.0, tt))
+member_small (Indexed other) at small = (small.0.1.1, small.1.1.1)
+member_small (Numbered numeral) at small = ((small.0.1.1.0, tt), (small.1.1.1.0, tt))
+
+pub wrapper_small : {w : NodeWord} {fields : Pieces} {e : Syntax} → IsWrapper w fields e → (at : At) → IsSmallTree (Node at w fields)
+    → IsSmallTree e
+wrapper_small Parenthesized at small = (small.0.1.0, small.1.1.0)
+wrapper_small _ at small = (small.0.1.0, small.1.1.0)
+
+pub cast_small : {w : NodeWord} {fields : Pieces} {e type : Syntax} → IsCast w fields e type → (at : At) → IsSmallTree (Node at w fields)
+    → IsSmallTree e × IsSmallTree type
+cast_small As at small = ((small.0.1.0, small.1.1.0), (small.0.1.1.0, small.1.1.1.0))
+cast_small Satisfies at small = ((small.0.1.0, small.1.1.0), (small.0.1.1.0, small.1.1.1.0))
+cast_small Assert at small = ((small.0.1.1.0, small.1.1.1.0), (small.0.1.0, small.1.1.0))
+
+pub private_small : {w : NodeWord} {fields : Pieces} {e : Syntax} → IsPrivate w fields e → (at : At) → IsSmallTree (Node at w fields)
+    → IsSmallTree e
+private_small PrivateUpdate at small = (small.0.1.1.1.0, small.1.1.1.1.0)
+private_small (PrivateDelete operator is inside) at small = inside_small inside (small.0.1.1.0, small.1.1.1.0)
+
+pub refusing_small : {w : NodeWord} {fields parts : Pieces} {r : Row} → IsRefusing w fields parts r → (at : At) → IsSmallTree (Node at w fields)
+    → AreSmallTrees parts
+refusing_small PrivateIn at small = (small.0.1.1, small.1.1.1)
+refusing_small ImportCall at small = ((small.0.1.0, tt), (small.1.1.0, tt))
+refusing_small ImportCallWith at small = (small.0.1, small.1.1)
+
+pub form_small : {w : NodeWord} {fields parts : Pieces} {pieces : List Piece} {v : InstructionValue} → IsForm w fields parts pieces v
     → (at : At) → IsSmallTree (Node at w fields) → AreSmallTrees parts
 form_small Binary at small = (small.0.1.1, small.1.1.1)
 form_small (Unary plain) at small = (small.0.1.1, small.1.1.1)
 form_small Await at small = (small.0.1, small.1.1)
-form_small Member at small = ((small.0.1.1.0, tt), (small.1.1.1.0, tt))
-form_small (Index other) at small = (small.0.1.1, small.1.1.1)
-form_small (NumberIndex numeral) at small = ((small.0.1.1.0, tt), (small.1.1.1.0, tt))
+form_small (Load is) at small = member_small is at small
+form_small (Delete operator {there} deletes inside is) at small =
+    member_small is there (inside_small inside (small.0.1.1.0, small.1.1.1.0))
 form_small (Call plain given) at small = ((small.0.1.1.0, small.0.1.1.1.0), (small.1.1.1.0, small.1.1.1.1.0))
 form_small (New given) at small = ((small.0.1.0, small.0.1.1.0), (small.1.1.0, small.1.1.1.0))
 form_small (Array given) at small = (small.0.1.0, small.1.1.0)
 form_small (Template quasis given) at small = (small.0.1.1.0, small.1.1.1.0)
+form_small (Tagged raw quasis given) at small = ((small.0.1.0, small.0.1.1.0.1.1.0), (small.1.1.0, small.1.1.1.0.1.1.0))
 form_small RegExp at small = (tt, tt)
 form_small ImportMeta at small = (tt, tt)
 
@@ -67,14 +107,34 @@ quasi_places NoQuasi more = refl
 quasi_places (NextQuasi are) more = quasi_places are more
 quasi_places (NextUncooked are) more = quasi_places are more
 
-pub form_places : {w : Word} {fields parts : Pieces} {pieces : List Piece} {v : InstructionValue} → IsForm w fields parts pieces v
+pub member_places : {w : NodeWord} {fields parts : Pieces} {pieces : List Piece} {object : Place} {key : MemberKey}
+    → IsMember w fields parts pieces object key
+    → (value_places (load_of object key) ≡ places_in pieces) × (value_places (delete_of object key) ≡ places_in pieces)
+member_places Static = (refl, refl)
+member_places _ = (refl, refl)
+
+pub stored_places : {w : NodeWord} {fields parts : Pieces} {pieces : List Piece} {object : Place} {key : MemberKey}
+    → IsMember w fields parts pieces object key → (v : Place) → value_places (store_of object key v) ≡ places_in pieces ++ v ∷ []
+stored_places Static v = refl
+stored_places _ v = refl
+
+pub method_places : (object method : Place) (given : List PlaceOrSpread) (pieces : List Piece) → gathered argument_pieces given ≡ pieces
+    → value_places (values.MethodCall (record { receiver = object; property = method; arguments = given }))
+    ≡ object ∷ method ∷ places_in pieces
+method_places object method given pieces is =
+    ap (λ (l : List Place). object ∷ method ∷ l) (operand_places_in (gathered argument_pieces given) ∙ ap places_in is)
+
+pub object_places : (given : List ObjectProperty) (pieces : List Piece) → gathered property_pieces given ≡ pieces
+    → value_places (values.ObjectExpression given) ≡ places_in pieces
+object_places given pieces is = operand_places_in (gathered property_pieces given) ∙ ap places_in is
+
+pub form_places : {w : NodeWord} {fields parts : Pieces} {pieces : List Piece} {v : InstructionValue} → IsForm w fields parts pieces v
     → value_places v ≡ places_in pieces
 form_places Binary = refl
 form_places (Unary plain) = refl
 form_places Await = refl
-form_places Member = refl
-form_places (Index other) = refl
-form_places (NumberIndex numeral) = refl
+form_places (Load is) = (member_places is).0
+form_places (Delete operator deletes inside is) = (member_places is).1
 form_places (Call {callee} {es} {f} {pieces} {given} plain are) =
     ap (λ (l : List Place). f ∷ l) (operand_places_in (gathered argument_pieces given) ∙ ap places_in are)
 form_places (New {callee} {es} {f} {pieces} {given} are) =
@@ -83,6 +143,10 @@ form_places (Array {es} {pieces} {elements} are) = operand_places_in (gathered e
 form_places (Template {texts} {es} {pieces} {quasis} {places} said are) =
     operand_places_in (gathered quasi_pieces quasis ++ gathered value_pieces places)
     ∙ quasi_places said (gathered value_pieces places) ∙ ap places_in are
+form_places (Tagged {t} {quasis} {places} raw said are) =
+    ap (λ (l : List Place). t ∷ l)
+    (operand_places_in (gathered quasi_pieces quasis ++ gathered value_pieces places)
+    ∙ quasi_places said (gathered value_pieces places) ∙ ap places_in are)
 form_places RegExp = refl
 form_places ImportMeta = refl
 
@@ -106,7 +170,7 @@ spread_utf8 : IsUtf8 (codes "spread")
 unfolding lib.Utf8.encode
 spread_utf8 = (codes "spread", (refl, refl))
 
-hole_utf8 : IsUtf8 (codes "hole")
+pub hole_utf8 : IsUtf8 (codes "hole")
 unfolding lib.Utf8.encode
 hole_utf8 = (codes "hole", (refl, refl))
 
@@ -166,23 +230,87 @@ quasis_written (NextQuasi {cooked} are) more small rest =
     (small.0.1.0, (IsUtf8-append (46 ∷ []) cooked dot_utf8 small.0.1.1.0, quasis_written are more small.1 rest))
 quasis_written (NextUncooked are) more small rest = (small.0.1.0, (IsUtf8-nil, quasis_written are more small.1 rest))
 
+-- The instructions of properties
+
+number_key : (text : List ℕ) → is_numeral text ≡ true → IsWritable (operand_tree (Key (keys.Number (number_of text))))
+number_key text numeral = ((lit< tt, refl), (numeral_fits text (number_of text) numeral refl, tt))
+
+string_key : (key : List ℕ) → IsUtf8 key → IsWritable (operand_tree (Key (keys.String key)))
+string_key key utf8 = ((lit< tt, refl), (utf8, tt))
+
+pub load_writable : {w : NodeWord} {fields parts : Pieces} {pieces : List Piece} {object : Place} {key : MemberKey}
+    → IsMember w fields parts pieces object key → (at : At) → IsSmallTree (Node at w fields) → All WritesPlace (places_in pieces)
+    → IsWritable (listing.value (load_of object key))
+load_writable (Static {key} {p}) at small all =
+    asks_writable (codes "propertyload") (used p ∷ Takes (Key (keys.String key)) ∷ []) (lit< tt, refl)
+    (string_key key small.1.1.1.1.0, tt) all
+load_writable (Indexed {p} {q} other) at small all =
+    asks_writable (codes "computedload") (used p ∷ used q ∷ []) (lit< tt, refl) tt all
+load_writable (Numbered {text} {p} numeral) at small all =
+    asks_writable (codes "propertyload") (used p ∷ Takes (Key (keys.Number (number_of text))) ∷ []) (lit< tt, refl)
+    (number_key text numeral, tt) all
+
+pub delete_writable : {w : NodeWord} {fields parts : Pieces} {pieces : List Piece} {object : Place} {key : MemberKey}
+    → IsMember w fields parts pieces object key → (at : At) → IsSmallTree (Node at w fields) → All WritesPlace (places_in pieces)
+    → IsWritable (listing.value (delete_of object key))
+delete_writable (Static {key} {p}) at small all =
+    asks_writable (codes "propertydelete") (used p ∷ Takes (Key (keys.String key)) ∷ []) (lit< tt, refl)
+    (string_key key small.1.1.1.1.0, tt) all
+delete_writable (Indexed {p} {q} other) at small all =
+    asks_writable (codes "computeddelete") (used p ∷ used q ∷ []) (lit< tt, refl) tt all
+delete_writable (Numbered {text} {p} numeral) at small all =
+    asks_writable (codes "propertydelete") (used p ∷ Takes (Key (keys.Number (number_of text))) ∷ []) (lit< tt, refl)
+    (number_key text numeral, tt) all
+
+pub store_writable : {w : NodeWord} {fields parts : Pieces} {pieces : List Piece} {object : Place} {key : MemberKey}
+    → IsMember w fields parts pieces object key → (at : At) (v : Place) → IsSmallTree (Node at w fields)
+    → All WritesPlace (places_in pieces ++ v ∷ []) → IsWritable (listing.value (store_of object key v))
+store_writable (Static {key} {p}) at v small all =
+    asks_writable (codes "propertystore") (used p ∷ Takes (Key (keys.String key)) ∷ used v ∷ []) (lit< tt, refl)
+    (string_key key small.1.1.1.1.0, tt) all
+store_writable (Indexed {p} {q} other) at v small all =
+    asks_writable (codes "computedstore") (used p ∷ used q ∷ used v ∷ []) (lit< tt, refl) tt all
+store_writable (Numbered {text} {p} numeral) at v small all =
+    asks_writable (codes "propertystore") (used p ∷ Takes (Key (keys.Number (number_of text))) ∷ used v ∷ []) (lit< tt, refl)
+    (number_key text numeral, tt) all
+
+-- The call of a method, a debugger statement, and an object literal
+
+pub method_writable : (object method : Place) (given : List PlaceOrSpread) (pieces : List Piece) → gathered argument_pieces given ≡ pieces
+    → All WritesPlace (object ∷ method ∷ places_in pieces)
+    → IsWritable (listing.value (values.MethodCall (record { receiver = object; property = method; arguments = given })))
+method_writable object method given pieces is all =
+    asks_writable (codes "methodcall") (used object ∷ used method ∷ gathered argument_pieces given) (lit< tt, refl) (arguments_written given)
+    (subst (λ (l : List Piece). All WritesPlace (object ∷ method ∷ places_in l)) (sym is) all)
+
+pub debugger_writable : IsWritable (listing.value values.Debugger)
+debugger_writable = ((lit< tt, refl), (tt, (tt, tt)))
+
+pub object_writable : (given : List ObjectProperty) (pieces : List Piece) → gathered property_pieces given ≡ pieces → AreWritten pieces
+    → All WritesPlace (places_in pieces) → IsWritable (listing.value (values.ObjectExpression given))
+object_writable given pieces is written all =
+    asks_writable (codes "object") (gathered property_pieces given) (lit< tt, refl) (subst AreWritten (sym is) written)
+    (subst (λ (l : List Piece). All WritesPlace (places_in l)) (sym is) all)
+
+-- The text of a key
+pub key_utf8 : {computed : Bool} {key : Syntax} {text : List ℕ} → HasText computed key text → IsWritable (plain key) → IsUtf8 text
+key_utf8 (Name at said) small = IsUtf8-append (46 ∷ []) said dot_utf8 small.1.0
+key_utf8 (Word at said) small = IsUtf8-append (46 ∷ []) said dot_utf8 small.1.0
+key_utf8 (Bracketed at said) small = IsUtf8-append (46 ∷ []) said dot_utf8 small.1.0
+key_utf8 (Digits at said numeral) small = IsUtf8-append (46 ∷ []) said dot_utf8 small.1.0
+
 -- The instruction
 
-pub form_writable : {w : Word} {fields parts : Pieces} {pieces : List Piece} {v : InstructionValue} → IsForm w fields parts pieces v
+pub form_writable : {w : NodeWord} {fields parts : Pieces} {pieces : List Piece} {v : InstructionValue} → IsForm w fields parts pieces v
     → (at : At) → IsSmallTree (Node at w fields) → All WritesPlace (places_in pieces) → IsWritable (listing.value v)
 form_writable (Binary {operator} {left} {right} {l} {r}) at small all =
     asks_writable (codes "binary") (Says (operator_text operator) ∷ used l ∷ used r ∷ []) (lit< tt, refl) (small.1.1.0, tt) all
 form_writable (Unary {operator} {e} {p} plain) at small all =
     asks_writable (codes "unary") (Says (unary_text operator) ∷ used p ∷ []) (lit< tt, refl) (small.1.1.0, tt) all
 form_writable (Await {e} {p}) at small all = asks_writable (codes "await") (used p ∷ []) (lit< tt, refl) tt all
-form_writable (Member {object} {key} {p}) at small all =
-    asks_writable (codes "propertyload") (used p ∷ Takes (Key (keys.String key)) ∷ []) (lit< tt, refl)
-    (((lit< tt, refl), (small.1.1.1.1.0, tt)), tt) all
-form_writable (Index {object} {property} {p} {q} other) at small all =
-    asks_writable (codes "computedload") (used p ∷ used q ∷ []) (lit< tt, refl) tt all
-form_writable (NumberIndex {object} {there} {text} {p} numeral) at small all =
-    asks_writable (codes "propertyload") (used p ∷ Takes (Key (keys.Number (number_of text))) ∷ []) (lit< tt, refl)
-    (((lit< tt, refl), (numeral_fits text (number_of text) numeral refl, tt)), tt) all
+form_writable (Load is) at small all = load_writable is at small all
+form_writable (Delete operator {there} deletes inside is) at small all =
+    delete_writable is there (inside_small inside (small.0.1.1.0, small.1.1.1.0)) all
 form_writable (Call {callee} {es} {f} {pieces} {given} plain are) at small all =
     asks_writable (codes "call") (used f ∷ gathered argument_pieces given) (lit< tt, refl) (arguments_written given)
     (subst (λ (l : List Piece). All WritesPlace (f ∷ places_in l)) (sym are) all)
@@ -196,13 +324,17 @@ form_writable (Template {texts} {es} {pieces} {quasis} {places} said are) at sma
     asks_writable (codes "template") (gathered quasi_pieces quasis ++ gathered value_pieces places) (lit< tt, refl)
     (quasis_written said (gathered value_pieces places) small.1.1.0 (values_written places))
     (subst (All WritesPlace) (sym (quasi_places said (gathered value_pieces places) ∙ ap places_in are)) all)
+form_writable (Tagged {texts} {es} {t} {quasis} {places} raw said are) at small all =
+    asks_writable (codes "tagged") (Gives t ∷ (gathered quasi_pieces quasis ++ gathered value_pieces places)) (lit< tt, refl)
+    (quasis_written said (gathered value_pieces places) small.1.1.1.0.1.0 (values_written places))
+    (subst (λ (l : List Place). All WritesPlace (t ∷ l)) (sym (quasi_places said (gathered value_pieces places) ∙ ap places_in are)) all)
 form_writable (RegExp {pattern} {flags}) at small all =
     asks_writable (codes "regexp") (Says pattern ∷ Says flags ∷ []) (lit< tt, refl) (small.1.1.0, (small.1.1.1.0, tt)) all
 form_writable ImportMeta at small all = asks_writable (codes "metaproperty") [] (lit< tt, refl) tt all
 
 -- Literals
 
-pub literal_writable : {w : Word} {fields : Pieces} {p : PrimitiveValue} → IsLiteral w fields p → (at : At)
+pub literal_writable : {w : NodeWord} {fields : Pieces} {p : PrimitiveValue} → IsLiteral w fields p → (at : At)
     → IsSmallTree (Node at w fields) → IsWritable (listing.value (values.Primitive p))
 literal_writable Null at small = null_writable
 literal_writable (Boolean {flag}) at small = boolean_writable flag

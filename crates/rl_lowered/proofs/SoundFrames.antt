@@ -17,13 +17,14 @@ use Rattle.rl_hir.specs.declared.function.BlockKind.TheVariants as block
 use Rattle.rl_hir.specs.declared.instruction.Place.{Place}
 use Rattle.rl_hir.specs.declared.terminal.GotoVariant.TheVariants as gotos
 use Rattle.rl_hir.specs.declared.terminal.TerminalKind.TheVariants as kinds
-use Rattle.rl_lowered.specs.Sound.{CountersGrow, IsSmallSpan, IsSoundPlace, StaysSound}
+use Rattle.rl_lowered.specs.Sound.{CountersGrow, IsSoundPlace, StaysSound}
 use Rattle.rl_lowered.proofs.SoundListing.{branch_writable, if_writable, instruction_writable, local_writable, logical_writable}
 use Rattle.rl_lowered.proofs.SoundListing.{sequence_writable, span_writable, ternary_writable}
 use Rattle.rl_lowered.proofs.SoundMoves.{counters_then, empty_writable, grows_completed, identifiers_longer, none_known, one_known, place_grown}
 use Rattle.rl_lowered.proofs.SoundMoves.{place_made, place_next, sound_ended}
 use Rattle.rl_lowered.proofs.SoundMoves.{sound_entered, sound_last_hole, sound_next, sound_next_hole, sound_pushed}
 use Rattle.rl_lowered.proofs.SoundMoves.{sound_reserved, sound_stored, sound_temporary}
+use Rattle.rl_promises.specs.Locals.{IsSmallSpan}
 use Rattle.rl_runs.specs.Moves.{block_id, branch, ends_by, last_hole, stored_in}
 
 -- Two blocks

@@ -1,13 +1,17 @@
 -- Listings that the notation has, from those of their parts.
-use Rattle.std.proofs.Common.{◌≡◌, Some, ℕ, ◌<◌, ◌≤◌, ◌^◌, Bool, List, [], ◌∷◌, map, All, Option, None, codes, lit<, refl, subst, arith}
+use Rattle.std.proofs.Common.{◌≡◌, Some, ℕ, ◌<◌, ◌≤◌, ◌^◌, Bool, true, false, List, [], ◌∷◌, map, All, Option, None, codes, lit<, refl, subst, arith}
 use Rattle.std.specs.Str.{IsUtf8}
 use Rattle.std.proofs.lemmas.List.Elements.{All-append, All-cons, All-head, All-nil, All-tail}
 use Rattle.rl_base.specs.declared.span.Span.{Span}
 use Rattle.rl_base.specs.declared.operator.BinaryOperator.{BinaryOperator}
 use Rattle.rl_base.specs.declared.operator.LogicalOperator.{LogicalOperator}
+use Rattle.rl_base.specs.declared.operator.UpdateOperator.{UpdateOperator}
+use Rattle.rl_base.specs.declared.operator.UpdateOperator.TheVariants as updates
+use Rattle.rl_base.specs.declared.type_kind.TypeKind.{TypeKind}
+use Rattle.rl_base.specs.declared.type_kind.TypeKind.TheVariants as cases
 use Rattle.rl_base.specs.declared.ids.BlockId.{BlockId}
 use Rattle.rl_base.specs.declared.ids.InstructionId.{InstructionId}
-use Rattle.rl_base.specs.Operators.{logical_text, operator_text}
+use Rattle.rl_base.specs.Operators.{logical_text, operator_text, update_text}
 use Rattle.rl_text.specs.Notation.{Tree, IsWritable, AreWritable}
 use Rattle.rl_text.specs.Number.{largest}
 use Rattle.rl_text.specs.Raw.{parts_of}
@@ -16,7 +20,7 @@ use Rattle.rl_hir.specs.Listing as listing
 use Rattle.rl_hir.specs.declared.function.IdentifierName.TheVariants.{Named}
 use Rattle.rl_hir.specs.Pieces.{Says, argument_pieces, gathered, row_parts}
 use Rattle.rl_hir.specs.Terminals.{Chooses, Field, Follows, Leads, MayLead, MayName, Names, fields_of, goto_variant, listed_id, names, return_variant, unreachable, with_order}
-use Rattle.rl_builder.specs.Builder.{ended_by, maybe_throw}
+use Rattle.rl_builder.specs.Builder.{State, ended_by, maybe_throw}
 use Rattle.rl_builder.specs.declared.blocks.WipBlock.{WipBlock}
 use Rattle.rl_hir.specs.declared.function.BlockKind.{BlockKind}
 use Rattle.rl_hir.specs.declared.function.BlockKind.TheVariants as kinds
@@ -25,7 +29,10 @@ use Rattle.rl_hir.specs.Blocks.{Pair as BlockPair}
 use Rattle.rl_hir.specs.declared.function.ReactFunctionType.{ReactFunctionType}
 use Rattle.rl_hir.specs.declared.function.ReactFunctionType.TheVariants as types
 use Rattle.rl_hir.specs.declared.instruction.Instruction.{Instruction}
+use Rattle.rl_hir.specs.declared.instruction.HirType.{HirType}
+use Rattle.rl_hir.specs.declared.instruction.InstructionKind.{InstructionKind}
 use Rattle.rl_hir.specs.declared.instruction.InstructionKind.TheVariants as variables
+use Rattle.rl_hir.specs.Trees.{hir_type, instruction_kind}
 use Rattle.rl_hir.specs.declared.instruction.InstructionValue.TheVariants as values
 use Rattle.rl_hir.specs.declared.instruction.NonLocalBinding.{NonLocalBinding}
 use Rattle.rl_hir.specs.declared.instruction.PrimitiveValue.TheVariants as primitives
@@ -45,7 +52,9 @@ use Rattle.rl_order.proofs.PrunedBlocks.{StaysPruned}
 use Rattle.rl_order.specs.Removals.{with_kind}
 use Rattle.rl_order.specs.Walk.{emptied}
 use Rattle.rl_runs.specs.Moves.{block_id, branch, ends_by, goto}
-use Rattle.rl_lowered.specs.Sound.{IsSmallSpan}
+use Rattle.rl_lowered.specs.Forms.{type_of}
+use Rattle.rl_lowered.specs.Lowered.{binary_of, update_of}
+use Rattle.rl_promises.specs.Locals.{IsSmallSpan}
 
 pub all_writable : {X : Type 0} (tree : X → Tree) (items : List X) → All (λ x. IsWritable (tree x)) items
     → AreWritable (parts_of (map tree items))
@@ -156,6 +165,47 @@ pub stored_writable : (place value : Place) → IsWritable (listing.place place)
     → IsWritable (listing.value (values.StoreLocal variables.Const place value))
 unfolding lib.Utf8.encode
 stored_writable place value first second = ((lit< tt, refl), ((codes "const", (refl, refl)), (first, (second, tt))))
+
+-- Variables that are declared, stored and updated, and values under a type
+
+variable_kind_utf8 : (k : InstructionKind) → IsUtf8 (instruction_kind k)
+unfolding lib.Utf8.encode
+variable_kind_utf8 variables.Const = (codes "const", (refl, refl))
+variable_kind_utf8 variables.Let = (codes "let", (refl, refl))
+variable_kind_utf8 variables.Reassign = (codes "reassign", (refl, refl))
+variable_kind_utf8 variables.Catch = (codes "catch", (refl, refl))
+variable_kind_utf8 variables.Function = (codes "function", (refl, refl))
+variable_kind_utf8 variables.HoistedConst = (codes "hoistedconst", (refl, refl))
+variable_kind_utf8 variables.HoistedLet = (codes "hoistedlet", (refl, refl))
+variable_kind_utf8 variables.HoistedFunction = (codes "hoistedfunction", (refl, refl))
+
+pub declared_writable : (k : InstructionKind) (p : Place) → IsWritable (listing.place p)
+    → IsWritable (listing.value (values.DeclareLocal k p))
+declared_writable k p w = ((lit< tt, refl), (variable_kind_utf8 k, (w, tt)))
+
+pub initialized_writable : (k : InstructionKind) (p v : Place) → IsWritable (listing.place p) → IsWritable (listing.place v)
+    → IsWritable (listing.value (values.StoreLocal k p v))
+initialized_writable k p v first second = ((lit< tt, refl), (variable_kind_utf8 k, (first, (second, tt))))
+
+pub updated_writable : (prefix : Bool) (operator : UpdateOperator) (p : Place) → IsUtf8 (update_text operator)
+    → IsWritable (listing.place p) → IsWritable (listing.value (update_of prefix operator p))
+updated_writable true operator p utf8 w = ((lit< tt, refl), ((utf8, tt), ((w, tt), ((w, tt), tt))))
+updated_writable false operator p utf8 w = ((lit< tt, refl), ((utf8, tt), ((w, tt), ((w, tt), tt))))
+
+pub sum_utf8 : (operator : UpdateOperator) → IsUtf8 (operator_text (binary_of operator))
+unfolding lib.Utf8.encode
+sum_utf8 updates.Increment = (codes "+", (refl, refl))
+sum_utf8 updates.Decrement = (codes "-", (refl, refl))
+
+pub type_writable : (s : State) (k : TypeKind) → s.env.next_type ≤ largest → IsWritable (hir_type (type_of s k))
+unfolding lib.Utf8.encode
+type_writable s cases.Array fits = (codes "array", (refl, refl))
+type_writable s cases.Primitive fits = (codes "primitive", (refl, refl))
+type_writable s cases.Other fits = fits
+
+pub cast_writable : (p : Place) (type : HirType) (at : Span) → IsWritable (listing.place p) → IsWritable (hir_type type) → IsSmallSpan at
+    → IsWritable (listing.value (values.TypeCastExpression p type (Some at)))
+cast_writable p type at place cast span = ((lit< tt, refl), (place, (cast, (span_writable at span, tt))))
 
 -- Instructions, terminals and blocks
 

@@ -6,6 +6,8 @@ use Rattle.rl_base.specs.declared.diagnostic.Diagnostic.{Diagnostic}
 use Rattle.rl_base.specs.declared.ids.BlockId.{BlockId}
 use Rattle.rl_base.specs.declared.ids.InstructionId.{InstructionId}
 use Rattle.rl_base.specs.declared.span.Span.{Span}
+use Rattle.rl_base.specs.declared.type_kind.TypeKind.{TypeKind}
+use Rattle.rl_base.specs.declared.type_kind.TypeKind.TheVariants as types
 use Rattle.rl_text.specs.Notation.{IsWritable}
 use Rattle.rl_text.specs.Number.{largest}
 use Rattle.rl_hir.specs.Listing as listing
@@ -26,7 +28,9 @@ use Rattle.rl_builder.specs.Temporaries.{temporary, unordered, with_value}
 use Rattle.rl_builder.specs.declared.blocks.WipBlock.{WipBlock}
 use Rattle.rl_model.specs.WellFormed.{AreKnown, instruction_places, terminal_places, value_places}
 use Rattle.rl_runs.specs.Moves.{goto, last_hole, next_hole, return_of, returned_from, stored_in}
-use Rattle.rl_lowered.specs.Sound.{CountersGrow, HasSmallCounters, HasWritableParts, IsSmallSpan, HasKnownParts, IsSoundPlace, StaysSound}
+use Rattle.rl_lowered.specs.Forms.{typed}
+use Rattle.rl_promises.specs.Locals.{IsSmallSpan}
+use Rattle.rl_lowered.specs.Sound.{CountersGrow, HasSmallCounters, HasWritableParts, HasKnownParts, IsSoundPlace, StaysSound}
 use Rattle.rl_lowered.proofs.SoundListing.{ended_writable, goto_end_writable, instruction_span, instruction_writable, place_writable}
 use Rattle.rl_lowered.proofs.SoundListing.{return_writable, span_writable, stored_writable, throw_writable, unnamed_writable}
 
@@ -401,6 +405,20 @@ sound_returned small s span variant p kind at place =
 
 pub sound_recorded : (small : Type 0) (s : State) (d : Diagnostic) → StaysSound small s (recorded s d)
 sound_recorded small s d = sound_diagnostics small s _
+
+-- The type of a cast
+
+pub sound_typed : (small : Type 0) (s : State) (k : TypeKind) → StaysSound small s (typed s k)
+sound_typed small s types.Array = sound_refl small s
+sound_typed small s types.Primitive = sound_refl small s
+sound_typed small s types.Other = record {
+  counters = record { blocks = omega arith; types = omega arith; identifiers = omega arith; instructions = omega arith };
+  known = λ k. record { table = k.table; terminals = k.terminals };
+  parts = λ holds fits w.
+      record { table = w.table; completed = w.completed; current = w.current; listed = w.listed; handlers = w.handlers };
+  identifiers = λ holds fits w. w;
+  pairs = λ fits w. w;
+}
 
 -- A hole opens, and the block that was current is set aside
 

@@ -3,8 +3,10 @@ use Rattle.std.proofs.Common.{◌≡◌, ℕ, ◌≤◌, Bool, true, false, ◌&
 use Rattle.std.proofs.lemmas.Bool.{leb-true}
 use Rattle.rl_text.specs.Number.{largest}
 use Rattle.rl_text.specs.Numeral.{is_numeral, number_of}
-use Rattle.rl_syntax.specs.Syntax.{Syntax, Node, Pieces, Then, span_of}
-use Rattle.rl_lowered.specs.Sound.{AreSmallTrees, HasSmallSpans, IsSmallSpan, IsSmallTree}
+use Rattle.rl_syntax.specs.Syntax.{Syntax, Node, Listed, Said, Count, Flag, Absent, Pieces, End, Then, span_of}
+use Rattle.rl_promises.specs.Locals.{IsSmallSpan}
+use Rattle.rl_lowered.specs.Sound.{AreSmallTrees, HasSmallSpans, HaveSmallSpans, IsSmallTree}
+use Rattle.rl_lowered.specs.Spanned.{EachSpan, EachSpanAmong}
 
 -- The first of small trees is small, and so are the others.
 pub first_small : (trees rest : Pieces) (tree : Syntax) → trees ≡ Then tree rest → AreSmallTrees trees
@@ -22,6 +24,20 @@ numeral_fits text number is same =
     first_true : (a b : Bool) → a && b ≡ true → a ≡ true
     first_true true b e = refl
     first_true false b e = e
+
+-- The spans of a small tree's nodes are small.
+mutual
+  pub each_small : (e : Syntax) → HasSmallSpans e → EachSpan IsSmallSpan e
+  each_small (Node at w parts) small = (small.0, each_small_among parts small.1)
+  each_small (Listed parts) small = each_small_among parts small
+  each_small (Said text) small = tt
+  each_small (Count number) small = tt
+  each_small (Flag flag) small = tt
+  each_small Absent small = tt
+
+  each_small_among : (parts : Pieces) → HaveSmallSpans parts → EachSpanAmong IsSmallSpan parts
+  each_small_among End small = tt
+  each_small_among (Then piece pieces) small = (each_small piece small.0, each_small_among pieces small.1)
 
 -- The span of a part is small.
 pub span_small : (e : Syntax) → HasSmallSpans e → IsSmallSpan (span_of e)

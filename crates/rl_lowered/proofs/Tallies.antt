@@ -1,41 +1,58 @@
--- The table has an instruction for each call, construction and await that was lowered.
-use Rattle.std.proofs.Common.{◌≡◌, ℕ, ◌+◌, ◌++◌, ◌&&◌, if◌then◌else◌, Bool, true, false, List, [], ◌∷◌, Option, Some, None, refl, ap, ◌∙◌}
-use Rattle.std.proofs.Common.{arith}
-use Rattle.rl_base.specs.declared.row.Row.TheVariants as row
+-- The table has an instruction for each call, construction and await that was lowered, where nothing of it was refused.
+use Rattle.std.proofs.Common.{◌≡◌, ℕ, ◌+◌, ◌++◌, ◌&&◌, if◌then◌else◌, Bool, true, false, List, [], ◌∷◌, Option, Some, None, codes, refl, sym, ap}
+use Rattle.std.proofs.Common.{◌∙◌, arith}
+use Rattle.std.specs.List.{list_any}
+use Rattle.std.specs.Str.{bytes_eq}
+use Rattle.rl_base.specs.Operators.{update_text}
 use Rattle.rl_base.specs.declared.ids.BlockId.{BlockId}
+use Rattle.rl_base.specs.declared.operator.UpdateOperator.{UpdateOperator}
 use Rattle.rl_base.specs.declared.span.Span.{Span}
-use Rattle.rl_builder.specs.Builder.{State, innermost, pushed, pushed_under, recorded, with_temporary}
-use Rattle.rl_builder.specs.Names.{resolved}
+use Rattle.rl_base.specs.declared.type_kind.TypeKind.{TypeKind}
+use Rattle.rl_base.specs.declared.type_kind.TypeKind.TheVariants as types
+use Rattle.rl_base.specs.declared.variable_kind.VariableKind.{VariableKind}
+use Rattle.rl_base.specs.declared.variable_kind.VariableKind.TheVariants as kinds
+use Rattle.rl_builder.specs.Builder.{State, innermost, pushed, pushed_under, with_temporary}
 use Rattle.rl_builder.specs.Temporaries.{temporary, unordered, with_value}
 use Rattle.rl_frames.specs.Parts.{loads, logical_entered, logical_left, logical_place, sequence_place, ternary_place}
 use Rattle.rl_grammar.proofs.Viewing.{rest_fit}
 use Rattle.rl_grammar.specs.Grammar.{every}
 use Rattle.rl_grammar.specs.declared.kind.Kind.TheVariants as sort
 use Rattle.rl_hir.specs.Pieces.{Piece}
+use Rattle.rl_hir.specs.Written.{value_word}
 use Rattle.rl_hir.specs.declared.instruction.Instruction.{Instruction}
+use Rattle.rl_hir.specs.declared.instruction.InstructionKind.{InstructionKind}
 use Rattle.rl_hir.specs.declared.instruction.InstructionKind.TheVariants as variables
 use Rattle.rl_hir.specs.declared.instruction.InstructionValue.{InstructionValue}
 use Rattle.rl_hir.specs.declared.instruction.InstructionValue.TheVariants as values
-use Rattle.rl_hir.specs.declared.instruction.NonLocalBinding.{NonLocalBinding}
 use Rattle.rl_hir.specs.declared.instruction.Place.{Place}
-use Rattle.rl_hir.specs.declared.instruction.PrimitiveValue.{PrimitiveValue}
 use Rattle.rl_hir.specs.declared.instruction.PrimitiveValue.TheVariants as primitives
-use Rattle.rl_hir.specs.declared.instruction.TemplateQuasi.{TemplateQuasi}
-use Rattle.rl_lowered.specs.Forms.{AreQuasis, Await, IsForm, IsLiteral, IsWrapper, NextQuasi, NextUncooked, NonNull, NoQuasi}
-use Rattle.rl_lowered.specs.Forms.{Null, Parenthesized, Template}
-use Rattle.rl_lowered.specs.Lowered.{Asked, Block, Conditional, EarlierPart, Empty, Expression, Global, IfElse, IfThen, LastPart, Literal}
-use Rattle.rl_lowered.specs.Lowered.{Logical, Lowered, LoweredAll, LoweredBody, LoweredLast, LoweredStatement, LoweredStatements, NextHole}
-use Rattle.rl_lowered.specs.Lowered.{NextPart, NextSpread, NextStatement, NoPart, NoStatement, RefusedGlobal, RefusedNumber, Return}
-use Rattle.rl_lowered.specs.Lowered.{ReturnNothing, Same, Sequence, Statements, Value, Variable}
+use Rattle.rl_lowered.proofs.Clean.{branches_clean, cast_clean, computed_row_clean, constant_update_never, first_none, form_clean}
+use Rattle.rl_lowered.proofs.Clean.{fraction_row_never, method_clean, outer_never, private_clean, private_never, property_row_clean}
+use Rattle.rl_lowered.proofs.Clean.{refused_never, refusing_never, row_clean, second_none, spread_row_clean, unknown_row_never}
+use Rattle.rl_lowered.proofs.Clean.{updated_member_clean, wrapper_clean}
+use Rattle.rl_lowered.proofs.HeldParts.{HeldBy, IsHeldAs, Unheld, cast_held, declarator_held, form_held, form_word, is_held, literal_held}
+use Rattle.rl_lowered.proofs.HeldParts.{method_held, property_held, updated_held, wrapper_held}
+use Rattle.rl_lowered.proofs.Meant.{private_member_never}
+use Rattle.rl_lowered.proofs.Plain.{lowered_plain}
+use Rattle.rl_lowered.specs.Forms.{MemberKey, Computed, Fixed, load_of, store_of, typed}
+use Rattle.rl_lowered.specs.Lowered.{Asked, Block, Cast, Conditional, Debugger, EarlierPart, Empty, Expression, Global, IfElse, IfThen, LastPart}
+use Rattle.rl_lowered.specs.Lowered.{Literal, Logical, Lowered, LoweredBody, LoweredDeclarators, LoweredLast, LoweredParts, LoweredStatement}
+use Rattle.rl_lowered.specs.Lowered.{LoweredStatements, Method, NextComputed, NextDeclared, NextFraction, NextHole, NextInitialized, NextPart}
+use Rattle.rl_lowered.specs.Lowered.{NextProperty, NextSpread, NextStatement, NextUnknown, NoDeclarator, NoPart, NoStatement, Object, Private}
+use Rattle.rl_lowered.specs.Lowered.{Refused, RefusedBefore, RefusedBehind, RefusedGlobal, Return, ReturnNothing, Same, Sequence, Statements}
+use Rattle.rl_lowered.specs.Lowered.{UpdatedConstant, UpdatedMember, UpdatedVariable, Value, Variable, Variables}
+use Rattle.rl_lowered.specs.Lowered.{declaring, member_loaded, member_one, member_stored, member_updated, update_of, value_span}
+use Rattle.rl_lowered.specs.Named.{found}
 use Rattle.rl_model.specs.Counted.{Counted}
 use Rattle.rl_names.specs.Names.{Names}
+use Rattle.rl_promises.proofs.Unheld.{unheld_untallied}
 use Rattle.rl_promises.specs.Held.{is_of, is_span, times}
-use Rattle.rl_promises.specs.Rows.{refusal}
-use Rattle.rl_promises.specs.Tallies.{Awaits, Calls, Constructions, IsHeldKind, held_word, is_among, tallied, tallied_among, tally_at}
+use Rattle.rl_promises.specs.Live.{Held, held_among, held_as, held_in}
+use Rattle.rl_promises.specs.Rows.{refusals, refusals_in}
+use Rattle.rl_promises.specs.Tallies.{Awaits, Calls, Constructions, IsHeldKind, held_word, is_among, tallied, tallied_among}
 use Rattle.rl_runs.specs.Moves.{stored_in}
-use Rattle.rl_syntax.specs.declared.numbered.At.{At}
-use Rattle.rl_syntax.specs.declared.word.Word.{Word}
-use Rattle.rl_syntax.specs.Syntax.{Syntax, Node, Said, Pieces, End, Then, span_of}
+use Rattle.rl_syntax.specs.declared.word.Word.TheVariants as word
+use Rattle.rl_syntax.specs.Syntax.{Syntax, Node, Listed, Said, Count, Flag, Absent, Pieces, End, Then, span_of}
 
 -- Sums of what was there and of what the parts add.
 
@@ -51,11 +68,31 @@ added_leaf a b n none is = omega (arith, none, is)
 added_inner : (a b n own : ℕ) → own ≡ 0 → b ≡ a + n → b ≡ a + (own + (n + 0))
 added_inner a b n own none is = omega (arith, none, is)
 
+added_declared : (a b n : ℕ) → b ≡ a + n → b ≡ a + (0 + (0 + (n + 0)))
+added_declared a b n is = omega (arith, is)
+
 added_row : (a b c n m : ℕ) → b ≡ a + n → c ≡ b + m → c ≡ a + (n + m)
 added_row a b c n m first second = omega (arith, first, second)
 
 added_asked : (a b c fields parts own one : ℕ) → fields ≡ parts → one ≡ own → b ≡ a + parts → c ≡ b + one → c ≡ a + (own + fields)
 added_asked a b c fields parts own one same is first second = omega (arith, same, is, first, second)
+
+added_same : (a b n m : ℕ) → m ≡ n → b ≡ a + n → b ≡ a + m
+added_same a b n m same is = omega (arith, same, is)
+
+added_four : (a b c d e : ℕ) → b ≡ a + 0 → c ≡ b + 0 → d ≡ c + 0 → e ≡ d + 0 → e ≡ a + 0
+added_four a b c d e p q r s = omega (arith, p, q, r, s)
+
+added_method : (a b c d e fields own one parts given : ℕ) → fields ≡ own + (parts + given) → one ≡ own → b ≡ a + parts → c ≡ b + 0
+    → d ≡ c + given → e ≡ d + one → e ≡ a + fields
+added_method a b c d e fields own one parts given whole is p q r s = omega (arith, whole, is, p, q, r, s)
+
+added_computed : (a b c d key value more : ℕ) → b ≡ a + key → c ≡ b + value → d ≡ c + more
+    → d ≡ a + ((0 + (0 + (key + (value + 0)))) + more)
+added_computed a b c d key value more p q r = omega (arith, p, q, r)
+
+added_initialized : (a b c d whole init more : ℕ) → whole ≡ init → b ≡ a + init → c ≡ b + 0 → d ≡ c + more → d ≡ a + (whole + more)
+added_initialized a b c d whole init more same p q r = omega (arith, same, p, q, r)
 
 added_two : (a b c d e f left right : ℕ) → b ≡ a + 0 → c ≡ b + right → d ≡ c + 0 → e ≡ d + left → f ≡ e + 0
     → f ≡ a + (0 + (0 + (left + (right + 0))))
@@ -80,36 +117,79 @@ table_under : (o : Option BlockId) (s : State) (i : Instruction) → (pushed_und
 table_under None s i = refl
 table_under (Some handler) s i = refl
 
--- Kinds of values.
+-- Values whose instructions are not counted.
 
-primitive_unheld : {kinds : List (List ℕ)} → IsHeldKind kinds → (p : PrimitiveValue) → is_of kinds (values.Primitive p) ≡ false
-primitive_unheld Calls p = refl
-primitive_unheld Constructions p = refl
-primitive_unheld Awaits p = refl
+unheld_value : {kinds : List (List ℕ)} → IsHeldKind kinds → (v : InstructionValue) → is_held v ≡ false → is_of kinds v ≡ false
+unheld_value Calls (values.CallExpression callee given) is = absurd (cc)
+unheld_value Calls (values.MethodCall call) is = absurd (cc)
+unheld_value Calls _ is = refl
+unheld_value Constructions (values.NewExpression callee given) is = absurd (cc)
+unheld_value Constructions _ is = refl
+unheld_value Awaits (values.Await value) is = absurd (cc)
+unheld_value Awaits _ is = refl
 
-local_unheld : {kinds : List (List ℕ)} → IsHeldKind kinds → (p : Place) → is_of kinds (values.LoadLocal p) ≡ false
-local_unheld Calls p = refl
-local_unheld Constructions p = refl
-local_unheld Awaits p = refl
+update_unheld : (prefix : Bool) (operator : UpdateOperator) (p : Place) → is_held (update_of prefix operator p) ≡ false
+update_unheld true operator p = refl
+update_unheld false operator p = refl
 
-global_unheld : {kinds : List (List ℕ)} → IsHeldKind kinds → (b : NonLocalBinding) → is_of kinds (values.LoadGlobal b) ≡ false
-global_unheld Calls b = refl
-global_unheld Constructions b = refl
-global_unheld Awaits b = refl
+load_unheld : (object : Place) (key : MemberKey) → is_held (load_of object key) ≡ false
+load_unheld object (Fixed key) = refl
+load_unheld object (Computed p) = refl
 
-store_unheld : {kinds : List (List ℕ)} → IsHeldKind kinds → (p v : Place) → is_of kinds (values.StoreLocal variables.Const p v) ≡ false
-store_unheld Calls p v = refl
-store_unheld Constructions p v = refl
-store_unheld Awaits p v = refl
+store_unheld : (object : Place) (key : MemberKey) (v : Place) → is_held (store_of object key v) ≡ false
+store_unheld object (Fixed key) v = refl
+store_unheld object (Computed p) v = refl
 
-form_kind : {kinds : List (List ℕ)} {w : Word} {fields parts : Pieces} {pieces : List Piece} {v : InstructionValue} → IsHeldKind kinds
-    → IsForm w fields parts pieces v → is_of kinds v ≡ is_among kinds (held_word w)
-form_kind Calls Await = refl
-form_kind Calls _ = refl
-form_kind Constructions Await = refl
-form_kind Constructions _ = refl
-form_kind Awaits Await = refl
-form_kind Awaits _ = refl
+-- Moves that leave the table as it is.
+
+typed_table : (s : State) (k : TypeKind) → (typed s k).table ≡ s.table
+typed_table s types.Array = refl
+typed_table s types.Primitive = refl
+typed_table s types.Other = refl
+
+declaring_table : (s : State) (k : VariableKind) (at : Span) → (declaring s k at).table ≡ s.table
+declaring_table s kinds.Var at = refl
+declaring_table s _ at = refl
+
+and_true : (b : Bool) → b && true ≡ b
+and_true true = refl
+and_true false = refl
+
+-- The counted nodes of a list that the key counts.
+
+abbrev tally_by : Counted → Option (List ℕ) → Span → ℕ
+tally_by key o span = if is_among key.kinds o && is_span key.span (Some span) then 1 else 0
+
+abbrev weigh : Counted → List Held → ℕ
+weigh key [] = 0
+weigh key (h ∷ hs) = tally_by key (Some h.word) h.span + weigh key hs
+
+weigh_append : (key : Counted) (xs ys : List Held) → weigh key (xs ++ ys) ≡ weigh key xs + weigh key ys
+weigh_append key [] ys = omega arith
+weigh_append key (x ∷ xs) ys = let more = weigh_append key xs ys in omega (arith, more)
+
+weigh_one : (key : Counted) (o : Option (List ℕ)) (span : Span) → tally_by key o span ≡ weigh key (held_as o span)
+weigh_one key None span = refl
+weigh_one key (Some text) span = omega arith
+
+mutual
+  weighed : (key : Counted) (e : Syntax) → tallied key e ≡ weigh key (held_in e)
+  weighed key (Node at w parts) =
+      let rest = weighed_among key parts in
+      let itself = weigh_one key (held_word w parts) at.span in
+      omega (arith, itself, rest, weigh_append key (held_as (held_word w parts) at.span) (held_among parts))
+  weighed key (Listed parts) = weighed_among key parts
+  weighed key (Said text) = refl
+  weighed key (Count number) = refl
+  weighed key (Flag flag) = refl
+  weighed key Absent = refl
+
+  weighed_among : (key : Counted) (es : Pieces) → tallied_among key es ≡ weigh key (held_among es)
+  weighed_among key End = refl
+  weighed_among key (Then e es) =
+      let first = weighed key e in
+      let rest = weighed_among key es in
+      omega (arith, first, rest, weigh_append key (held_in e) (held_among es))
 
 module _ (key : Counted) (held : IsHeldKind key.kinds) where
   -- 1 of an instruction that the key counts, else 0.
@@ -128,25 +208,31 @@ module _ (key : Counted) (held : IsHeldKind key.kinds) where
   value_tallies s v span = pushed_tallies (with_temporary s span) (unordered (temporary s span) v span)
 
   -- A value that no key counts.
-  unheld_tallies : (s : State) (v : InstructionValue) (span : Option Span) → is_of key.kinds v ≡ false
+  unheld_tallies : (s : State) (v : InstructionValue) (span : Option Span) → is_held v ≡ false
       → times key (with_value s v span).table ≡ times key s.table + 0
   unheld_tallies s v span none =
-      value_tallies s v span ∙ ap (λ (b : Bool). times key s.table + (if b && is_span key.span span then 1 else 0)) none
+      value_tallies s v span
+      ∙ ap (λ (b : Bool). times key s.table + (if b && is_span key.span span then 1 else 0)) (unheld_value held v none)
 
   stored_tallies : (s : State) (place value : Place) (span : Span) → times key (stored_in s place value span).table ≡ times key s.table + 0
-  stored_tallies s place value span =
-      unheld_tallies s (values.StoreLocal variables.Const place value) (Some span) (store_unheld held place value)
+  stored_tallies s place value span = unheld_tallies s (values.StoreLocal variables.Const place value) (Some span) refl
 
   loaded_tallies : (s : State) (place value : Place) (span : Span)
       → times key (pushed s (loads place value span)).table ≡ times key s.table + 0
   loaded_tallies s place value span =
       pushed_tallies s (loads place value span)
-      ∙ ap (λ (b : Bool). times key s.table + (if b && is_span key.span (Some span) then 1 else 0)) (local_unheld held value)
+      ∙ ap (λ (b : Bool). times key s.table + (if b && is_span key.span (Some span) then 1 else 0))
+      (unheld_value held (values.LoadLocal value) refl)
 
-  quasis_tallied : {texts : Pieces} {quasis : List TemplateQuasi} → AreQuasis texts quasis → tallied_among key texts ≡ 0
-  quasis_tallied NoQuasi = refl
-  quasis_tallied (NextQuasi more) = none_more _ (quasis_tallied more)
-  quasis_tallied (NextUncooked more) = none_more _ (quasis_tallied more)
+  member_tallies : (t : State) (object : Place) (k : MemberKey) (operator : UpdateOperator) (there : Span)
+      → times key (member_stored t object k operator there).table ≡ times key t.table + 0
+  member_tallies t object k operator there =
+      let loaded : State = member_loaded t object k there in
+      let one : State = member_one t object k there in
+      let updated : State = member_updated t object k operator there in
+      added_four _ _ _ _ _ (unheld_tallies t (load_of object k) (Some there) (load_unheld object k))
+      (unheld_tallies loaded (values.Primitive (primitives.Number 1)) None refl) (unheld_tallies one _ (Some there) refl)
+      (unheld_tallies updated (store_of object k (temporary one (Some there))) (Some there) (store_unheld object k _))
 
   texts_tallied : (texts : Pieces) → every sort.Text texts ≡ true → tallied_among key texts ≡ 0
   texts_tallied End fit = refl
@@ -154,93 +240,190 @@ module _ (key : Counted) (held : IsHeldKind key.kinds) where
       none_more _ (texts_tallied texts (rest_fit sort.Text (Then (Said text) texts) (Said text) texts refl fit))
   texts_tallied (Then _ texts) fit = absurd (cc)
 
-  -- The parts that are lowered are counted as the fields are.
-  form_tallied : {w : Word} {fields parts : Pieces} {pieces : List Piece} {v : InstructionValue} → IsForm w fields parts pieces v
-      → tallied_among key fields ≡ tallied_among key parts
-  form_tallied (Template quasis given) = (let none = quasis_tallied quasis in omega (arith, none))
-  form_tallied Await = omega arith
-  form_tallied _ = omega arith
+  -- Trees that hold the nodes that others do.
 
-  literal_tallied : {w : Word} {fields : Pieces} {p : PrimitiveValue} → IsLiteral w fields p → (at : At)
-      → tallied key (Node at w fields) ≡ 0
-  literal_tallied Null at = refl
-  literal_tallied _ at = refl
+  same_tallied : (e inner : Syntax) → held_in e ≡ held_in inner → tallied key e ≡ tallied key inner
+  same_tallied e inner same = weighed key e ∙ ap (weigh key) same ∙ sym (weighed key inner)
 
-  wrapper_tallied : {w : Word} → IsWrapper w → (at : At) → tally_at key w at ≡ 0
-  wrapper_tallied Parenthesized at = refl
-  wrapper_tallied NonNull at = refl
+  same_among : (fields parts : Pieces) → held_among fields ≡ held_among parts → tallied_among key fields ≡ tallied_among key parts
+  same_among fields parts same = weighed_among key fields ∙ ap (weigh key) same ∙ sym (weighed_among key parts)
 
-  form_weight : {w : Word} {fields parts : Pieces} {pieces : List Piece} {v : InstructionValue} → IsForm w fields parts pieces v
-      → (at : At) → one v (Some at.span) ≡ tally_at key w at
-  form_weight form at = ap (λ (b : Bool). if b && is_span key.span (Some at.span) then 1 else 0) (form_kind held form)
+  row_tallied : (e : Syntax) (parts : Pieces) → held_in e ≡ held_among parts → tallied key e ≡ tallied_among key parts
+  row_tallied e parts same = weighed key e ∙ ap (weigh key) same ∙ sym (weighed_among key parts)
+
+  method_tallied : (e : Syntax) (span : Span) (parts es : Pieces)
+      → held_in e ≡ record { word = codes "methodcall"; span = span } ∷ (held_among parts ++ held_among es)
+      → tallied key e ≡ tally_by key (Some (codes "methodcall")) span + (tallied_among key parts + tallied_among key es)
+  method_tallied e span parts es same =
+      let whole = weighed key e ∙ ap (weigh key) same in
+      let first = weighed_among key parts in
+      let second = weighed_among key es in
+      omega (arith, whole, first, second, weigh_append key (held_among parts) (held_among es))
+
+  -- The instruction of a node counts as the node does.
+  weight : (o : Option (List ℕ)) (v : InstructionValue) (span : Span) → IsHeldAs o v → one v (Some span) ≡ tally_by key o span
+  weight o v span (Unheld is none) =
+      ap (λ (b : Bool). if b && is_span key.span (Some span) then 1 else 0) (unheld_value held v none)
+      ∙ sym (ap (λ (o : Option (List ℕ)). tally_by key o span) is)
+  weight o v span (HeldBy is counted) =
+      ap (λ (c : Bool). if (list_any (bytes_eq (value_word v)) key.kinds && c) && is_span key.span (Some span) then 1 else 0) counted
+      ∙ ap (λ (b : Bool). if b && is_span key.span (Some span) then 1 else 0) (and_true (list_any (bytes_eq (value_word v)) key.kinds))
+      ∙ sym (ap (λ (o : Option (List ℕ)). tally_by key o span) is)
 
   mutual
-    pub expression_tallies : {names : Names} {e : Syntax} {s t : State} {p : Place} → Lowered names e s t p
+    pub expression_tallies : {names : Names} {e : Syntax} {s t : State} {p : Place} → Lowered names e s t p → refusals names e ≡ []
         → times key t.table ≡ times key s.table + tallied key e
-    expression_tallies (Literal at w fields p s is) =
-        added_leaf _ _ _ (literal_tallied is at) (unheld_tallies s (values.Primitive p) (Some at.span) (primitive_unheld held p))
-    expression_tallies (RefusedNumber at text s is) =
+    expression_tallies (Literal at w fields p s is) none =
+        added_leaf _ _ _ (unheld_untallied key (Node at w fields) (literal_held is at)) (unheld_tallies s (values.Primitive p) (Some at.span) refl)
+    expression_tallies {names} (Refused at w fields r s is) none = absurd (refused_never names at is none)
+    expression_tallies {names} (RefusedBefore at w fields parts r pieces s t is d) none = absurd (refusing_never names at is none)
+    expression_tallies {names} (RefusedBehind at object name s t p d) none =
+        absurd (private_never names at (Flag false) object (Said name) none)
+    expression_tallies {names} (Private at w fields e s t p is d) none = absurd (private_member_never is d (private_clean is names at none))
+    expression_tallies {names} (Variable at name symbol identifier s means f) none =
+        added_leaf _ _ _ refl (unheld_tallies (found names s symbol at.span) _ (Some at.span) refl)
+    expression_tallies {names} (UpdatedVariable at there name symbol identifier operator prefix s means mutable f g) none =
         added_leaf _ _ _ refl
-        (unheld_tallies (recorded s (refusal row.F43 at.span)) (values.Primitive primitives.Undefined) (Some at.span)
-        (primitive_unheld held primitives.Undefined))
-    expression_tallies {names} (Variable at name symbol identifier s means named bound agrees) =
-        let p : Place = record { identifier = record { 0 = identifier }; span = Some at.span } in
-        added_leaf _ _ _ refl
-        (unheld_tallies (resolved s (names.name symbol.0) symbol.0 (Some at.span)) (values.LoadLocal p) (Some at.span) (local_unheld held p))
-    expression_tallies (Global at name binding s means other) =
-        added_leaf _ _ _ refl (unheld_tallies s (values.LoadGlobal binding) (Some at.span) (global_unheld held binding))
-    expression_tallies (RefusedGlobal at name binding s means is) =
-        added_leaf _ _ _ refl
-        (unheld_tallies (recorded s (refusal row.F2 at.span)) (values.LoadGlobal binding) (Some at.span) (global_unheld held binding))
-    expression_tallies (Same at w e s t p is d) = added_inner _ _ _ _ (wrapper_tallied is at) (expression_tallies d)
-    expression_tallies (Asked at w fields parts pieces v s t form d) =
-        added_asked _ _ _ _ _ _ _ (form_tallied form) (form_weight form at) (all_tallies d) (value_tallies t v (Some at.span))
-    expression_tallies (Logical at operator left right s s2 s3 l r dr dl) =
+        (unheld_tallies (found names (found names s symbol there.span) symbol there.span) _ (Some at.span)
+        (update_unheld prefix operator (record { identifier = record { 0 = identifier }; span = Some there.span })))
+    expression_tallies {names} (UpdatedConstant at there name symbol identifier operator prefix s means constant f) none =
+        absurd (constant_update_never names at there operator prefix name symbol means constant none)
+    expression_tallies {names} (UpdatedMember at there w fields parts pieces object k operator prefix s t is d) none =
+        let text : List ℕ = update_text operator in
+        added_same _ _ _ _
+        (row_tallied (Node at word.Update (Then (Said text) (Then (Flag prefix) (Then (Node there w fields) End)))) parts
+        (updated_held is at there text prefix))
+        (added_behind _ _ _ _ (all_tallies d (updated_member_clean is names at there (Said text) (Flag prefix) none))
+        (member_tallies t object k operator there.span))
+    expression_tallies {names} (Method at there w fields parts es pieces given_pieces object k given s t u is d ds given_are) none =
+        let clean = method_clean is names at there es none in
+        added_method _ _ _ _ _ _ _ _ _ _
+        (method_tallied (Node at word.Call (Then (Flag false) (Then (Node there w fields) (Then (Listed es) End)))) at.span parts es
+        (method_held is at there es))
+        (weight (Some (codes "methodcall"))
+        (values.MethodCall (record { receiver = object; property = temporary t (Some there.span); arguments = given })) at.span
+        (HeldBy refl refl))
+        (all_tallies d clean.0) (unheld_tallies t (load_of object k) (Some there.span) (load_unheld object k)) (all_tallies ds clean.1)
+        (value_tallies u _ (Some at.span))
+    expression_tallies {names} (Cast at there w fields e type k s t p is annotated d) none =
+        added_same _ _ _ _ (same_tallied (Node at w fields) e (cast_held is annotated at))
+        (added_behind _ _ _ _ (expression_tallies d (cast_clean is names at none))
+        (unheld_tallies (typed t k) _ (Some at.span) refl ∙ ap (λ (l : List Instruction). times key l + 0) (typed_table t k)))
+    expression_tallies (Global at name binding s means other) none =
+        added_leaf _ _ _ refl (unheld_tallies s (values.LoadGlobal binding) (Some at.span) refl)
+    expression_tallies {names} (RefusedGlobal at name binding s means is) none = absurd (outer_never names at name binding means is none)
+    expression_tallies {names} (Same at w fields e s t p is d) none =
+        added_same _ _ _ _ (same_tallied (Node at w fields) e (wrapper_held is at)) (expression_tallies d (wrapper_clean is names at none))
+    expression_tallies {names} (Asked at w fields parts pieces v s t form d) none =
+        added_asked _ _ _ _ _ _ _ (same_among fields parts (form_held form)) (weight (held_word w fields) v at.span (form_word form))
+        (all_tallies d (form_clean form names at none)) (value_tallies t v (Some at.span))
+    expression_tallies {names} (Object at es pieces properties s t is d) none =
+        added_inner _ _ _ _ refl
+        (added_behind _ _ _ _ (all_tallies d (first_none (refusals_in names es) [] none))
+        (unheld_tallies t (values.ObjectExpression properties) (Some at.span) refl))
+    expression_tallies {names} (Logical at operator left right s s2 s3 l r dr dl) none =
         added_two _ _ _ _ _ _ _ _
         (stored_tallies (logical_entered s at.span (span_of left)) (logical_place s at.span) (logical_left s (span_of left)) (span_of left))
-        (expression_tallies dr) (stored_tallies s2 (logical_place s at.span) r (span_of right)) (expression_tallies dl)
+        (expression_tallies dr (first_none (refusals names right) (refusals names left) none))
+        (stored_tallies s2 (logical_place s at.span) r (value_span r right))
+        (expression_tallies dl (second_none (refusals names right) (refusals names left) none))
         (loaded_tallies s3 (logical_left s (span_of left)) l at.span)
-    expression_tallies (Conditional at test consequent alternate s s2 s3 s4 c a p dc da dt) =
+    expression_tallies {names} (Conditional at test consequent alternate s s2 s3 s4 c a p dc da dt) none =
+        let clean = branches_clean names consequent alternate test none in
         added_three _ _ _ _ _ _ _ _ _
-        (expression_tallies dc) (stored_tallies s2 (ternary_place s at.span) c at.span)
-        (expression_tallies da) (stored_tallies s3 (ternary_place s at.span) a at.span) (expression_tallies dt)
-    expression_tallies (Sequence at e es s s2 p d) =
-        added_inner _ _ _ _ refl (added_behind _ _ _ _ (last_tallies d) (stored_tallies s2 (sequence_place s at.span) p at.span))
+        (expression_tallies dc clean.0) (stored_tallies s2 (ternary_place s at.span) c at.span)
+        (expression_tallies da clean.1) (stored_tallies s3 (ternary_place s at.span) a at.span) (expression_tallies dt clean.2)
+    expression_tallies {names} (Sequence at e es s s2 p d) none =
+        added_inner _ _ _ _ refl
+        (added_behind _ _ _ _ (last_tallies d (first_none (refusals_in names (Then e es)) [] none))
+        (stored_tallies s2 (sequence_place s at.span) p at.span))
 
-    pub all_tallies : {names : Names} {es : Pieces} {s t : State} {pieces : List Piece} → LoweredAll names es s t pieces
+    pub all_tallies : {names : Names} {of_object : Bool} {es : Pieces} {s t : State} {pieces : List Piece}
+        → LoweredParts names of_object es s t pieces → refusals_in names es ≡ []
         → times key t.table ≡ times key s.table + tallied_among key es
-    all_tallies (NoPart s) = omega arith
-    all_tallies (NextPart e es s t u p pieces d ds) = added_row _ _ _ _ _ (expression_tallies d) (all_tallies ds)
-    all_tallies (NextSpread at e es s t u p pieces d ds) =
-        added_row _ _ _ _ _ (added_inner _ _ _ _ refl (expression_tallies d)) (all_tallies ds)
-    all_tallies (NextHole at es s u pieces ds) = added_row _ _ _ _ _ (added_leaf _ _ _ refl (omega arith)) (all_tallies ds)
+    all_tallies (NoPart s) none = omega arith
+    all_tallies {names} (NextPart e es s t u p pieces d ds) none =
+        let clean = row_clean names e es none in
+        added_row _ _ _ _ _ (expression_tallies d clean.0) (all_tallies ds clean.1)
+    all_tallies {names} (NextSpread at e es s t u p pieces d ds) none =
+        let clean = spread_row_clean names at e es none in
+        added_row _ _ _ _ _ (added_inner _ _ _ _ refl (expression_tallies d clean.0)) (all_tallies ds clean.1)
+    all_tallies (NextHole at es s u pieces ds) none = added_row _ _ _ _ _ (added_leaf _ _ _ refl (omega arith)) (all_tallies ds none)
+    all_tallies {names} (NextProperty at computed k e text es s t u p pieces is d ds) none =
+        let clean = property_row_clean names at computed k e (46 ∷ text) es is none in
+        added_row _ _ _ _ _
+        (added_same _ _ _ _
+        (same_tallied (Node at word.Prop (Then (Flag computed) (Then k (Then e End)))) e (property_held at computed k e (46 ∷ text) is))
+        (expression_tallies d clean.0))
+        (all_tallies ds clean.1)
+    all_tallies {names} (NextComputed at k e es s r t u p q pieces is first d ds) none =
+        let clean = computed_row_clean names at k e es (lowered_plain first).key none in
+        added_computed _ _ _ _ _ _ _ (expression_tallies first clean.0) (expression_tallies d clean.1) (all_tallies ds clean.2)
+    all_tallies {names} (NextFraction at there e text es s t u p pieces is d ds) none =
+        absurd (fraction_row_never names at there text e es is none)
+    all_tallies {names} (NextUnknown at computed k e es s u pieces is ds) none = absurd (unknown_row_never names at computed k e es is none)
 
-    pub last_tallies : {names : Names} {es : Pieces} {s t : State} {p : Place} → LoweredLast names es s t p
+    pub last_tallies : {names : Names} {es : Pieces} {s t : State} {p : Place} → LoweredLast names es s t p → refusals_in names es ≡ []
         → times key t.table ≡ times key s.table + tallied_among key es
-    last_tallies (LastPart e s t p d) = added_row _ _ _ _ _ (expression_tallies d) (omega arith)
-    last_tallies (EarlierPart e next es s t u p q d ds) = added_row _ _ _ _ _ (expression_tallies d) (last_tallies ds)
+    last_tallies {names} (LastPart e s t p d) none =
+        added_row _ _ _ _ _ (expression_tallies d (row_clean names e End none).0) (omega arith)
+    last_tallies {names} (EarlierPart e next es s t u p q d ds) none =
+        let clean = row_clean names e (Then next es) none in
+        added_row _ _ _ _ _ (expression_tallies d clean.0) (last_tallies ds clean.1)
+
+  declarators_tallies : {names : Names} {at : Span} {k : InstructionKind} {es : Pieces} {s t : State} → LoweredDeclarators names at k es s t
+      → refusals_in names es ≡ [] → times key t.table ≡ times key s.table + tallied_among key es
+  declarators_tallies (NoDeclarator s) none = omega arith
+  declarators_tallies {names} (NextDeclared there bind name type more symbol identifier s u annotated is f d) none =
+      let declarator : Syntax = Node there word.Declarator (Then (Node bind word.Bind (Then (Said name) (Then type End))) (Then Absent End)) in
+      added_row _ _ _ _ _
+      (added_leaf _ _ _ (same_tallied declarator Absent (declarator_held there bind name type Absent annotated))
+      (unheld_tallies (found names s symbol bind.span) _ (Some bind.span) refl))
+      (declarators_tallies d (row_clean names declarator more none).1)
+  declarators_tallies {names} {at} (NextInitialized there bind name type init more symbol identifier s t u p annotated is d f ds) none =
+      let pattern : Syntax = Node bind word.Bind (Then (Said name) (Then type End)) in
+      let declarator : Syntax = Node there word.Declarator (Then pattern (Then init End)) in
+      let clean = row_clean names declarator more none in
+      added_initialized _ _ _ _ _ _ _ (same_tallied declarator init (declarator_held there bind name type init annotated))
+      (expression_tallies d (first_none (refusals names init) (refusals names pattern) clean.0))
+      (unheld_tallies (found names t symbol bind.span) _ (Some at) refl)
+      (declarators_tallies ds clean.1)
 
   mutual
-    pub statement_tallies : {names : Names} {e : Syntax} {s t : State} → LoweredStatement names e s t
+    pub statement_tallies : {names : Names} {e : Syntax} {s t : State} → LoweredStatement names e s t → refusals names e ≡ []
         → times key t.table ≡ times key s.table + tallied key e
-    statement_tallies (Empty at s) = omega arith
-    statement_tallies (Expression at e s t p d) = added_inner _ _ _ _ refl (expression_tallies d)
-    statement_tallies (ReturnNothing at s) =
-        added_leaf _ _ _ refl (unheld_tallies s (values.Primitive primitives.Undefined) None (primitive_unheld held primitives.Undefined))
-    statement_tallies (Return at e s t p d) = added_inner _ _ _ _ refl (expression_tallies d)
-    statement_tallies (Block at statements s t d) = added_inner _ _ _ _ refl (statements_tallies d)
-    statement_tallies (IfThen at test consequent s s2 s3 p dc dt) =
-        added_branch _ _ _ _ _ (statement_tallies dc) (expression_tallies dt)
-    statement_tallies (IfElse at test consequent alternate s s2 s3 s4 p dc da dt) =
-        added_branches _ _ _ _ _ _ _ (statement_tallies dc) (statement_tallies da) (expression_tallies dt)
+    statement_tallies (Empty at s) none = omega arith
+    statement_tallies {names} (Expression at e s t p d) none =
+        added_inner _ _ _ _ refl (expression_tallies d (first_none (refusals names e) [] none))
+    statement_tallies (Debugger at s) none = added_leaf _ _ _ refl (unheld_tallies s values.Debugger (Some at.span) refl)
+    statement_tallies {names} (Variables at k declarators s t d) none =
+        added_declared _ _ _
+        (declarators_tallies d (second_none _ (refusals_in names declarators) none)
+        ∙ ap (λ (l : List Instruction). times key l + tallied_among key declarators) (declaring_table s k at.span))
+    statement_tallies (ReturnNothing at s) none =
+        added_leaf _ _ _ refl (unheld_tallies s (values.Primitive primitives.Undefined) None refl)
+    statement_tallies {names} (Return at e s t p d) none =
+        added_inner _ _ _ _ refl (expression_tallies d (first_none (refusals names e) [] none))
+    statement_tallies {names} (Block at statements s t d) none =
+        added_inner _ _ _ _ refl (statements_tallies d (first_none (refusals_in names statements) [] none))
+    statement_tallies {names} (IfThen at test consequent s s2 s3 p dc dt) none =
+        let clean = branches_clean names consequent Absent test none in
+        added_branch _ _ _ _ _ (statement_tallies dc clean.0) (expression_tallies dt clean.2)
+    statement_tallies {names} (IfElse at test consequent alternate s s2 s3 s4 p dc da dt) none =
+        let clean = branches_clean names consequent alternate test none in
+        added_branches _ _ _ _ _ _ _ (statement_tallies dc clean.0) (statement_tallies da clean.1) (expression_tallies dt clean.2)
 
-    pub statements_tallies : {names : Names} {es : Pieces} {s t : State} → LoweredStatements names es s t
+    pub statements_tallies : {names : Names} {es : Pieces} {s t : State} → LoweredStatements names es s t → refusals_in names es ≡ []
         → times key t.table ≡ times key s.table + tallied_among key es
-    statements_tallies (NoStatement s) = omega arith
-    statements_tallies (NextStatement e es s t u d ds) = added_row _ _ _ _ _ (statement_tallies d) (statements_tallies ds)
+    statements_tallies (NoStatement s) none = omega arith
+    statements_tallies {names} (NextStatement e es s t u d ds) none =
+        let clean = row_clean names e es none in
+        added_row _ _ _ _ _ (statement_tallies d clean.0) (statements_tallies ds clean.1)
 
-  pub body_tallies : {names : Names} {b : Syntax} {s t : State} → LoweredBody names b s t
+  pub body_tallies : {names : Names} {b : Syntax} {s t : State} → LoweredBody names b s t → refusals names b ≡ []
       → times key t.table ≡ times key s.table + tallied key b
-  body_tallies (Statements at directives statements s t texts d) =
-      added_body _ _ _ _ (texts_tallied directives texts) (statements_tallies d)
-  body_tallies (Value e s t p d) = expression_tallies d
+  body_tallies {names} (Statements at directives statements s t texts d) none =
+      added_body _ _ _ _ (texts_tallied directives texts)
+      (statements_tallies d (first_none (refusals_in names statements) []
+      (second_none (refusals_in names directives) (refusals_in names statements ++ []) none)))
+  body_tallies (Value e s t p d) none = expression_tallies d none

@@ -5,8 +5,8 @@ use Rattle.rl_hir.specs.Pieces.{Piece}
 use Rattle.rl_hir.specs.declared.instruction.Place.{Place}
 use Rattle.rl_lowered.proofs.Names.{all_names, expression_names, last_names, statement_names, statements_names}
 use Rattle.rl_lowered.proofs.Sizes.{all_size, expression_size, last_size, statement_size, statements_size}
-use Rattle.rl_lowered.specs.Lowered.{Lowered, LoweredAll, LoweredLast, LoweredStatement, LoweredStatements}
-use Rattle.rl_lowered.specs.Promised.{LowersAll, LowersExpression, LowersLast, LowersStatement, LowersStatements}
+use Rattle.rl_lowered.specs.Lowered.{Lowered, LoweredAll, LoweredLast, LoweredProperties, LoweredStatement, LoweredStatements}
+use Rattle.rl_lowered.specs.Promised.{LowersAll, LowersExpression, LowersLast, LowersProperties, LowersStatement, LowersStatements}
 use Rattle.rl_names.specs.Names.{Names}
 use Rattle.rl_syntax.specs.Syntax.{Syntax, Pieces}
 
@@ -16,6 +16,10 @@ told l = record { by = l; named = (expression_names l).named; size = expression_
 pub told_all : {names : Names} {es : Pieces} {s t : State} {pieces : List Piece} → LoweredAll names es s t pieces
     → LowersAll names es s t pieces
 told_all l = record { by = l; named = (all_names l).named; size = all_size l }
+
+pub told_properties : {names : Names} {es : Pieces} {s t : State} {pieces : List Piece} → LoweredProperties names es s t pieces
+    → LowersProperties names es s t pieces
+told_properties l = record { by = l; named = (all_names l).named; size = all_size l }
 
 pub told_last : {names : Names} {es : Pieces} {s t : State} {p : Place} → LoweredLast names es s t p
     → LowersLast names es s t p

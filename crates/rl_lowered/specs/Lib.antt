@@ -4,3 +4,4 @@ pub mod Lowered
 pub mod Named
 pub mod Promised
 pub mod Sound
+pub mod Spanned

@@ -1,5 +1,5 @@
 -- The instructions that blocks list, between two states: each that was made since is listed once, and no other is listed anew.
-use Rattle.std.specs.Prelude.{◌≡◌, ℕ, ◌+◌, ◌<◌, ◌≤◌, false, if◌then◌else◌, ◌&&◌, nat_le, nat_lt, nat_eq, ◌++◌, List, [], ◌∷◌, All, length, map}
+use Rattle.std.specs.Prelude.{◌≡◌, ℕ, ◌+◌, ◌≤◌, false, if◌then◌else◌, ◌&&◌, nat_le, nat_lt, nat_eq, ◌++◌, List, [], ◌∷◌, All, length, map}
 use Rattle.rl_builder.specs.Builder.{State}
 use Rattle.rl_builder.specs.Dropped.{is_function_expression}
 use Rattle.rl_hir.specs.Blocks.{Pair as BlockPair}

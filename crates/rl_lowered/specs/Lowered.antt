@@ -1,11 +1,22 @@
 -- The lowering as a relation: a derivation says by which moves the builder came from one state to another for a part of the source.
-use Rattle.std.specs.Prelude.{◌≡◌, ℕ, ◌++◌, Bool, true, false, List, [], ◌∷◌, Option, Some, None, codes}
-use Rattle.rl_base.specs.Operators.{logical_text}
+use Rattle.std.specs.Prelude.{◌≡◌, ℕ, Bool, true, false, List, [], ◌∷◌, Some, None, codes, unwrap_or}
+use Rattle.rl_base.specs.Diagnostics.{diagnostic_at}
+use Rattle.rl_base.specs.Operators.{logical_text, update_text}
+use Rattle.rl_base.specs.TypeKinds.{type_text}
+use Rattle.rl_base.specs.VariableKinds.{variable_text}
 use Rattle.rl_base.specs.declared.ids.SymbolId.{SymbolId}
+use Rattle.rl_base.specs.declared.operator.BinaryOperator.{BinaryOperator}
+use Rattle.rl_base.specs.declared.operator.BinaryOperator.TheVariants as binaries
 use Rattle.rl_base.specs.declared.operator.LogicalOperator.{LogicalOperator}
+use Rattle.rl_base.specs.declared.operator.UpdateOperator.{UpdateOperator}
+use Rattle.rl_base.specs.declared.operator.UpdateOperator.TheVariants as updates
+use Rattle.rl_base.specs.declared.row.Row.{Row}
 use Rattle.rl_base.specs.declared.row.Row.TheVariants as row
+use Rattle.rl_base.specs.declared.span.Span.{Span}
+use Rattle.rl_base.specs.declared.type_kind.TypeKind.{TypeKind}
+use Rattle.rl_base.specs.declared.variable_kind.VariableKind.{VariableKind}
+use Rattle.rl_base.specs.declared.variable_kind.VariableKind.TheVariants as variables
 use Rattle.rl_builder.specs.Builder.{State, completed_by, new_block, recorded, reserved}
-use Rattle.rl_builder.specs.Names.{NamesAgree, resolved}
 use Rattle.rl_builder.specs.Temporaries.{temporary, with_value}
 use Rattle.rl_frames.specs.Frames.{if_alternate, if_after_consequent, if_at, if_consequent, if_ended, if_shut}
 use Rattle.rl_frames.specs.Frames.{logical_after, logical_at, logical_ended, logical_righted}
@@ -14,46 +25,140 @@ use Rattle.rl_frames.specs.Frames.{ternary_after, ternary_alternated, ternary_at
 use Rattle.rl_frames.specs.Parts.{if_begun, logical_begun, logical_place, sequence_begun, sequence_place, ternary_begun, ternary_place}
 use Rattle.rl_grammar.specs.Grammar.{every}
 use Rattle.rl_grammar.specs.declared.kind.Kind.TheVariants as sort
-use Rattle.rl_hir.specs.Pairs.{identifier_of}
-use Rattle.rl_hir.specs.Pieces.{Piece, Gives, Says, Spreads}
+use Rattle.rl_hir.specs.Pieces.{Piece, Gives, Names as Named, Says, Spreads, argument_pieces, gathered, property_pieces}
 use Rattle.rl_hir.specs.declared.function.BlockKind.TheVariants as blocks
+use Rattle.rl_hir.specs.declared.instruction.InstructionKind.{InstructionKind}
+use Rattle.rl_hir.specs.declared.instruction.InstructionKind.TheVariants as kinds
 use Rattle.rl_hir.specs.declared.instruction.InstructionValue.{InstructionValue}
 use Rattle.rl_hir.specs.declared.instruction.InstructionValue.TheVariants as values
 use Rattle.rl_hir.specs.declared.instruction.NonLocalBinding.{NonLocalBinding}
+use Rattle.rl_hir.specs.declared.instruction.ObjectProperty.{ObjectProperty}
 use Rattle.rl_hir.specs.declared.instruction.Place.{Place}
+use Rattle.rl_hir.specs.declared.instruction.PlaceOrSpread.{PlaceOrSpread}
 use Rattle.rl_hir.specs.declared.instruction.PrimitiveValue.{PrimitiveValue}
 use Rattle.rl_hir.specs.declared.instruction.PrimitiveValue.TheVariants as primitives
 use Rattle.rl_hir.specs.declared.terminal.ReturnVariant.TheVariants as returns
-use Rattle.rl_lowered.specs.Forms.{IsForm, IsLiteral, IsWrapper}
-use Rattle.rl_lowered.specs.Named.{IsNamed}
+use Rattle.rl_lowered.specs.Forms.{IsAnnotation, IsCast, IsForm, IsLiteral, IsMember, IsPrivate, IsRefused, IsRefusing, IsWrapper}
+use Rattle.rl_lowered.specs.Forms.{MemberKey, load_of, store_of, type_of, typed}
+use Rattle.rl_lowered.specs.Named.{IsFound, found}
+use Rattle.rl_model.specs.Shapes.{is_computed, key_text, said}
 use Rattle.rl_names.specs.Names.{Names}
 use Rattle.rl_names.specs.declared.names.Meaning.TheVariants.{Local, Outer}
+use Rattle.rl_promises.specs.Outs.{is_known_key}
 use Rattle.rl_promises.specs.Rows.{is_eval, refusal}
 use Rattle.rl_runs.specs.Moves.{return_of, returned_from}
 use Rattle.rl_syntax.specs.declared.numbered.At.{At}
 use Rattle.rl_syntax.specs.declared.word.Word.{Word}
 use Rattle.rl_syntax.specs.declared.word.Word.TheVariants as word
-use Rattle.rl_syntax.specs.Syntax.{Syntax, Node, Listed, Said, Absent, Pieces, End, Then, span_of}
+use Rattle.rl_syntax.specs.Syntax.{Syntax, Node, Listed, Said, Flag, Absent, Pieces, End, Then, span_of}
 use Rattle.rl_text.specs.Numeral.{is_numeral}
+
+-- The value of an update of a variable.
+abbrev pub update_of : (prefix : Bool) → UpdateOperator → (variable : Place) → InstructionValue
+update_of true operator variable = values.PrefixUpdate operator variable variable
+update_of false operator variable = values.PostfixUpdate operator variable variable
+
+-- The states of an update of a property: the old value is loaded, 1 is made, the new value is computed, and stored.
+
+abbrev pub member_loaded : State → (object : Place) → MemberKey → Span → State
+member_loaded t object key there = with_value t (load_of object key) (Some there)
+
+abbrev pub member_one : State → (object : Place) → MemberKey → Span → State
+member_one t object key there = with_value (member_loaded t object key there) (values.Primitive (primitives.Number 1)) None
+
+abbrev pub binary_of : UpdateOperator → BinaryOperator
+binary_of updates.Increment = binaries.Addition
+binary_of updates.Decrement = binaries.Subtraction
+
+abbrev pub member_updated : State → (object : Place) → MemberKey → UpdateOperator → Span → State
+member_updated t object key operator there =
+    with_value (member_one t object key there)
+    (values.BinaryExpression (binary_of operator) (temporary t (Some there)) (temporary (member_loaded t object key there) None)) (Some there)
+
+abbrev pub member_stored : State → (object : Place) → MemberKey → UpdateOperator → Span → State
+member_stored t object key operator there =
+    with_value (member_updated t object key operator there)
+    (store_of object key (temporary (member_one t object key there) (Some there))) (Some there)
+
+-- The value of the update: the new one, or the old one behind which the operator stands.
+abbrev pub member_result : State → (object : Place) → MemberKey → UpdateOperator → (prefix : Bool) → Span → Place
+member_result t object key operator true there = temporary (member_updated t object key operator there) (Some there)
+member_result t object key operator false there = temporary t (Some there)
+
+-- The span of a part's value, and that of the part where its value has none.
+abbrev pub value_span : (value : Place) → (part : Syntax) → Span
+value_span value part = unwrap_or value.span (span_of part)
 
 mutual
   -- An expression was lowered between two states, and its value is in the place.
   pub data Lowered (names : Names) : Syntax → (old new : State) → Place → Type 0 where
     Literal : (at : At) (w : Word) (fields : Pieces) (p : PrimitiveValue) (s : State) → IsLiteral w fields p
         → Lowered names (Node at w fields) s (with_value s (values.Primitive p) (Some at.span)) (temporary s (Some at.span))
-    -- A number that is no numeral of the notation (row F43).
-    RefusedNumber : (at : At) (text : List ℕ) (s : State) → is_numeral text ≡ false
-        → Lowered names (Node at word.Num (Then (Said text) End)) s
-        (with_value (recorded s (refusal row.F43 at.span)) (values.Primitive primitives.Undefined) (Some at.span))
-        (temporary (recorded s (refusal row.F43 at.span)) (Some at.span))
-    -- A local variable, which has an identifier already.
+    -- A kind that is refused without its parts, or before or behind them; undefined stands for it.
+    Refused : (at : At) (w : Word) (fields : Pieces) (r : Row) (s : State) → IsRefused names w fields r
+        → Lowered names (Node at w fields) s
+        (with_value (recorded s (refusal r at.span)) (values.Primitive primitives.Undefined) (Some at.span))
+        (temporary (recorded s (refusal r at.span)) (Some at.span))
+    RefusedBefore : (at : At) (w : Word) (fields parts : Pieces) (r : Row) (pieces : List Piece) (s t : State)
+        → IsRefusing w fields parts r → LoweredParts names false parts (recorded s (refusal r at.span)) t pieces
+        → Lowered names (Node at w fields) s (with_value t (values.Primitive primitives.Undefined) (Some at.span))
+        (temporary t (Some at.span))
+    RefusedBehind : (at : At) (object : Syntax) (name : List ℕ) (s t : State) (p : Place) → Lowered names object s t p
+        → Lowered names (Node at word.Privatemember (Then (Flag false) (Then object (Then (Said name) End)))) s
+        (with_value (recorded t (refusal row.F3 at.span)) (values.Primitive primitives.Undefined) (Some at.span))
+        (temporary (recorded t (refusal row.F3 at.span)) (Some at.span))
+    Private : (at : At) (w : Word) (fields : Pieces) (e : Syntax) (s t : State) (p : Place) → IsPrivate w fields e
+        → Lowered names e s t p → Lowered names (Node at w fields) s t p
+    -- A local variable.
     Variable : (at : At) (name : List ℕ) (symbol : SymbolId) (identifier : ℕ) (s : State)
-        → names.meaning at.reference.0 name ≡ Local symbol → IsNamed names s → identifier_of s.bindings symbol.0 ≡ Some identifier
-        → (NamesAgree s → NamesAgree (resolved s (names.name symbol.0) symbol.0 (Some at.span)))
+        → names.meaning at.reference.0 name ≡ Local symbol → IsFound names s symbol at.span identifier
         → Lowered names (Node at word.Id (Then (Said name) End)) s
-        (with_value (resolved s (names.name symbol.0) symbol.0 (Some at.span))
+        (with_value (found names s symbol at.span)
         (values.LoadLocal (record { identifier = record { 0 = identifier }; span = Some at.span })) (Some at.span))
-        (temporary s (Some at.span))
+        (temporary (found names s symbol at.span) (Some at.span))
+    -- An update of a local variable, which is resolved and then read.
+    UpdatedVariable : (at there : At) (name : List ℕ) (symbol : SymbolId) (identifier : ℕ) (operator : UpdateOperator) (prefix : Bool)
+        (s : State) → names.meaning there.reference.0 name ≡ Local symbol → names.is_const symbol.0 ≡ false
+        → IsFound names s symbol there.span identifier
+        → IsFound names (found names s symbol there.span) symbol there.span identifier
+        → Lowered names
+        (Node at word.Update
+        (Then (Said (update_text operator)) (Then (Flag prefix) (Then (Node there word.Id (Then (Said name) End)) End)))) s
+        (with_value (found names (found names s symbol there.span) symbol there.span)
+        (update_of prefix operator (record { identifier = record { 0 = identifier }; span = Some there.span })) (Some at.span))
+        (temporary (found names (found names s symbol there.span) symbol there.span) (Some at.span))
+    -- An update of a constant (row F6).
+    UpdatedConstant : (at there : At) (name : List ℕ) (symbol : SymbolId) (identifier : ℕ) (operator prefix : Syntax) (s : State)
+        → names.meaning there.reference.0 name ≡ Local symbol → names.is_const symbol.0 ≡ true
+        → IsFound names s symbol there.span identifier
+        → Lowered names (Node at word.Update (Then operator (Then prefix (Then (Node there word.Id (Then (Said name) End)) End)))) s
+        (with_value (recorded (found names s symbol there.span) (diagnostic_at row.F6 (names.name symbol.0) there.span))
+        (values.Primitive primitives.Undefined) (Some at.span))
+        (temporary (recorded (found names s symbol there.span) (diagnostic_at row.F6 (names.name symbol.0) there.span)) (Some at.span))
+    -- An update of a property.
+    UpdatedMember : (at there : At) (w : Word) (fields parts : Pieces) (pieces : List Piece) (object : Place) (key : MemberKey)
+        (operator : UpdateOperator) (prefix : Bool) (s t : State)
+        → IsMember w fields parts pieces object key → LoweredParts names false parts s t pieces
+        → Lowered names
+        (Node at word.Update (Then (Said (update_text operator)) (Then (Flag prefix) (Then (Node there w fields) End)))) s
+        (member_stored t object key operator there.span) (member_result t object key operator prefix there.span)
+    -- A call of a method: the function is loaded from the object before the arguments are lowered.
+    Method : (at there : At) (w : Word) (fields parts es : Pieces) (pieces given_pieces : List Piece) (object : Place) (key : MemberKey)
+        (given : List PlaceOrSpread) (s t u : State)
+        → IsMember w fields parts pieces object key → LoweredParts names false parts s t pieces
+        → LoweredParts names false es (with_value t (load_of object key) (Some there.span)) u given_pieces
+        → gathered argument_pieces given ≡ given_pieces
+        → Lowered names (Node at word.Call (Then (Flag false) (Then (Node there w fields) (Then (Listed es) End)))) s
+        (with_value u
+        (values.MethodCall (record { receiver = object; property = temporary t (Some there.span); arguments = given })) (Some at.span))
+        (temporary u (Some at.span))
+    -- A value under a type.
+    Cast : (at there : At) (w : Word) (fields : Pieces) (e type : Syntax) (k : TypeKind) (s t : State) (p : Place)
+        → IsCast w fields e (Node there word.Type (Then (Said (type_text k)) (Then type End)))
+        → IsAnnotation (Node there word.Type (Then (Said (type_text k)) (Then type End))) → Lowered names e s t p
+        → Lowered names (Node at w fields) s
+        (with_value (typed t k) (values.TypeCastExpression p (type_of t k) (Some there.span)) (Some at.span))
+        (temporary (typed t k) (Some at.span))
     Global : (at : At) (name : List ℕ) (binding : NonLocalBinding) (s : State)
         → names.meaning at.reference.0 name ≡ Outer binding → is_eval binding ≡ false
         → Lowered names (Node at word.Id (Then (Said name) End)) s
@@ -64,14 +169,19 @@ mutual
         → Lowered names (Node at word.Id (Then (Said name) End)) s
         (with_value (recorded s (refusal row.F2 at.span)) (values.LoadGlobal binding) (Some at.span))
         (temporary (recorded s (refusal row.F2 at.span)) (Some at.span))
-    Same : (at : At) (w : Word) (e : Syntax) (s t : State) (p : Place) → IsWrapper w → Lowered names e s t p
-        → Lowered names (Node at w (Then e End)) s t p
+    Same : (at : At) (w : Word) (fields : Pieces) (e : Syntax) (s t : State) (p : Place) → IsWrapper w fields e → Lowered names e s t p
+        → Lowered names (Node at w fields) s t p
     Asked : (at : At) (w : Word) (fields parts : Pieces) (pieces : List Piece) (v : InstructionValue) (s t : State)
-        → IsForm w fields parts pieces v → LoweredAll names parts s t pieces
+        → IsForm w fields parts pieces v → LoweredParts names false parts s t pieces
         → Lowered names (Node at w fields) s (with_value t v (Some at.span)) (temporary t (Some at.span))
+    -- An object literal.
+    Object : (at : At) (es : Pieces) (pieces : List Piece) (properties : List ObjectProperty) (s t : State)
+        → gathered property_pieces properties ≡ pieces → LoweredParts names true es s t pieces
+        → Lowered names (Node at word.Object (Then (Listed es) End)) s
+        (with_value t (values.ObjectExpression properties) (Some at.span)) (temporary t (Some at.span))
     Logical : (at : At) (operator : LogicalOperator) (left right : Syntax) (s s2 s3 : State) (l r : Place)
         → Lowered names right (logical_begun s at.span (span_of left)) s2 r
-        → Lowered names left (logical_righted (logical_at s at.span operator (span_of left)) s2 r (span_of right)) s3 l
+        → Lowered names left (logical_righted (logical_at s at.span operator (span_of left)) s2 r (value_span r right)) s3 l
         → Lowered names (Node at word.Logical (Then (Said (logical_text operator)) (Then left (Then right End)))) s
         (logical_ended (logical_after (logical_at s at.span operator (span_of left))) s3 l) (logical_place s at.span)
     Conditional : (at : At) (test consequent alternate : Syntax) (s s2 s3 s4 : State) (c a p : Place)
@@ -87,15 +197,33 @@ mutual
         → Lowered names (Node at word.Seq (Then (Listed (Then e es)) End)) s
         (sequence_ended (sequence_at s at.span) s2 p at.span) (sequence_place s at.span)
 
-  -- Parts were lowered from left to right, and give these pieces to the instruction behind them.
-  pub data LoweredAll (names : Names) : Pieces → (old new : State) → List Piece → Type 0 where
-    NoPart : (s : State) → LoweredAll names End s s []
+  -- Parts were lowered from left to right, and give these pieces to the instruction behind them: the properties of an object literal, or
+  -- parts of any other node.
+  pub data LoweredParts (names : Names) : (of_object : Bool) → Pieces → (old new : State) → List Piece → Type 0 where
+    NoPart : {of_object : Bool} (s : State) → LoweredParts names of_object End s s []
     NextPart : (e : Syntax) (es : Pieces) (s t u : State) (p : Place) (pieces : List Piece) → Lowered names e s t p
-        → LoweredAll names es t u pieces → LoweredAll names (Then e es) s u (Gives p ∷ pieces)
-    NextSpread : (at : At) (e : Syntax) (es : Pieces) (s t u : State) (p : Place) (pieces : List Piece) → Lowered names e s t p
-        → LoweredAll names es t u pieces → LoweredAll names (Then (Node at word.Spread (Then e End)) es) s u (Spreads p ∷ pieces)
-    NextHole : (at : At) (es : Pieces) (s u : State) (pieces : List Piece) → LoweredAll names es s u pieces
-        → LoweredAll names (Then (Node at word.Hole End) es) s u (Says (codes "hole") ∷ pieces)
+        → LoweredParts names false es t u pieces → LoweredParts names false (Then e es) s u (Gives p ∷ pieces)
+    NextSpread : {of_object : Bool} (at : At) (e : Syntax) (es : Pieces) (s t u : State) (p : Place) (pieces : List Piece)
+        → Lowered names e s t p → LoweredParts names of_object es t u pieces
+        → LoweredParts names of_object (Then (Node at word.Spread (Then e End)) es) s u (Spreads p ∷ pieces)
+    NextHole : (at : At) (es : Pieces) (s u : State) (pieces : List Piece) → LoweredParts names false es s u pieces
+        → LoweredParts names false (Then (Node at word.Hole End) es) s u (Says (codes "hole") ∷ pieces)
+    -- A property of an object literal: with a fixed key, a computed one, a number that is refused (row F43), and another key (row F9).
+    NextProperty : (at : At) (computed : Bool) (key e : Syntax) (text : List ℕ) (es : Pieces) (s t u : State) (p : Place)
+        (pieces : List Piece) → key_text computed key ≡ Some (said text) → Lowered names e s t p
+        → LoweredParts names true es t u pieces
+        → LoweredParts names true (Then (Node at word.Prop (Then (Flag computed) (Then key (Then e End)))) es) s u
+        (Named text ∷ Gives p ∷ pieces)
+    NextComputed : (at : At) (key e : Syntax) (es : Pieces) (s r t u : State) (p q : Place) (pieces : List Piece)
+        → is_computed true key ≡ true → Lowered names key s r p → Lowered names e r t q → LoweredParts names true es t u pieces
+        → LoweredParts names true (Then (Node at word.Prop (Then (Flag true) (Then key (Then e End)))) es) s u (Gives p ∷ Gives q ∷ pieces)
+    NextFraction : (at there : At) (e : Syntax) (text : List ℕ) (es : Pieces) (s t u : State) (p : Place) (pieces : List Piece)
+        → is_numeral text ≡ false → Lowered names e (recorded s (refusal row.F43 there.span)) t p → LoweredParts names true es t u pieces
+        → LoweredParts names true
+        (Then (Node at word.Prop (Then (Flag false) (Then (Node there word.Num (Then (Said text) End)) (Then e End)))) es) s u pieces
+    NextUnknown : (at : At) (computed : Bool) (key e : Syntax) (es : Pieces) (s u : State) (pieces : List Piece)
+        → is_known_key computed key ≡ false → LoweredParts names true es (recorded s (refusal row.F9 (span_of key))) u pieces
+        → LoweredParts names true (Then (Node at word.Prop (Then (Flag computed) (Then key (Then e End)))) es) s u pieces
 
   -- Expressions were lowered from left to right; the place has the value of the last.
   pub data LoweredLast (names : Names) : Pieces → (old new : State) → Place → Type 0 where
@@ -103,12 +231,57 @@ mutual
     EarlierPart : (e next : Syntax) (es : Pieces) (s t u : State) (p q : Place) → Lowered names e s t p
         → LoweredLast names (Then next es) t u q → LoweredLast names (Then e (Then next es)) s u q
 
+-- Parts of a node that is no object literal: operands, arguments, elements.
+abbrev pub LoweredAll : Names → Pieces → (old new : State) → List Piece → Type 0
+LoweredAll names = LoweredParts names false
+
+-- The properties of an object literal.
+abbrev pub LoweredProperties : Names → Pieces → (old new : State) → List Piece → Type 0
+LoweredProperties names = LoweredParts names true
+
+-- The kind of the variables that a declaration declares. `var` is refused (row F39).
+abbrev pub kind_of : VariableKind → InstructionKind
+kind_of variables.Var = kinds.Let
+kind_of variables.Let = kinds.Let
+kind_of variables.Const = kinds.Const
+kind_of variables.Using = kinds.Const
+kind_of variables.AwaitUsing = kinds.Const
+
+-- The state behind the keyword of a declaration.
+abbrev pub declaring : State → VariableKind → Span → State
+declaring s variables.Var at = recorded s (refusal row.F39 at)
+declaring s _ at = s
+
+-- Declarators were lowered in order, in a declaration with the span `at`, of variables of the kind `k`.
+pub data LoweredDeclarators (names : Names) (at : Span) (k : InstructionKind) : Pieces → (old new : State) → Type 0 where
+  NoDeclarator : (s : State) → LoweredDeclarators names at k End s s
+  NextDeclared : (there bind : At) (name : List ℕ) (type : Syntax) (more : Pieces) (symbol : SymbolId) (identifier : ℕ) (s u : State)
+      → IsAnnotation type → names.declared bind.id.0 ≡ Some symbol → IsFound names s symbol bind.span identifier
+      → LoweredDeclarators names at k more
+      (with_value (found names s symbol bind.span)
+      (values.DeclareLocal k (record { identifier = record { 0 = identifier }; span = Some bind.span })) (Some bind.span)) u
+      → LoweredDeclarators names at k
+      (Then (Node there word.Declarator (Then (Node bind word.Bind (Then (Said name) (Then type End))) (Then Absent End))) more) s u
+  NextInitialized : (there bind : At) (name : List ℕ) (type init : Syntax) (more : Pieces) (symbol : SymbolId) (identifier : ℕ)
+      (s t u : State) (p : Place)
+      → IsAnnotation type → names.declared bind.id.0 ≡ Some symbol → Lowered names init s t p → IsFound names t symbol bind.span identifier
+      → LoweredDeclarators names at k more
+      (with_value (found names t symbol bind.span)
+      (values.StoreLocal k (record { identifier = record { 0 = identifier }; span = Some at }) p) (Some at)) u
+      → LoweredDeclarators names at k
+      (Then (Node there word.Declarator (Then (Node bind word.Bind (Then (Said name) (Then type End))) (Then init End))) more) s u
+
 mutual
   -- A statement was lowered between two states.
   pub data LoweredStatement (names : Names) : Syntax → (old new : State) → Type 0 where
     Empty : (at : At) (s : State) → LoweredStatement names (Node at word.Empty End) s s
     Expression : (at : At) (e : Syntax) (s t : State) (p : Place) → Lowered names e s t p
         → LoweredStatement names (Node at word.Expr (Then e End)) s t
+    Debugger : (at : At) (s : State)
+        → LoweredStatement names (Node at word.Debugger End) s (with_value s values.Debugger (Some at.span))
+    Variables : (at : At) (k : VariableKind) (declarators : Pieces) (s t : State)
+        → LoweredDeclarators names at.span (kind_of k) declarators (declaring s k at.span) t
+        → LoweredStatement names (Node at word.Var (Then (Said (variable_text k)) (Then (Listed declarators) End))) s t
     ReturnNothing : (at : At) (s : State)
         → LoweredStatement names (Node at word.Return (Then Absent End)) s
         (returned_from (with_value s (values.Primitive primitives.Undefined) None) (Some at.span) returns.Explicit

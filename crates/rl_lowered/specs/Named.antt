@@ -1,25 +1,17 @@
--- Names in the middle of the lowering: each local variable has an identifier, which has its name.
-use Rattle.std.specs.Prelude.{◌≡◌, ◌≢◌, ℕ, Some, None, Option, option_map, List, [], All, slice_get}
-use Rattle.rl_base.specs.declared.ids.SymbolId.{SymbolId}
+-- Names in the middle of the lowering: the identifiers that symbols got so far.
+use Rattle.std.specs.Prelude.{◌≡◌, ◌≢◌, ◌<◌, ℕ, length, Some, None, Option, option_map, List, [], All, slice_get}
 use Rattle.rl_base.specs.declared.span.Span.{Span}
 use Rattle.rl_builder.specs.Builder.{State}
+use Rattle.rl_builder.specs.Names.{NamesAgree, resolved}
 use Rattle.rl_hir.specs.Pairs.{identifier_of}
 use Rattle.rl_hir.specs.declared.function.Identifier.{Identifier}
-use Rattle.rl_hir.specs.declared.function.IdentifierName.TheVariants.{Named}
-use Rattle.rl_names.specs.Locals.{HasTexts}
 use Rattle.rl_names.specs.Names.{Names}
-use Rattle.rl_names.specs.declared.names.Meaning.TheVariants.{Local}
 use Rattle.rl_promises.specs.Fields.{IsNamedPair}
+use Rattle.rl_promises.specs.Locals.{IsVariable, KnowsNames}
+use Rattle.rl_base.specs.declared.ids.SymbolId.{SymbolId}
 use Rattle.rl_resolver.specs.Lookups.{declaration_ident}
 use Rattle.rl_semantic.specs.declared.semantic.Semantic.{Semantic}
-
--- The symbol `number` has an identifier, whose name is `name`.
-pub record HasIdentifier (s : State) (number : ℕ) (name : List ℕ) : Type 0 where
-  pub identifier : ℕ
-  pub bound : identifier_of s.bindings number ≡ Some identifier
-  pub known : Identifier
-  pub made : slice_get s.env.identifiers identifier ≡ Some known
-  pub named : known.name ≡ Some (Named name)
+use Rattle.rl_used_names.specs.IdentifierNames.{fbt}
 
 -- The span of a symbol's declaration identifier, by the tables of a unit. None of a symbol without one.
 abbrev pub declared_span : Semantic → (symbol : ℕ) → Option Span
@@ -29,12 +21,24 @@ declared_span semantic symbol = option_map (λ b. b.span) (declaration_ident sem
 abbrev pub TellDeclarations : Names → Semantic → Type 0
 TellDeclarations names semantic = (symbol : ℕ) → names.declaration symbol ≡ declared_span semantic symbol
 
--- Each local variable has an identifier, and the texts of other names are UTF-8. The names are those of the builder's tables.
+-- The names are those of the builder's tables. The identifiers of symbols were made, and a variable `fbt` that has one was refused.
 pub record IsNamed (names : Names) (s : State) : Type 0 where
-  pub texts : HasTexts names
+  pub knows : KnowsNames names
   pub declared : TellDeclarations names s.semantic
-  pub each : (reference : ℕ) (name : List ℕ) (symbol : SymbolId) → names.meaning reference name ≡ Local symbol
-      → HasIdentifier s symbol.0 (names.name symbol.0)
+  pub made : (symbol identifier : ℕ) → identifier_of s.bindings symbol ≡ Some identifier → identifier < length s.env.identifiers
+  pub noted : (symbol identifier : ℕ) → identifier_of s.bindings symbol ≡ Some identifier → names.name symbol ≡ fbt
+      → s.env.diagnostics ≢ []
+
+-- The state behind the look-up of a variable: it has an identifier, or gets one.
+abbrev pub found : Names → State → SymbolId → (at : Span) → State
+found names s symbol at = resolved s (names.name symbol.0) symbol.0 (Some at)
+
+-- The look-up of a variable, from the state `s`, gives the identifier.
+pub record IsFound (names : Names) (s : State) (symbol : SymbolId) (at : Span) (identifier : ℕ) : Type 0 where
+  pub named : IsNamed names s
+  pub variable : IsVariable names symbol
+  pub bound : identifier_of (found names s symbol at).bindings symbol.0 ≡ Some identifier
+  pub agree : NamesAgree s → NamesAgree (found names s symbol at)
 
 -- An identifier that has a name stays as it is.
 abbrev pub KeepsNamed : (old new : List Identifier) → Type 0
@@ -46,10 +50,11 @@ KeepsNamed old new =
 abbrev pub HasNamedPairs : Names → State → Type 0
 HasNamedPairs names s = All (IsNamedPair names s.env.identifiers) s.env.pairs
 
--- The names of `old` stay, and no function is added.
+-- The names of `old` stay, no function is added, and the unit is skipped as it was.
 pub record KeepsNames (names : Names) (old new : State) : Type 0 where
   pub named : IsNamed names old → IsNamed names new
   pub identifiers : KeepsNamed old.env.identifiers new.env.identifiers
   pub pairs : HasNamedPairs names old → HasNamedPairs names new
   pub functions : new.env.functions ≡ old.env.functions
   pub fn_type : new.env.fn_type ≡ old.env.fn_type
+  pub skip : new.env.skip ≡ old.env.skip

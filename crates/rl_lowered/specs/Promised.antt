@@ -1,12 +1,12 @@
 -- Promises of the lowering of a part.
-use Rattle.std.specs.Prelude.{◌≡◌, ℕ, ◌+◌, ◌*◌, ◌<◌, ◌≤◌, ◌^◌, ◌++◌, Bool, true, false, List, [], Option, option_map}
+use Rattle.std.specs.Prelude.{◌≡◌, ℕ, ◌+◌, ◌*◌, ◌<◌, ◌≤◌, ◌^◌, Bool, true, false, List, [], Option, option_map}
 use Rattle.rl_builder.specs.Builder.{State}
 use Rattle.rl_hir.specs.Pieces.{Piece}
 use Rattle.rl_hir.specs.declared.instruction.Instruction.{Instruction}
 use Rattle.rl_hir.specs.declared.instruction.Place.{Place}
 use Rattle.rl_hir.specs.declared.terminal.ReturnVariant.TheVariants as returns
 use Rattle.rl_lowered.specs.Listing.{ListsSince}
-use Rattle.rl_lowered.specs.Lowered.{Lowered, LoweredAll, LoweredBody, LoweredLast, LoweredStatement, LoweredStatements}
+use Rattle.rl_lowered.specs.Lowered.{Lowered, LoweredAll, LoweredBody, LoweredLast, LoweredProperties, LoweredStatement, LoweredStatements}
 use Rattle.rl_lowered.specs.Named.{IsNamed, KeepsNames}
 use Rattle.rl_lowered.specs.Sound.{IsSmallTree, StaysSound}
 use Rattle.rl_model.specs.Actions.{Action, ◌>>=◌, return_with}
@@ -19,7 +19,8 @@ use Rattle.rl_hir.specs.Written.{value_word}
 use Rattle.rl_promises.specs.Held.{times}
 use Rattle.rl_model.specs.Dead.{lives_all}
 use Rattle.rl_promises.specs.Live.{Held, live_in_body}
-use Rattle.rl_promises.specs.Rows.{refusals}
+use Rattle.rl_promises.specs.Rows.{Records, refusals}
+use Rattle.rl_promises.specs.Stops.{has_using}
 use Rattle.rl_promises.specs.Tallies.{IsHeldKind, tallied}
 use Rattle.rl_runs.specs.Blocks.{Lives, PreservesBlocks, size_of}
 use Rattle.rl_runs.specs.Simulation.{RunsStatement}
@@ -34,7 +35,7 @@ share count = 64 * count
 abbrev pub HasRoom : State → (more : ℕ) → Type 0
 HasRoom s more = size_of s + more < 2 ^ 31
 
--- An expression was lowered: its derivation, that local variables have identifiers behind it, and a bound on all that was made.
+-- An expression was lowered: its derivation, what is known of names behind it, and a bound on all that was made.
 pub record LowersExpression (names : Names) (e : Syntax) (old new : State) (place : Place) : Type 0 where
   pub by : Lowered names e old new place
   pub named : IsNamed names old → IsNamed names new
@@ -43,6 +44,12 @@ pub record LowersExpression (names : Names) (e : Syntax) (old new : State) (plac
 -- As `LowersExpression`, for parts from left to right and the pieces that they give.
 pub record LowersAll (names : Names) (es : Pieces) (old new : State) (pieces : List Piece) : Type 0 where
   pub by : LoweredAll names es old new pieces
+  pub named : IsNamed names old → IsNamed names new
+  pub size : size_of new ≤ size_of old + share (nodes_of es)
+
+-- As `LowersAll`, for the properties of an object literal.
+pub record LowersProperties (names : Names) (es : Pieces) (old new : State) (pieces : List Piece) : Type 0 where
+  pub by : LoweredProperties names es old new pieces
   pub named : IsNamed names old → IsNamed names new
   pub size : size_of new ≤ size_of old + share (nodes_of es)
 
@@ -88,9 +95,9 @@ pub record LowersBody (names : Names) (b : Syntax) (old new : State) : Type 0 wh
   pub size : size_of new ≤ size_of old + share (nodes b + 1)
   pub blocks : PreservesBlocks old new
   pub lists : ListsSince old new
-  pub refused : new.env.diagnostics ≡ old.env.diagnostics ++ refusals names b
-  pub tallies : (key : Counted) → IsHeldKind key.kinds → times key new.table ≡ times key old.table + tallied key b
-  pub lives : Lives held_by (live_in_body b) (body_falls b) old new
+  pub refused : Records (refusals names b) old.env.diagnostics new.env.diagnostics
+  pub tallies : refusals names b ≡ [] → (key : Counted) → IsHeldKind key.kinds → times key new.table ≡ times key old.table + tallied key b
+  pub lives : refusals names b ≡ [] → Lives held_by (live_in_body b) (body_falls b) old new
   pub sound : StaysSound (IsSmallTree b) old new
-  pub runs : refusals names b ≡ [] → (scene : Scene) → scene.names ≡ names → scene.ported ≡ true
+  pub runs : refusals names b ≡ [] → has_using b ≡ false → (scene : Scene) → scene.names ≡ names → scene.ported ≡ true
       → RunsStatement scene.world (exec_before_end scene b) old new

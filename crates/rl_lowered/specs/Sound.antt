@@ -1,7 +1,6 @@
 -- Small trees, and what lowering them keeps: each place names an identifier that was made, and the notation has each part.
-use Rattle.std.specs.Prelude.{◌+◌, ◌<◌, ◌≤◌, ◌^◌, List, All, length}
+use Rattle.std.specs.Prelude.{◌<◌, ◌≤◌, List, All, length}
 use Rattle.std.specs.Str.{IsUtf8}
-use Rattle.rl_base.specs.declared.span.Span.{Span}
 use Rattle.rl_text.specs.Notation.{IsWritable, AreWritable}
 use Rattle.rl_text.specs.Number.{largest}
 use Rattle.rl_syntax.specs.Syntax.{Syntax, Node, Listed, Said, Count, Flag, Absent, Pieces, End, Then, plain, plain_parts}
@@ -12,10 +11,7 @@ use Rattle.rl_hir.specs.declared.instruction.Place.{Place}
 use Rattle.rl_builder.specs.Builder.{State}
 use Rattle.rl_model.specs.WellFormed.{AreKnown, instruction_places, terminal_places}
 use Rattle.rl_names.specs.declared.parameters.Parameter.{Parameter}
-
--- The span starts and ends below 2^32.
-abbrev pub IsSmallSpan : Span → Type 0
-IsSmallSpan span = (span.start < 2 ^ 32) × (span.end < 2 ^ 32)
+use Rattle.rl_promises.specs.Locals.{IsSmallSpan}
 
 abbrev mutual
   -- The span of each node of the tree is small.

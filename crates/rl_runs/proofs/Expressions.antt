@@ -3,7 +3,7 @@
 use Rattle.std.proofs.Common.{◌≡◌, ℕ, ◌<◌, ◌≤◌, inl, List, [], ◌∷◌, length, map, Option, Some, refl, sym, ap, ◌∙◌, subst, arith}
 use Rattle.std.proofs.lemmas.List.Elements.{All-cons, All-nil}
 use Rattle.rl_base.specs.declared.span.Span.{Span}
-use Rattle.rl_builder.specs.Builder.{State}
+use Rattle.rl_builder.specs.Builder.{State, innermost}
 use Rattle.rl_builder.specs.Temporaries.{with_value}
 use Rattle.rl_hir.specs.declared.instruction.InstructionKind.{InstructionKind}
 use Rattle.rl_hir.specs.declared.instruction.InstructionValue.{InstructionValue}
@@ -22,10 +22,10 @@ use Rattle.rl_runs.proofs.Asking.{asks_runs, keeps_runs}
 use Rattle.rl_runs.proofs.Holes.{computes_on, same_throws, use_all, use_expression}
 use Rattle.rl_runs.proofs.Moves.{contained_before, extends_refl, extends_value, inside, value_free, value_made}
 use Rattle.rl_runs.proofs.Shared.{since_store}
-use Rattle.rl_runs.proofs.Steps.{set_same, since_set, since_start}
+use Rattle.rl_runs.proofs.Steps.{continues_then, set_same, since_set, since_start, throws_then}
 use Rattle.rl_runs.specs.Continuations.{Agrees, Since, TracesFrom, between}
 use Rattle.rl_runs.specs.Facts.{Extends, HasSoundNames, IsContainedIn, Nobody}
-use Rattle.rl_runs.specs.Simulation.{RunsAll, RunsExpression}
+use Rattle.rl_runs.specs.Simulation.{RunsAll, RunsExpression, RunsOver}
 
 -- A value that is computed silently.
 pub computed_runs : (world : World) (s : State) (d : Action Value) (value : InstructionValue) (span : Option Span)
@@ -70,7 +70,7 @@ local_runs world s symbol p span bound =
 -- A local variable takes the value of an expression, which is the value of the assignment too.
 pub stored_runs : (world : World) (s mid : State) (d : Action Value) (symbol : ℕ) (kind : InstructionKind) (p value : Place)
     (span : Option Span)
-    → Extends s mid → identifier_of mid.env.pairs symbol ≡ Some p.identifier.0 → RunsExpression world d s mid value.identifier.0
+    → Extends s mid → identifier_of mid.bindings symbol ≡ Some p.identifier.0 → RunsExpression world d s mid value.identifier.0
     → RunsExpression world (λ ways k. d ways (λ v source answers. k v (set source symbol v) answers)) s
     (with_value mid (values.StoreLocal kind p value) span)
     (length mid.env.identifiers)
@@ -93,7 +93,8 @@ stored_runs world s mid d symbol kind p value span g bound r = record {
       (value_made mid (values.StoreLocal kind p value) span)
       (subst (λ (x : Value). Since c (between s (with_value mid (values.StoreLocal kind p value) span)) store notes answers
       (set source1 symbol v) (set store1 p.identifier.0 x) notes1 answers1) (sym is)
-      (since_store symbol p.identifier.0 v cover.names.one (here.names.kept symbol p.identifier.0 bound) t)))
+      (since_store symbol p.identifier.0 v cover.names.one
+      (here.names.kept symbol p.identifier.0 (sym ((g.sound sound).same symbol) ∙ bound)) t)))
       (set_same (set store1 p.identifier.0 (store1 value.identifier.0)) (length mid.env.identifiers) (store1 value.identifier.0) ∙ is)));
 }
 
@@ -147,8 +148,83 @@ one_runs world s new d identifier r = record {
       });
 }
 
--- Parts from left to right, and then an instruction over their values: one whose event gives its value, one whose event keeps a value that
--- was there before, and one that asks no event.
+-- An instruction over values that were computed before: one whose event gives its value, one whose event keeps a value that was there
+-- before, and one that asks no event.
+module _ (world : World) (s : State) (identifiers : List ℕ) (value : InstructionValue) (span : Option Span) where
+  pub over_asked : (event : List Value → Event)
+      → ((store : Store)
+      → act (length s.env.identifiers) value store ≡ Asks (event (map store identifiers)) (gives (length s.env.identifiers)))
+      → RunsOver world
+      (λ vs ways k source answers. fired (set_open world.opens) (event vs) source answers (λ a. k a.value) ways.throws) s
+      (with_value s value span) identifiers
+      (length s.env.identifiers)
+  over_asked event acts = record {
+    fresh = omega arith;
+    made = value_made s value span;
+    free = λ c cover sound. value_free s value span c cover sound;
+    runs = λ c cover sound shares ways k vs source store notes answers a are throws onward.
+        subst (λ (x : List Value). TracesFrom c s store notes answers
+        (fired (set_open world.opens) (event x) source answers (λ y. k y.value) ways.throws)) are
+        (asks_runs world s value span (event (map store identifiers)) k ways.throws (acts store) cover sound shares (omega arith)
+        (value_made s value span) throws onward (since_start a));
+  }
+
+  pub over_kept : (event : List Value → Event) (kept : List Value → Value)
+      → ((store : Store)
+      → act (length s.env.identifiers) value store ≡ Asks (event (map store identifiers))
+      (keeps (length s.env.identifiers) (kept (map store identifiers))))
+      → RunsOver world
+      (λ vs ways k source answers. fired (set_open world.opens) (event vs) source answers (λ a. k (kept vs)) ways.throws) s
+      (with_value s value span) identifiers
+      (length s.env.identifiers)
+  over_kept event kept acts = record {
+    fresh = omega arith;
+    made = value_made s value span;
+    free = λ c cover sound. value_free s value span c cover sound;
+    runs = λ c cover sound shares ways k vs source store notes answers a are throws onward.
+        subst (λ (x : List Value). TracesFrom c s store notes answers
+        (fired (set_open world.opens) (event x) source answers (λ y. k (kept x)) ways.throws)) are
+        (keeps_runs world s value span (event (map store identifiers)) (kept (map store identifiers)) k ways.throws (acts store) cover
+        sound shares (omega arith) (value_made s value span) throws onward (since_start a));
+  }
+
+  pub over_given : (given : List Value → Value)
+      → ((store : Store)
+      → act (length s.env.identifiers) value store ≡ Computes (given (map store identifiers)) (length s.env.identifiers ∷ []))
+      → RunsOver world (λ vs ways k. k (given vs)) s (with_value s value span) identifiers (length s.env.identifiers)
+  over_given given acts = record {
+    fresh = omega arith;
+    made = value_made s value span;
+    free = λ c cover sound. value_free s value span c cover sound;
+    runs = λ c cover sound shares ways k vs source store notes answers a are throws onward.
+        let n : ℕ = length s.env.identifiers in
+        let v : Value = given (map store identifiers) in
+        subst (λ (x : List Value). TracesFrom c s store notes answers (k (given x) source answers)) are
+        (computes_on s value span c store notes answers (k v source answers) v (n ∷ []) (acts store) cover
+        (onward.goes v source (set store n v) notes answers
+        (since_set n v (value_free s value span c cover sound) (omega arith) (value_made s value span) (since_start a))
+        (set_same store n v)));
+  }
+
+-- Parts from left to right, and then an expression over their values.
+pub over_runs : (world : World) (s mid new : State) (ds : Action (List Value)) (e : List Value → Action Value) (identifiers : List ℕ)
+    (identifier : ℕ)
+    → Extends s mid → Extends mid new → RunsAll world ds s mid identifiers → RunsOver world e mid new identifiers identifier
+    → RunsExpression world (λ ways k. ds ways (λ vs. e vs ways k)) s new identifier
+over_runs world s mid new ds e identifiers identifier g1 g2 rs r = record {
+  fresh = omega (arith, r.fresh, g1.identifiers);
+  made = r.made;
+  free = λ c cover sound. r.free c cover (g1.sound sound);
+  runs = λ c cover sound shares ways k source store notes answers a throws onward.
+      use_all ways (λ vs. e vs ways k) rs (contained_before g2 cover) sound shares (inside (extends_refl s) g2) throws (since_start a)
+      (λ vs source1 store1 notes1 answers1 t u are.
+      r.runs c cover (g1.sound sound) shares ways k vs source1 store1 notes1 answers1 t.agrees are
+      (throws_then (innermost mid.handlers) ways.throws (inside g1 (extends_refl new)) t.later
+      (same_throws c (between s new) store notes answers s mid ways.throws g1.handlers throws))
+      (continues_then (inside g1 (extends_refl new)) t.later onward));
+}
+
+-- Parts from left to right, and then an instruction over their values.
 module _ (world : World) (s mid : State) (ds : Action (List Value)) (identifiers : List ℕ) (value : InstructionValue)
     (span : Option Span) (g : Extends s mid) where
   pub all_asked : (event : List Value → Event)
@@ -159,21 +235,10 @@ module _ (world : World) (s mid : State) (ds : Action (List Value)) (identifiers
       (λ ways k. ds ways (λ vs source answers. fired (set_open world.opens) (event vs) source answers (λ a. k a.value) ways.throws)) s
       (with_value mid value span)
       (length mid.env.identifiers)
-  all_asked event acts rs = record {
-    fresh = g.identifiers;
-    made = value_made mid value span;
-    free = λ c cover sound. value_free mid value span c cover (g.sound sound);
-    runs = λ c cover sound shares ways k source store notes answers a throws onward.
-        use_all ways (λ vs after rest. fired (set_open world.opens) (event vs) after rest (λ x. k x.value) ways.throws) rs
-        (contained_before (extends_value mid value span) cover) sound shares
-        (inside (extends_refl s) (extends_value mid value span)) throws (since_start a)
-        (λ vs source1 store1 notes1 answers1 t u are.
-        subst (λ (x : List Value). TracesFrom c mid store1 notes1 answers1
-        (fired (set_open world.opens) (event x) source1 answers1 (λ y. k y.value) ways.throws)) are
-        (asks_runs world mid value span (event (map store1 identifiers)) k ways.throws (acts store1) cover
-        (g.sound sound) shares g.identifiers (value_made mid value span)
-        (same_throws c (between s (with_value mid value span)) store notes answers s mid ways.throws g.handlers throws) onward t));
-  }
+  all_asked event acts rs =
+      over_runs world s mid (with_value mid value span) ds
+      (λ vs ways k source answers. fired (set_open world.opens) (event vs) source answers (λ a. k a.value) ways.throws) identifiers
+      (length mid.env.identifiers) g (extends_value mid value span) rs (over_asked world mid identifiers value span event acts)
 
   pub all_kept : (event : List Value → Event) (kept : List Value → Value)
       → ((store : Store)
@@ -184,44 +249,19 @@ module _ (world : World) (s mid : State) (ds : Action (List Value)) (identifiers
       (λ ways k. ds ways (λ vs source answers. fired (set_open world.opens) (event vs) source answers (λ a. k (kept vs)) ways.throws)) s
       (with_value mid value span)
       (length mid.env.identifiers)
-  all_kept event kept acts rs = record {
-    fresh = g.identifiers;
-    made = value_made mid value span;
-    free = λ c cover sound. value_free mid value span c cover (g.sound sound);
-    runs = λ c cover sound shares ways k source store notes answers a throws onward.
-        use_all ways (λ vs after rest. fired (set_open world.opens) (event vs) after rest (λ x. k (kept vs)) ways.throws) rs
-        (contained_before (extends_value mid value span) cover) sound shares
-        (inside (extends_refl s) (extends_value mid value span)) throws (since_start a)
-        (λ vs source1 store1 notes1 answers1 t u are.
-        subst (λ (x : List Value). TracesFrom c mid store1 notes1 answers1
-        (fired (set_open world.opens) (event x) source1 answers1 (λ y. k (kept x)) ways.throws)) are
-        (keeps_runs world mid value span (event (map store1 identifiers)) (kept (map store1 identifiers)) k ways.throws (acts store1) cover
-        (g.sound sound) shares g.identifiers (value_made mid value span)
-        (same_throws c (between s (with_value mid value span)) store notes answers s mid ways.throws g.handlers throws) onward t));
-  }
+  all_kept event kept acts rs =
+      over_runs world s mid (with_value mid value span) ds
+      (λ vs ways k source answers. fired (set_open world.opens) (event vs) source answers (λ a. k (kept vs)) ways.throws) identifiers
+      (length mid.env.identifiers) g (extends_value mid value span) rs (over_kept world mid identifiers value span event kept acts)
 
   pub all_given : (given : List Value → Value)
       → ((store : Store)
       → act (length mid.env.identifiers) value store ≡ Computes (given (map store identifiers)) (length mid.env.identifiers ∷ []))
       → RunsAll world ds s mid identifiers
       → RunsExpression world (λ ways k. ds ways (λ vs. k (given vs))) s (with_value mid value span) (length mid.env.identifiers)
-  all_given given acts rs = record {
-    fresh = g.identifiers;
-    made = value_made mid value span;
-    free = λ c cover sound. value_free mid value span c cover (g.sound sound);
-    runs = λ c cover sound shares ways k source store notes answers a throws onward.
-        use_all ways (λ vs. k (given vs)) rs (contained_before (extends_value mid value span) cover) sound shares
-        (inside (extends_refl s) (extends_value mid value span)) throws (since_start a)
-        (λ vs source1 store1 notes1 answers1 t u are.
-        subst (λ (x : List Value). TracesFrom c mid store1 notes1 answers1 (k (given x) source1 answers1)) are
-        (computes_on mid value span c store1 notes1 answers1 (k (given (map store1 identifiers)) source1 answers1)
-        (given (map store1 identifiers)) (length mid.env.identifiers ∷ []) (acts store1) cover
-        (onward.goes (given (map store1 identifiers)) source1
-        (set store1 (length mid.env.identifiers) (given (map store1 identifiers))) notes1 answers1
-        (since_set (length mid.env.identifiers) (given (map store1 identifiers))
-        (value_free mid value span c cover (g.sound sound)) g.identifiers (value_made mid value span) t)
-        (set_same store1 (length mid.env.identifiers) (given (map store1 identifiers))))));
-  }
+  all_given given acts rs =
+      over_runs world s mid (with_value mid value span) ds (λ vs ways k. k (given vs)) identifiers (length mid.env.identifiers) g
+      (extends_value mid value span) rs (over_given world mid identifiers value span given acts)
 
 -- An equal meaning has the same runs.
 pub means_same : (world : World) (old new : State) (identifier : ℕ) {d m : Action Value}

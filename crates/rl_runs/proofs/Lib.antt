@@ -5,6 +5,7 @@ pub mod Expressions
 pub mod FinalNames
 pub mod Finished
 pub mod Graphs
+pub mod Growing
 pub mod Holes
 pub mod Jumping
 pub mod Labels
@@ -19,6 +20,7 @@ pub mod Passing
 pub mod Permuted
 pub mod Points
 pub mod Preserving
+pub mod Properties
 pub mod ReadNotes
 pub mod Shared
 pub mod Sizes
@@ -29,4 +31,6 @@ pub mod Steps
 pub mod Successors
 pub mod Switches
 pub mod Tables
+pub mod Types
 pub mod Used
+pub mod Variables

@@ -1,21 +1,26 @@
 -- The runs of statements in order, of jumps, returns and throws, and of an expression whose value is dropped.
-use Rattle.std.proofs.Common.{◌≡◌, ℕ, List, length, Option, Some, None, Ok, refl, sym, ap, ◌∙◌, subst}
+use Rattle.std.proofs.Common.{◌≡◌, ℕ, List, [], length, Option, Some, None, Ok, refl, sym, ap, ◌∙◌, subst}
 use Rattle.rl_base.specs.declared.ids.BlockId.{BlockId}
 use Rattle.rl_base.specs.declared.span.Span.{Span}
 use Rattle.rl_builder.specs.Builder.{State, innermost, new_block, reserved}
 use Rattle.rl_builder.specs.Jumps.{lookup_break, lookup_continue}
+use Rattle.rl_builder.specs.Temporaries.{with_value}
 use Rattle.rl_hir.specs.declared.function.BlockKind.{BlockKind}
 use Rattle.rl_hir.specs.declared.instruction.Place.{Place}
 use Rattle.rl_hir.specs.declared.terminal.GotoVariant.TheVariants as gotos
 use Rattle.rl_hir.specs.declared.terminal.ReturnVariant.{ReturnVariant}
 use Rattle.rl_hir.specs.declared.terminal.TerminalKind.TheVariants as ends
+use Rattle.rl_hir.specs.declared.instruction.InstructionValue.{InstructionValue}
+use Rattle.rl_machine.specs.Acts.{Asks, act, gives}
 use Rattle.rl_machine.specs.declared.trace.Answer.{Answer}
 use Rattle.rl_machine.specs.declared.trace.Assignment.{Assignment}
+use Rattle.rl_machine.specs.declared.trace.Event.{Event}
 use Rattle.rl_machine.specs.declared.trace.Value.{Value}
 use Rattle.rl_machine.specs.Ends.{Notes}
 use Rattle.rl_machine.specs.Machine.{Code, Ends}
-use Rattle.rl_machine.specs.Traces.{Cont, Store, World, returned, threw}
+use Rattle.rl_machine.specs.Traces.{Cont, Store, World, fired, returned, set_open, threw}
 use Rattle.rl_model.specs.Actions.{Action, Label, Ways, break_to, continue_to, done}
+use Rattle.rl_runs.proofs.Expressions.{all_asked, none_run}
 use Rattle.rl_runs.proofs.Holes.{hole_goes, same_jumps, same_throws, use_expression, use_statement}
 use Rattle.rl_runs.proofs.Moves.{contained_before, extends_completed, extends_refl, extends_reserved, extends_then, inside}
 use Rattle.rl_runs.proofs.Moves.{terminal_met}
@@ -56,6 +61,17 @@ evaluated_runs world s new d identifier r = record {
       r.runs c cover sound shares ways (λ v. normal) source store notes answers a throws
       (record { goes = λ v source1 store1 notes1 answers1 t is. onward.goes source1 store1 notes1 answers1 t });
 }
+
+-- An instruction without operands asks an event, whose answer is dropped.
+pub event_runs : (world : World) (s : State) (value : InstructionValue) (span : Option Span) (event : Event)
+    → ((store : Store) → act (length s.env.identifiers) value store ≡ Asks event (gives (length s.env.identifiers)))
+    → RunsStatement world
+    (λ ways onward source answers. fired (set_open world.opens) event source answers (λ a. onward (tt {0})) ways.throws) s
+    (with_value s value span)
+event_runs world s value span event acts =
+    evaluated_runs world s (with_value s value span)
+    (λ ways k source answers. fired (set_open world.opens) event source answers (λ a. k a.value) ways.throws) (length s.env.identifiers)
+    (all_asked world s s (λ ways k. k []) [] value span (extends_refl s) (λ vs. event) acts (none_run world s))
 
 -- Jumps.
 

@@ -1,6 +1,6 @@
 -- The simulation: the graph that is built between two states of the builder has the traces of a part of the source, in a world and under
 -- handlers, wherever the part's continuations have theirs.
-use Rattle.std.specs.Prelude.{◌≡◌, ℕ, ◌<◌, ◌≤◌, Option, List, All, length}
+use Rattle.std.specs.Prelude.{◌≡◌, ℕ, ◌<◌, ◌≤◌, Option, List, All, length, map}
 use Rattle.rl_builder.specs.Builder.{State, innermost}
 use Rattle.rl_machine.specs.declared.trace.Answer.{Answer}
 use Rattle.rl_machine.specs.declared.trace.Value.{Value}
@@ -47,6 +47,18 @@ pub record RunsOn (world : World) (d : Value → Action Value) (old new : State)
       → Throws c (between old new) store notes answers (innermost old.handlers) ways.throws
       → Continues c (between old new) store notes answers new.current.id.0 (length new.current.instructions) identifier k
       → TracesFrom c old store notes answers (d v ways k source answers)
+
+-- As `RunsOn`, for an expression that takes the values of the list `given`.
+pub record RunsOver (world : World) (d : List Value → Action Value) (old new : State) (given : List ℕ) (identifier : ℕ) : Type 0 where
+  pub fresh : length old.env.identifiers ≤ identifier
+  pub made : identifier < length new.env.identifiers
+  pub free : (c : Code) → IsContainedIn new c → HasSoundNames old → Nobody c.ident identifier
+  pub runs : (c : Code) → IsContainedIn new c → HasSoundNames old → SharesVariables c.ident world c.world
+      → (ways : Ways) (k : ValueCont) (vs : List Value) (source store : Store) (notes : Notes) (answers : List Answer)
+      → Agrees c.ident source store → map store given ≡ vs
+      → Throws c (between old new) store notes answers (innermost old.handlers) ways.throws
+      → Continues c (between old new) store notes answers new.current.id.0 (length new.current.instructions) identifier k
+      → TracesFrom c old store notes answers (d vs ways k source answers)
 
 -- As `RunsExpression`, for a link of an optional chain that goes to block `alternate` where the chain ends early.
 pub record RunsLink (world : World) (d : Action Value) (old new : State) (alternate identifier : ℕ) : Type 0 where

@@ -1,0 +1,164 @@
+-- Nodes without refusals: their parts have none, and a kind that is refused is none of them.
+use Rattle.std.proofs.Common.{◌≡◌, ℕ, ◌++◌, Bool, true, false, List, [], ◌∷◌, Some, sym, ◌∙◌}
+use Rattle.rl_base.specs.Diagnostics.{diagnostic_at}
+use Rattle.rl_base.specs.declared.diagnostic.Diagnostic.{Diagnostic}
+use Rattle.rl_base.specs.declared.ids.SymbolId.{SymbolId}
+use Rattle.rl_base.specs.declared.row.Row.{Row}
+use Rattle.rl_base.specs.declared.row.Row.TheVariants as row
+use Rattle.rl_hir.specs.Pieces.{Piece}
+use Rattle.rl_hir.specs.declared.instruction.InstructionValue.{InstructionValue}
+use Rattle.rl_hir.specs.declared.instruction.NonLocalBinding.{NonLocalBinding}
+use Rattle.rl_hir.specs.declared.instruction.Place.{Place}
+use Rattle.rl_lowered.proofs.Refusals.{cast_refuses, computed_refuses, constant_refuses, form_refuses, fraction_refuses, member_refuses, method_refuses, outer_refuses}
+use Rattle.rl_lowered.proofs.Refusals.{private_refuses, property_refuses, refused_refuses, refusing_refuses, unknown_refuses}
+use Rattle.rl_lowered.proofs.Refusals.{updated_member_refuses, wrapper_refuses}
+use Rattle.rl_lowered.specs.Forms.{IsCast, IsForm, IsMember, IsPrivate, IsRefused, IsRefusing, IsWrapper, MemberKey}
+use Rattle.rl_model.specs.Shapes.{key_text}
+use Rattle.rl_names.specs.Names.{Names}
+use Rattle.rl_names.specs.declared.names.Meaning.TheVariants.{Local, Outer}
+use Rattle.rl_promises.proofs.Covering.{none_in}
+use Rattle.rl_promises.specs.Outs.{is_known_key}
+use Rattle.rl_promises.specs.Rows.{is_eval, label_of, refusals, refusals_in, said_of_local}
+use Rattle.rl_syntax.specs.Syntax.{Syntax, Node, Listed, Said, Flag, Pieces, End, Then}
+use Rattle.rl_syntax.specs.declared.numbered.At.{At}
+use Rattle.rl_syntax.specs.declared.word.Word.{Word}
+use Rattle.rl_syntax.specs.declared.word.Word.TheVariants as word
+use Rattle.rl_text.specs.Numeral.{is_numeral}
+
+-- Two lists without an element together.
+
+pub first_none : (xs ys : List Diagnostic) → xs ++ ys ≡ [] → xs ≡ []
+first_none xs ys none = (none_in xs ys none).0
+
+pub second_none : (xs ys : List Diagnostic) → xs ++ ys ≡ [] → ys ≡ []
+second_none xs ys none = (none_in xs ys none).1
+
+-- A list that begins with an element has one.
+pub never : {d : Diagnostic} {ds : List Diagnostic} → d ∷ ds ≡ [] → ⊥
+never e = cc
+
+behind_none : (xs : List Diagnostic) (d : Diagnostic) → xs ++ d ∷ [] ≡ [] → ⊥
+behind_none xs d e = never (second_none xs (d ∷ []) e)
+
+pub branches_clean : (names : Names) (consequent alternate test : Syntax)
+    → refusals names consequent ++ refusals names alternate ++ refusals names test ≡ []
+    → (refusals names consequent ≡ []) × (refusals names alternate ≡ []) × (refusals names test ≡ [])
+branches_clean names consequent alternate test none =
+    let front = none_in (refusals names consequent) (refusals names alternate) (first_none _ (refusals names test) none) in
+    (front.0, front.1, second_none (refusals names consequent ++ refusals names alternate) (refusals names test) none)
+
+-- Kinds that are refused.
+
+pub refused_never : (names : Names) (at : At) {w : Word} {fields : Pieces} {r : Row} → IsRefused names w fields r
+    → refusals names (Node at w fields) ≡ [] → ⊥
+refused_never names at is none = never (sym (refused_refuses names at is) ∙ none)
+
+pub refusing_never : (names : Names) (at : At) {w : Word} {fields parts : Pieces} {r : Row} → IsRefusing w fields parts r
+    → refusals names (Node at w fields) ≡ [] → ⊥
+refusing_never names at is none = never (sym (refusing_refuses names at is) ∙ none)
+
+-- A property of a private name.
+pub private_never : (names : Names) (at : At) (optional object name : Syntax)
+    → refusals names (Node at word.Privatemember (Then optional (Then object (Then name End)))) ≡ [] → ⊥
+private_never names at optional object name none = behind_none (refusals names object) _ none
+
+pub outer_never : (names : Names) (at : At) (name : List ℕ) (binding : NonLocalBinding)
+    → names.meaning at.reference.0 name ≡ Outer binding → is_eval binding ≡ true
+    → refusals names (Node at word.Id (Then (Said name) End)) ≡ [] → ⊥
+outer_never names at name binding is eval none = never (sym (outer_refuses names at name binding true is eval) ∙ none)
+
+pub fraction_never : (names : Names) (at there : At) (text : List ℕ) (e : Syntax) → is_numeral text ≡ false
+    → refusals names (Node at word.Prop (Then (Flag false) (Then (Node there word.Num (Then (Said text) End)) (Then e End)))) ≡ [] → ⊥
+fraction_never names at there text e is none = never (sym (fraction_refuses names at there text e is) ∙ none)
+
+pub unknown_never : (names : Names) (at : At) (computed : Bool) (key e : Syntax) → is_known_key computed key ≡ false
+    → refusals names (Node at word.Prop (Then (Flag computed) (Then key (Then e End)))) ≡ [] → ⊥
+unknown_never names at computed key e is none = never (sym (unknown_refuses names at computed key e is) ∙ none)
+
+-- The parts of a node without refusals.
+
+pub wrapper_clean : {w : Word} {fields : Pieces} {e : Syntax} → IsWrapper w fields e → (names : Names) (at : At)
+    → refusals names (Node at w fields) ≡ [] → refusals names e ≡ []
+wrapper_clean is names at none = sym (wrapper_refuses names at is) ∙ none
+
+pub cast_clean : {w : Word} {fields parts : Pieces} {e : Syntax} {there : At} → IsCast w fields e (Node there word.Type parts)
+    → (names : Names) (at : At) → refusals names (Node at w fields) ≡ [] → refusals names e ≡ []
+cast_clean {there} is names at none = sym (cast_refuses names at there is) ∙ none
+
+pub private_clean : {w : Word} {fields : Pieces} {e : Syntax} → IsPrivate w fields e → (names : Names) (at : At)
+    → refusals names (Node at w fields) ≡ [] → refusals names e ≡ []
+private_clean is names at none = sym (private_refuses names at is) ∙ none
+
+pub member_clean : {w : Word} {fields parts : Pieces} {pieces : List Piece} {object : Place} {key : MemberKey}
+    → IsMember w fields parts pieces object key → (names : Names) (at : At) → refusals names (Node at w fields) ≡ []
+    → refusals_in names parts ≡ []
+member_clean is names at none = sym (member_refuses names at is) ∙ none
+
+pub updated_member_clean : {w : Word} {fields parts : Pieces} {pieces : List Piece} {object : Place} {key : MemberKey}
+    → IsMember w fields parts pieces object key → (names : Names) (at there : At) (operator prefix : Syntax)
+    → refusals names (Node at word.Update (Then operator (Then prefix (Then (Node there w fields) End)))) ≡ [] → refusals_in names parts ≡ []
+updated_member_clean is names at there operator prefix none = sym (updated_member_refuses names at there operator prefix is) ∙ none
+
+pub method_clean : {w : Word} {fields parts : Pieces} {pieces : List Piece} {object : Place} {key : MemberKey}
+    → IsMember w fields parts pieces object key → (names : Names) (at there : At) (es : Pieces)
+    → refusals names (Node at word.Call (Then (Flag false) (Then (Node there w fields) (Then (Listed es) End)))) ≡ []
+    → (refusals_in names parts ≡ []) × (refusals_in names es ≡ [])
+method_clean {parts} is names at there es none =
+    none_in (refusals_in names parts) (refusals_in names es) (sym (method_refuses names at there es is) ∙ none)
+
+pub form_clean : {w : Word} {fields parts : Pieces} {pieces : List Piece} {v : InstructionValue} → IsForm w fields parts pieces v
+    → (names : Names) (at : At) → refusals names (Node at w fields) ≡ [] → refusals_in names parts ≡ []
+form_clean is names at none = sym (form_refuses names at is) ∙ none
+
+pub property_clean : (names : Names) (at : At) (computed : Bool) (key e : Syntax) (text : List ℕ) → key_text computed key ≡ Some text
+    → refusals names (Node at word.Prop (Then (Flag computed) (Then key (Then e End)))) ≡ [] → refusals names e ≡ []
+property_clean names at computed key e text is none = sym (property_refuses names at computed key e text is) ∙ none
+
+-- Parts in a row without refusals.
+
+pub row_clean : (names : Names) (e : Syntax) (es : Pieces) → refusals_in names (Then e es) ≡ []
+    → (refusals names e ≡ []) × (refusals_in names es ≡ [])
+row_clean names e es none = none_in (refusals names e) (refusals_in names es) none
+
+pub spread_row_clean : (names : Names) (at : At) (e : Syntax) (es : Pieces)
+    → refusals_in names (Then (Node at word.Spread (Then e End)) es) ≡ [] → (refusals names e ≡ []) × (refusals_in names es ≡ [])
+spread_row_clean names at e es none =
+    let row = none_in (refusals names e ++ []) (refusals_in names es) none in (first_none (refusals names e) [] row.0, row.1)
+
+pub property_row_clean : (names : Names) (at : At) (computed : Bool) (key e : Syntax) (text : List ℕ) (es : Pieces)
+    → key_text computed key ≡ Some text
+    → refusals_in names (Then (Node at word.Prop (Then (Flag computed) (Then key (Then e End)))) es) ≡ []
+    → (refusals names e ≡ []) × (refusals_in names es ≡ [])
+property_row_clean names at computed key e text es is none =
+    let row = row_clean names (Node at word.Prop (Then (Flag computed) (Then key (Then e End)))) es none in
+    (property_clean names at computed key e text is row.0, row.1)
+
+pub computed_row_clean : (names : Names) (at : At) (key e : Syntax) (es : Pieces) → is_known_key true key ≡ true
+    → refusals_in names (Then (Node at word.Prop (Then (Flag true) (Then key (Then e End)))) es) ≡ []
+    → (refusals names key ≡ []) × (refusals names e ≡ []) × (refusals_in names es ≡ [])
+computed_row_clean names at key e es is none =
+    let row = row_clean names (Node at word.Prop (Then (Flag true) (Then key (Then e End)))) es none in
+    let front = none_in (refusals names key) (refusals names e) (sym (computed_refuses names at key e is) ∙ row.0) in
+    (front.0, front.1, row.1)
+
+pub fraction_row_never : (names : Names) (at there : At) (text : List ℕ) (e : Syntax) (es : Pieces) → is_numeral text ≡ false
+    → refusals_in names (Then (Node at word.Prop (Then (Flag false) (Then (Node there word.Num (Then (Said text) End)) (Then e End)))) es)
+    ≡ [] → ⊥
+fraction_row_never names at there text e es is none =
+    fraction_never names at there text e is
+    (row_clean names (Node at word.Prop (Then (Flag false) (Then (Node there word.Num (Then (Said text) End)) (Then e End)))) es none).0
+
+pub unknown_row_never : (names : Names) (at : At) (computed : Bool) (key e : Syntax) (es : Pieces) → is_known_key computed key ≡ false
+    → refusals_in names (Then (Node at word.Prop (Then (Flag computed) (Then key (Then e End)))) es) ≡ [] → ⊥
+unknown_row_never names at computed key e es is none =
+    unknown_never names at computed key e is
+    (row_clean names (Node at word.Prop (Then (Flag computed) (Then key (Then e End)))) es none).0
+
+-- An update of a constant.
+pub constant_update_never : (names : Names) (at there : At) (operator prefix : Syntax) (name : List ℕ) (symbol : SymbolId)
+    → names.meaning there.reference.0 name ≡ Local symbol → names.is_const symbol.0 ≡ true
+    → refusals names (Node at word.Update (Then operator (Then prefix (Then (Node there word.Id (Then (Said name) End)) End)))) ≡ [] → ⊥
+constant_update_never names at there operator prefix name symbol is constant none =
+    behind_none (said_of_local (names.name symbol.0) (label_of names symbol there.span))
+    (diagnostic_at row.F6 (names.name symbol.0) there.span)
+    (sym (constant_refuses names at there operator prefix name symbol is constant) ∙ none)

@@ -1,0 +1,155 @@
+-- The counted nodes of what is lowered, from those of its parts.
+use Rattle.std.proofs.Common.{◌≡◌, ℕ, ◌++◌, Bool, true, false, List, [], ◌∷◌, Option, Some, None, codes, refl, ap, ◌∙◌, append-nil}
+use Rattle.rl_hir.specs.Pieces.{Piece}
+use Rattle.rl_hir.specs.Written.{value_word}
+use Rattle.rl_hir.specs.declared.instruction.InstructionValue.{InstructionValue}
+use Rattle.rl_hir.specs.declared.instruction.InstructionValue.TheVariants as values
+use Rattle.rl_hir.specs.declared.instruction.Place.{Place}
+use Rattle.rl_hir.specs.declared.instruction.PrimitiveValue.{PrimitiveValue}
+use Rattle.rl_hir.specs.declared.instruction.TemplateQuasi.{TemplateQuasi}
+use Rattle.rl_lowered.proofs.Keys.{HasText, Name, has_text}
+use Rattle.rl_lowered.specs.Forms.{AreQuasis, IsAnnotation, IsCast, IsForm, IsInside, IsLiteral, IsMember, IsWrapper, MemberKey}
+use Rattle.rl_lowered.specs.Forms as forms
+use Rattle.rl_model.specs.Shapes.{key_text}
+use Rattle.rl_promises.proofs.Unheld.{names_unheld, type_unheld}
+use Rattle.rl_promises.specs.Held.{is_counted}
+use Rattle.rl_promises.specs.Live.{Held, held_among, held_in}
+use Rattle.rl_promises.specs.Tallies.{held_word}
+use Rattle.rl_syntax.specs.Syntax.{Syntax, Node, Listed, Said, Flag, Pieces, End, Then}
+use Rattle.rl_syntax.specs.declared.numbered.At.{At}
+use Rattle.rl_syntax.specs.declared.word.Word.{Word}
+use Rattle.rl_syntax.specs.declared.word.Word.TheVariants as word
+
+-- True of a value whose instruction is counted.
+abbrev pub is_held : InstructionValue → Bool
+is_held (values.CallExpression callee given) = true
+is_held (values.MethodCall call) = true
+is_held (values.NewExpression callee given) = true
+is_held (values.Await value) = true
+is_held _ = false
+
+-- The instruction of a kind is held for its node, or no instruction is.
+pub data IsHeldAs (word : Option (List ℕ)) (v : InstructionValue) : Type 0 where
+  Unheld : word ≡ None → is_held v ≡ false → IsHeldAs word v
+  HeldBy : word ≡ Some (value_word v) → is_counted v ≡ true → IsHeldAs word v
+
+-- Literals, texts of templates, and wrappers.
+
+pub literal_held : {w : Word} {fields : Pieces} {p : PrimitiveValue} → IsLiteral w fields p → (at : At) → held_in (Node at w fields) ≡ []
+literal_held forms.Null at = refl
+literal_held _ at = refl
+
+quasis_held : {texts : Pieces} {quasis : List TemplateQuasi} → AreQuasis texts quasis → held_among texts ≡ []
+quasis_held forms.NoQuasi = refl
+quasis_held (forms.NextQuasi more) = quasis_held more
+quasis_held (forms.NextUncooked more) = quasis_held more
+
+pub wrapper_held : {w : Word} {fields : Pieces} {e : Syntax} → IsWrapper w fields e → (at : At)
+    → held_in (Node at w fields) ≡ held_in e
+wrapper_held (forms.Parenthesized {e}) at = append-nil (held_in e)
+wrapper_held (forms.NonNull {e}) at = append-nil (held_in e)
+wrapper_held (forms.Instantiated {e} {types} fit) at =
+    ap (λ (l : List Held). held_in e ++ (l ++ [])) (names_unheld types fit) ∙ append-nil (held_in e)
+
+pub cast_held : {w : Word} {fields : Pieces} {e type : Syntax} → IsCast w fields e type → IsAnnotation type → (at : At)
+    → held_in (Node at w fields) ≡ held_in e
+cast_held (forms.As {e} {type}) fit at =
+    ap (λ (l : List Held). held_in e ++ (l ++ [])) (type_unheld type fit) ∙ append-nil (held_in e)
+cast_held (forms.Satisfies {e} {type}) fit at =
+    ap (λ (l : List Held). held_in e ++ (l ++ [])) (type_unheld type fit) ∙ append-nil (held_in e)
+cast_held (forms.Assert {e} {type}) fit at =
+    ap (λ (l : List Held). l ++ (held_in e ++ [])) (type_unheld type fit) ∙ append-nil (held_in e)
+
+-- Properties.
+
+pub member_held : {w : Word} {fields parts : Pieces} {pieces : List Piece} {object : Place} {key : MemberKey}
+    → IsMember w fields parts pieces object key → (at : At) → held_in (Node at w fields) ≡ held_among parts
+member_held forms.Static at = refl
+member_held (forms.Indexed other) at = refl
+member_held (forms.Numbered is) at = refl
+
+member_word : {w : Word} {fields parts : Pieces} {pieces : List Piece} {object : Place} {key : MemberKey}
+    → IsMember w fields parts pieces object key → held_word w fields ≡ None
+member_word forms.Static = refl
+member_word _ = refl
+
+member_unheld : {w : Word} {fields parts : Pieces} {pieces : List Piece} {object : Place} {key : MemberKey}
+    → IsMember w fields parts pieces object key
+    → (is_held (forms.load_of object key) ≡ false) × (is_held (forms.delete_of object key) ≡ false)
+member_unheld forms.Static = (refl, refl)
+member_unheld _ = (refl, refl)
+
+-- The fields of a property hold what its parts do.
+member_fields : {w : Word} {fields parts : Pieces} {pieces : List Piece} {object : Place} {key : MemberKey}
+    → IsMember w fields parts pieces object key → held_among fields ≡ held_among parts
+member_fields forms.Static = refl
+member_fields _ = refl
+
+inside_held : {e inner : Syntax} → IsInside e inner → held_in e ≡ held_in inner
+inside_held forms.Bare = refl
+inside_held (forms.Around {at} {e} more) = append-nil (held_in e) ∙ inside_held more
+
+pub updated_held : {w : Word} {fields parts : Pieces} {pieces : List Piece} {object : Place} {key : MemberKey}
+    → IsMember w fields parts pieces object key → (at there : At) (operator : List ℕ) (prefix : Bool)
+    → held_in (Node at word.Update (Then (Said operator) (Then (Flag prefix) (Then (Node there w fields) End)))) ≡ held_among parts
+updated_held is at there operator prefix = append-nil _ ∙ member_held is there
+
+-- The call of a method, and then what its parts hold.
+pub method_held : {w : Word} {fields parts : Pieces} {pieces : List Piece} {object : Place} {key : MemberKey}
+    → IsMember w fields parts pieces object key → (at there : At) (es : Pieces)
+    → held_in (Node at word.Call (Then (Flag false) (Then (Node there w fields) (Then (Listed es) End))))
+    ≡ record { word = codes "methodcall"; span = at.span } ∷ (held_among parts ++ held_among es)
+method_held (forms.Static {object}) at there es =
+    ap (λ (l : List Held). record { word = codes "methodcall"; span = at.span } ∷ ((held_in object ++ []) ++ l)) (append-nil (held_among es))
+method_held (forms.Indexed {object} {property} other) at there es =
+    ap (λ (l : List Held). record { word = codes "methodcall"; span = at.span } ∷ ((held_in object ++ (held_in property ++ [])) ++ l))
+    (append-nil (held_among es))
+method_held (forms.Numbered {object} is) at there es =
+    ap (λ (l : List Held). record { word = codes "methodcall"; span = at.span } ∷ ((held_in object ++ []) ++ l)) (append-nil (held_among es))
+
+-- A kind of the table: the parts that are lowered hold what the fields do.
+pub form_held : {w : Word} {fields parts : Pieces} {pieces : List Piece} {v : InstructionValue} → IsForm w fields parts pieces v
+    → held_among fields ≡ held_among parts
+form_held (forms.Call {callee} {es} plain given) = ap (λ (l : List Held). held_in callee ++ l) (append-nil (held_among es))
+form_held (forms.New {callee} {es} given) = ap (λ (l : List Held). held_in callee ++ l) (append-nil (held_among es))
+form_held (forms.Array {es} given) = append-nil (held_among es)
+form_held (forms.Template {texts} {es} quasis given) =
+    ap (λ (l : List Held). l ++ (held_among es ++ [])) (quasis_held quasis) ∙ append-nil (held_among es)
+form_held (forms.Tagged {tag} {texts} {es} raw quasis given) =
+    ap (λ (l : List Held). held_in tag ++ ((l ++ (held_among es ++ [])) ++ [])) (quasis_held quasis)
+    ∙ ap (λ (l : List Held). held_in tag ++ l) (append-nil (held_among es ++ []) ∙ append-nil (held_among es))
+form_held (forms.Load is) = member_fields is
+form_held (forms.Delete operator {e} {there} deletes inside is) =
+    append-nil (held_in e) ∙ inside_held inside ∙ member_held is there
+form_held _ = refl
+
+pub form_word : {w : Word} {fields parts : Pieces} {pieces : List Piece} {v : InstructionValue} → IsForm w fields parts pieces v
+    → IsHeldAs (held_word w fields) v
+form_word (forms.Call plain given) = HeldBy (ap (λ (text : List ℕ). Some text) plain) refl
+form_word (forms.New given) = HeldBy refl refl
+form_word forms.Await = HeldBy refl refl
+form_word (forms.Load is) = Unheld (member_word is) (member_unheld is).0
+form_word (forms.Delete operator deletes inside is) = Unheld refl (member_unheld is).1
+form_word _ = Unheld refl refl
+
+-- Properties of object literals.
+
+key_held : {computed : Bool} {key : Syntax} {text : List ℕ} → HasText computed key text → held_in key ≡ []
+key_held (Name at said) = refl
+key_held _ = refl
+
+pub property_held : (at : At) (computed : Bool) (key e : Syntax) (text : List ℕ) → key_text computed key ≡ Some text
+    → held_in (Node at word.Prop (Then (Flag computed) (Then key (Then e End)))) ≡ held_in e
+property_held at computed key e text is =
+    ap (λ (l : List Held). l ++ (held_in e ++ [])) (key_held (has_text computed key text is)) ∙ append-nil (held_in e)
+
+pub computed_held : (at : At) (key e : Syntax)
+    → held_in (Node at word.Prop (Then (Flag true) (Then key (Then e End)))) ≡ held_in key ++ held_in e
+computed_held at key e = ap (λ (l : List Held). held_in key ++ l) (append-nil (held_in e))
+
+-- Declarators.
+
+pub declarator_held : (there bind : At) (name : List ℕ) (type init : Syntax) → IsAnnotation type
+    → held_in (Node there word.Declarator (Then (Node bind word.Bind (Then (Said name) (Then type End))) (Then init End))) ≡ held_in init
+declarator_held there bind name type init fit =
+    ap (λ (l : List Held). (l ++ []) ++ (held_in init ++ [])) (type_unheld type fit) ∙ append-nil (held_in init)

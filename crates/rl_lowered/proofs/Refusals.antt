@@ -1,0 +1,257 @@
+-- The refusals of nodes that were lowered, from those of their parts.
+use Rattle.std.proofs.Common.{◌≡◌, ℕ, ◌&&◌, not, ◌++◌, Bool, true, false, if◌then◌else◌, List, [], ◌∷◌, Option, Some, codes}
+use Rattle.std.proofs.Common.{append-nil, refl, sym, ap, ◌∙◌}
+use Rattle.std.specs.Str.{bytes_eq}
+use Rattle.rl_base.specs.Diagnostics.{diagnostic_at}
+use Rattle.rl_base.specs.Operators.{unary_text}
+use Rattle.rl_base.specs.declared.diagnostic.Diagnostic.{Diagnostic}
+use Rattle.rl_base.specs.declared.ids.SymbolId.{SymbolId}
+use Rattle.rl_base.specs.declared.operator.UnaryOperator.{UnaryOperator}
+use Rattle.rl_base.specs.declared.row.Row.{Row}
+use Rattle.rl_base.specs.declared.row.Row.TheVariants as row
+use Rattle.rl_base.specs.declared.span.Span.{Span}
+use Rattle.rl_grammar.proofs.Viewing.{rest_fit}
+use Rattle.rl_grammar.specs.Grammar.{every}
+use Rattle.rl_grammar.specs.declared.kind.Kind.TheVariants as sort
+use Rattle.rl_hir.specs.Pieces.{Piece}
+use Rattle.rl_hir.specs.declared.instruction.InstructionValue.{InstructionValue}
+use Rattle.rl_hir.specs.declared.instruction.NonLocalBinding.{NonLocalBinding}
+use Rattle.rl_hir.specs.declared.instruction.Place.{Place}
+use Rattle.rl_hir.specs.declared.instruction.PrimitiveValue.{PrimitiveValue}
+use Rattle.rl_hir.specs.declared.instruction.TemplateQuasi.{TemplateQuasi}
+use Rattle.rl_lowered.proofs.Keys.{Bracketed, HasText, Name, Number, Word, has_text}
+use Rattle.rl_lowered.specs.Forms.{AreQuasis, IsAnnotation, IsCast, IsForm, IsInside, IsLiteral, IsMember, IsPrivate, IsRefused, IsRefusing}
+use Rattle.rl_lowered.specs.Forms.{IsWrapper, MemberKey}
+use Rattle.rl_lowered.specs.Forms as forms
+use Rattle.rl_model.specs.Applied.{deletes}
+use Rattle.rl_model.specs.Shapes.{is_link, key_text}
+use Rattle.rl_names.specs.Names.{Names}
+use Rattle.rl_names.specs.declared.names.Meaning.{Meaning}
+use Rattle.rl_names.specs.declared.names.Meaning.TheVariants.{Local, Outer}
+use Rattle.rl_promises.proofs.CoveredForms.{none_fits}
+use Rattle.rl_promises.specs.Outs.{is_known_key, is_wrapped}
+use Rattle.rl_promises.specs.Rows.{is_eval, label_of, refusal, refusals, refusals_in, said_of_local, said_of_name, said_of_target, said_of_update}
+use Rattle.rl_semantic.specs.Items.{of_item}
+use Rattle.rl_syntax.specs.Syntax.{Syntax, Node, Listed, Said, Flag, Pieces, End, Then, span_of}
+use Rattle.rl_syntax.specs.declared.numbered.At.{At}
+use Rattle.rl_syntax.specs.declared.word.Word.{Word as NodeWord}
+use Rattle.rl_syntax.specs.declared.word.Word.TheVariants as word
+use Rattle.rl_text.specs.Numeral.{is_numeral}
+
+-- Literals and names.
+
+pub literal_refuses : (names : Names) (at : At) {w : NodeWord} {fields : Pieces} {p : PrimitiveValue} → IsLiteral w fields p
+    → refusals names (Node at w fields) ≡ []
+literal_refuses names at forms.Null = refl
+literal_refuses names at forms.Boolean = refl
+literal_refuses names at forms.String = refl
+literal_refuses names at (forms.Number is) = ap (λ (b : Bool). (if b then [] else refusal row.F43 at.span ∷ []) ++ []) is
+
+pub name_refuses : (names : Names) (at : At) (name : List ℕ) (m : Meaning) → names.meaning at.reference.0 name ≡ m
+    → refusals names (Node at word.Id (Then (Said name) End)) ≡ said_of_name names m at.span
+name_refuses names at name m is =
+    append-nil (said_of_name names (names.meaning at.reference.0 name) at.span) ∙ ap (λ (m : Meaning). said_of_name names m at.span) is
+
+pub outer_refuses : (names : Names) (at : At) (name : List ℕ) (binding : NonLocalBinding) (b : Bool)
+    → names.meaning at.reference.0 name ≡ Outer binding → is_eval binding ≡ b
+    → refusals names (Node at word.Id (Then (Said name) End)) ≡ (if b then refusal row.F2 at.span ∷ [] else [])
+outer_refuses names at name binding b is eval =
+    name_refuses names at name (Outer binding) is ∙ ap (λ (b : Bool). if b then refusal row.F2 at.span ∷ [] else []) eval
+
+-- Updates of variables, which are resolved twice, and of constants.
+
+pub update_refuses : (names : Names) (at there : At) (operator prefix : Syntax) (name : List ℕ) (symbol : SymbolId)
+    → names.meaning there.reference.0 name ≡ Local symbol → names.is_const symbol.0 ≡ false
+    → refusals names (Node at word.Update (Then operator (Then prefix (Then (Node there word.Id (Then (Said name) End)) End))))
+    ≡ said_of_local (names.name symbol.0) (label_of names symbol there.span)
+    ++ said_of_local (names.name symbol.0) (label_of names symbol there.span)
+update_refuses names at there operator prefix name symbol is mutable =
+    ap (λ (m : Meaning). said_of_update names at.span there.span m) is
+    ∙ ap (λ (b : Bool). said_of_local (names.name symbol.0) (label_of names symbol there.span)
+    ++ (if b then diagnostic_at row.F6 (names.name symbol.0) there.span ∷ []
+    else said_of_local (names.name symbol.0) (label_of names symbol there.span))) mutable
+
+pub constant_refuses : (names : Names) (at there : At) (operator prefix : Syntax) (name : List ℕ) (symbol : SymbolId)
+    → names.meaning there.reference.0 name ≡ Local symbol → names.is_const symbol.0 ≡ true
+    → refusals names (Node at word.Update (Then operator (Then prefix (Then (Node there word.Id (Then (Said name) End)) End))))
+    ≡ said_of_local (names.name symbol.0) (label_of names symbol there.span) ++ diagnostic_at row.F6 (names.name symbol.0) there.span ∷ []
+constant_refuses names at there operator prefix name symbol is constant =
+    ap (λ (m : Meaning). said_of_update names at.span there.span m) is
+    ∙ ap (λ (b : Bool). said_of_local (names.name symbol.0) (label_of names symbol there.span)
+    ++ (if b then diagnostic_at row.F6 (names.name symbol.0) there.span ∷ []
+    else said_of_local (names.name symbol.0) (label_of names symbol there.span))) constant
+
+-- Types, texts of templates, and directives have none.
+
+annotation_refuses : (names : Names) (type : Syntax) → IsAnnotation type → refusals names type ≡ []
+annotation_refuses names (Node at word.Type parts) fit = refl
+annotation_refuses names (Node at w parts) fit = absurd (none_fits parts fit)
+annotation_refuses names (Listed parts) fit = absurd (cc)
+annotation_refuses names _ fit = refl
+
+quasis_refuse : (names : Names) {texts : Pieces} {quasis : List TemplateQuasi} → AreQuasis texts quasis → refusals_in names texts ≡ []
+quasis_refuse names forms.NoQuasi = refl
+quasis_refuse names (forms.NextQuasi more) = quasis_refuse names more
+quasis_refuse names (forms.NextUncooked more) = quasis_refuse names more
+
+pub texts_refuse : (names : Names) (texts : Pieces) → every sort.Text texts ≡ true → refusals_in names texts ≡ []
+texts_refuse names End fit = refl
+texts_refuse names (Then (Said text) texts) fit =
+    texts_refuse names texts (rest_fit sort.Text (Then (Said text) texts) (Said text) texts refl fit)
+texts_refuse names (Then _ texts) fit = absurd (cc)
+
+-- A declaration of a variable.
+pub bind_refuses : (names : Names) (bind : At) (name : List ℕ) (type : Syntax) (symbol : SymbolId) → IsAnnotation type
+    → names.declared bind.id.0 ≡ Some symbol
+    → refusals names (Node bind word.Bind (Then (Said name) (Then type End)))
+    ≡ said_of_local (names.name symbol.0) (label_of names symbol bind.span)
+bind_refuses names bind name type symbol annotated is =
+    ap (λ (l : List Diagnostic). of_item [] (λ symbol. said_of_local (names.name symbol.0) (label_of names symbol bind.span))
+    (names.declared bind.id.0) ++ (l ++ [])) (annotation_refuses names type annotated)
+    ∙ append-nil _
+    ∙ ap (λ (o : Option SymbolId). of_item [] (λ symbol. said_of_local (names.name symbol.0) (label_of names symbol bind.span)) o) is
+
+-- Wrappers.
+
+pub wrapper_refuses : (names : Names) (at : At) {w : NodeWord} {fields : Pieces} {e : Syntax} → IsWrapper w fields e
+    → refusals names (Node at w fields) ≡ refusals names e
+wrapper_refuses names at (forms.Parenthesized {e}) = append-nil (refusals names e)
+wrapper_refuses names at (forms.NonNull {e}) = append-nil (refusals names e)
+wrapper_refuses names at (forms.Instantiated fit) = refl
+
+pub cast_refuses : (names : Names) (at there : At) {w : NodeWord} {fields parts : Pieces} {e : Syntax}
+    → IsCast w fields e (Node there word.Type parts) → refusals names (Node at w fields) ≡ refusals names e
+cast_refuses names at there (forms.As {e}) = append-nil (refusals names e)
+cast_refuses names at there (forms.Satisfies {e}) = append-nil (refusals names e)
+cast_refuses names at there (forms.Assert {e}) = append-nil (refusals names e)
+
+-- Properties, and what is deleted.
+
+pub member_refuses : (names : Names) (at : At) {w : NodeWord} {fields parts : Pieces} {pieces : List Piece} {object : Place} {key : MemberKey}
+    → IsMember w fields parts pieces object key → refusals names (Node at w fields) ≡ refusals_in names parts
+member_refuses names at forms.Static = refl
+member_refuses names at (forms.Indexed other) = refl
+member_refuses names at (forms.Numbered {object} {there} {text} is) =
+    ap (λ (b : Bool). refusals names object ++ (((if b then [] else refusal row.F43 there.span ∷ []) ++ []) ++ [])) is
+
+inside_refuses : (names : Names) {e inner : Syntax} → IsInside e inner → refusals names e ≡ refusals names inner
+inside_refuses names forms.Bare = refl
+inside_refuses names (forms.Around {at} {e} more) = append-nil (refusals names e) ∙ inside_refuses names more
+
+inside_deletes : {e inner : Syntax} → IsInside e inner → is_link inner ≡ true → deletes inner ≡ true → deletes e ≡ true
+inside_deletes forms.Bare link is = is
+inside_deletes (forms.Around more) link is = inside_deletes more link is
+
+pub member_link : (at : At) {w : NodeWord} {fields parts : Pieces} {pieces : List Piece} {object : Place} {key : MemberKey}
+    → IsMember w fields parts pieces object key
+    → (is_link (Node at w fields) ≡ true) × (deletes (Node at w fields) ≡ true)
+member_link at forms.Static = (refl, refl)
+member_link at _ = (refl, refl)
+
+delete_refuses : (names : Names) (at : At) (operator : UnaryOperator) (e : Syntax) → bytes_eq (unary_text operator) (codes "delete") ≡ true
+    → deletes e ≡ true → refusals names (Node at word.Unary (Then (Said (unary_text operator)) (Then e End))) ≡ refusals names e
+delete_refuses names at operator e is held =
+    ap (λ (b : Bool). if b && not (deletes e) then refusal row.F12 at.span ∷ [] else refusals names e) is
+    ∙ ap (λ (b : Bool). if not b then refusal row.F12 at.span ∷ [] else refusals names e) held
+
+pub private_refuses : (names : Names) (at : At) {w : NodeWord} {fields : Pieces} {e : Syntax} → IsPrivate w fields e
+    → refusals names (Node at w fields) ≡ refusals names e
+private_refuses names at forms.PrivateUpdate = refl
+private_refuses names at (forms.PrivateDelete operator {e} is inside) =
+    delete_refuses names at operator e is (inside_deletes inside refl refl) ∙ inside_refuses names inside
+
+pub updated_member_refuses : (names : Names) (at there : At) (operator prefix : Syntax) {w : NodeWord} {fields parts : Pieces}
+    {pieces : List Piece} {object : Place} {key : MemberKey} → IsMember w fields parts pieces object key
+    → refusals names (Node at word.Update (Then operator (Then prefix (Then (Node there w fields) End)))) ≡ refusals_in names parts
+updated_member_refuses names at there operator prefix (forms.Static) = refl
+updated_member_refuses names at there operator prefix (forms.Indexed other) = refl
+updated_member_refuses names at there operator prefix (forms.Numbered {object} {there = inner} {text} is) =
+    ap (λ (b : Bool). refusals names object ++ (((if b then [] else refusal row.F43 inner.span ∷ []) ++ []) ++ [])) is
+
+pub method_refuses : (names : Names) (at there : At) (es : Pieces) {w : NodeWord} {fields parts : Pieces}
+    {pieces : List Piece} {object : Place} {key : MemberKey} → IsMember w fields parts pieces object key
+    → refusals names (Node at word.Call (Then (Flag false) (Then (Node there w fields) (Then (Listed es) End))))
+    ≡ refusals_in names parts ++ refusals_in names es
+method_refuses names at there es {parts} is =
+    ap (λ (l : List Diagnostic). l ++ (refusals_in names es ++ [])) (member_refuses names there is)
+    ∙ ap (λ (l : List Diagnostic). refusals_in names parts ++ l) (append-nil (refusals_in names es))
+
+-- A kind of the table has the refusals of its parts.
+pub form_refuses : (names : Names) (at : At) {w : NodeWord} {fields parts : Pieces} {pieces : List Piece} {v : InstructionValue}
+    → IsForm w fields parts pieces v → refusals names (Node at w fields) ≡ refusals_in names parts
+form_refuses names at (forms.Unary {operator} {e} plain) =
+    ap (λ (b : Bool). if b && not (deletes e) then refusal row.F12 at.span ∷ [] else refusals names e) plain
+    ∙ sym (append-nil (refusals names e))
+form_refuses names at (forms.Load is) = member_refuses names at is
+form_refuses names at (forms.Delete operator {e} {there} is inside member) =
+    delete_refuses names at operator e is (inside_deletes inside (member_link there member).0 (member_link there member).1)
+    ∙ inside_refuses names inside ∙ member_refuses names there member
+form_refuses names at (forms.Call {callee} {es} plain given) =
+    ap (λ (l : List Diagnostic). refusals names callee ++ l) (append-nil (refusals_in names es))
+form_refuses names at (forms.New {callee} {es} given) =
+    ap (λ (l : List Diagnostic). refusals names callee ++ l) (append-nil (refusals_in names es))
+form_refuses names at (forms.Array {es} given) = append-nil (refusals_in names es)
+form_refuses names at (forms.Template {texts} {es} are given) =
+    ap (λ (l : List Diagnostic). l ++ (refusals_in names es ++ [])) (quasis_refuse names are) ∙ append-nil (refusals_in names es)
+form_refuses names at (forms.Tagged {tag} {es} raw are given) =
+    ap (λ (b : Bool). if b then refusals names tag ++ refusals_in names es else refusal row.F13 at.span ∷ []) raw
+form_refuses names at _ = refl
+
+-- Kinds that are refused.
+
+wrapped_said : (names : Names) (at : Span) (target : Syntax) (inside : List Diagnostic) → is_wrapped target ≡ true
+    → said_of_target names at target inside ≡ refusal row.F22 at ∷ []
+wrapped_said names at (Node there word.As parts) inside is = refl
+wrapped_said names at (Node there word.Satisfies parts) inside is = refl
+wrapped_said names at (Node there word.Assert parts) inside is = refl
+wrapped_said names at (Node there word.Nonnull parts) inside is = refl
+wrapped_said names at _ inside is = absurd (cc)
+
+pub refused_refuses : (names : Names) (at : At) {w : NodeWord} {fields : Pieces} {r : Row} → IsRefused names w fields r
+    → refusals names (Node at w fields) ≡ refusal r at.span ∷ []
+refused_refuses names at (forms.Fraction is) = ap (λ (b : Bool). (if b then [] else refusal row.F43 at.span ∷ []) ++ []) is
+refused_refuses names at (forms.Cooked {tag} {quasis} {expressions} is) =
+    ap (λ (b : Bool). if b then refusals names tag ++ refusals_in names expressions else refusal row.F13 at.span ∷ []) is
+refused_refuses names at (forms.LostDelete operator {e} is) =
+    ap (λ (b : Bool). if b then refusal row.F12 at.span ∷ [] else refusals names e) is
+refused_refuses names at (forms.WrappedUpdate {target} is) = wrapped_said names at.span target (refusals names target) is
+refused_refuses names at (forms.OuterUpdate {there} is) = ap (λ (m : Meaning). said_of_update names at.span there.span m) is
+refused_refuses names at _ = refl
+
+pub refusing_refuses : (names : Names) (at : At) {w : NodeWord} {fields parts : Pieces} {r : Row} → IsRefusing w fields parts r
+    → refusals names (Node at w fields) ≡ refusal r at.span ∷ refusals_in names parts
+refusing_refuses names at forms.PrivateIn = refl
+refusing_refuses names at _ = refl
+
+-- Properties of object literals.
+
+-- A key that has a text is known, and has no refusals.
+key_known : (names : Names) {computed : Bool} {key : Syntax} {text : List ℕ} → HasText computed key text
+    → (is_known_key computed key ≡ true) × (refusals names key ≡ [])
+key_known names (Name at said) = (refl, refl)
+key_known names (Word at said) = (refl, refl)
+key_known names (Bracketed at said) = (refl, refl)
+key_known names (Number at said numeral) = (refl, ap (λ (b : Bool). (if b then [] else refusal row.F43 at.span ∷ []) ++ []) numeral)
+
+pub property_refuses : (names : Names) (at : At) (computed : Bool) (key e : Syntax) (text : List ℕ) → key_text computed key ≡ Some text
+    → refusals names (Node at word.Prop (Then (Flag computed) (Then key (Then e End)))) ≡ refusals names e
+property_refuses names at computed key e text is =
+    let known = key_known names (has_text computed key text is) in
+    ap (λ (b : Bool). if b then refusals names key ++ refusals names e else refusal row.F9 (span_of key) ∷ []) known.0
+    ∙ ap (λ (l : List Diagnostic). l ++ refusals names e) known.1
+
+pub computed_refuses : (names : Names) (at : At) (key e : Syntax) → is_known_key true key ≡ true
+    → refusals names (Node at word.Prop (Then (Flag true) (Then key (Then e End)))) ≡ refusals names key ++ refusals names e
+computed_refuses names at key e is =
+    ap (λ (b : Bool). if b then refusals names key ++ refusals names e else refusal row.F9 (span_of key) ∷ []) is
+
+pub fraction_refuses : (names : Names) (at there : At) (text : List ℕ) (e : Syntax) → is_numeral text ≡ false
+    → refusals names (Node at word.Prop (Then (Flag false) (Then (Node there word.Num (Then (Said text) End)) (Then e End))))
+    ≡ refusal row.F43 there.span ∷ refusals names e
+fraction_refuses names at there text e is =
+    ap (λ (b : Bool). ((if b then [] else refusal row.F43 there.span ∷ []) ++ []) ++ refusals names e) is
+
+pub unknown_refuses : (names : Names) (at : At) (computed : Bool) (key e : Syntax) → is_known_key computed key ≡ false
+    → refusals names (Node at word.Prop (Then (Flag computed) (Then key (Then e End)))) ≡ refusal row.F9 (span_of key) ∷ []
+unknown_refuses names at computed key e is =
+    ap (λ (b : Bool). if b then refusals names key ++ refusals names e else refusal row.F9 (span_of key) ∷ []) is

@@ -1,0 +1,262 @@
+-- Lowering a part gives no span that is none of the part's nodes or of a declaration, and its value is in a place without another.
+use Rattle.std.proofs.Common.{◌≡◌, Bool, List, [], ◌∷◌, Some, None, sym, subst}
+use Rattle.std.specs.Prelude.{IfSome}
+use Rattle.rl_base.specs.Diagnostics.{diagnostic_at}
+use Rattle.rl_base.specs.declared.row.Row.TheVariants as row
+use Rattle.rl_base.specs.declared.span.Span.{Span}
+use Rattle.rl_base.specs.declared.type_kind.TypeKind.{TypeKind}
+use Rattle.rl_base.specs.declared.type_kind.TypeKind.TheVariants as types
+use Rattle.rl_base.specs.declared.variable_kind.VariableKind.{VariableKind}
+use Rattle.rl_base.specs.declared.variable_kind.VariableKind.TheVariants as kinds
+use Rattle.rl_builder.specs.Builder.{State, new_block, recorded}
+use Rattle.rl_builder.specs.Temporaries.{temporary, with_value}
+use Rattle.rl_hir.specs.Instructions.{binding_texts}
+use Rattle.rl_hir.specs.Pieces.{Piece, argument_pieces, gathered}
+use Rattle.rl_hir.specs.declared.function.BlockKind.TheVariants as blocks
+use Rattle.rl_hir.specs.declared.instruction.InstructionKind.{InstructionKind}
+use Rattle.rl_hir.specs.declared.instruction.InstructionValue.TheVariants as values
+use Rattle.rl_hir.specs.declared.instruction.NonLocalBinding.{NonLocalBinding}
+use Rattle.rl_hir.specs.declared.instruction.Place.{Place}
+use Rattle.rl_hir.specs.declared.instruction.PlaceOrSpread.{PlaceOrSpread}
+use Rattle.rl_hir.specs.declared.instruction.PrimitiveValue.TheVariants as primitives
+use Rattle.rl_hir.specs.declared.terminal.ReturnVariant.TheVariants as returns
+use Rattle.rl_lowered.proofs.SoundForms.{form_places, method_places, object_places}
+use Rattle.rl_lowered.proofs.SpannedForms.{cast_each, form_cast, form_each, load_spans, member_each, object_spanned, outer_spanned}
+use Rattle.rl_lowered.proofs.SpannedForms.{private_each, refusing_each, result_spanned, update_cast, update_spanned}
+use Rattle.rl_lowered.proofs.SpannedForms.{update_spans, wrapper_each}
+use Rattle.rl_lowered.proofs.SpannedFrames.{if_else_spans, if_then_spans, logical_spans, sequence_spans, ternary_spans}
+use Rattle.rl_lowered.proofs.SpannedMoves.{found_spans, more_spanned, none_spanned, one_spanned, recorded_spans, reserved_spans}
+use Rattle.rl_lowered.proofs.SpannedMoves.{return_spans, returned_spans, span_or, type_spans, value_spans}
+use Rattle.rl_lowered.specs.Forms.{IsMember, MemberKey, load_of, places_in, type_of, typed}
+use Rattle.rl_lowered.specs.Lowered.{Lowered, LoweredBody, LoweredDeclarators, LoweredLast, LoweredParts, LoweredStatement}
+use Rattle.rl_lowered.specs.Lowered.{LoweredStatements, declaring, update_of, value_span}
+use Rattle.rl_lowered.specs.Lowered as lowered
+use Rattle.rl_lowered.specs.Named.{found}
+use Rattle.rl_lowered.specs.Spanned.{EachSpan, EachSpanAmong, KeepsSpans}
+use Rattle.rl_names.specs.Names.{Names}
+use Rattle.rl_promises.specs.Rows.{refusal}
+use Rattle.rl_promises.specs.Spans.{AreSpanned}
+use Rattle.rl_syntax.specs.Syntax.{Syntax, Pieces, span_of}
+use Rattle.rl_syntax.specs.declared.word.Word.{Word}
+
+module _ (P : Span → Type 0) where
+  -- A part that was lowered is a node.
+
+  pub part_spanned : {names : Names} {e : Syntax} {s t : State} {p : Place} → Lowered names e s t p → EachSpan P e → P (span_of e)
+  part_spanned (lowered.Literal at w fields p s literal) each = each.0
+  part_spanned _ each = each.0
+
+  pub statement_own : {names : Names} {e : Syntax} {s t : State} → LoweredStatement names e s t → EachSpan P e → P (span_of e)
+  statement_own (lowered.Empty at s) each = each.0
+  statement_own _ each = each.0
+
+  -- Places
+
+  pub place_spanned : {names : Names} {e : Syntax} {s t : State} {p : Place} → Lowered names e s t p → EachSpan P e → IfSome p.span P
+  place_spanned (lowered.Private at w fields e s t p is by) each = place_spanned by (private_each P is each.1)
+  place_spanned (lowered.Same at w fields e s t p wrapper by) each = place_spanned by (wrapper_each P wrapper each.1)
+  place_spanned (lowered.UpdatedMember at there w fields parts pieces object key operator prefix s t is all) each =
+      result_spanned P t object key operator prefix there.span each.1.1.1.0.0
+  place_spanned _ each = each.0
+
+  -- The span of a part's value, and that of the part where its value has none.
+  pub value_spanned : {names : Names} {e : Syntax} {s t : State} {p : Place} → Lowered names e s t p → EachSpan P e → P (value_span p e)
+  value_spanned {e = e} {p = p} by each = span_or P p.span (span_of e) (place_spanned by each) (part_spanned by each)
+
+  pub places_spanned : {names : Names} {of_object : Bool} {es : Pieces} {s t : State} {pieces : List Piece}
+      → LoweredParts names of_object es s t pieces → EachSpanAmong P es → AreSpanned P (places_in pieces)
+  places_spanned (lowered.NoPart s) each = none_spanned P
+  places_spanned (lowered.NextPart e es s t u p pieces first rest) each =
+      more_spanned P p (places_in pieces) (place_spanned first each.0) (places_spanned rest each.1)
+  places_spanned (lowered.NextSpread at e es s t u p pieces first rest) each =
+      more_spanned P p (places_in pieces) (place_spanned first each.0.1.0) (places_spanned rest each.1)
+  places_spanned (lowered.NextHole at es s u pieces rest) each = places_spanned rest each.1
+  places_spanned (lowered.NextProperty at computed key e text es s t u p pieces is by rest) each =
+      more_spanned P p (places_in pieces) (place_spanned by each.0.1.1.1.0) (places_spanned rest each.1)
+  places_spanned (lowered.NextComputed at key e es s r t u p q pieces is first second rest) each =
+      more_spanned P p (q ∷ places_in pieces) (place_spanned first each.0.1.1.0)
+      (more_spanned P q (places_in pieces) (place_spanned second each.0.1.1.1.0) (places_spanned rest each.1))
+  places_spanned (lowered.NextFraction at there e text es s t u p pieces is by rest) each = places_spanned rest each.1
+  places_spanned (lowered.NextUnknown at computed key e es s u pieces is rest) each = places_spanned rest each.1
+
+  pub last_spanned : {names : Names} {es : Pieces} {s t : State} {p : Place} → LoweredLast names es s t p → EachSpanAmong P es
+      → IfSome p.span P
+  last_spanned (lowered.LastPart e s t p by) each = place_spanned by each.0
+  last_spanned (lowered.EarlierPart e next es s t u p q first rest) each = last_spanned rest each.1
+
+  -- Moves behind parts
+
+  undefined_spans : (s : State) (at : Span) → P at → KeepsSpans P s (with_value s (values.Primitive primitives.Undefined) (Some at))
+  undefined_spans s at here h = value_spans P s (values.Primitive primitives.Undefined) (Some at) here tt (none_spanned P) h
+
+  global_spans : (s : State) (binding : NonLocalBinding) (at : Span) → P at
+      → KeepsSpans P s (with_value s (values.LoadGlobal binding) (Some at))
+  global_spans s binding at here h =
+      value_spans P s (values.LoadGlobal binding) (Some at) here tt
+      (outer_spanned P (binding_texts binding)) h
+
+  typed_spans : (s : State) (k : TypeKind) → KeepsSpans P s (typed s k)
+  typed_spans s types.Array h = h
+  typed_spans s types.Primitive h = h
+  typed_spans s types.Other h = type_spans P s h
+
+  declaring_spans : (s : State) (k : VariableKind) (at : Span) → KeepsSpans P s (declaring s k at)
+  declaring_spans s kinds.Var at h = recorded_spans P s (refusal row.F39 at) h
+  declaring_spans s _ at h = h
+
+  method_spans : {w : Word} {fields parts : Pieces} {pieces : List Piece} {object : Place} {key : MemberKey}
+      → IsMember w fields parts pieces object key → (t u : State) (given : List PlaceOrSpread) (given_pieces : List Piece) (at there : Span)
+      → gathered argument_pieces given ≡ given_pieces → P at → P there → AreSpanned P (places_in pieces)
+      → AreSpanned P (places_in given_pieces) → KeepsSpans P (with_value t (load_of object key) (Some there)) u
+      → KeepsSpans P t
+      (with_value u
+      (values.MethodCall (record { receiver = object; property = temporary t (Some there); arguments = given })) (Some at))
+  method_spans {object} is t u given given_pieces at there given_is here there_at member places between h =
+      value_spans P u (values.MethodCall (record { receiver = object; property = temporary t (Some there); arguments = given })) (Some at)
+      here tt
+      (subst (AreSpanned P) (sym (method_places object (temporary t (Some there)) given given_pieces given_is))
+      (more_spanned P object (temporary t (Some there) ∷ places_in given_pieces) (object_spanned P is member)
+      (more_spanned P (temporary t (Some there)) (places_in given_pieces) there_at places)))
+      (between (load_spans P is t there there_at member h))
+
+  -- Expressions
+
+  mutual
+    pub expression_spans : {names : Names} {e : Syntax} {s t : State} {p : Place} → Lowered names e s t p → EachSpan P e
+        → KeepsSpans P s t
+    expression_spans (lowered.Literal at w fields p s literal) each h =
+        value_spans P s (values.Primitive p) (Some at.span) each.0 tt (none_spanned P) h
+    expression_spans (lowered.Refused at w fields r s is) each h =
+        undefined_spans (recorded s (refusal r at.span)) at.span each.0 (recorded_spans P s (refusal r at.span) h)
+    expression_spans (lowered.RefusedBefore at w fields parts r pieces s t is all) each h =
+        undefined_spans t at.span each.0
+        (all_spans all (refusing_each P is each.1) (recorded_spans P s (refusal r at.span) h))
+    expression_spans (lowered.RefusedBehind at object name s t p by) each h =
+        undefined_spans (recorded t (refusal row.F3 at.span)) at.span each.0
+        (recorded_spans P t (refusal row.F3 at.span) (expression_spans by each.1.1.0 h))
+    expression_spans (lowered.Private at w fields e s t p is by) each h = expression_spans by (private_each P is each.1) h
+    expression_spans {names} (lowered.Variable at name symbol identifier s is f) each h =
+        value_spans P (found names s symbol at.span)
+        (values.LoadLocal (record { identifier = record { 0 = identifier }; span = Some at.span })) (Some at.span) each.0 tt
+        (one_spanned P (record { identifier = record { 0 = identifier }; span = Some at.span }) each.0)
+        (found_spans P names s symbol at.span each.0 h)
+    expression_spans {names} (lowered.UpdatedVariable at there name symbol identifier operator prefix s is mutable f g) each h =
+        value_spans P (found names (found names s symbol there.span) symbol there.span)
+        (update_of prefix operator (record { identifier = record { 0 = identifier }; span = Some there.span })) (Some at.span) each.0
+        (update_cast P prefix operator (record { identifier = record { 0 = identifier }; span = Some there.span }))
+        (update_spanned P prefix operator (record { identifier = record { 0 = identifier }; span = Some there.span }) each.1.1.1.0.0)
+        (found_spans P names (found names s symbol there.span) symbol there.span each.1.1.1.0.0
+        (found_spans P names s symbol there.span each.1.1.1.0.0 h))
+    expression_spans {names} (lowered.UpdatedConstant at there name symbol identifier operator prefix s is constant f) each h =
+        undefined_spans (recorded (found names s symbol there.span) (diagnostic_at row.F6 (names.name symbol.0) there.span)) at.span each.0
+        (recorded_spans P (found names s symbol there.span) (diagnostic_at row.F6 (names.name symbol.0) there.span)
+        (found_spans P names s symbol there.span each.1.1.1.0.0 h))
+    expression_spans (lowered.UpdatedMember at there w fields parts pieces object key operator prefix s t is all) each h =
+        update_spans P is t operator there.span each.1.1.1.0.0 (places_spanned all (member_each P is each.1.1.1.0.1))
+        (all_spans all (member_each P is each.1.1.1.0.1) h)
+    expression_spans (lowered.Method at there w fields parts es pieces given_pieces object key given s t u is all others given_are) each h =
+        method_spans is t u given given_pieces at.span there.span given_are each.0 each.1.1.0.0
+        (places_spanned all (member_each P is each.1.1.0.1)) (places_spanned others each.1.1.1.0)
+        (all_spans others each.1.1.1.0) (all_spans all (member_each P is each.1.1.0.1) h)
+    expression_spans (lowered.Cast at there w fields e type k s t p is annotated by) each h =
+        value_spans P (typed t k) (values.TypeCastExpression p (type_of t k) (Some there.span)) (Some at.span) each.0
+        (cast_each P is each.1).1.0 (one_spanned P p (place_spanned by (cast_each P is each.1).0))
+        (typed_spans t k (expression_spans by (cast_each P is each.1).0 h))
+    expression_spans (lowered.Global at name binding s is plain) each h = global_spans s binding at.span each.0 h
+    expression_spans (lowered.RefusedGlobal at name binding s is other) each h =
+        global_spans (recorded s (refusal row.F2 at.span)) binding at.span each.0 (recorded_spans P s (refusal row.F2 at.span) h)
+    expression_spans (lowered.Same at w fields e s t p wrapper by) each h = expression_spans by (wrapper_each P wrapper each.1) h
+    expression_spans (lowered.Asked at w fields parts pieces v s t form all) each h =
+        value_spans P t v (Some at.span) each.0 (form_cast P form)
+        (subst (AreSpanned P) (sym (form_places form)) (places_spanned all (form_each P form each.1)))
+        (all_spans all (form_each P form each.1) h)
+    expression_spans (lowered.Object at es pieces properties s t is all) each h =
+        value_spans P t (values.ObjectExpression properties) (Some at.span) each.0 tt
+        (subst (AreSpanned P) (sym (object_places properties pieces is)) (places_spanned all each.1.0))
+        (all_spans all each.1.0 h)
+    expression_spans (lowered.Logical at operator left right s s2 s3 l r second first) each h =
+        logical_spans P s s2 s3 at.span (span_of left) (value_span r right) operator l r each.0 (part_spanned first each.1.1.0)
+        (value_spanned second each.1.1.1.0) (place_spanned second each.1.1.1.0) (place_spanned first each.1.1.0)
+        (expression_spans second each.1.1.1.0) (expression_spans first each.1.1.0) h
+    expression_spans (lowered.Conditional at test consequent alternate s s2 s3 s4 c a p first second third) each h =
+        ternary_spans P s s2 s3 s4 at.span (span_of consequent) (span_of alternate) c a p each.0 (part_spanned first each.1.1.0)
+        (part_spanned second each.1.1.1.0) (place_spanned first each.1.1.0) (place_spanned second each.1.1.1.0)
+        (place_spanned third each.1.0) (expression_spans first each.1.1.0) (expression_spans second each.1.1.1.0)
+        (expression_spans third each.1.0) h
+    expression_spans (lowered.Sequence at e es s s2 p last) each h =
+        sequence_spans P s s2 at.span at.span p each.0 each.0 (last_spanned last each.1.0) (last_spans last each.1.0) h
+
+    pub all_spans : {names : Names} {of_object : Bool} {es : Pieces} {s t : State} {pieces : List Piece}
+        → LoweredParts names of_object es s t pieces → EachSpanAmong P es → KeepsSpans P s t
+    all_spans (lowered.NoPart s) each h = h
+    all_spans (lowered.NextPart e es s t u p pieces first rest) each h = all_spans rest each.1 (expression_spans first each.0 h)
+    all_spans (lowered.NextSpread at e es s t u p pieces first rest) each h = all_spans rest each.1 (expression_spans first each.0.1.0 h)
+    all_spans (lowered.NextHole at es s u pieces rest) each h = all_spans rest each.1 h
+    all_spans (lowered.NextProperty at computed key e text es s t u p pieces is by rest) each h =
+        all_spans rest each.1 (expression_spans by each.0.1.1.1.0 h)
+    all_spans (lowered.NextComputed at key e es s r t u p q pieces is first second rest) each h =
+        all_spans rest each.1 (expression_spans second each.0.1.1.1.0 (expression_spans first each.0.1.1.0 h))
+    all_spans (lowered.NextFraction at there e text es s t u p pieces is by rest) each h =
+        all_spans rest each.1 (expression_spans by each.0.1.1.1.0 (recorded_spans P s (refusal row.F43 there.span) h))
+    all_spans (lowered.NextUnknown at computed key e es s u pieces is rest) each h =
+        all_spans rest each.1 (recorded_spans P s (refusal row.F9 (span_of key)) h)
+
+    pub last_spans : {names : Names} {es : Pieces} {s t : State} {p : Place} → LoweredLast names es s t p → EachSpanAmong P es
+        → KeepsSpans P s t
+    last_spans (lowered.LastPart e s t p by) each h = expression_spans by each.0 h
+    last_spans (lowered.EarlierPart e next es s t u p q first rest) each h = last_spans rest each.1 (expression_spans first each.0 h)
+
+  -- Statements
+
+  pub declarators_spans : {names : Names} {at : Span} {k : InstructionKind} {es : Pieces} {s t : State}
+      → LoweredDeclarators names at k es s t → P at → EachSpanAmong P es → KeepsSpans P s t
+  declarators_spans (lowered.NoDeclarator s) here each h = h
+  declarators_spans {names} {at} {k} (lowered.NextDeclared there bind name type more symbol identifier s u typed is f rest) here each h =
+      declarators_spans rest here each.1
+      (value_spans P (found names s symbol bind.span)
+      (values.DeclareLocal k (record { identifier = record { 0 = identifier }; span = Some bind.span })) (Some bind.span) each.0.1.0.0 tt
+      (one_spanned P (record { identifier = record { 0 = identifier }; span = Some bind.span }) each.0.1.0.0)
+      (found_spans P names s symbol bind.span each.0.1.0.0 h))
+  declarators_spans {names} {at} {k} (lowered.NextInitialized there bind name type init more symbol identifier s t u p typed is by f rest)
+      here each h =
+      declarators_spans rest here each.1
+      (value_spans P (found names t symbol bind.span)
+      (values.StoreLocal k (record { identifier = record { 0 = identifier }; span = Some at }) p) (Some at) here tt
+      (more_spanned P (record { identifier = record { 0 = identifier }; span = Some at }) (p ∷ []) here
+      (one_spanned P p (place_spanned by each.0.1.1.0)))
+      (found_spans P names t symbol bind.span each.0.1.0.0 (expression_spans by each.0.1.1.0 h)))
+
+  mutual
+    pub statement_spans : {names : Names} {e : Syntax} {s t : State} → LoweredStatement names e s t → EachSpan P e → KeepsSpans P s t
+    statement_spans (lowered.Empty at s) each h = h
+    statement_spans (lowered.Expression at e s t p by) each h = expression_spans by each.1.0 h
+    statement_spans (lowered.Debugger at s) each h = value_spans P s values.Debugger (Some at.span) each.0 tt (none_spanned P) h
+    statement_spans (lowered.Variables at k declarators s t all) each h =
+        declarators_spans all each.0 each.1.1.0 (declaring_spans s k at.span h)
+    statement_spans (lowered.ReturnNothing at s) each h =
+        returned_spans P (with_value s (values.Primitive primitives.Undefined) None) (Some at.span) returns.Explicit (temporary s None)
+        blocks.Block each.0 tt (value_spans P s (values.Primitive primitives.Undefined) None tt tt (none_spanned P) h)
+    statement_spans (lowered.Return at e s t p by) each h =
+        returned_spans P t (Some at.span) returns.Explicit p blocks.Block each.0 (place_spanned by each.1.0)
+        (expression_spans by each.1.0 h)
+    statement_spans (lowered.Block at statements s t all) each h = statements_spans all each.1.0 h
+    statement_spans (lowered.IfThen at test consequent s s2 s3 p first second) each h =
+        if_then_spans P s s2 s3 at.span (span_of consequent) p each.0 (statement_own first each.1.1.0) (place_spanned second each.1.0)
+        (statement_spans first each.1.1.0) (expression_spans second each.1.0) h
+    statement_spans (lowered.IfElse at test consequent alternate s s2 s3 s4 p first second third) each h =
+        if_else_spans P s s2 s3 s4 at.span (span_of consequent) (span_of alternate) p each.0 (statement_own first each.1.1.0)
+        (statement_own second each.1.1.1.0) (place_spanned third each.1.0) (statement_spans first each.1.1.0)
+        (statement_spans second each.1.1.1.0) (expression_spans third each.1.0) h
+
+    pub statements_spans : {names : Names} {es : Pieces} {s t : State} → LoweredStatements names es s t → EachSpanAmong P es
+        → KeepsSpans P s t
+    statements_spans (lowered.NoStatement s) each h = h
+    statements_spans (lowered.NextStatement e es s t u first rest) each h =
+        statements_spans rest each.1 (statement_spans first each.0 h)
+
+  -- Bodies
+  pub body_spans : {names : Names} {b : Syntax} {s t : State} → LoweredBody names b s t → EachSpan P b → KeepsSpans P s t
+  body_spans (lowered.Statements at directives statements s t said all) each h = statements_spans all each.1.1.0 h
+  body_spans (lowered.Value e s t p by) each h =
+      return_spans P t None returns.Implicit p (new_block s.env.next_block blocks.Block) tt (place_spanned by each)
+      (expression_spans by each (reserved_spans P s h))

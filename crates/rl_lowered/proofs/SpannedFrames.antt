@@ -1,0 +1,136 @@
+-- Constructs give no span that is none of the tree's, where their holes give none.
+use Rattle.std.proofs.Common.{ℕ, ◌+◌, true, false, [], ◌∷◌, Some}
+use Rattle.std.specs.Prelude.{IfSome}
+use Rattle.rl_base.specs.declared.operator.LogicalOperator.{LogicalOperator}
+use Rattle.rl_base.specs.declared.span.Span.{Span}
+use Rattle.rl_builder.specs.Builder.{State, completed_by, entered, new_block, pushed, reserved, with_temporary}
+use Rattle.rl_builder.specs.declared.blocks.WipBlock.{WipBlock}
+use Rattle.rl_frames.specs.Frames.{IfParts, LogicalParts, SequenceParts, TernaryParts}
+use Rattle.rl_frames.specs.Frames.{if_alternate, if_after_consequent, if_at, if_consequent, if_ended, if_shut}
+use Rattle.rl_frames.specs.Frames.{logical_after, logical_at, logical_ended, logical_righted}
+use Rattle.rl_frames.specs.Frames.{sequence_at, sequence_ended}
+use Rattle.rl_frames.specs.Frames.{ternary_after, ternary_alternated, ternary_at, ternary_consequent, ternary_ended, ternary_parted}
+use Rattle.rl_frames.specs.Parts.{if_begun, if_end, loads, logical_begun, logical_entered, logical_left, logical_place}
+use Rattle.rl_frames.specs.Parts.{sequence_begun, ternary_begun, ternary_place}
+use Rattle.rl_hir.specs.declared.function.BlockKind.TheVariants as block
+use Rattle.rl_hir.specs.declared.instruction.Place.{Place}
+use Rattle.rl_hir.specs.declared.terminal.GotoVariant.TheVariants as gotos
+use Rattle.rl_hir.specs.declared.terminal.TerminalKind.TheVariants as kinds
+use Rattle.rl_lowered.proofs.SpannedMoves.{completed_spans, entered_spans, last_hole_spans, more_spanned, next_hole_spans, none_spanned}
+use Rattle.rl_lowered.proofs.SpannedMoves.{one_spanned, pushed_spans, reserved_spans, stored_spans, temporary_spans}
+use Rattle.rl_lowered.specs.Spanned.{HasSpans, KeepsSpans}
+use Rattle.rl_runs.specs.Moves.{block_id, branch, ends_by, last_hole, stored_in}
+
+module _ (P : Span → Type 0) where
+  two_spans : (s : State) → KeepsSpans P s (reserved (reserved s))
+  two_spans s h = reserved_spans P (reserved s) (reserved_spans P s h)
+
+  -- A block opens, behind a place that was made.
+  opened_spans : (s : State) (span : Span) (wip : WipBlock) → P span
+      → KeepsSpans P s (entered (reserved (with_temporary s (Some span))) wip)
+  opened_spans s span wip at h =
+      entered_spans P (reserved (with_temporary s (Some span))) wip
+      (reserved_spans P (with_temporary s (Some span)) (temporary_spans P s (Some span) at h))
+
+  branched_spans : (s : State) (test : Place) (consequent alternate behind : ℕ) (span : Span) (next : WipBlock) → P span
+      → IfSome test.span P → KeepsSpans P s (completed_by s (branch test consequent alternate behind span) next)
+  branched_spans s test consequent alternate behind span next at place h =
+      completed_spans P s (branch test consequent alternate behind span) next (record { own = at; places = one_spanned P test place }) h
+
+  -- A logical expression
+  pub logical_spans : (s s2 s3 : State) (span left right : Span) (operator : LogicalOperator) (l r : Place) → P span → P left → P right
+      → IfSome r.span P → IfSome l.span P → KeepsSpans P (logical_begun s span left) s2
+      → KeepsSpans P (logical_righted (logical_at s span operator left) s2 r right) s3
+      → KeepsSpans P s (logical_ended (logical_after (logical_at s span operator left)) s3 l)
+  logical_spans s s2 s3 span left right operator l r at left_at right_at right_place left_place second first h =
+      branched_spans (pushed s3 (loads frame.left l span)) frame.left frame.consequent frame.alternate frame.behind.id.0 span
+      frame.behind at left_at
+      (pushed_spans P s3 (loads frame.left l span)
+      (record { own = at; cast = tt; places = more_spanned P frame.left (l ∷ []) left_at (one_spanned P l left_place) }) (first righted))
+    where
+      frame : LogicalParts
+      frame = logical_at s span operator left
+
+      two : State
+      two = with_temporary (reserved (reserved s)) (Some span)
+
+      begun : HasSpans P (logical_begun s span left)
+      begun =
+          next_hole_spans P (stored_in (logical_entered s span left) (logical_place s span) (logical_left s left) left) s.env.next_block
+          gotos.Break left block.Value left_at
+          (stored_spans P (logical_entered s span left) (logical_place s span) (logical_left s left) left at left_at left_at
+          (opened_spans two left (new_block (s.env.next_block + 1 + 1) block.Value) left_at
+          (temporary_spans P (reserved (reserved s)) (Some span) at (two_spans s h))))
+
+      righted : HasSpans P (logical_righted (logical_at s span operator left) s2 r right)
+      righted =
+          completed_spans P (last_hole (stored_in s2 frame.place r right) frame.behind.id.0 gotos.Break right s.current)
+          (ends_by (kinds.Logical operator (block_id (s.env.next_block + 1)) (block_id s.env.next_block)) (Some span))
+          (new_block (s.env.next_block + 1) block.Value) (record { own = at; places = none_spanned P })
+          (last_hole_spans P (stored_in s2 frame.place r right) frame.behind.id.0 gotos.Break right s.current right_at
+          (stored_spans P s2 frame.place r right at right_place right_at (second begun)))
+
+  -- A conditional expression
+  pub ternary_spans : (s s2 s3 s4 : State) (span part other : Span) (c a p : Place) → P span → P part → P other → IfSome c.span P
+      → IfSome a.span P → IfSome p.span P → KeepsSpans P (ternary_begun s span) s2
+      → KeepsSpans P (ternary_consequent (ternary_at s span) s2 c part) s3
+      → KeepsSpans P (ternary_alternated (ternary_parted (ternary_at s span) s2 c part) s3 a other) s4
+      → KeepsSpans P s (ternary_ended (ternary_after (ternary_parted (ternary_at s span) s2 c part)) s4 p)
+  ternary_spans s s2 s3 s4 span part other c a p at part_at other_at c_place a_place p_place first second third h =
+      branched_spans s4 p frame.consequent frame.alternate frame.behind.id.0 span frame.behind at p_place
+      (third
+      (completed_spans P (last_hole (stored_in s3 (ternary_place s span) a span) s.env.next_block gotos.Break other s.current)
+      (ends_by (kinds.Ternary (block_id (s.env.next_block + 1)) (block_id s.env.next_block)) (Some span))
+      (new_block (s.env.next_block + 1) block.Value) (record { own = at; places = none_spanned P })
+      (last_hole_spans P (stored_in s3 (ternary_place s span) a span) s.env.next_block gotos.Break other s.current other_at
+      (stored_spans P s3 (ternary_place s span) a span at a_place at
+      (second
+      (next_hole_spans P (stored_in s2 (ternary_place s span) c span) s.env.next_block gotos.Break part block.Value part_at
+      (stored_spans P s2 (ternary_place s span) c span at c_place at
+      (first
+      (opened_spans (reserved (reserved s)) span (new_block (s.env.next_block + 1 + 1) block.Value) at (two_spans s h))))))))))
+    where
+      frame : TernaryParts
+      frame = ternary_parted (ternary_at s span) s2 c part
+
+  -- A sequence of expressions
+  pub sequence_spans : (s s2 : State) (span part : Span) (p : Place) → P span → P part → IfSome p.span P
+      → KeepsSpans P (sequence_begun s span) s2 → KeepsSpans P s (sequence_ended (sequence_at s span) s2 p part)
+  sequence_spans s s2 span part p at part_at place hole h =
+      completed_spans P (last_hole (stored_in s2 frame.place p part) frame.behind.id.0 gotos.Break part s.current)
+      (ends_by (kinds.Sequence (block_id (s.env.next_block + 1)) (block_id s.env.next_block)) (Some span)) frame.behind
+      (record { own = at; places = none_spanned P })
+      (last_hole_spans P (stored_in s2 frame.place p part) frame.behind.id.0 gotos.Break part s.current part_at
+      (stored_spans P s2 frame.place p part at place part_at
+      (hole (opened_spans (reserved s) span (new_block (s.env.next_block + 1) block.Sequence) at (reserved_spans P s h)))))
+    where
+      frame : SequenceParts
+      frame = sequence_at s span
+
+  -- An `if` statement
+
+  if_begun_spans : (s : State) → KeepsSpans P s (if_begun s)
+  if_begun_spans s h = entered_spans P (reserved (reserved s)) (new_block (s.env.next_block + 1) block.Block) (two_spans s h)
+
+  -- The hole of the test ends, and the block behind goes on.
+  if_ended_spans : (f : IfParts) (s : State) (test : Place) → P f.span → IfSome test.span P → KeepsSpans P s (if_ended f s test)
+  if_ended_spans f s test at place h =
+      completed_spans P s (if_end f.behind.id.0 f.consequent f.alternate test f.span) f.behind
+      (record { own = at; places = one_spanned P test place }) h
+
+  pub if_then_spans : (s s2 s3 : State) (span part : Span) (p : Place) → P span → P part → IfSome p.span P
+      → KeepsSpans P (if_begun s) s2 → KeepsSpans P (if_consequent (if_at s span false) s2 part) s3
+      → KeepsSpans P s (if_ended (if_after_consequent (if_at s span false) s2) s3 p)
+  if_then_spans s s2 s3 span part p at part_at place first second h =
+      if_ended_spans (if_after_consequent (if_at s span false) s2) s3 p at place
+      (second (last_hole_spans P s2 s.env.next_block gotos.Break part s.current part_at (first (if_begun_spans s h))))
+
+  pub if_else_spans : (s s2 s3 s4 : State) (span part other : Span) (p : Place) → P span → P part → P other → IfSome p.span P
+      → KeepsSpans P (if_begun s) s2 → KeepsSpans P (if_consequent (if_at s span true) s2 part) s3
+      → KeepsSpans P (if_alternate (if_after_consequent (if_at s span true) s2) s3 other) s4
+      → KeepsSpans P s (if_ended (if_shut (if_after_consequent (if_at s span true) s2)) s4 p)
+  if_else_spans s s2 s3 s4 span part other p at part_at other_at place first second third h =
+      if_ended_spans (if_shut (if_after_consequent (if_at s span true) s2)) s4 p at place
+      (third
+      (last_hole_spans P s3 s.env.next_block gotos.Break other s.current other_at
+      (second (next_hole_spans P s2 s.env.next_block gotos.Break part block.Block part_at (first (if_begun_spans s h))))))
