@@ -13,7 +13,7 @@ use Rattle.rl_hir.specs.declared.terminal.ReturnVariant.TheVariants as returns
 use Rattle.rl_hir.specs.declared.terminal.Terminal.{Terminal}
 use Rattle.rl_lower.specs.Endings.{closed_off, with_undefined}
 use Rattle.rl_lowered.proofs.Listed.{lists_whole}
-use Rattle.rl_lowered.proofs.Names.{names_then, names_value}
+use Rattle.rl_lowered.proofs.Names.{names_same, names_then, names_value}
 use Rattle.rl_lowered.proofs.SoundListing.{instruction_writable, place_writable, undefined_writable}
 use Rattle.rl_lowered.proofs.SoundMoves.{empty_writable, identifiers_longer, none_known, one_known, place_next}
 use Rattle.rl_lowered.proofs.SoundMoves.{place_temporary, sound_next, sound_pushed, sound_return, sound_value}
@@ -48,19 +48,7 @@ size_closed s = size_value s (values.Primitive primitives.Undefined) None
 
 -- The last moves change no name.
 names_ended : {names : Names} (s : State) (t : Terminal) (next : WipBlock) → KeepsNames names s (completed_by s t next)
-names_ended s t next = record {
-  named = λ n. record {
-    texts = n.texts;
-    declared = n.declared;
-    each = λ reference name symbol is.
-        let h = n.each reference name symbol is in
-        record { identifier = h.identifier; bound = h.bound; known = h.known; made = h.made; named = h.named };
-  };
-  identifiers = λ identifier known is named. is;
-  pairs = λ p. p;
-  functions = refl;
-  fn_type = refl;
-}
+names_ended s t next = names_same s (completed_by s t next) refl
 
 pub names_closed : {names : Names} (s : State) → KeepsNames names s (closed_off s)
 names_closed s =

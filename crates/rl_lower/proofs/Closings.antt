@@ -22,7 +22,7 @@ use Rattle.rl_lowered.specs.Lowered.{LoweredBody}
 use Rattle.rl_lowered.specs.Named.{IsNamed, TellDeclarations}
 use Rattle.rl_lowered.specs.Promised.{HasRoom, LowersBody, share}
 use Rattle.rl_machine.specs.Machine.{Graph}
-use Rattle.rl_names.specs.Locals.{AreApart, AreLocals, HasTexts}
+use Rattle.rl_promises.specs.Locals.{AreLocals, KnowsNames}
 use Rattle.rl_names.specs.Names.{Names}
 use Rattle.rl_names.specs.declared.parameters.Parameter.{Parameter}
 use Rattle.rl_order.specs.Numbering.{orders_of}
@@ -50,10 +50,10 @@ closed_is s s1 s2 place given placed ended =
 -- All that is promised of a body that was lowered behind the parameters.
 pub begun_told : (names : Names) (env : Environment) (tables : FunctionTables) (parameters : List Parameter) (body : Syntax)
     (begun s : State)
-    → begun ≡ state_with (begun_by env tables) parameters → HasTexts names → TellDeclarations names tables.semantic → AreApart parameters
-    → AreLocals names parameters → LoweredBody names body begun s → LowersBody names body begun s
-begun_told names env tables parameters body begun s is texts told apart locals l =
-    told_body (subst (λ (t : State). IsNamed names t) (sym is) (parameters_named (begun_by env tables) names parameters texts told apart locals)) l
+    → begun ≡ state_with (begun_by env tables) parameters → KnowsNames names → TellDeclarations names tables.semantic → AreLocals names parameters
+    → LoweredBody names body begun s → LowersBody names body begun s
+begun_told names env tables parameters body begun s is knows told locals l =
+    told_body (subst (λ (t : State). IsNamed names t) (sym is) (parameters_named (begun_by env tables) names parameters knows told locals)) l
 
 -- The room that a body leaves for its end.
 pub body_room : (names : Names) (env : Environment) (tables : FunctionTables) (parameters : List Parameter) (body : Syntax)

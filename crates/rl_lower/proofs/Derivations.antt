@@ -1,41 +1,44 @@
 -- Derivations of expressions that are one instruction over the values of their parts, from the moves of their lowering.
-use Rattle.std.proofs.Common.{◌≡◌, ℕ, ◌+◌, ◌≤◌, ◌++◌, ◌&&◌, true, false, not, Bool, List, [], ◌∷◌, Some, None, Result, Ok, Err, OnOk, IfOk}
+use Rattle.std.proofs.Common.{◌≡◌, ℕ, ◌+◌, ◌≤◌, ◌++◌, true, false, Bool, List, [], ◌∷◌, Option, Some, None, Result, Ok, Err, OnOk, IfOk}
 use Rattle.std.proofs.Common.{append-nil, append_assoc, refl, ap, sym, ◌∙◌, subst, true≢false, arith}
-use Rattle.std.specs.Str.{bytes_eq}
 use Rattle.std.specs.Prelude.{codes}
+use Rattle.rl_base.specs.declared.row.Row.{Row}
 use Rattle.rl_base.specs.declared.row.Row.TheVariants as row
+use Rattle.rl_base.specs.declared.span.Span.{Span}
 use Rattle.rl_base.specs.declared.stop.Stop.{Stop}
 use Rattle.rl_builder.specs.Builder.{State, recorded}
 use Rattle.rl_builder.specs.Temporaries.{temporary, with_value}
-use Rattle.rl_hir.specs.Pieces.{Piece, Gives, Says, Spreads, gathered, value_pieces}
+use Rattle.rl_hir.specs.Pieces.{Piece, Gives, Names as Named, Says, Spreads, gathered, property_pieces, value_pieces}
 use Rattle.rl_hir.specs.declared.instruction.InstructionValue.{InstructionValue}
 use Rattle.rl_hir.specs.declared.instruction.InstructionValue.TheVariants as values
+use Rattle.rl_hir.specs.declared.instruction.ObjectProperty.{ObjectProperty}
 use Rattle.rl_hir.specs.declared.instruction.Place.{Place}
 use Rattle.rl_hir.specs.declared.instruction.PrimitiveValue.{PrimitiveValue}
 use Rattle.rl_hir.specs.declared.instruction.PrimitiveValue.TheVariants as primitives
-use Rattle.rl_hir.specs.declared.instruction.PropertyLiteral.{PropertyLiteral}
-use Rattle.rl_hir.specs.declared.instruction.PropertyLiteral.TheVariants as keys
 use Rattle.rl_hir.specs.declared.instruction.RegExpLiteral.{RegExpLiteral}
 use Rattle.rl_hir.specs.declared.instruction.TemplateLiteral.{TemplateLiteral}
 use Rattle.rl_hir.specs.declared.instruction.TemplateQuasi.{TemplateQuasi}
-use Rattle.rl_lowered.proofs.Told.{told, told_all}
-use Rattle.rl_lowered.specs.Forms.{AreQuasis, IsForm, IsLiteral, IsWrapper, is_number_key}
+use Rattle.rl_lowered.proofs.Told.{told, told_all, told_properties}
+use Rattle.rl_lowered.specs.Forms.{AreQuasis, IsForm, IsLiteral, IsPrivate, IsRefused, IsRefusing, IsWrapper}
 use Rattle.rl_lowered.specs.Forms as forms
-use Rattle.rl_lowered.specs.Lowered.{Lowered, LoweredAll, LoweredLast}
+use Rattle.rl_lowered.specs.Lowered.{Lowered, LoweredAll, LoweredLast, LoweredParts, LoweredProperties}
 use Rattle.rl_lowered.specs.Lowered as lowered
-use Rattle.rl_lowered.specs.Promised.{HasRoom, LowersAll, LowersExpression}
-use Rattle.rl_model.specs.Shapes.{is_link}
+use Rattle.rl_lowered.specs.Promised.{HasRoom, LowersAll, LowersExpression, LowersProperties}
+use Rattle.rl_model.specs.Shapes.{are_raw, is_computed, key_text, said}
 use Rattle.rl_names.specs.Names.{Names}
-use Rattle.rl_promises.specs.Covered.{IsCovered, covers}
+use Rattle.rl_promises.specs.CoveredWords.{covers}
+use Rattle.rl_promises.specs.Lowerable.{AreLowerable, IsLowerable, Where}
+use Rattle.rl_promises.specs.Outs.{is_known_key}
 use Rattle.rl_promises.specs.Rows.{refusal}
+use Rattle.rl_promises.specs.Tallies.{call_word}
 use Rattle.rl_runs.specs.Blocks.{size_of}
 use Rattle.rl_syntax.specs.declared.numbered.At.{At}
 use Rattle.rl_syntax.specs.declared.word.Word.{Word}
 use Rattle.rl_syntax.specs.declared.word.Word.TheVariants as word
-use Rattle.rl_syntax.specs.Syntax.{Syntax, Node, Listed, Said, Flag, Pieces, End, Then}
+use Rattle.rl_syntax.specs.Syntax.{Syntax, Node, Listed, Said, Flag, Pieces, End, Then, span_of}
 use Rattle.rl_text.specs.Numeral.{is_numeral, number_of}
-use Rattle.rl_lower.proofs.Answering.{parsed_none, parsed_some}
-use Rattle.rl_lower.specs.Groups.{has_parts, key_number}
+use Rattle.rl_lower.specs.Groups.{has_parts, is_property}
+use Rattle.rl_lower.specs.Keys.{IsFraction, found_list, where_pieces}
 
 -- Room is left behind a part that made no more than was set apart for it.
 pub room_after : (s t : State) (grown more all : ℕ) → size_of t ≤ size_of s + grown → grown + more ≤ all → HasRoom s all → HasRoom t more
@@ -69,17 +72,49 @@ number_ok at text number (Ok place) s new numeral same moved placed = λ names.
     (lowered.Literal at word.Num (Then (Said text) End) (primitives.Number (number_of text)) s (forms.Number numeral))
 number_ok at text number (Err e) s new numeral same moved placed = tt
 
--- A number that the notation does not spell.
-pub refused_ok : (at : At) (text : List ℕ) (r : Result Place Stop) (s mid new : State) → is_numeral text ≡ false
-    → mid ≡ recorded s (refusal row.F43 at.span)
-    → OnOk r (new ≡ with_value mid (values.Primitive primitives.Undefined) (Some at.span))
-    → IfOk r (λ place. place ≡ temporary mid (Some at.span))
-    → IfOk r (λ place. (names : Names) → LowersExpression names (Node at word.Num (Then (Said text) End)) s new place)
-refused_ok at text (Ok place) s mid new plain noted moved placed = λ names.
-    derived (Node at word.Num (Then (Said text) End)) (Node at word.Num (Then (Said text) End)) s _ new _ place refl
-    (moved ∙ ap (λ (t : State). with_value t (values.Primitive primitives.Undefined) (Some at.span)) noted)
-    (placed ∙ ap (λ (t : State). temporary t (Some at.span)) noted) (lowered.RefusedNumber at text s plain)
-refused_ok at text (Err e) s mid new plain noted moved placed = tt
+-- A node that is refused without its parts.
+pub refused_ok : {names : Names} {tree : Syntax} {at : At} {w : Word} {fields : Pieces} {r : Row} (result : Result Place Stop) (s new : State)
+    → Node at w fields ≡ tree → IsRefused names w fields r
+    → OnOk result (new ≡ with_value (recorded s (refusal r at.span)) (values.Primitive primitives.Undefined) (Some at.span))
+    → IfOk result (λ place. place ≡ temporary (recorded s (refusal r at.span)) (Some at.span))
+    → IfOk result (λ place. LowersExpression names tree s new place)
+refused_ok {names} {tree} {at} {w} {fields} {r} (Ok place) s new is refused moved placed =
+    derived tree (Node at w fields) s _ new _ place is moved placed (lowered.Refused at w fields r s refused)
+refused_ok (Err e) s new is refused moved placed = tt
+
+-- A number that is no numeral.
+pub fraction_ok : (at : At) (text : List ℕ) (result : Result Place Stop) (s new : State) → is_numeral text ≡ false
+    → OnOk result (new ≡ with_value (recorded s (refusal row.F43 at.span)) (values.Primitive primitives.Undefined) (Some at.span))
+    → IfOk result (λ place. place ≡ temporary (recorded s (refusal row.F43 at.span)) (Some at.span))
+    → IfOk result (λ place. (names : Names) → LowersExpression names (Node at word.Num (Then (Said text) End)) s new place)
+fraction_ok at text (Ok place) s new plain moved placed = λ names.
+    refused_ok {names = names} {at = at} {r = row.F43} (Ok place) s new refl (forms.Fraction plain) moved placed
+fraction_ok at text (Err e) s new plain moved placed = tt
+
+-- A node that is refused before its parts are lowered.
+pub refused_before_ok : {names : Names} {tree : Syntax} {at : At} {w : Word} {fields parts : Pieces} {r : Row} {pieces : List Piece}
+    {noted t : State} (s : State) (result : Result Place Stop) (new : State)
+    → Node at w fields ≡ tree → IsRefusing w fields parts r → noted ≡ recorded s (refusal r at.span)
+    → LoweredAll names parts noted t pieces
+    → OnOk result (new ≡ with_value t (values.Primitive primitives.Undefined) (Some at.span))
+    → IfOk result (λ place. place ≡ temporary t (Some at.span))
+    → IfOk result (λ place. LowersExpression names tree s new place)
+refused_before_ok {names} {tree} {at} {w} {fields} {parts} {r} {pieces} {noted} {t} s (Ok place) new is refusing same all moved placed =
+    derived tree (Node at w fields) s _ new _ place is moved placed
+    (lowered.RefusedBefore at w fields parts r pieces s t refusing (subst (λ (o : State). LoweredAll names parts o t pieces) same all))
+refused_before_ok s (Err e) new is refusing same all moved placed = tt
+
+-- A property by a private name, which is refused behind its object.
+pub private_ok : {names : Names} {object : Syntax} {s t : State} {p : Place} (at : At) (result : Result Place Stop) (new : State)
+    → LowersExpression names object s t p
+    → OnOk result (new ≡ with_value (recorded t (refusal row.F3 at.span)) (values.Primitive primitives.Undefined) (Some at.span))
+    → IfOk result (λ place. place ≡ temporary (recorded t (refusal row.F3 at.span)) (Some at.span))
+    → IfOk result (λ place. (name : List ℕ)
+    → LowersExpression names (Node at word.Privatemember (Then (Flag false) (Then object (Then (Said name) End)))) s new place)
+private_ok {names} {object} {s} {t} {p} at (Ok place) new l moved placed = λ name.
+    let tree : Syntax = Node at word.Privatemember (Then (Flag false) (Then object (Then (Said name) End))) in
+    derived tree tree s _ new _ place refl moved placed (lowered.RefusedBehind at object name s t p l.by)
+private_ok at (Err e) new l moved placed = tt
 
 pub asked_ok : {names : Names} {tree : Syntax} {at : At} {w : Word} {fields parts : Pieces} {pieces : List Piece} {v : InstructionValue}
     {s t : State}
@@ -90,13 +125,32 @@ asked_ok {names} {tree} {at} {w} {fields} {parts} {pieces} {v} {s} {t} (Ok place
     derived tree (Node at w fields) s _ new _ place is moved placed (lowered.Asked at w fields parts pieces v s t form all)
 asked_ok (Err e) new is form all moved placed = tt
 
+-- An object literal.
+pub object_ok : {names : Names} {tree : Syntax} {at : At} {es : Pieces} {s t : State} (properties : List ObjectProperty)
+    (r : Result Place Stop) (new : State) → Node at word.Object (Then (Listed es) End) ≡ tree
+    → LowersProperties names es s t (gathered property_pieces properties)
+    → OnOk r (new ≡ with_value t (values.ObjectExpression properties) (Some at.span)) → IfOk r (λ place. place ≡ temporary t (Some at.span))
+    → IfOk r (λ place. LowersExpression names tree s new place)
+object_ok {names} {tree} {at} {es} {s} {t} properties (Ok place) new is all moved placed =
+    derived tree (Node at word.Object (Then (Listed es) End)) s _ new _ place is moved placed
+    (lowered.Object at es _ properties s t refl all.by)
+object_ok properties (Err e) new is all moved placed = tt
+
 -- A node that has the value of the expression in it.
-pub same_ok : {tree e : Syntax} {at : At} {w : Word} (names : Names) (s new : State) (r : Result Place Stop) → Node at w (Then e End) ≡ tree
-    → IsWrapper w
+pub same_ok : {tree e : Syntax} {at : At} {w : Word} {fields : Pieces} (names : Names) (s new : State) (r : Result Place Stop)
+    → Node at w fields ≡ tree → IsWrapper w fields e
     → IfOk r (λ place. LowersExpression names e s new place) → IfOk r (λ place. LowersExpression names tree s new place)
-same_ok {tree} {e} {at} {w} names s new (Ok place) is wrapper l =
-    derived tree (Node at w (Then e End)) s new new place place is refl refl (lowered.Same at w e s new place wrapper l.by)
+same_ok {tree} {e} {at} {w} {fields} names s new (Ok place) is wrapper l =
+    derived tree (Node at w fields) s new new place place is refl refl (lowered.Same at w fields e s new place wrapper l.by)
 same_ok names s new (Err e) is wrapper l = tt
+
+-- A node in whose place the property by a private name in it is lowered.
+pub inner_ok : {tree e : Syntax} {at : At} {w : Word} {fields : Pieces} (names : Names) (s new : State) (r : Result Place Stop)
+    → Node at w fields ≡ tree → IsPrivate w fields e
+    → IfOk r (λ place. LowersExpression names e s new place) → IfOk r (λ place. LowersExpression names tree s new place)
+inner_ok {tree} {e} {at} {w} {fields} names s new (Ok place) is inner l =
+    derived tree (Node at w fields) s new new place place is refl refl (lowered.Private at w fields e s new place inner l.by)
+inner_ok names s new (Err e) is inner l = tt
 
 -- Parts from left to right.
 
@@ -127,66 +181,161 @@ one_hole {names} {tree} {at} {s} is =
     told_all (subst (λ (n : Syntax). LoweredAll names (Then n End) s s (Says (codes "hole") ∷ [])) is
     (lowered.NextHole at End s s [] (lowered.NoPart s)))
 
+-- Rows of one property.
+
+pub one_spread_property : {names : Names} {tree e : Syntax} {at : At} {s t : State} {p : Place} → Node at word.Spread (Then e End) ≡ tree
+    → LowersExpression names e s t p → LowersProperties names (Then tree End) s t (Spreads p ∷ [])
+one_spread_property {names} {tree} {e} {at} {s} {t} {p} is l =
+    told_properties (subst (λ (n : Syntax). LoweredProperties names (Then n End) s t (Spreads p ∷ [])) is
+    (lowered.NextSpread at e End s t t p [] l.by (lowered.NoPart t)))
+
+pub one_property : {names : Names} {at : At} {computed : Bool} {key e : Syntax} {text copy : List ℕ} {s t : State} {p : Place}
+    → key_text computed key ≡ Some (said text) → copy ≡ text → LowersExpression names e s t p
+    → LowersProperties names (Then (Node at word.Prop (Then (Flag computed) (Then key (Then e End)))) End) s t (Named copy ∷ Gives p ∷ [])
+one_property {names} {at} {computed} {key} {e} {text} {copy} {s} {t} {p} known same l =
+    told_properties (lowered.NextProperty at computed key e copy End s t t p []
+    (known ∙ ap (λ (n : List ℕ). Some (said n)) (sym same)) l.by (lowered.NoPart t))
+
+in_brackets : (computed : Bool) (tree : Syntax) → is_computed computed tree ≡ true → computed ≡ true
+in_brackets computed (Node at word.Str parts) known = absurd (true≢false (sym known))
+in_brackets computed _ known = known
+
+pub one_computed : {names : Names} {at : At} {computed : Bool} {tree key e : Syntax} {s r t : State} {p q : Place}
+    → is_computed computed tree ≡ true → key ≡ tree → LowersExpression names key s r p → LowersExpression names e r t q
+    → LowersProperties names (Then (Node at word.Prop (Then (Flag computed) (Then tree (Then e End)))) End) s t (Gives p ∷ Gives q ∷ [])
+one_computed {names} {at} {computed} {tree} {key} {e} {s} {r} {t} {p} {q} known same k l =
+    told_properties
+    (subst (λ (b : Bool). LoweredProperties names (Then (Node at word.Prop (Then (Flag b) (Then tree (Then e End)))) End) s t (Gives p ∷ Gives q ∷ []))
+    (sym (in_brackets computed tree known))
+    (lowered.NextComputed at tree e End s r t t p q [] (ap (λ (b : Bool). is_computed b tree) (sym (in_brackets computed tree known)) ∙ known) (subst (λ (n : Syntax). Lowered names n s r p) same k.by) l.by (lowered.NoPart t)))
+
+pub one_fraction : {names : Names} {at there : At} {computed : Bool} {key e : Syntax} {s noted t : State} {p : Place}
+    → is_computed computed key ≡ false → IsFraction key there → noted ≡ recorded s (refusal row.F43 there.span) → LowersExpression names e noted t p
+    → LowersProperties names (Then (Node at word.Prop (Then (Flag computed) (Then key (Then e End)))) End) s t []
+one_fraction {names} {at} {there} {computed} {key} {e} {s} {noted} {t} {p} plain f same l =
+    told_properties
+    (subst (λ (b : Bool). LoweredProperties names (Then (Node at word.Prop (Then (Flag b) (Then key (Then e End)))) End) s t [])
+    (sym (ap (is_computed computed) f.is ∙ plain))
+    (subst (λ (n : Syntax). LoweredProperties names (Then (Node at word.Prop (Then (Flag false) (Then n (Then e End)))) End) s t []) f.is
+    (lowered.NextFraction at there e f.text End s t t p [] f.plain (subst (λ (o : State). Lowered names e o t p) same l.by)
+    (lowered.NoPart t))))
+
+pub one_unknown : {names : Names} {tree : Syntax} {at : At} {computed : Bool} {key e : Syntax} {s noted : State} {label : Span}
+    → Node at word.Prop (Then (Flag computed) (Then key (Then e End))) ≡ tree → is_known_key computed key ≡ false
+    → label ≡ span_of key → noted ≡ recorded s (refusal row.F9 label)
+    → LowersProperties names (Then tree End) s noted []
+one_unknown {names} {tree} {at} {computed} {key} {e} {s} {noted} {label} is unknown there same =
+    told_properties
+    (subst (λ (n : Syntax). LoweredProperties names (Then n End) s noted []) is
+    (subst (λ (o : State). LoweredProperties names (Then (Node at word.Prop (Then (Flag computed) (Then key (Then e End)))) End) s o [])
+    (sym (same ∙ ap (λ (l : Span). recorded s (refusal row.F9 l)) there))
+    (lowered.NextUnknown at computed key e End s _ [] unknown (lowered.NoPart _))))
+
 -- A part, and then those behind it.
-pub one_then : {names : Names} {e : Syntax} {es : Pieces} {s t u : State} {first rest : List Piece}
-    → LoweredAll names (Then e End) s t first
-    → LoweredAll names es t u rest → LoweredAll names (Then e es) s u (first ++ rest)
+pub one_then : {names : Names} {of_object : Bool} {e : Syntax} {es : Pieces} {s t u : State} {first rest : List Piece}
+    → LoweredParts names of_object (Then e End) s t first
+    → LoweredParts names of_object es t u rest → LoweredParts names of_object (Then e es) s u (first ++ rest)
 one_then (lowered.NextPart e _ s t _ p _ by (lowered.NoPart _)) more = lowered.NextPart e _ s t _ p _ by more
 one_then (lowered.NextSpread at e _ s t _ p _ by (lowered.NoPart _)) more = lowered.NextSpread at e _ s t _ p _ by more
 one_then (lowered.NextHole at _ s _ _ (lowered.NoPart _)) more = lowered.NextHole at _ s _ _ more
+one_then (lowered.NextProperty at computed key e text _ s t _ p _ known by (lowered.NoPart _)) more =
+    lowered.NextProperty at computed key e text _ s t _ p _ known by more
+one_then (lowered.NextComputed at key e _ s r t _ p q _ known k by (lowered.NoPart _)) more =
+    lowered.NextComputed at key e _ s r t _ p q _ known k by more
+one_then (lowered.NextFraction at there e text _ s t _ p _ plain by (lowered.NoPart _)) more =
+    lowered.NextFraction at there e text _ s t _ p _ plain by more
+one_then (lowered.NextUnknown at computed key e _ s _ _ unknown (lowered.NoPart _)) more =
+    lowered.NextUnknown at computed key e _ s _ _ unknown more
 
--- Conditions of covered nodes.
+-- Conditions of lowerable nodes.
 
-pub call_told : (optional : Bool) {tree callee : Syntax} {at : At} {rest : Pieces}
-    → Node at word.Call (Then (Flag optional) (Then callee rest)) ≡ tree
-    → IsCovered tree → (Node at word.Call (Then (Flag false) (Then callee rest)) ≡ tree) × (is_link callee ≡ false)
-call_told false {tree} {callee} is covered = (is, not_true (is_link callee) (subst IsCovered (sym is) covered).0)
-  where
-    not_true : (b : Bool) → (true && not b) ≡ true → b ≡ false
-    not_true false plain = refl
-    not_true true plain = absurd (true≢false (sym plain))
-call_told true is covered = absurd (true≢false (sym (subst IsCovered (sym is) covered).0))
+pub call_told : (names : Names) (optional : Bool) {tree : Syntax} {at : At} {rest : Pieces}
+    → Node at word.Call (Then (Flag optional) rest) ≡ tree
+    → IsLowerable names tree → Node at word.Call (Then (Flag false) rest) ≡ tree
+call_told names false is may = is
+call_told names true is may = absurd (true≢false (sym (subst (IsLowerable names) (sym is) may).0))
 
-pub member_told : (optional : Bool) {tree : Syntax} {at : At} {rest : Pieces} → Node at word.Member (Then (Flag optional) rest) ≡ tree
-    → IsCovered tree → Node at word.Member (Then (Flag false) rest) ≡ tree
-member_told false is covered = is
-member_told true is covered = absurd (true≢false (sym (subst IsCovered (sym is) covered).0))
+pub member_told : (names : Names) (optional : Bool) {tree : Syntax} {at : At} {rest : Pieces}
+    → Node at word.Member (Then (Flag optional) rest) ≡ tree
+    → IsLowerable names tree → Node at word.Member (Then (Flag false) rest) ≡ tree
+member_told names false is may = is
+member_told names true is may = absurd (true≢false (sym (subst (IsLowerable names) (sym is) may).0))
 
-not_true : (b : Bool) → not b ≡ true → b ≡ false
-not_true false plain = refl
-not_true true plain = absurd (true≢false (sym plain))
+pub index_told : (names : Names) (optional : Bool) {tree : Syntax} {at : At} {rest : Pieces}
+    → Node at word.Index (Then (Flag optional) rest) ≡ tree
+    → IsLowerable names tree → Node at word.Index (Then (Flag false) rest) ≡ tree
+index_told names false is may = is
+index_told names true is may = absurd (true≢false (sym (subst (IsLowerable names) (sym is) may).0))
 
-pub unary_told : {tree : Syntax} {at : At} (operator : List ℕ) {rest : Pieces} → Node at word.Unary (Then (Said operator) rest) ≡ tree
-    → IsCovered tree → bytes_eq operator (codes "delete") ≡ false
-unary_told operator is covered = not_true (bytes_eq operator (codes "delete")) (subst IsCovered (sym is) covered).0
+pub private_told : (names : Names) (optional : Bool) {tree : Syntax} {at : At} {rest : Pieces}
+    → Node at word.Privatemember (Then (Flag optional) rest) ≡ tree
+    → IsLowerable names tree → Node at word.Privatemember (Then (Flag false) rest) ≡ tree
+private_told names false is may = is
+private_told names true is may = absurd (true≢false (sym (subst (IsLowerable names) (sym is) may).0))
+
+-- A callee that is no property is called as a function.
+pub plain_callee : (callee : Syntax) → is_property callee ≡ false → call_word callee ≡ codes "call"
+plain_callee (Node at word.Member parts) plain = absurd (true≢false plain)
+plain_callee (Node at word.Index parts) plain = absurd (true≢false plain)
+plain_callee _ plain = refl
 
 -- Items of a list, each with the pieces of what it was lowered from.
 
-gathered_last : {X : Type 0} (f : X → List Piece) (items : List X) (item : X) → gathered f (items ++ item ∷ []) ≡ gathered f items ++ f item
-gathered_last f [] item = append-nil (f item)
-gathered_last f (x ∷ items) item =
-    ap (λ (l : List Piece). f x ++ l) (gathered_last f items item) ∙ sym (append_assoc (f x) (gathered f items) (f item))
+gathered_more : {X : Type 0} (f : X → List Piece) (items more : List X) → gathered f (items ++ more) ≡ gathered f items ++ gathered f more
+gathered_more f [] more = refl
+gathered_more f (x ∷ items) more =
+    ap (λ (l : List Piece). f x ++ l) (gathered_more f items more) ∙ sym (append_assoc (f x) (gathered f items) (gathered f more))
 
 -- The parts of a row that were lowered, and `left`, give what the items and `more` give.
-abbrev pub GivesLeft : {X : Type 0} → (X → List Piece) → Names → (all left : Pieces) → (old now : State) → List X → Type 0
-GivesLeft f names all left old now items =
-    (new : State) (more : List Piece) → LoweredAll names left now new more → LoweredAll names all old new (gathered f items ++ more)
+abbrev pub GivesLeft : {X : Type 0} → (X → List Piece) → Names → (of_object : Bool) → (all left : Pieces) → (old now : State) → List X
+    → Type 0
+GivesLeft f names of_object all left old now items =
+    (new : State) (more : List Piece) → LoweredParts names of_object left now new more
+    → LoweredParts names of_object all old new (gathered f items ++ more)
+
+gives_more : {X : Type 0} {names : Names} {of_object : Bool} {all left rest : Pieces} {first : Syntax} {old s t : State} {given : List Piece}
+    (f : X → List Piece)
+    (items : List X) {grown : List X} (added : List X) → left ≡ Then first rest → grown ≡ items ++ added → gathered f added ≡ given
+    → LoweredParts names of_object (Then first End) s t given
+    → GivesLeft f names of_object all left old s items → GivesLeft f names of_object all rest old t grown
+gives_more {X} {names} {of_object} {all} {left} {rest} {first} {old} {s} {t} {given} f items {grown} added split pushed same one gives =
+    λ new more l.
+    subst (LoweredParts names of_object all old new)
+    (sym (append_assoc (gathered f items) given more)
+    ∙ ap (λ (p : List Piece). p ++ more)
+    (sym (ap (gathered f) pushed ∙ gathered_more f items added ∙ ap (λ (p : List Piece). gathered f items ++ p) same)))
+    (gives new (given ++ more) (subst (λ (es : Pieces). LoweredParts names of_object es s new (given ++ more)) (sym split) (one_then one l)))
 
 pub gives_next : {X : Type 0} {names : Names} {all left rest : Pieces} {first : Syntax} {old s t : State} (f : X → List Piece)
     (items : List X) {grown : List X} (item : X) → left ≡ Then first rest → grown ≡ items ++ item ∷ []
     → LowersAll names (Then first End) s t (f item)
-    → GivesLeft f names all left old s items → GivesLeft f names all rest old t grown
-gives_next {X} {names} {all} {left} {rest} {first} {old} {s} {t} f items {grown} item split pushed one gives = λ new more l.
-    subst (LoweredAll names all old new)
-    (sym (append_assoc (gathered f items) (f item) more)
-    ∙ ap (λ (p : List Piece). p ++ more) (sym (ap (gathered f) pushed ∙ gathered_last f items item)))
-    (gives new (f item ++ more) (subst (λ (es : Pieces). LoweredAll names es s new (f item ++ more)) (sym split) (one_then one.by l)))
+    → GivesLeft f names false all left old s items → GivesLeft f names false all rest old t grown
+gives_next f items item split pushed one gives = gives_more f items (item ∷ []) split pushed (append-nil (f item)) one.by gives
+
+property_gives : (p : Option ObjectProperty) → gathered property_pieces (found_list p) ≡ where_pieces p
+property_gives (Some p) = append-nil (property_pieces p)
+property_gives None = refl
+
+pub gives_property : {names : Names} {all left rest : Pieces} {first : Syntax} {old s t : State} (items : List ObjectProperty)
+    {grown : List ObjectProperty} (p : Option ObjectProperty) → left ≡ Then first rest → grown ≡ items ++ found_list p
+    → LowersProperties names (Then first End) s t (where_pieces p)
+    → GivesLeft property_pieces names true all left old s items → GivesLeft property_pieces names true all rest old t grown
+gives_property items p split pushed one gives =
+    gives_more property_pieces items (found_list p) split pushed (property_gives p) one.by gives
+
+gives_done : {X : Type 0} {names : Names} {of_object : Bool} {all left : Pieces} {old now : State} (f : X → List Piece) (items : List X)
+    → left ≡ End → GivesLeft f names of_object all left old now items → LoweredParts names of_object all old now (gathered f items)
+gives_done {X} {names} {of_object} {all} {left} {old} {now} f items done gives =
+    subst (LoweredParts names of_object all old now) (append-nil (gathered f items))
+    (gives now [] (subst (λ (es : Pieces). LoweredParts names of_object es now now []) (sym done) (lowered.NoPart now)))
 
 pub gives_all : {X : Type 0} {names : Names} {all left : Pieces} {old now : State} (f : X → List Piece) (items : List X) → left ≡ End
-    → GivesLeft f names all left old now items → LowersAll names all old now (gathered f items)
-gives_all {X} {names} {all} {left} {old} {now} f items done gives =
-    told_all (subst (LoweredAll names all old now) (append-nil (gathered f items))
-    (gives now [] (subst (λ (es : Pieces). LoweredAll names es now now []) (sym done) (lowered.NoPart now))))
+    → GivesLeft f names false all left old now items → LowersAll names all old now (gathered f items)
+gives_all f items done gives = told_all (gives_done f items done gives)
+
+pub gives_properties : {names : Names} {all left : Pieces} {old now : State} (items : List ObjectProperty) → left ≡ End
+    → GivesLeft property_pieces names true all left old now items → LowersProperties names all old now (gathered property_pieces items)
+gives_properties items done gives = told_properties (gives_done property_pieces items done gives)
 
 -- The last of a row.
 
@@ -212,13 +361,6 @@ pub string_literal : {text : List ℕ} (copy : List ℕ) → copy ≡ text → I
 string_literal {text} copy same = subst (λ (c : List ℕ). IsLiteral word.Str (Then (Said text) End) (primitives.String c)) (sym same)
     forms.String
 
-pub member_form : {object : Syntax} {text : List ℕ} {p : Place} (key : PropertyLiteral) → key ≡ keys.String text
-    → IsForm word.Member (Then (Flag false) (Then object (Then (Said text) End))) (Then object End) (Gives p ∷ [])
-    (values.PropertyLoad p key)
-member_form {object} {text} {p} key is =
-    subst (λ (k : PropertyLiteral). IsForm word.Member (Then (Flag false) (Then object (Then (Said text) End))) (Then object End)
-    (Gives p ∷ []) (values.PropertyLoad p k)) (sym is) forms.Member
-
 pub regexp_form : {pattern flags : List ℕ} (literal : RegExpLiteral) (pattern_copy flags_copy : List ℕ)
     → literal ≡ record { pattern = pattern_copy; flags = flags_copy } → pattern_copy ≡ pattern → flags_copy ≡ flags
     → IsForm word.Regexp (Then (Said pattern) (Then (Said flags) End)) End [] (values.RegExpLiteral literal)
@@ -234,18 +376,30 @@ template_form {texts} {es} {quasis} {places} literal is copied =
     subst (λ (l : TemplateLiteral). IsForm word.Template (Then (Listed texts) (Then (Listed es) End)) es (gathered value_pieces places)
     (values.TemplateLiteral l)) (sym is) (forms.Template copied refl)
 
--- A key in brackets that is a numeral.
-pub number_form : {object : Syntax} {p : Place} (key : Syntax) (number whole : ℕ) (property : PropertyLiteral)
-    → property ≡ keys.Number whole
-    → whole ≡ number → Some number ≡ key_number key
-    → IsForm word.Index (Then (Flag false) (Then object (Then key End))) (Then object End) (Gives p ∷ []) (values.PropertyLoad p property)
-number_form {object} {p} (Node at word.Num (Then (Said text) End)) number whole property is same found =
-    let told = parsed_some text text number refl found in
-    subst (λ (k : PropertyLiteral). IsForm word.Index (Then (Flag false) (Then object (Then (Node at word.Num (Then (Said text) End)) End)))
-    (Then object End) (Gives p ∷ []) (values.PropertyLoad p k)) (sym (is ∙ ap keys.Number (same ∙ told.1))) (forms.NumberIndex told.0)
-number_form _ number whole property is same found = absurd (let never : Some number ≡ None = found in cc)
+pub tagged_form : {there : At} {tree tag : Syntax} {texts es : Pieces} {t : Place} {quasis : List TemplateQuasi} {places : List Place}
+    (literal : TemplateLiteral)
+    → Node there word.Template (Then (Listed texts) (Then (Listed es) End)) ≡ tree → are_raw texts ≡ true
+    → literal ≡ record { quasis = quasis; subexpressions = places } → AreQuasis texts quasis
+    → IsForm word.Tagged (Then tag (Then tree End)) (Then tag es) (Gives t ∷ gathered value_pieces places)
+    (values.TaggedTemplateExpression t literal)
+tagged_form {there} {tree} {tag} {texts} {es} {t} {quasis} {places} literal same raw is copied =
+    subst (λ (n : Syntax). IsForm word.Tagged (Then tag (Then n End)) (Then tag es) (Gives t ∷ gathered value_pieces places)
+    (values.TaggedTemplateExpression t literal)) same
+    (subst (λ (l : TemplateLiteral). IsForm word.Tagged
+    (Then tag (Then (Node there word.Template (Then (Listed texts) (Then (Listed es) End))) End)) (Then tag es)
+    (Gives t ∷ gathered value_pieces places) (values.TaggedTemplateExpression t l)) (sym is) (forms.Tagged raw copied refl))
 
--- A key in brackets that is no numeral.
-pub computed_key : (key : Syntax) → None ≡ key_number key → is_number_key key ≡ false
-computed_key (Node at word.Num (Then (Said text) End)) found = parsed_none text text refl found
-computed_key _ found = refl
+-- A tagged template that is refused.
+pub cooked_form : {names : Names} {there : At} {tree tag : Syntax} {texts es : Pieces}
+    → Node there word.Template (Then (Listed texts) (Then (Listed es) End)) ≡ tree → are_raw texts ≡ false
+    → IsRefused names word.Tagged (Then tag (Then tree End)) row.F13
+cooked_form {names} {there} {tree} {tag} {texts} {es} same raw =
+    subst (λ (n : Syntax). IsRefused names word.Tagged (Then tag (Then n End)) row.F13) same (forms.Cooked raw)
+
+-- The parts of a tagged template that is cooked as it is written.
+pub tagged_may : (names : Names) (at : At) {there : At} {tree : Syntax} (tag : Syntax) {texts es : Pieces}
+    → Node there word.Template (Then (Listed texts) (Then (Listed es) End)) ≡ tree → are_raw texts ≡ true
+    → IsLowerable names (Node at word.Tagged (Then tag (Then tree End))) → IsLowerable names tag × AreLowerable names es
+tagged_may names at {there} {tree} tag {texts} {es} same raw may =
+    subst (λ (b : Bool). Where b (IsLowerable names tag × AreLowerable names es)) raw
+    (subst (λ (n : Syntax). IsLowerable names (Node at word.Tagged (Then tag (Then n End)))) (sym same) may)

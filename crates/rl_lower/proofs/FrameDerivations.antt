@@ -14,7 +14,7 @@ use Rattle.rl_lowered.proofs.Names.{names_ternary_begun, names_ternary_consequen
 use Rattle.rl_frames.proofs.FrameSizes.{logical_begun_size, logical_righted_size, sequence_begun_size, ternary_alternated_size}
 use Rattle.rl_frames.proofs.FrameSizes.{ternary_begun_size, ternary_consequent_size}
 use Rattle.rl_lowered.specs.Lowered as lowered
-use Rattle.rl_lowered.specs.Lowered.{Lowered, LoweredLast}
+use Rattle.rl_lowered.specs.Lowered.{Lowered, LoweredLast, value_span}
 use Rattle.rl_lowered.specs.Named.{IsNamed}
 use Rattle.rl_lowered.specs.Promised.{HasRoom, LowersExpression, LowersLast, share}
 use Rattle.rl_names.specs.Names.{Names}
@@ -26,7 +26,7 @@ use Rattle.rl_lower.proofs.Derivations.{derived, room_after}
 
 pub logical_ok : {names : Names} {at : At} {operator : LogicalOperator} {left right : Syntax} {s b1 s2 b2 s3 : State} {r l : Place}
     {f : LogicalParts}
-    {first second : Span} (f2 : LogicalParts) (new : State) (place : Place) → first ≡ span_of left → second ≡ span_of right
+    {first second : Span} (f2 : LogicalParts) (new : State) (place : Place) → first ≡ span_of left → second ≡ value_span r right
     → f ≡ logical_at s at.span operator first → b1 ≡ logical_begun s at.span first → LowersExpression names right b1 s2 r
     → b2 ≡ logical_righted f s2 r second → f2 ≡ logical_after f → LowersExpression names left b2 s3 l
     → new ≡ logical_ended f2 s3 l → place ≡ f2.place

@@ -1,6 +1,6 @@
 -- The graph of a function (`IsGraphOf`): its traces, size, identifiers and fields, from the lowering of its body.
-use Rattle.std.proofs.Common.{◌≡◌, ℕ, ◌+◌, ◌*◌, ◌<◌, ◌≤◌, ◌^◌, ◌++◌, false, List, [], ◌∷◌, All, length, length-append, slice_get, Option}
-use Rattle.std.proofs.Common.{Some, refl, sym, ap, ◌∙◌, subst, arith, append_assoc}
+use Rattle.std.proofs.Common.{◌≡◌, ℕ, ◌+◌, ◌*◌, ◌<◌, ◌≤◌, ◌^◌, ◌++◌, false, List, [], All, length, length-append, slice_get, Option}
+use Rattle.std.proofs.Common.{Some, refl, sym, ap, ◌∙◌, subst, arith}
 use Rattle.rl_base.specs.declared.diagnostic.Diagnostic.{Diagnostic}
 use Rattle.rl_base.specs.declared.span.Span.{Span}
 use Rattle.rl_builder.specs.Build.{graph_of}
@@ -19,13 +19,15 @@ use Rattle.rl_lower.proofs.FunctionTrees.{IsFunction, function_nodes, function_r
 use Rattle.rl_lower.proofs.Functions.{body_trace, closed_extends, function_may, function_runs_by}
 use Rattle.rl_lower.proofs.GivenNames.{pairs_told, parameters_kept, parameters_pairs, parameters_sound}
 use Rattle.rl_lower.proofs.Linked.{built_length}
-use Rattle.rl_lower.proofs.Parameters.{known_from, known_length, pair_found, parameters_given, said_from, said_told, state_with}
+use Rattle.rl_lower.proofs.Parameters.{known_from, known_length, pair_found, parameters_given, said_told, state_with}
 use Rattle.rl_lower.proofs.StartStores.{agrees_start, agrees_taken, start_values, take, take_arguments}
 use Rattle.rl_lower.specs.Begun.{FunctionTables, begun_by}
 use Rattle.rl_lower.specs.Endings.{IsGraphOf, closed_off, hir_of}
 use Rattle.rl_lower.specs.Parameters.{AreDeclaredAt, said_of_parameters, with_parameters}
 use Rattle.rl_lower.specs.Scenes.{IsSceneOf}
+use Rattle.rl_lowered.proofs.Clean.{second_none}
 use Rattle.rl_lowered.proofs.Names.{names_temporary, names_then}
+use Rattle.rl_lowered.proofs.Refused.{records_all, records_same, records_then}
 use Rattle.rl_lowered.specs.Named.{KeepsNames}
 use Rattle.rl_lowered.specs.Promised.{HasRoom, LowersBody, exec_before_end, share}
 use Rattle.rl_machine.specs.Closed.{IsClosed}
@@ -41,15 +43,17 @@ use Rattle.rl_model.specs.Functions.{outside, run_body, run_function, set_all, t
 use Rattle.rl_model.specs.Runs.{trace_by}
 use Rattle.rl_model.specs.Scene.{Scene}
 use Rattle.rl_names.specs.Functions.{body_in, params_in, parameters_of}
-use Rattle.rl_names.specs.Locals.{AreApart, AreLocals, DeclaresAll}
+use Rattle.rl_names.specs.Locals.{AreApart, DeclaresAll}
+use Rattle.rl_promises.specs.Locals.{AreLocals}
 use Rattle.rl_names.specs.Names.{Names, parameters_in}
 use Rattle.rl_names.specs.declared.parameters.Parameter.{Parameter}
 use Rattle.rl_order.proofs.Pruning.{pruned_size}
 use Rattle.rl_promises.proofs.CoveredMeanings.{params_taken}
 use Rattle.rl_promises.specs.Fields.{AreGiven, ArePairs}
 use Rattle.rl_promises.specs.Headline.{NeverStuck, SameRuns}
-use Rattle.rl_promises.specs.Rows.{refusals, refusals_of}
+use Rattle.rl_promises.specs.Rows.{Records, refusals, refusals_of}
 use Rattle.rl_promises.specs.Size.{function_size}
+use Rattle.rl_promises.specs.Stops.{has_using}
 use Rattle.rl_runs.proofs.FinalNames.{sound_covers}
 use Rattle.rl_runs.proofs.Moves.{extends_temporary}
 use Rattle.rl_runs.specs.Blocks.{size_of}
@@ -127,13 +131,15 @@ module _ (names : Names) (tables : FunctionTables) (parameters : List Parameter)
       let same : new.next_type ≡ last.env.next_type = ap (λ (e : Environment). e.next_type) g.after in
       omega (arith, graph_size room, same)
 
-  pub graph_refused : new.diagnostics ≡ env.diagnostics ++ (said_of_parameters names parameters ++ refusals names body)
+  pub graph_refused : Records (said_of_parameters names parameters ++ refusals names body) env.diagnostics new.diagnostics
   graph_refused =
-      ap (λ (e : Environment). e.diagnostics) g.after ∙ refused ∙ append_assoc env.diagnostics (said_from (begun_by env tables) parameters) (refusals names body)
-      ∙ ap (λ (l : List Diagnostic). env.diagnostics ++ (l ++ refusals names body)) (said_told names (begun_by env tables) parameters g.declared)
+      records_then (said_of_parameters names parameters) (refusals names body) env.diagnostics begun.env.diagnostics new.diagnostics
+      (records_all (said_of_parameters names parameters) env.diagnostics begun.env.diagnostics
+      (ap (λ (l : List Diagnostic). env.diagnostics ++ l) (said_told names (begun_by env tables) parameters g.declared)))
+      (subst (λ (l : List Diagnostic). Records (refusals names body) begun.env.diagnostics l) (sym after) lowered_from.refused)
     where
-      refused : last.env.diagnostics ≡ begun.env.diagnostics ++ refusals names body
-      refused = diagnostics_closed g.state ∙ lowered_from.refused
+      after : new.diagnostics ≡ g.state.env.diagnostics
+      after = ap (λ (e : Environment). e.diagnostics) g.after ∙ diagnostics_closed g.state
 
   -- No completed block has a predecessor.
   pub graph_unlinked : All (λ p. p.1.preds ≡ []) last.completed
@@ -191,14 +197,11 @@ graph_bounded names tables parameters body env new params built g distinct f cou
 
 -- The clauses of `lower`, whose caller hands it the function's parameters.
 
-nothing_twice : (xs ys : List Diagnostic) → xs ++ ys ≡ [] → ys ≡ []
-nothing_twice [] ys e = e
-nothing_twice (x ∷ xs) ys e = absurd (cc)
-
-body_supported : (names : Names) (f body : Syntax) → IsFunction f body → DeclaresAll names (params_in f) → refusals_of names f ≡ []
-    → refusals names body ≡ []
-body_supported names f body w declared none =
-    nothing_twice (said_of_parameters names (parameters_of names f)) (refusals names body) (sym (function_refusals names f body w declared) ∙ none)
+pub body_supported : (names : Names) (f body : Syntax) → IsFunction f body → DeclaresAll names (params_in f) → AreLocals names (parameters_of names f)
+    → refusals_of names f ≡ [] → refusals names body ≡ []
+body_supported names f body w declared own none =
+    second_none (said_of_parameters names (parameters_of names f)) (refusals names body)
+    (sym (function_refusals names f body w declared own) ∙ none)
 
 pub lower_room : (f body : Syntax) (names : Names) (parameters : List Parameter) (s : State) → IsFunction f body
     → parameters ≡ parameters_of names f
@@ -210,26 +213,30 @@ lower_room f body names parameters s w is room =
 
 pub lower_refused : (f body : Syntax) (names : Names) (tables : FunctionTables) (parameters : List Parameter) (env new : Environment)
     (params : List Param) (built : Graph)
-    → IsFunction f body → DeclaresAll names (params_in f) → parameters ≡ parameters_of names f → AreApart parameters
-    → IsGraphOf names tables parameters body env new params built → new.diagnostics ≡ env.diagnostics ++ refusals_of names f
-lower_refused f body names tables parameters env new params built w declared is distinct g =
-    graph_refused names tables parameters body env new params built g distinct
-    ∙ ap (λ (l : List Parameter). env.diagnostics ++ (said_of_parameters names l ++ refusals names body)) is
-    ∙ ap (λ (l : List Diagnostic). env.diagnostics ++ l) (sym (function_refusals names f body w declared))
+    → IsFunction f body → DeclaresAll names (params_in f) → AreLocals names (parameters_of names f) → parameters ≡ parameters_of names f
+    → AreApart parameters → IsGraphOf names tables parameters body env new params built
+    → Records (refusals_of names f) env.diagnostics new.diagnostics
+lower_refused f body names tables parameters env new params built w declared own is distinct g =
+    records_same (refusals_of names f) (said_of_parameters names parameters ++ refusals names body) env.diagnostics new.diagnostics
+    (function_refusals names f body w declared own
+    ∙ ap (λ (l : List Parameter). said_of_parameters names l ++ refusals names body) (sym is))
+    (graph_refused names tables parameters body env new params built g distinct)
 
 lower_runs_by : (f body : Syntax) (names : Names) (tables : FunctionTables) (parameters : List Parameter) (env new : Environment)
     (params : List Param) (built : Graph)
-    → IsFunction f body → DeclaresAll names (params_in f) → parameters ≡ parameters_of names f → AreApart parameters → env.pairs ≡ []
+    → IsFunction f body → DeclaresAll names (params_in f) → AreLocals names (parameters_of names f) → parameters ≡ parameters_of names f
+    → AreApart parameters → env.pairs ≡ []
     → IsGraphOf names tables parameters body env new params built → refusals_of names f ≡ []
+    → has_using (body_in f) ≡ false
     → (h : HirFunction (List BlockPair)) (pairs : List Pair) → pairs ≡ new.pairs → h.body ≡ hir_of built → h.instructions ≡ built.table
     → h.params ≡ params
     → (scene : Scene) (world : World) → IsSceneOf names pairs scene world
     → (stuck : Trace) (start : List Assignment) (arguments : List Value) (answers : List Answer)
     → trace_by stuck world h pairs start arguments answers ≡ run_function scene f start arguments answers
-lower_runs_by f body names tables given env new params built w declared is distinct none g supported h pairs final body_is instructions_is params_is scene world stands =
+lower_runs_by f body names tables given env new params built w declared own is distinct none g supported unskipped h pairs final body_is instructions_is params_is scene world stands =
     function_runs_by scene world begun graph.state (exec_before_end scene body) (begun_fresh env tables parameters) sound
     lowered.blocks (graph_fits names tables parameters body env new params built graph apart) lowered.lists
-    (lowered.runs (body_supported names f body w declared supported) scene stands.named stands.ported) h pairs covers stands.shares f
+    (lowered.runs (body_supported names f body w declared own supported) (sym (ap has_using w.is_body) ∙ unskipped) scene stands.named stands.ported) h pairs covers stands.shares f
     built new graph.graph (graph_table names tables parameters body env new params built graph apart) (graph_unlinked names tables parameters body env new params built graph apart) body_is instructions_is
     (λ start arguments. take parameters arguments (set_all start unset))
     (λ start arguments. subst (λ (ps : List Param). Agrees ident (take parameters arguments (set_all start unset))
@@ -274,24 +281,28 @@ lower_runs_by f body names tables given env new params built w declared is disti
 
 pub lower_same_runs : (f body : Syntax) (names : Names) (tables : FunctionTables) (parameters : List Parameter) (env new : Environment)
     (params : List Param) (built : Graph)
-    → IsFunction f body → DeclaresAll names (params_in f) → parameters ≡ parameters_of names f → AreApart parameters → env.pairs ≡ []
+    → IsFunction f body → DeclaresAll names (params_in f) → AreLocals names (parameters_of names f) → parameters ≡ parameters_of names f
+    → AreApart parameters → env.pairs ≡ []
     → IsGraphOf names tables parameters body env new params built → refusals_of names f ≡ []
+    → has_using (body_in f) ≡ false
     → (h : HirFunction (List BlockPair)) (pairs : List Pair) → pairs ≡ new.pairs → h.body ≡ hir_of built → h.instructions ≡ built.table
     → h.params ≡ params
     → (scene : Scene) (world : World) → IsSceneOf names pairs scene world → SameRuns scene f world h pairs
-lower_same_runs f body names tables parameters env new params built w declared is distinct none g supported h pairs final body_is instructions_is params_is scene world stands start arguments answers =
-    lower_runs_by f body names tables parameters env new params built w declared is distinct none g supported h pairs final body_is instructions_is params_is scene world stands waiting start arguments answers
+lower_same_runs f body names tables parameters env new params built w declared own is distinct none g supported unskipped h pairs final body_is instructions_is params_is scene world stands start arguments answers =
+    lower_runs_by f body names tables parameters env new params built w declared own is distinct none g supported unskipped h pairs final body_is instructions_is params_is scene world stands waiting start arguments answers
 
 pub lower_never_stuck : (f body : Syntax) (names : Names) (tables : FunctionTables) (parameters : List Parameter) (env new : Environment)
     (params : List Param) (built : Graph)
-    → IsFunction f body → DeclaresAll names (params_in f) → parameters ≡ parameters_of names f → AreApart parameters → env.pairs ≡ []
+    → IsFunction f body → DeclaresAll names (params_in f) → AreLocals names (parameters_of names f) → parameters ≡ parameters_of names f
+    → AreApart parameters → env.pairs ≡ []
     → IsGraphOf names tables parameters body env new params built → refusals_of names f ≡ []
+    → has_using (body_in f) ≡ false
     → (h : HirFunction (List BlockPair)) (pairs : List Pair) → pairs ≡ new.pairs → h.body ≡ hir_of built → h.instructions ≡ built.table
     → h.params ≡ params
     → (scene : Scene) (world : World) → IsSceneOf names pairs scene world → NeverStuck world h pairs
-lower_never_stuck f body names tables parameters env new params built w declared is distinct none g supported h pairs final body_is instructions_is params_is scene world stands stuck start arguments answers =
-    lower_runs_by f body names tables parameters env new params built w declared is distinct none g supported h pairs final body_is instructions_is params_is scene world stands stuck start arguments answers
-    ∙ sym (lower_same_runs f body names tables parameters env new params built w declared is distinct none g supported h pairs final body_is instructions_is params_is scene world stands start arguments answers)
+lower_never_stuck f body names tables parameters env new params built w declared own is distinct none g supported unskipped h pairs final body_is instructions_is params_is scene world stands stuck start arguments answers =
+    lower_runs_by f body names tables parameters env new params built w declared own is distinct none g supported unskipped h pairs final body_is instructions_is params_is scene world stands stuck start arguments answers
+    ∙ sym (lower_same_runs f body names tables parameters env new params built w declared own is distinct none g supported unskipped h pairs final body_is instructions_is params_is scene world stands start arguments answers)
 
 pub lower_bounded : (f body : Syntax) (names : Names) (tables : FunctionTables) (parameters : List Parameter) (env new : Environment)
     (params : List Param) (built : Graph)
@@ -338,3 +349,9 @@ pub lower_fn_type : (names : Names) (tables : FunctionTables) (parameters : List
     → AreApart parameters → IsGraphOf names tables parameters body env new params built → new.fn_type ≡ env.fn_type
 lower_fn_type names tables parameters body env new params built distinct g =
     ap (λ (e : Environment). e.fn_type) g.after ∙ (graph_keeps names tables parameters body env new params built g distinct).fn_type
+
+pub lower_skip : (names : Names) (tables : FunctionTables) (parameters : List Parameter) (body : Syntax) (env new : Environment)
+    (params : List Param) (built : Graph)
+    → AreApart parameters → IsGraphOf names tables parameters body env new params built → new.skip ≡ env.skip
+lower_skip names tables parameters body env new params built distinct g =
+    ap (λ (e : Environment). e.skip) g.after ∙ (graph_keeps names tables parameters body env new params built g distinct).skip

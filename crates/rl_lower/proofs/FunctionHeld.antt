@@ -27,7 +27,7 @@ use Rattle.rl_hir.specs.declared.instruction.Instruction.{Instruction}
 use Rattle.rl_hir.specs.declared.instruction.InstructionValue.{InstructionValue}
 use Rattle.rl_hir.specs.declared.instruction.InstructionValue.TheVariants as values
 use Rattle.rl_hir.specs.declared.instruction.PrimitiveValue.TheVariants as primitives
-use Rattle.rl_lower.proofs.FunctionGraphs.{begun_fresh, graph_fits, graph_names, graph_table, graph_unlinked, lowered_from}
+use Rattle.rl_lower.proofs.FunctionGraphs.{begun_fresh, body_supported, graph_fits, graph_names, graph_table, graph_unlinked, lowered_from}
 use Rattle.rl_lower.proofs.FunctionTrees.{IsFunction}
 use Rattle.rl_lower.proofs.Functions.{entry_is, extends_closed, function_finished}
 use Rattle.rl_lower.proofs.HeldNodes.{built_at, built_once, built_reached, listed_once, times_append, times_at, times_in, times_listed, times_plain, weight}
@@ -41,13 +41,16 @@ use Rattle.rl_machine.specs.Machine.{Code, Graph, Runs, block_of, item_at, item_
 use Rattle.rl_machine.specs.Traces.{World}
 use Rattle.rl_model.specs.Counted.{Counted}
 use Rattle.rl_model.specs.Dead.{lives}
-use Rattle.rl_names.specs.Locals.{AreApart}
+use Rattle.rl_names.specs.Functions.{params_in, parameters_of}
+use Rattle.rl_names.specs.Locals.{AreApart, DeclaresAll}
 use Rattle.rl_names.specs.Names.{Names}
 use Rattle.rl_names.specs.declared.parameters.Parameter.{Parameter}
 use Rattle.rl_order.specs.Reached.{IsReached}
 use Rattle.rl_promises.specs.HeldNodes.{HoldsNodes, counted_by}
 use Rattle.rl_promises.specs.Live.{Held, held_among, held_as, held_at, held_in, live_all, live_in, live_in_body}
-use Rattle.rl_promises.specs.Tallies.{IsHeldKind, held_word, tallied}
+use Rattle.rl_promises.specs.Locals.{AreLocals}
+use Rattle.rl_promises.specs.Rows.{refusals, refusals_of}
+use Rattle.rl_promises.specs.Tallies.{IsHeldKind, call_word, held_word, tallied}
 use Rattle.rl_promises.specs.Held.{is_counted, is_of, is_span, listed, times}
 use Rattle.rl_runs.proofs.FinalNames.{sound_covers}
 use Rattle.rl_runs.proofs.Finished.{IsFinished, code, finished_contained, led_reached}
@@ -73,6 +76,16 @@ call_counted (values.StoreLocal kind p q) e = absurd (let never : false ≡ true
 call_counted (values.StoreContext kind p q) e = absurd (let never : false ≡ true = e in cc)
 call_counted _ e = refl
 
+method_counted : IsCountedWord (codes "methodcall")
+method_counted (values.StoreLocal kind p q) e = absurd (let never : false ≡ true = e in cc)
+method_counted (values.StoreContext kind p q) e = absurd (let never : false ≡ true = e in cc)
+method_counted _ e = refl
+
+callee_counted : (callee : Syntax) → IsCountedWord (call_word callee)
+callee_counted (Node at word.Member parts) = method_counted
+callee_counted (Node at word.Index parts) = method_counted
+callee_counted _ = call_counted
+
 new_counted : IsCountedWord (codes "new")
 new_counted (values.StoreLocal kind p q) e = absurd (let never : false ≡ true = e in cc)
 new_counted (values.StoreContext kind p q) e = absurd (let never : false ≡ true = e in cc)
@@ -83,16 +96,20 @@ await_counted (values.StoreLocal kind p q) e = absurd (let never : false ≡ tru
 await_counted (values.StoreContext kind p q) e = absurd (let never : false ≡ true = e in cc)
 await_counted _ e = refl
 
-word_counted : (w : Word) (span : Span) → All IsCountedNode (held_as (held_word w) span)
-word_counted word.Call span = All-cons IsCountedNode (record { word = codes "call"; span = span }) [] call_counted (All-nil IsCountedNode)
-word_counted word.New span = All-cons IsCountedNode (record { word = codes "new"; span = span }) [] new_counted (All-nil IsCountedNode)
-word_counted word.Await span = All-cons IsCountedNode (record { word = codes "await"; span = span }) [] await_counted (All-nil IsCountedNode)
-word_counted _ span = All-nil IsCountedNode
+one_counted : (text : List ℕ) (span : Span) → IsCountedWord text → All IsCountedNode (held_as (Some text) span)
+one_counted text span counted = All-cons IsCountedNode (record { word = text; span = span }) [] counted (All-nil IsCountedNode)
+
+word_counted : (w : Word) (parts : Pieces) (span : Span) → All IsCountedNode (held_as (held_word w parts) span)
+word_counted word.Call (Then optional (Then callee arguments)) span = one_counted (call_word callee) span (callee_counted callee)
+word_counted word.Call _ span = one_counted (codes "call") span call_counted
+word_counted word.New parts span = one_counted (codes "new") span new_counted
+word_counted word.Await parts span = one_counted (codes "await") span await_counted
+word_counted _ parts span = All-nil IsCountedNode
 
 mutual
   node_counted : (tree : Syntax) → All IsCountedNode (held_in tree)
   node_counted (Node at w parts) =
-      All-append IsCountedNode (held_at w at) (held_among parts) (word_counted w at.span) (nodes_counted parts)
+      All-append IsCountedNode (held_at w parts at) (held_among parts) (word_counted w parts at.span) (nodes_counted parts)
   node_counted (Listed parts) = nodes_counted parts
   node_counted _ = All-nil IsCountedNode
 
@@ -223,10 +240,10 @@ module _ (names : Names) (tables : FunctionTables) (parameters : List Parameter)
   table_is : graph_of last ≡ last.completed
   table_is = graph_table names tables parameters body env new params built g distinct
 
-  -- The table holds the counted nodes.
-  pub graph_tallied : (key : Counted) → IsHeldKind key.kinds → times key built.table ≡ tallied key body
-  graph_tallied key held =
-      let tallied_in : times key g.state.table ≡ 0 + tallied key body = lowered.tallies key held in
+  -- The table holds the counted nodes, where no node is refused.
+  pub graph_tallied : refusals names body ≡ [] → (key : Counted) → IsHeldKind key.kinds → times key built.table ≡ tallied key body
+  graph_tallied accepted key held =
+      let tallied_in : times key g.state.table ≡ 0 + tallied key body = lowered.tallies accepted key held in
       let same : times key built.table ≡ times key g.state.table =
       sym (times_plain key built.table) ∙ ap (λ (l : List Instruction). times key l) (built_plain last built new g.graph)
       ∙ times_plain key last.table ∙ times_closed key g.state in
@@ -246,7 +263,7 @@ module _ (names : Names) (tables : FunctionTables) (parameters : List Parameter)
           (graph_listed names tables parameters body env new params built g distinct).once)
 
   -- The code of the blocks, in a world that shares no variable.
-  module _ (none : env.pairs ≡ []) where
+  module _ (none : env.pairs ≡ []) (accepted : refusals names body ≡ []) where
     fin : IsFinished last
     fin = function_finished begun g.state (begun_fresh env tables parameters) lowered.blocks fits
 
@@ -261,7 +278,7 @@ module _ (names : Names) (tables : FunctionTables) (parameters : List Parameter)
 
     stands : All (Stands held_by c last.entry.0) (live_in_body body)
     stands =
-        lowered.lives.stands c
+        (lowered.lives accepted).stands c
         (contained_before (extends_closed g.state) (finished_contained last fin ident alone (sound_covers last (graph_names names tables parameters body env new params built g distinct none))))
         last.entry.0
         (subst (λ (id : ℕ). IsLedTo c last.entry.0 id) (entry_is begun g.state (begun_fresh env tables parameters) lowered.blocks fits) blocks.Begins)
@@ -295,17 +312,21 @@ module _ (names : Names) (tables : FunctionTables) (parameters : List Parameter)
 pub lower_held : (f body : Syntax) (names : Names) (tables : FunctionTables) (parameters : List Parameter) (env new : Environment)
     (params : List Param)
     (built : Graph)
-    → IsFunction f body → AreApart parameters → env.pairs ≡ [] → IsGraphOf names tables parameters body env new params built
+    → IsFunction f body → DeclaresAll names (params_in f) → AreLocals names (parameters_of names f) → AreApart parameters → env.pairs ≡ []
+    → IsGraphOf names tables parameters body env new params built → refusals_of names f ≡ []
     → (h : HirFunction (List BlockPair)) → h.body ≡ hir_of built → h.instructions ≡ built.table → HoldsNodes f h
-lower_held f body names tables parameters env new params built w distinct none g h body_is instructions_is = record {
+lower_held f body names tables parameters env new params built w declared own distinct none g supported h body_is instructions_is = record {
   table = λ key held.
       ap (λ (l : List Instruction). times key l) instructions_is
-      ∙ graph_tallied names tables parameters body env new params built g distinct key held ∙ ap (λ (b : Syntax). tallied key b) (sym w.is_body);
+      ∙ graph_tallied names tables parameters body env new params built g distinct accepted key held ∙ ap (λ (b : Syntax). tallied key b) (sym w.is_body);
   once = λ key. subst (λ (t : List Instruction). times key (listed t h.body.blocks) ≤ times key t) (sym instructions_is)
       (subst (λ (x : Hir (List BlockPair)). times key (listed built.table x.blocks) ≤ times key built.table) (sym body_is)
       (graph_once names tables parameters body env new params built g distinct key));
   live = subst (λ (b : Syntax). All (λ (n : Held). 1 ≤ times (counted_by n) (listed h.instructions h.body.blocks)) (live_in_body b)) (sym w.is_body)
       (subst (λ (t : List Instruction). All (λ (n : Held). 1 ≤ times (counted_by n) (listed t h.body.blocks)) (live_in_body body)) (sym instructions_is)
       (subst (λ (x : Hir (List BlockPair)). All (λ (n : Held). 1 ≤ times (counted_by n) (listed built.table x.blocks)) (live_in_body body)) (sym body_is)
-      (graph_live names tables parameters body env new params built g distinct none)));
+      (graph_live names tables parameters body env new params built g distinct none accepted)));
 }
+  where
+    accepted : refusals names body ≡ []
+    accepted = body_supported names f body w declared own supported

@@ -18,7 +18,8 @@ use Rattle.rl_used_names.specs.IdentifierNames.{name_of}
 use Rattle.rl_used_names.specs.UsedName.{user_of}
 use Rattle.rl_builder.proofs.NameLaws.{name_of-injective}
 use Rattle.rl_promises.specs.Fields.{AreGiven, ArePairs, IsNamedPair, name_at}
-use Rattle.rl_names.specs.Locals.{AreApart, AreLocals, IsApart}
+use Rattle.rl_names.specs.Locals.{AreApart, IsApart}
+use Rattle.rl_promises.specs.Locals.{AreLocals}
 use Rattle.rl_names.specs.Names.{Names}
 use Rattle.rl_names.specs.declared.parameters.Parameter.{Parameter}
 use Rattle.rl_lower.specs.Parameters.{AreDeclaredAt}

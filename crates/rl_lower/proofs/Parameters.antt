@@ -1,10 +1,11 @@
 -- The builder after the parameters of a function.
-use Rattle.std.proofs.Common.{◌≡◌, ℕ, zero, suc, ◌+◌, ◌<◌, ◌++◌, ◌&&◌, Bool, true, false, nat_eq, if◌then◌else◌, List, [], ◌∷◌, map, All, get_or, unwrap_or, length, length-append, Option, Some, None, slice_get, refl, sym, ap, ◌∙◌, subst, arith, append-nil, append_assoc, eq-eqb, inl, inr}
+use Rattle.std.proofs.Common.{◌≡◌, ◌≢◌, ℕ, zero, suc, ◌+◌, ◌<◌, ◌++◌, ◌&&◌, Bool, true, false, nat_eq, if◌then◌else◌, List, [], ◌∷◌, map, All, unwrap_or, length, length-append, Option, Some, None, slice_get, refl, sym, ap, ◌∙◌, subst, arith, append-nil, append_assoc, eq-eqb, inl, inr}
 use Rattle.std.specs.Str.{bytes_eq}
 use Rattle.std.specs.Option.{option_map, option_map_or, option_or}
 use Rattle.std.proofs.lemmas.Bool.{ne_eqb}
 use Rattle.std.proofs.lemmas.Bool.Decides.{eqb_tells}
 use Rattle.std.proofs.lemmas.List.Elements.{All-cons, All-head, All-tail}
+use Rattle.std.proofs.lemmas.Option.{none-some, same_Some, slice_get_within}
 use Rattle.std.proofs.lemmas.Slice.Eq.{bytes_eq-Decides}
 use Rattle.rl_base.specs.declared.diagnostic.Diagnostic.{Diagnostic}
 use Rattle.rl_base.specs.declared.ids.SymbolId.{SymbolId}
@@ -19,7 +20,6 @@ use Rattle.rl_semantic.specs.Items.{of_item}
 use Rattle.rl_hir.specs.Pairs.{identifier_of, pair}
 use Rattle.rl_hir.specs.declared.environment.Environment.{Environment}
 use Rattle.rl_hir.specs.declared.function.Identifier.{Identifier}
-use Rattle.rl_hir.specs.declared.function.IdentifierName.TheVariants.{Named}
 use Rattle.rl_hir.specs.declared.function.Pair.{Pair}
 use Rattle.rl_builder.specs.Builder.{State}
 use Rattle.rl_builder.specs.Names.{fbt_label, fresh_identifier, new_span, renamed, renames_of, resolved, resolved_by}
@@ -27,10 +27,12 @@ use Rattle.rl_used_names.specs.Choosing.{chosen, is_free, place_from, with_user}
 use Rattle.rl_used_names.specs.IdentifierNames.{fbt, fbt_diagnostic}
 use Rattle.rl_used_names.specs.UsedName.{candidate, user_of, UsedName}
 use Rattle.rl_promises.specs.Rows.{label_of, refusal, said_of_local}
-use Rattle.rl_names.specs.Locals.{AreApart, AreLocals, HasTexts, IsApart}
+use Rattle.rl_names.specs.Locals.{AreApart, IsApart}
+use Rattle.rl_promises.specs.Locals.{AreLocals, KnowsNames}
 use Rattle.rl_names.specs.Names.{Names}
 use Rattle.rl_names.specs.declared.parameters.Parameter.{Parameter}
-use Rattle.rl_lowered.specs.Named.{HasIdentifier, IsNamed, TellDeclarations, declared_span}
+use Rattle.rl_lowered.proofs.Clean.{first_none, second_none}
+use Rattle.rl_lowered.specs.Named.{IsNamed, TellDeclarations, declared_span}
 use Rattle.rl_lower.specs.Parameters.{said_of_parameters, with_parameters}
 
 -- The pairs and identifiers of parameters that get identifiers one after the other, from the given ids on.
@@ -329,41 +331,36 @@ pub get_behind : {X : Type 0} (xs ys : List X) (place : ℕ) → slice_get (xs +
 get_behind [] ys place = ap (λ (n : ℕ). slice_get ys n) (omega arith)
 get_behind (x ∷ xs) ys place = (let one : length (x ∷ xs) + place ≡ suc (length xs + place) = omega arith in ap (λ (n : ℕ). slice_get (x ∷ (xs ++ ys)) n) one ∙ get_behind xs ys place)
 
-within : {X : Type 0} (xs : List X) (place : ℕ) (x : X) → slice_get xs place ≡ Some x → place < length xs
-within [] place x e = absurd (cc)
-within (y ∷ xs) zero x e = omega arith
-within (y ∷ xs) (suc place) x e = let rest : place < length xs = within xs place x e in omega arith
+-- A parameter `fbt` is refused.
+said_some : (s : State) (parameters : List Parameter) (place : ℕ) (p : Parameter) → slice_get parameters place ≡ Some p → p.name ≡ fbt
+    → said_from s parameters ≢ []
+said_some s [] place p there name none = absurd (none-some p there)
+said_some s (q ∷ parameters) zero p there name none =
+    let same : q.name ≡ fbt = ap (λ (x : Parameter). x.name) (same_Some q p there) ∙ name in
+    let label : Span = fbt_label s q.symbol.0 (Some q.declaration) in
+    let test : bytes_eq q.name fbt ≡ true = (bytes_eq-Decides q.name fbt).1 same in
+    let first : (if bytes_eq q.name fbt then refusal row.F40 label ∷ [] else []) ≡ [] = first_none (said_of s q) (said_from s parameters) none in
+    let never : refusal row.F40 label ∷ [] ≡ [] = sym (ap (λ (b : Bool). if b then refusal row.F40 label ∷ [] else []) test) ∙ first in
+    absurd (cc)
+said_some s (q ∷ parameters) (suc place) p there name none =
+    said_some s parameters place p there name (second_none (said_of s q) (said_from s parameters) none)
 
--- The identifier of the parameter at a place.
-identified : (s : State) (names : Names) (parameters : List Parameter) → AreApart parameters
-    → All (λ p. names.name p.symbol.0 ≡ p.name) parameters → (place : ℕ) (p : Parameter) → slice_get parameters place ≡ Some p
-    → HasIdentifier (state_with s parameters) p.symbol.0 (names.name p.symbol.0)
-identified s names parameters apart named place p there = record {
-  identifier = length s.env.identifiers + place;
-  bound = pair_found (length s.env.identifiers) parameters place p apart there;
-  known = identifier_for s (s.env.next_type + place) p;
-  made = get_behind s.env.identifiers (known_from s s.env.next_type parameters) place ∙ known_at s s.env.next_type parameters place p there;
-  named = ap (λ (n : List ℕ). Some (Named n)) (sym (all_at (λ (x : Parameter). names.name x.symbol.0 ≡ x.name) parameters place p there named));
-}
-
--- The parameter that has a symbol of the parameters.
-found_in : (parameters : List Parameter) (symbol : SymbolId) (place : ℕ) → place < length (map (λ (p : Parameter). p.symbol) parameters)
-    → get_or (map (λ (p : Parameter). p.symbol) parameters) place symbol ≡ symbol
-    → (at : ℕ) × (p : Parameter) × (slice_get parameters at ≡ Some p) × (p.symbol ≡ symbol)
-found_in [] symbol place within is = absurd (omega (arith, within))
-found_in (p ∷ parameters) symbol zero within is = (0, p, refl, is)
-found_in (p ∷ parameters) symbol (suc place) within is =
-    let later = found_in parameters symbol place (omega (arith, within)) is in
-    (suc later.0, later.1, later.2, later.3)
-
-pub parameters_named : (s : State) (names : Names) (parameters : List Parameter) → HasTexts names → TellDeclarations names s.semantic
-    → AreApart parameters → AreLocals names parameters → IsNamed names (state_with s parameters)
-parameters_named s names parameters texts told apart l = record {
-  texts = texts;
+pub parameters_named : (s : State) (names : Names) (parameters : List Parameter) → KnowsNames names → TellDeclarations names s.semantic
+    → AreLocals names parameters → IsNamed names (state_with s parameters)
+parameters_named s names parameters knows told l = record {
+  knows = knows;
   declared = told;
-  each = λ reference name symbol is.
-      let there = l.locals reference name symbol is in
-      let found = found_in parameters symbol there.0 there.1 there.2 in
-      subst (λ (x : SymbolId). HasIdentifier (state_with s parameters) x.0 (names.name x.0)) found.3
-      (identified s names parameters apart l.named found.0 found.1 found.2);
+  made = λ symbol identifier is.
+      let found = pair_tells (length s.env.identifiers) parameters symbol identifier is in
+      let within : found.0.place < length parameters = slice_get_within parameters found.0.place found.0.parameter found.0.there in
+      let counted : length (s.env.identifiers ++ known_from s s.env.next_type parameters) ≡ length s.env.identifiers + length parameters =
+      length-append s.env.identifiers (known_from s s.env.next_type parameters)
+      ∙ ap (λ (n : ℕ). length s.env.identifiers + n) (known_length s s.env.next_type parameters) in
+      omega (arith, found.1, within, counted);
+  noted = λ symbol identifier is name none.
+      let at = (pair_tells (length s.env.identifiers) parameters symbol identifier is).0 in
+      let own : names.name at.parameter.symbol.0 ≡ at.parameter.name =
+      all_at (λ (p : Parameter). names.name p.symbol.0 ≡ p.name) parameters at.place at.parameter at.there l.named in
+      said_some s parameters at.place at.parameter at.there (sym own ∙ ap (λ (n : ℕ). names.name n) at.has ∙ name)
+      (second_none s.env.diagnostics (said_from s parameters) none);
 }

@@ -1,13 +1,11 @@
 -- A parameter that gets its identifier.
-use Rattle.std.proofs.Common.{◌≡◌, ℕ, ◌+◌, ◌++◌, Bool, true, false, nat_eq, if◌then◌else◌, List, [], ◌∷◌, length, length-append, Option, Some, None, Result, Ok, Err, IfErr, refl, sym, ap, ◌∙◌, subst, arith, append_assoc, All}
+use Rattle.std.proofs.Common.{◌≡◌, ℕ, ◌+◌, ◌++◌, Bool, true, false, true≢false, nat_eq, if◌then◌else◌, List, [], ◌∷◌, length, length-append, Option, Some, None, Result, Ok, Err, IfErr, refl, sym, ap, ◌∙◌, subst, arith, append_assoc, All}
 use Rattle.std.proofs.lemmas.List.Elements.{All-nil, All-cons, All-head, All-tail}
 use Rattle.std.proofs.lemmas.Bool.{ne_eqb}
 use Rattle.std.proofs.Common.{eq-eqb}
 use Rattle.std.specs.Result.{IsErrAnd}
-use Rattle.rl_base.specs.Diagnostics.{diagnostic_at}
 use Rattle.rl_base.specs.Reserved.{is_reserved}
 use Rattle.rl_base.specs.declared.diagnostic.Diagnostic.{Diagnostic}
-use Rattle.rl_base.specs.declared.row.Row.TheVariants as row
 use Rattle.rl_base.specs.declared.span.Span.{Span}
 use Rattle.rl_base.specs.declared.stop.Stop.{Stop}
 use Rattle.rl_base.specs.declared.stop.Stop.TheVariants as stops
@@ -20,7 +18,6 @@ use Rattle.rl_builder.specs.Names.{IsStopped, resolved, resolved_by}
 use Rattle.rl_hir.specs.Pairs.{pair}
 use Rattle.rl_names.specs.Locals.{IsApart}
 use Rattle.rl_names.specs.declared.parameters.Parameter.{Parameter}
-use Rattle.rl_promises.specs.Rows.{first_named, stop_at}
 use Rattle.rl_lowered.specs.Promised.{HasRoom}
 use Rattle.rl_promises.specs.Fields.{places_from}
 
@@ -81,20 +78,13 @@ fresh_place s new x identifier rest given more all moved none bound pushed befor
     ∙ append_assoc given (params.Place (record { identifier = record { 0 = length s.env.identifiers }; span = Some x.declaration }) ∷ []) (places_from (length s.env.identifiers + 1) rest)
     ∙ before
 
-pub unreserved_more : (x : Parameter) (rest : List Parameter) (all : Option Parameter) → is_reserved x.name ≡ false
-    → first_named (λ name. is_reserved name) (x ∷ rest) ≡ all → first_named (λ name. is_reserved name) rest ≡ all
-unreserved_more x rest all free is = sym (ap (λ (b : Bool). if b then Some x else first_named (λ name. is_reserved name) rest) free) ∙ is
-
--- The stop at a parameter whose name is reserved is that of the first such parameter.
-pub stopped_first : {X : Type 0} (r : Result X Stop) (given : Stop) (s : State) (name : List ℕ) (x : Parameter) (rest : List Parameter)
-    (all : Option Parameter)
-    → IsErrAnd r (λ e. e ≡ given) → ((d : Diagnostic) → given ≡ stops.Diagnostic d → IsStopped s name x.symbol.0 (Some x.declaration) d)
-    → name ≡ x.name
-    → first_named (λ name. is_reserved name) (x ∷ rest) ≡ all
-    → IfErr r (λ e. (d : Diagnostic) → e ≡ stops.Diagnostic d → Some d ≡ stop_at row.S1 all None)
-stopped_first (Ok y) given s name x rest all error stopped named first = absurd error
-stopped_first (Err e) given s name x rest all error stopped named first = λ d is.
-    let stop = stopped d (sym error ∙ is) in
-    let reserved : is_reserved x.name ≡ true = ap (λ (n : List ℕ). is_reserved n) (sym named) ∙ stop.word in
-    ap (λ (said : Diagnostic). Some said) (stop.diagnostic ∙ ap (λ (n : List ℕ). diagnostic_at row.S1 n x.declaration) named)
-    ∙ ap (λ (o : Option Parameter). stop_at row.S1 o None) (sym (ap (λ (b : Bool). if b then Some x else first_named (λ name. is_reserved name) rest) reserved) ∙ first)
+-- A name that is not reserved stops nothing: memory alone may run out.
+pub stopped_never : {X : Type 0} (r : Result X Stop) (given : Stop) (s : State) (name : List ℕ) (symbol : ℕ) (span : Option Span)
+    → IsErrAnd r (λ e. e ≡ given) → ((d : Diagnostic) → given ≡ stops.Diagnostic d → IsStopped s name symbol span d)
+    → is_reserved name ≡ false → IfErr r (λ e. e ≡ stops.OutOfMemory)
+stopped_never (Ok x) given s name symbol span error stopped free = absurd error
+stopped_never (Err e) given s name symbol span error stopped free = by_stop given refl
+  where
+    by_stop : (other : Stop) → given ≡ other → e ≡ stops.OutOfMemory
+    by_stop stops.OutOfMemory is = error ∙ is
+    by_stop (stops.Diagnostic d) is = absurd (true≢false (sym (stopped d is).word ∙ free))

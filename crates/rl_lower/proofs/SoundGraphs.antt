@@ -28,7 +28,7 @@ use Rattle.rl_lower.proofs.Builds.{closed_env, closed_fits, closed_size, closed_
 use Rattle.rl_lower.proofs.Closings.{closed_is}
 use Rattle.rl_lower.proofs.FunctionGraphs.{begun_fresh}
 use Rattle.rl_lower.proofs.Functions.{extends_closed}
-use Rattle.rl_lower.proofs.FunctionTrees.{IsFunction, function_parameters}
+use Rattle.rl_lower.proofs.FunctionTrees.{IsFunction, function_parameters, function_symbols}
 use Rattle.rl_lower.proofs.Parameters.{identifier_for, known_from, known_length, pairs_from, span_given, state_with}
 use Rattle.rl_lower.proofs.SoundOrders.{built_table_known, built_terminals_known, built_writable}
 use Rattle.rl_lower.specs.Begun.{FunctionTables, begun_by}
@@ -43,11 +43,12 @@ use Rattle.rl_lowered.specs.Sound.{AreWritableIdentifiers, AreWritablePairs, Has
 use Rattle.rl_lowered.specs.Sound.{IsSmallParameter, IsSmallTree, StaysSound}
 use Rattle.rl_machine.specs.Machine.{Graph}
 use Rattle.rl_model.specs.WellFormed.{AreKnown, HasKnownPlaces, instruction_places, param_place, terminal_places}
-use Rattle.rl_names.specs.Functions.{name_in, parameters_of}
+use Rattle.rl_names.specs.Functions.{name_in, params_in, parameters_of}
 use Rattle.rl_names.specs.Names.{Names}
 use Rattle.rl_names.specs.declared.parameters.Parameter.{Parameter}
 use Rattle.rl_order.specs.Numbering.{orders_of}
 use Rattle.rl_promises.specs.Fields.{places_from}
+use Rattle.rl_promises.specs.Locals.{DeclaresIn}
 use Rattle.rl_runs.specs.Blocks.{size_of}
 use Rattle.rl_runs.specs.Moves.{return_of}
 use Rattle.rl_syntax.specs.Syntax.{Syntax, nodes, span_of}
@@ -232,11 +233,11 @@ function_places parameters body env mid new built i f g more body_is table_is pa
 
 -- The pairs, where there were none before.
 pub function_pairs : (names : Names) (fn body : Syntax) (parameters : List Parameter) (env mid new : Environment) (built : Graph)
-    → parameters ≡ parameters_of names fn → env.pairs ≡ [] → IsSoundGraph parameters body env mid built → new.pairs ≡ mid.pairs
-    → All HasSmallSymbol (parameters_of names fn) → AreWritablePairs new.pairs
-function_pairs names fn body parameters env mid new built are none g same small =
+    → IsFunction fn body → DeclaresIn names (params_in fn) → parameters ≡ parameters_of names fn → env.pairs ≡ []
+    → IsSoundGraph parameters body env mid built → new.pairs ≡ mid.pairs → AreWritablePairs new.pairs
+function_pairs names fn body parameters env mid new built w declares are none g same =
     subst AreWritablePairs (sym same)
-    (g.pairs (subst (λ (l : List Parameter). All HasSmallSymbol l) (sym are) small)
+    (g.pairs (subst (λ (l : List Parameter). All HasSmallSymbol l) (sym are) (function_symbols names fn body w declares))
     (subst AreWritablePairs (sym none) (All-nil (λ (p : Pair). IsWritable (listing.pair p)))))
 
 pub function_listed : (names : Names) (fn tree : Syntax) (parameters : List Parameter) (env mid : Environment) (built : Graph)

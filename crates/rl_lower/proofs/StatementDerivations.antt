@@ -39,6 +39,11 @@ statement_derived {names} tree e s t new is moved by =
 pub empty_told : {names : Names} {at : At} {tree : Syntax} {s : State} → Node at word.Empty End ≡ tree → LowersStatement names tree s s
 empty_told {names} {at} {tree} {s} is = statement_derived tree (Node at word.Empty End) s s s is refl (lowered.Empty at s)
 
+pub debugger_told : {names : Names} {at : At} {tree : Syntax} {s : State} (new : State) → Node at word.Debugger End ≡ tree
+    → new ≡ with_value s values.Debugger (Some at.span) → LowersStatement names tree s new
+debugger_told {names} {at} {tree} {s} new is moved =
+    statement_derived tree (Node at word.Debugger End) s _ new is moved (lowered.Debugger at s)
+
 pub expression_told : {names : Names} {at : At} {tree e : Syntax} {s t : State} {p : Place} → Node at word.Expr (Then e End) ≡ tree
     → LowersExpression names e s t p → LowersStatement names tree s t
 expression_told {names} {at} {tree} {e} {s} {t} {p} is l =

@@ -1,6 +1,9 @@
 pub mod Begun
+pub mod Declarators
 pub mod Endings
 pub mod Groups
+pub mod Keys
+pub mod Members
 pub mod Parameters
 pub mod Scenes
 pub mod Sound

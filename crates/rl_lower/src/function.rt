@@ -1,8 +1,8 @@
 //! Lowering of functions: parameters, bodies and ends.
 
-ghost use Rattle.std.specs.Prelude.{◌≡◌, ◌≢◌, ◌+◌, ◌*◌, ◌≤◌, ◌++◌, map, OnOk, IfOk, IfErr, None, Some, [], All, codes, length};
-ghost use Rattle.std.specs.Option.{option_copied};
-ghost use Rattle.std.specs.Str.{IsUtf8};
+ghost use Rattle.std.specs.Prelude.{◌≡◌, ◌≢◌, ◌+◌, ◌*◌, ◌≤◌, ◌||◌, false, option_map, map, OnOk, IfOk, IfErr, None, Some, [], All, codes, length};
+ghost use Rattle.std.specs.Option.{option_copied, option_or};
+ghost use Rattle.std.specs.Str.{IsUtf8, bytes_eq};
 ghost use Rattle.rl_ast.specs.FunctionNodes.{seen_function, seen_function_node};
 ghost use Rattle.rl_ast.specs.FunctionViews.{seen_arrow, seen_arrow_body};
 ghost use Rattle.rl_base.specs.Reserved.{is_reserved};
@@ -19,28 +19,34 @@ ghost use Rattle.rl_lower.specs.Sound.{IsSoundGraph};
 ghost use Rattle.rl_lowered.specs.Lowered.{LoweredBody};
 ghost use Rattle.rl_lowered.specs.Named.{IsNamed};
 ghost use Rattle.rl_lowered.specs.Promised.{HasRoom, share};
-ghost use Rattle.rl_lowered.specs.Sound.{AreWritableIdentifiers, AreWritablePairs, HasSmallSymbol, IsSmallTree};
+ghost use Rattle.rl_lowered.specs.Sound.{AreWritableIdentifiers, AreWritablePairs, IsSmallTree};
 ghost use Rattle.rl_machine.specs.Closed.{IsClosed};
-ghost use Rattle.rl_promises.specs.Covered.{IsCovered, IsCoveredFunction};
+ghost use Rattle.rl_promises.specs.Covered.{IsCoveredFunction};
 ghost use Rattle.rl_promises.specs.Fields.{AreGiven, ArePairs, directives_in, places_from, texts_in};
 ghost use Rattle.rl_machine.specs.Traces.{World};
 ghost use Rattle.rl_promises.specs.Headline.{NeverStuck, SameRuns};
 ghost use Rattle.rl_promises.specs.HeldNodes.{HoldsNodes};
 ghost use Rattle.rl_model.specs.Scene.{Scene};
 ghost use Rattle.rl_lower.specs.Scenes.{IsSceneOf};
-ghost use Rattle.rl_promises.specs.Rows.{first_named, is_text, refusals_of, stop_at, stop_of};
+ghost use Rattle.rl_promises.specs.Lowerable.{IsLowerable};
+ghost use Rattle.rl_promises.specs.Rows.{Records, refusals_of};
+ghost use Rattle.rl_promises.specs.SeenStops.{seen_stop};
+ghost use Rattle.rl_promises.specs.Spans.{AreSpannedIdentifiers, IsSpanOf, IsSpanned, KnowsSpans};
+ghost use Rattle.rl_promises.specs.Stops.{first_named, first_stop, has_using, stop_of};
 ghost use Rattle.rl_promises.specs.Size.{function_size};
 ghost use Rattle.rl_model.specs.WellFormed.{HasKnownPlaces, IsLinked};
-ghost use Rattle.rl_names.specs.Functions.{async_in, body_in, generator_in, name_in, parameters_of, said_by};
-ghost use Rattle.rl_names.specs.Locals.{AreApart, AreLocals, HasTexts, LocalsAreParameters};
+ghost use Rattle.rl_names.specs.Functions.{async_in, body_in, generator_in, name_in, parameters_of, params_in, said_by};
+ghost use Rattle.rl_names.specs.Locals.{AreApart};
+ghost use Rattle.rl_promises.specs.Locals.{AreLocals, HasLocals, KnowsNames};
 ghost use Rattle.rl_names.specs.Names.{at_of};
 ghost use Rattle.rl_names.specs.Seen.{seen};
 ghost use Rattle.rl_syntax.specs.Syntax.{Absent, nodes, pieces_of, span_of, syntax};
 ghost use Rattle.rl_text.specs.Notation.{IsWritable};
 
-use crate::expression::{lower_expression, lower_value_to_temporary};
+use crate::expression::lower_expression;
 use crate::graph_builder::GraphBuilder;
 use crate::statement::lower_statements;
+use crate::temporary::lower_undefined;
 use rl_ast::binding::binding_identifier_view;
 use rl_ast::function::{Arrow, ArrowBody, arrow_body_view, function_body_view};
 use rl_ast::function_node::{Function, FunctionNode};
@@ -59,11 +65,13 @@ use rl_grammar::sort::{BindingIdentifierTree, TextTrees};
 use rl_hir::blocks::GraphBlocks;
 use rl_hir::environment::Environment;
 use rl_hir::function::{BlockKind, HirFunction, Param};
-use rl_hir::instruction::{InstructionValue, Place, PrimitiveValue};
+use rl_hir::instruction::Place;
 use rl_hir::terminal::{ReturnVariant, Terminal, TerminalKind};
 use rl_names::names::FunctionNames;
 use rl_names::parameters::{Parameter, parameters};
-use rl_syntax::numbered::At;
+use rl_promises::skips::has_using;
+use rl_promises::stops::{ReservedName, first_stop};
+use rl_syntax::numbered::{At, Numbered};
 use rl_syntax::parts::text_of;
 use std::alloc::Global;
 use std::collections::BTreeSet;
@@ -151,7 +159,7 @@ fn own_name(
     }
 }
 
-/// Gives each parameter an identifier, in order. On `Stop::Diagnostic` a parameter's name is reserved.
+/// Gives each parameter an identifier, in order. No name is reserved, so that nothing stops.
 fn lower_parameters<U: ReadsUnit>(
     alloc: Global,
     builder: &mut GraphBuilder<'_, U>,
@@ -159,12 +167,12 @@ fn lower_parameters<U: ReadsUnit>(
 ) -> Result<List<Param>, Stop>
     requires nothing { (state_of U.tables builder.old).bindings ≡ [] }
     requires apart { AreApart parameters.now }
+    requires free { All (λ p. is_reserved p.name ≡ false) parameters.now }
     requires room { HasRoom (state_of U.tables builder.old) (2 * length parameters.now) }
     ensures same_reference { builder.new.env.ghost_name ≡ builder.old.env.ghost_name }
     ensures state { OnOk result (state_of U.tables builder.new ≡ with_parameters (state_of U.tables builder.old) parameters.now) }
     ensures places { IfOk result (λ params. params ≡ places_from (length builder.old.env.now.identifiers) parameters.now) }
-    ensures goes_on { OnOk result (first_named (λ name. is_reserved name) parameters.now ≡ None) }
-    ensures stopped { IfErr result (λ e. (d : Said) → e ≡ Stop.Diagnostic d → Some d ≡ stop_at row.S1 (first_named (λ name. is_reserved name) parameters.now) None) }
+    ensures memory { IfErr result (λ e. e ≡ Stop.OutOfMemory) }
 {
     let mut params = List::with_capacity(alloc, parameters.len())?;
     for parameter in parameters {
@@ -188,7 +196,7 @@ fn lower_body<U: ReadsUnit>(
     body: ArrowBody<'_>,
 ) -> Result<(), Stop>
     requires names { IsNamed (seen names.now) (state_of U.tables builder.old) }
-    requires covered { IsCovered (seen_arrow_body body) }
+    requires may { IsLowerable (seen names.now) (seen_arrow_body body) }
     requires room { HasRoom (state_of U.tables builder.old) (share (nodes (seen_arrow_body body) + 1)) }
     ensures same_reference { builder.new.env.ghost_name ≡ builder.old.env.ghost_name }
     ensures lowered { OnOk result (LoweredBody (seen names.now) (seen_arrow_body body.entry) (state_of U.tables builder.old) (state_of U.tables builder.new)) }
@@ -229,15 +237,15 @@ fn lower_graph<U: ReadsUnit>(
     env: &mut Environment,
 ) -> Result<Graph, Stop>
     requires tables { (U.tables unit).semantic ≡ names.now.resolver.now.semantic.now }
-    requires texts { HasTexts (seen names.now) }
+    requires knows { KnowsNames (seen names.now) }
     requires locals { AreLocals (seen names.now) parameters.now }
     requires apart { AreApart parameters.now }
-    requires covered { IsCovered (seen_arrow_body body) }
+    requires free { All (λ p. is_reserved p.name ≡ false) parameters.now }
+    requires may { IsLowerable (seen names.now) (seen_arrow_body body) }
     requires room { HasRoom (begun_by env.old (function_tables names.now scope (U.tables unit).sites)) (share (nodes (seen_arrow_body body) + 2) + 2 * length parameters.now) }
     ensures graph { IfOk result (λ graph. IsGraphOf (seen names.now) (function_tables names.now scope (U.tables unit).sites) parameters.now (seen_arrow_body body.entry) env.old env.new graph.params (graph_of graph.built)) }
     ensures sound { IfOk result (λ graph. IsSoundGraph parameters.now (seen_arrow_body body.entry) env.old env.new (graph_of graph.built)) }
-    ensures goes_on { OnOk result (first_named (λ name. is_reserved name) parameters.now ≡ None) }
-    ensures stopped { IfErr result (λ e. (d : Said) → e ≡ Stop.Diagnostic d → Some d ≡ stop_at row.S1 (first_named (λ name. is_reserved name) parameters.now) None) }
+    ensures memory { IfErr result (λ e. e ≡ Stop.OutOfMemory) }
 {
     let mut builder = GraphBuilder::<U>::over(
         alloc,
@@ -253,8 +261,7 @@ fn lower_graph<U: ReadsUnit>(
     )?;
     let params = lower_parameters(alloc, &mut builder, parameters)?;
     lower_body(alloc, &mut builder, names, body)?;
-    let undefined = InstructionValue::Primitive(PrimitiveValue::Undefined);
-    let value = lower_value_to_temporary(&mut builder, undefined, None)?;
+    let value = lower_undefined(&mut builder, None)?;
     let end = Terminal {
         order: EvaluationOrder(0),
         span: None,
@@ -295,7 +302,7 @@ fn directives_of(alloc: Global, body: ArrowBody<'_>) -> Result<List<Text>, OutOf
 
 /// The first parameter whose name is `this`.
 fn find_this(parameters: &[Parameter]) -> Option<&Parameter>
-    ensures { option_copied result ≡ first_named (λ name. is_text (codes "this") name) parameters.now }
+    ensures { option_copied result ≡ first_named (λ name. bytes_eq name (codes "this")) parameters.now }
 {
     for parameter in parameters {
         if parameter.name.as_str() == "this" {
@@ -305,29 +312,112 @@ fn find_this(parameters: &[Parameter]) -> Option<&Parameter>
     None
 }
 
-/// Lowers a function (`lower`) that is covered, each node of it: an arrow function or a function declaration with a body, whose
-/// local variables are its parameters. The diagnostics of refused nodes are appended to the environment's; if there is none, the
-/// graph has the function's traces. On `Stop::Diagnostic` a stop row applies to the function, and on `Stop::OutOfMemory` an
-/// allocation failed; of the environment nothing is promised then.
+/// The tree of a body.
+fn body_tree<'b>(body: ArrowBody<'b>) -> &'b Numbered
+    ensures { syntax result.now ≡ seen_arrow_body body.entry }
+{
+    match body {
+        ArrowBody::Expression(expression) => expression.tree,
+        ArrowBody::Body(body) => body.tree,
+    }
+}
+
+/// The tree of a function's parameters.
+fn params_tree<'b>(function: FunctionNode<'b>) -> &'b Numbered
+    ensures { syntax result.now ≡ params_in (seen_function_node function.entry) }
+{
+    match function {
+        FunctionNode::Function(function) => function.params.tree,
+        FunctionNode::Arrow(arrow) => arrow.params.tree,
+    }
+}
+
+/// The first reserved name of a local variable, in the parameters and then in the body.
+fn first_reserved(
+    names: &FunctionNames<'_>,
+    params: &Numbered,
+    body: &Numbered,
+) -> Option<ReservedName>
+    ensures { option_map (seen_stop (seen names.now)) result ≡ option_or (first_stop (seen names.now) (syntax params.now)) (first_stop (seen names.now) (syntax body.now)) }
+{
+    match first_stop(names, params) {
+        Some(reserved) => Some(reserved),
+        None => first_stop(names, body),
+    }
+}
+
+/// Looks for a stop at a reserved name, in the parameters and then in the body. On `Stop::OutOfMemory` an allocation failed.
+fn look_for_reserved(
+    alloc: Global,
+    names: &FunctionNames<'_>,
+    params: &Numbered,
+    body: &Numbered,
+) -> Result<(), Stop>
+    ensures goes_on { OnOk result (option_or (first_stop (seen names.now) (syntax params.now)) (first_stop (seen names.now) (syntax body.now)) ≡ None) }
+    ensures stopped { IfErr result (λ e. (d : Said) → e ≡ Stop.Diagnostic d → option_or (first_stop (seen names.now) (syntax params.now)) (first_stop (seen names.now) (syntax body.now)) ≡ Some d) }
+{
+    match first_reserved(names, params, body) {
+        Some(reserved) => Err(Stop::Diagnostic(reserved.diagnostic(alloc, names)?)),
+        None => Ok(()),
+    }
+}
+
+/// Looks for the stops of a function. On `Stop::OutOfMemory` an allocation failed.
+fn look_for_stops(
+    alloc: Global,
+    names: &FunctionNames<'_>,
+    function: FunctionNode<'_>,
+    parameters: &[Parameter],
+    body: &Numbered,
+) -> Result<(), Stop>
+    requires parameters { parameters.now ≡ parameters_of (seen names.now) (seen_function_node function) }
+    requires body { syntax body.now ≡ body_in (seen_function_node function) }
+    ensures goes_on { OnOk result (stop_of (seen names.now) (seen_function_node function.entry) ≡ None) }
+    ensures stopped { IfErr result (λ e. (d : Said) → e ≡ Stop.Diagnostic d → stop_of (seen names.now) (seen_function_node function.entry) ≡ Some d) }
+{
+    match find_this(parameters) {
+        Some(parameter) => {
+            let word = parameter.name.as_str();
+            let diagnostic = Diagnostic::at(alloc, Row::S2, word, parameter.declaration)?;
+            Err(Stop::Diagnostic(diagnostic))
+        }
+        None => look_for_reserved(alloc, names, params_tree(function), body),
+    }
+}
+
+/// Marks the unit to be skipped, if the body has a declaration by `using`.
+fn mark_using(env: &mut Environment, body: &Numbered)
+    ensures { env.new ≡ record env.old { skip = env.old.skip || has_using (syntax body.now) } }
+{
+    if has_using(body) {
+        env.mark_skip();
+    }
+}
+
+/// Lowers a function (`lower`) that is covered, each node of it, and has a body. The stops are looked for before anything is lowered.
+/// The diagnostics of refused nodes are appended to the environment's; if there is none, the graph has the function's traces. A
+/// declaration by `using` marks the unit to be skipped. On `Stop::Diagnostic` a stop row applies to the function, and on
+/// `Stop::OutOfMemory` an allocation failed; of the environment nothing is promised then.
 pub fn lower(
     alloc: Global,
     function: FunctionNode<'_>,
     names: &FunctionNames<'_>,
     env: &mut Environment,
 ) -> Result<HirFunction<GraphBlocks>, Stop>
-    requires locals { LocalsAreParameters (seen names.now) (seen_function_node function) }
-    requires texts { HasTexts (seen names.now) }
+    requires locals { HasLocals (seen names.now) (seen_function_node function) }
     requires covered { IsCoveredFunction (seen_function_node function) }
     requires body { body_in (seen_function_node function) ≢ Absent }
     requires fresh { env.old.pairs ≡ [] }
+    requires spans { KnowsSpans names.now.resolver.now.semantic.now.bindings.symbols (seen_function_node function) }
     requires room { (tables : FunctionTables) → HasRoom (begun_by env.old tables) (share (nodes (seen_function_node function))) }
     ensures goes_on { OnOk result (stop_of (seen names.now) (seen_function_node function.entry) ≡ None) }
     ensures stopped { IfErr result (λ e. (d : Said) → e ≡ Stop.Diagnostic d → stop_of (seen names.now) (seen_function_node function.entry) ≡ Some d) }
-    ensures refused { OnOk result (env.new.diagnostics ≡ env.old.diagnostics ++ refusals_of (seen names.now) (seen_function_node function.entry)) }
+    ensures refused { OnOk result (Records (refusals_of (seen names.now) (seen_function_node function.entry)) env.old.diagnostics env.new.diagnostics) }
+    ensures skip { OnOk result (env.new.skip ≡ (env.old.skip || has_using (body_in (seen_function_node function.entry)))) }
     ensures closed { IfOk result (λ f. IsClosed f.body) }
-    ensures same_runs { IfOk result (λ f. refusals_of (seen names.now) (seen_function_node function.entry) ≡ [] → (scene : Scene) (world : World) → IsSceneOf (seen names.now) env.new.pairs scene world → SameRuns scene (seen_function_node function.entry) world f env.new.pairs) }
-    ensures never_stuck { IfOk result (λ f. refusals_of (seen names.now) (seen_function_node function.entry) ≡ [] → (scene : Scene) (world : World) → IsSceneOf (seen names.now) env.new.pairs scene world → NeverStuck world f env.new.pairs) }
-    ensures held { IfOk result (λ f. HoldsNodes (seen_function_node function.entry) f) }
+    ensures same_runs { IfOk result (λ f. refusals_of (seen names.now) (seen_function_node function.entry) ≡ [] → has_using (body_in (seen_function_node function.entry)) ≡ false → (scene : Scene) (world : World) → IsSceneOf (seen names.now) env.new.pairs scene world → SameRuns scene (seen_function_node function.entry) world f env.new.pairs) }
+    ensures never_stuck { IfOk result (λ f. refusals_of (seen names.now) (seen_function_node function.entry) ≡ [] → has_using (body_in (seen_function_node function.entry)) ≡ false → (scene : Scene) (world : World) → IsSceneOf (seen names.now) env.new.pairs scene world → NeverStuck world f env.new.pairs) }
+    ensures held { IfOk result (λ f. refusals_of (seen names.now) (seen_function_node function.entry) ≡ [] → HoldsNodes (seen_function_node function.entry) f) }
     ensures numbered { IfOk result (λ f. IsNumbered f.instructions f.body.blocks) }
     ensures linked { IfOk result (λ f. IsLinked f) }
     ensures functions { OnOk result (env.new.functions ≡ env.old.functions) }
@@ -344,23 +434,24 @@ pub fn lower(
     ensures context { IfOk result (λ f. f.context ≡ []) }
     ensures returns { IfOk result (λ f. (f.returns.span ≡ None) × (f.returns.identifier.0 + 1 ≡ length env.new.identifiers)) }
 
-    // The identifiers of pairs are named for their symbols, and each parameter is paired with that of its place.
+    // The identifiers of pairs are named for their symbols, and each parameter is paired with that of its place. The notation has
+    // the pairs.
     ensures pairs { OnOk result (ArePairs (seen names.now) env.new.identifiers env.new.pairs) }
     ensures given { OnOk result (AreGiven env.new.identifiers env.new.pairs (length env.old.identifiers) env.old.next_type (parameters_of (seen names.now) (seen_function_node function.entry))) }
+    ensures paired { OnOk result (AreWritablePairs env.new.pairs) }
 
     // Places name identifiers that were made, and the notation has the listing of what a small function is lowered to.
     ensures places { IfOk result (λ f. HasKnownPlaces (length env.new.identifiers) f) }
     ensures writable { IfOk result (λ f. IsSmallTree (seen_function_node function.entry) → IsWritable (listed_function f)) }
     ensures known { OnOk result (IsSmallTree (seen_function_node function.entry) → AreWritableIdentifiers env.old.identifiers → AreWritableIdentifiers env.new.identifiers) }
-    ensures paired { OnOk result (All HasSmallSymbol (parameters_of (seen names.now) (seen_function_node function.entry)) → AreWritablePairs env.new.pairs) }
+
+    // Each span is that of a node of the function, or absent.
+    ensures spanned { IfOk result (λ f. AreSpannedIdentifiers (IsSpanOf (seen_function_node function.entry)) env.old.identifiers → IsSpanned (seen_function_node function.entry) f env.new.identifiers) }
 {
     let parameters = parameters(alloc, names, function)?;
-    if let Some(parameter) = find_this(parameters.as_slice()) {
-        let word = parameter.name.as_str();
-        let diagnostic = Diagnostic::at(alloc, Row::S2, word, parameter.declaration)?;
-        return Err(Stop::Diagnostic(diagnostic));
-    }
     let parts = parts_of(function);
+    let body = body_tree(parts.body);
+    look_for_stops(alloc, names, function, parameters.as_slice(), body)?;
     let span = Some(parts.at.span);
     let index = IdentifierLocIndex::of(alloc, &function)?;
     let unit = UnitTables {
@@ -377,6 +468,7 @@ pub fn lower(
         env,
     )?;
     let returns = create_temporary_place(env, span)?;
+    mark_using(env, body);
     Ok(HirFunction {
         span,
         name: own_name(alloc, parts.name)?,

@@ -6,13 +6,15 @@ ghost use Rattle.rl_ast.specs.StatementViews.{seen_statement};
 ghost use Rattle.rl_builder.specs.Builder.{state_of};
 ghost use Rattle.rl_lowered.specs.Named.{IsNamed};
 ghost use Rattle.rl_lowered.specs.Promised.{HasRoom, LowersStatement, LowersStatements, share};
-ghost use Rattle.rl_promises.specs.Covered.{AreCovered, IsCovered};
+ghost use Rattle.rl_promises.specs.Lowerable.{AreLowerable, IsLowerable};
 ghost use Rattle.rl_names.specs.Seen.{seen};
 ghost use Rattle.rl_runs.specs.Moves.{returned_from};
 
-use crate::expression::{lower_expression, lower_value_to_temporary};
+use crate::declaration::lower_variables;
+use crate::expression::lower_expression;
 use crate::graph_builder::GraphBuilder;
 use crate::span::span_of;
+use crate::temporary::{lower_undefined, lower_value_to_temporary};
 use rl_ast::statement::{Statement, statement_view};
 use rl_ast::statement_part::block_statement_view;
 use rl_base::ids::EvaluationOrder;
@@ -22,7 +24,7 @@ use rl_builder::unit_tables::ReadsUnit;
 use rl_frames::if_frame::IfFrame;
 use rl_grammar::sort::{ExpressionTree, StatementTree, StatementTrees};
 use rl_hir::function::BlockKind;
-use rl_hir::instruction::{InstructionValue, Place, PrimitiveValue};
+use rl_hir::instruction::{InstructionValue, Place};
 use rl_hir::terminal::{ReturnVariant, Terminal, TerminalKind};
 use rl_names::names::FunctionNames;
 use rl_syntax::numbered::At;
@@ -63,7 +65,7 @@ fn lower_return<U: ReadsUnit>(
     argument: Option<ExpressionTree<'_>>,
 ) -> Result<(), Stop>
     requires names { IsNamed (seen names.now) (state_of U.tables builder.old) }
-    requires covered { IsCovered (seen_statement (Statement.Return at argument)) }
+    requires may { IsLowerable (seen names.now) (seen_statement (Statement.Return at argument)) }
     requires room { HasRoom (state_of U.tables builder.old) (share (nodes (seen_statement (Statement.Return at argument)))) }
     ensures same_reference { builder.new.env.ghost_name ≡ builder.old.env.ghost_name }
     ensures lowered { OnOk result (LowersStatement (seen names.now) (seen_statement (Statement.Return at argument.entry)) (state_of U.tables builder.old) (state_of U.tables builder.new)) }
@@ -75,8 +77,7 @@ fn lower_return<U: ReadsUnit>(
             end_by_return(builder, at.span, value)
         }
         None => {
-            let undefined = InstructionValue::Primitive(PrimitiveValue::Undefined);
-            let value = lower_value_to_temporary(builder, undefined, None)?;
+            let value = lower_undefined(builder, None)?;
             end_by_return(builder, at.span, value)
         }
     }
@@ -93,7 +94,7 @@ fn lower_if_then<U: ReadsUnit>(
     consequent: StatementTree<'_>,
 ) -> Result<(), Stop>
     requires names { IsNamed (seen names.now) (state_of U.tables builder.old) }
-    requires covered { IsCovered (seen_statement (Statement.If at test consequent None)) }
+    requires may { IsLowerable (seen names.now) (seen_statement (Statement.If at test consequent None)) }
     requires room { HasRoom (state_of U.tables builder.old) (share (nodes (seen_statement (Statement.If at test consequent None)))) }
     ensures same_reference { builder.new.env.ghost_name ≡ builder.old.env.ghost_name }
     ensures lowered { OnOk result (LowersStatement (seen names.now) (seen_statement (Statement.If at test.entry consequent.entry None)) (state_of U.tables builder.old) (state_of U.tables builder.new)) }
@@ -119,7 +120,7 @@ fn lower_if_else<U: ReadsUnit>(
     alternate: StatementTree<'_>,
 ) -> Result<(), Stop>
     requires names { IsNamed (seen names.now) (state_of U.tables builder.old) }
-    requires covered { IsCovered (seen_statement (Statement.If at test consequent (Some alternate))) }
+    requires may { IsLowerable (seen names.now) (seen_statement (Statement.If at test consequent (Some alternate))) }
     requires room { HasRoom (state_of U.tables builder.old) (share (nodes (seen_statement (Statement.If at test consequent (Some alternate))))) }
     ensures same_reference { builder.new.env.ghost_name ≡ builder.old.env.ghost_name }
     ensures lowered { OnOk result (LowersStatement (seen names.now) (seen_statement (Statement.If at test.entry consequent.entry (Some alternate.entry))) (state_of U.tables builder.old) (state_of U.tables builder.new)) }
@@ -144,7 +145,7 @@ fn lower_statement<U: ReadsUnit>(
     statement: StatementTree<'_>,
 ) -> Result<(), Stop>
     requires names { IsNamed (seen names.now) (state_of U.tables builder.old) }
-    requires covered { IsCovered (syntax statement.tree.now) }
+    requires may { IsLowerable (seen names.now) (syntax statement.tree.now) }
     requires room { HasRoom (state_of U.tables builder.old) (share (nodes (syntax statement.tree.now))) }
     ensures same_reference { builder.new.env.ghost_name ≡ builder.old.env.ghost_name }
     ensures lowered { OnOk result (LowersStatement (seen names.now) (syntax statement.entry.tree.now) (state_of U.tables builder.old) (state_of U.tables builder.new)) }
@@ -156,6 +157,11 @@ fn lower_statement<U: ReadsUnit>(
             lower_expression(alloc, builder, names, expression)?;
             Ok(())
         }
+        Statement::Debugger { at } => {
+            lower_value_to_temporary(builder, InstructionValue::Debugger, Some(at.span))?;
+            Ok(())
+        }
+        Statement::Variables(declaration) => lower_variables(alloc, builder, names, declaration),
         Statement::Return { at, argument } => lower_return(alloc, builder, names, at, argument),
         Statement::Block(block) => {
             let block = block_statement_view(block);
@@ -185,7 +191,7 @@ pub(crate) fn lower_statements<U: ReadsUnit>(
     statements: StatementTrees<'_>,
 ) -> Result<(), Stop>
     requires names { IsNamed (seen names.now) (state_of U.tables builder.old) }
-    requires covered { AreCovered (pieces_of (map syntax statements.trees.now)) }
+    requires may { AreLowerable (seen names.now) (pieces_of (map syntax statements.trees.now)) }
     requires room { HasRoom (state_of U.tables builder.old) (share (nodes_of (pieces_of (map syntax statements.trees.now)))) }
     ensures same_reference { builder.new.env.ghost_name ≡ builder.old.env.ghost_name }
     ensures lowered { OnOk result (LowersStatements (seen names.now) (pieces_of (map syntax statements.entry.trees.now)) (state_of U.tables builder.old) (state_of U.tables builder.new)) }

@@ -1,9 +1,8 @@
-use Rattle.std.proofs.Common.{◌≡◌, ◌*◌, ◌++◌, All, None, length, drop}
+use Rattle.std.proofs.Common.{◌≡◌, ◌*◌, ◌++◌, All, None, false, length, drop}
 use Rattle.rl_base.specs.Reserved.{is_reserved}
 use Rattle.rl_hir.specs.Pairs.{identifier_of}
 use Rattle.rl_builder.specs.Builder.{state_of}
 use Rattle.rl_promises.specs.Fields.{places_from}
-use Rattle.rl_promises.specs.Rows.{first_named}
 use Rattle.rl_names.specs.Locals.{AreApart}
 use Rattle.rl_lowered.specs.Promised.{HasRoom}
 use Rattle.rl_lower.specs.Parameters.{with_parameters}
@@ -21,6 +20,5 @@ invariant-loop-parameter g l = record {
   unbound : All (λ p. identifier_of (state_of g.U.ReadsUnit.tables l.builder).bindings p.symbol.0 ≡ None)
       (drop l.parameter-index l.parameters);
   apart : AreApart (drop l.parameter-index l.parameters);
-  names : first_named (λ name. is_reserved name) (drop l.parameter-index l.parameters)
-      ≡ first_named (λ name. is_reserved name) l.parameters;
+  free : All (λ p. is_reserved p.name ≡ false) (drop l.parameter-index l.parameters);
 }

@@ -4,16 +4,22 @@ use Rattle.rl_frames.specs.Frames.{if_of}
 use Rattle.rl_lowered.proofs.Told.{told_statements}
 use Rattle.rl_lowered.specs.Promised.{HasRoom, share}
 use Rattle.rl_names.specs.Seen.{seen}
-use Rattle.rl_promises.specs.Covered.{AreCovered}
+use Rattle.rl_promises.specs.Lowerable.{AreLowerable}
 use Rattle.rl_syntax.specs.Syntax.{Syntax, Pieces, Then, nodes, nodes_of, pieces_of, syntax}
 use Rattle.rl_lower.proofs.Derivations.{room_after}
-use Rattle.rl_lower.proofs.StatementDerivations.{block_ok, empty_told, expression_told, if_alternate_named, if_alternate_room}
-use Rattle.rl_lower.proofs.StatementDerivations.{if_begun_named, if_begun_room, if_consequent_named, if_consequent_room, if_else_told}
+use Rattle.rl_lower.proofs.StatementDerivations.{block_ok, debugger_told, empty_told, expression_told}
+use Rattle.rl_lower.proofs.StatementDerivations.{if_alternate_named, if_alternate_room, if_begun_named, if_begun_room}
+use Rattle.rl_lower.proofs.StatementDerivations.{if_consequent_named, if_consequent_room, if_else_told}
 use Rattle.rl_lower.proofs.StatementDerivations.{if_second_room, if_then_told, if_third_room, statements_done, statements_next}
 use Rattle.rl_lower.proofs.statement.+statements.Goals as goal
 
 pub lower_statement-returns-in-Empty-clause-lowered : goal.lower_statement-returns-in-Empty-clause-lowered
 lower_statement-returns-in-Empty-clause-lowered g t c = empty_told c.in-Empty.ensures
+
+pub lower_statement-returns-in_ok-lower_value_to_temporary-in-Debugger-clause-lowered :
+    goal.lower_statement-returns-in_ok-lower_value_to_temporary-in-Debugger-clause-lowered
+lower_statement-returns-in_ok-lower_value_to_temporary-in-Debugger-clause-lowered g t c =
+    debugger_told _ c.in-Debugger.ensures c.in_ok-lower_value_to_temporary-in-Debugger.ensures.state
 
 pub lower_statement-returns-in_ok-lower_expression-in-Expression-clause-lowered :
     goal.lower_statement-returns-in_ok-lower_expression-in-Expression-clause-lowered
@@ -41,7 +47,7 @@ lower_statements-statements-preserved g t c =
     record {
       same_reference = c.in_ok-lower_statement.ensures.same_reference ∙ loop.same_reference;
       names = lowered.named loop.names;
-      covered = (subst AreCovered split loop.covered).1;
+      may = (subst (AreLowerable (seen c.args.names.now)) split loop.may).1;
       room = room_after now later (share (nodes first)) (share (nodes_of rest)) (share (nodes_of left)) lowered.size
           (omega (arith, counted)) loop.room;
       fewer = omega (arith, counted, loop.fewer);
@@ -65,7 +71,7 @@ lower_if_then-lower_statement-requires g t c =
         (
           if_begun_named s b c.in_ok-frame.ensures.state c.requires.names,
           (
-            c.requires.covered.1.1.0,
+            c.requires.may.1.1.0,
             if_begun_room s b (share consequent)
                 (share ((nodes (syntax c.args.test.tree.now)) + (consequent + (0 + 0)) + 1)) c.in_ok-frame.ensures.state (omega arith)
                 c.requires.room,
@@ -115,7 +121,7 @@ lower_if_else-lower_statement-requires g t c =
         (
           if_begun_named s b c.in_ok-frame.ensures.state c.requires.names,
           (
-            c.requires.covered.1.1.0,
+            c.requires.may.1.1.0,
             if_begun_room s b (share consequent)
                 (share ((nodes (syntax c.args.test.tree.now)) + (consequent + ((nodes (syntax c.args.alternate.tree.now)) + 0)) + 1))
                 c.in_ok-frame.ensures.state (omega arith) c.requires.room,
@@ -144,9 +150,9 @@ lower_if_else-lower_statement-requires-2 g t c =
               c.in_ok-consequent.ensures.state
               (c.in_ok-lower_statement.ensures.lowered.named (if_begun_named s b c.in_ok-frame.ensures.state c.requires.names)),
           (
-            c.requires.covered.1.1.1.0,
-            if_consequent_room (if_of c.in_ok-frame.frame) s2 b2 c.span_of.result (share alternate) (share (alternate + 0) + (share test + 62))
-                c.in_ok-consequent.ensures.state (omega arith) second,
+            c.requires.may.1.1.1.0,
+            if_consequent_room (if_of c.in_ok-frame.frame) s2 b2 c.span_of.result (share alternate)
+                (share (alternate + 0) + (share test + 62)) c.in_ok-consequent.ensures.state (omega arith) second,
           ),
         ),
       ),

@@ -6,7 +6,7 @@ use Rattle.rl_lowered.specs.Lowered.{LoweredStatements}
 use Rattle.rl_lowered.specs.Named.{IsNamed}
 use Rattle.rl_lowered.specs.Promised.{HasRoom, share}
 use Rattle.rl_names.specs.Seen.{seen}
-use Rattle.rl_promises.specs.Covered.{AreCovered}
+use Rattle.rl_promises.specs.Lowerable.{AreLowerable}
 use Rattle.rl_syntax.specs.Sizes.{size_of}
 use Rattle.rl_syntax.specs.Syntax.{Pieces, nodes, nodes_of, pieces_of, syntax}
 use Rattle.rl_syntax.specs.declared.numbered.Numbered.{Numbered}
@@ -37,7 +37,7 @@ abbrev pub invariant-lower_statements-statements : goal.invariant-lower_statemen
 invariant-lower_statements-statements g l = record {
   same_reference : l.builder.env.ghost_name ≡ l.initial.builder.env.ghost_name;
   names : IsNamed (seen l.names) (state_of g.U.ReadsUnit.tables l.builder);
-  covered : AreCovered (shown l.left.trees.now);
+  may : AreLowerable (seen l.names) (shown l.left.trees.now);
   room : HasRoom (state_of g.U.ReadsUnit.tables l.builder) (share (nodes_of (shown l.left.trees.now)));
   fewer : nodes_of (shown l.left.trees.now) ≤ nodes_of (shown l.statements.trees.now);
   lowers : (new : State)

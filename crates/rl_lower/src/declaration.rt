@@ -1,0 +1,220 @@
+//! Lowering of declarations of variables.
+
+ghost use Rattle.std.specs.Prelude.{◌≡◌, ◌+◌, map, OnOk, IfOk, IfErr};
+ghost use Rattle.rl_syntax.specs.Syntax.{Node, Absent, Then, End, nodes, nodes_of, pieces_of, syntax};
+ghost use Rattle.rl_ast.specs.BindingViews.{seen_binding_identifier};
+ghost use Rattle.rl_syntax.specs.declared.numbered.At.{At};
+ghost use Rattle.rl_builder.specs.Builder.{state_of};
+ghost use Rattle.rl_lower.specs.Declarators.{IsDeclared, LowersDeclarator};
+ghost use Rattle.rl_lowered.specs.Lowered.{LoweredDeclarators, declaring, kind_of};
+ghost use Rattle.rl_lowered.specs.Named.{IsNamed};
+ghost use Rattle.rl_lowered.specs.Promised.{HasRoom, LowersStatement, share};
+ghost use Rattle.rl_promises.specs.Lowerable.{AreLowerable, DeclaresFree, IsLowerable};
+ghost use Rattle.rl_names.specs.Seen.{seen};
+
+use crate::expression::lower_expression;
+use crate::graph_builder::GraphBuilder;
+use crate::name::resolve_variable;
+use crate::temporary::{lower_value_to_temporary, refuse};
+use rl_ast::binding::{
+    BindingIdentifier, BindingPattern, binding_identifier_view, binding_pattern_view,
+};
+use rl_ast::statement_part::{variable_declaration_view, variable_declarator_view};
+use rl_base::error::OutOfMemory;
+use rl_base::ids::IdentifierId;
+use rl_base::row::Row;
+use rl_base::span::Span;
+use rl_base::stop::Stop;
+use rl_base::variable_kind::VariableKind;
+use rl_builder::unit_tables::ReadsUnit;
+use rl_grammar::sort::{
+    ExpressionTree, VariableDeclarationTree, VariableDeclaratorTree, VariableDeclaratorTrees,
+};
+use rl_hir::instruction::{InstructionKind, InstructionValue, Place};
+use rl_names::names::FunctionNames;
+use rl_syntax::word::Word;
+use std::alloc::Global;
+
+/// Records row F39 of a declaration by `var`.
+fn note_keyword<U: ReadsUnit>(
+    alloc: Global,
+    builder: &mut GraphBuilder<'_, U>,
+    kind: VariableKind,
+    span: Span,
+) -> Result<(), OutOfMemory>
+    ensures same_reference { builder.new.env.ghost_name ≡ builder.old.env.ghost_name }
+    ensures state { OnOk result (state_of U.tables builder.new ≡ declaring (state_of U.tables builder.old) kind span) }
+{
+    match kind {
+        VariableKind::Var => refuse(alloc, builder, Row::F39, span),
+        VariableKind::Let => Ok(()),
+        VariableKind::Const => Ok(()),
+        VariableKind::Using => Ok(()),
+        VariableKind::AwaitUsing => Ok(()),
+    }
+}
+
+/// The kind of the variables of a declaration.
+fn kind_of(kind: VariableKind) -> InstructionKind
+    ensures { result ≡ kind_of kind }
+{
+    match kind {
+        VariableKind::Var => InstructionKind::Let,
+        VariableKind::Let => InstructionKind::Let,
+        VariableKind::Const => InstructionKind::Const,
+        VariableKind::Using => InstructionKind::Const,
+        VariableKind::AwaitUsing => InstructionKind::Const,
+    }
+}
+
+/// The identifier of a variable that is declared.
+fn resolve_declared<U: ReadsUnit>(
+    builder: &mut GraphBuilder<'_, U>,
+    names: &FunctionNames<'_>,
+    bind: &BindingIdentifier<'_>,
+) -> Result<IdentifierId, Stop>
+    requires names { IsNamed (seen names.now) (state_of U.tables builder.old) }
+    requires free { DeclaresFree (seen names.now) ((seen names.now).declared bind.now.at.id.0) }
+    requires room { HasRoom (state_of U.tables builder.old) 2 }
+    ensures same_reference { builder.new.env.ghost_name ≡ builder.old.env.ghost_name }
+    ensures found { IfOk result (λ identifier. IsDeclared (seen names.now) bind.now.at (state_of U.tables builder.old) (state_of U.tables builder.new) identifier.0) }
+    ensures memory { IfErr result (λ e. e ≡ Stop.OutOfMemory) }
+{
+    let Some(symbol) = names.declared(bind) else {
+        unreachable!();
+    };
+    resolve_variable(builder, names, symbol, bind.at.span)
+}
+
+/// Lowers a declarator without an initializer: a declaration.
+fn lower_declared<U: ReadsUnit>(
+    builder: &mut GraphBuilder<'_, U>,
+    names: &FunctionNames<'_>,
+    kind: InstructionKind,
+    bind: &BindingIdentifier<'_>,
+) -> Result<(), Stop>
+    requires names { IsNamed (seen names.now) (state_of U.tables builder.old) }
+    requires free { DeclaresFree (seen names.now) ((seen names.now).declared bind.now.at.id.0) }
+    requires room { HasRoom (state_of U.tables builder.old) 6 }
+    ensures same_reference { builder.new.env.ghost_name ≡ builder.old.env.ghost_name }
+    ensures lowered { OnOk result ((at : Span) (there : At) → LowersDeclarator (seen names.now) at kind (Node there Word.Declarator (Then (seen_binding_identifier bind.now) (Then Absent End))) (state_of U.tables builder.old) (state_of U.tables builder.new)) }
+    ensures memory { IfErr result (λ e. e ≡ Stop.OutOfMemory) }
+{
+    let identifier = resolve_declared(builder, names, bind)?;
+    let span = Some(bind.at.span);
+    let value = InstructionValue::DeclareLocal {
+        kind,
+        place: Place { identifier, span },
+    };
+    lower_value_to_temporary(builder, value, span)?;
+    Ok(())
+}
+
+/// Lowers a declarator with an initializer, in a declaration with the span: a store of its value.
+fn lower_initialized<U: ReadsUnit>(
+    alloc: Global,
+    builder: &mut GraphBuilder<'_, U>,
+    names: &FunctionNames<'_>,
+    span: Span,
+    kind: InstructionKind,
+    bind: &BindingIdentifier<'_>,
+    init: ExpressionTree<'_>,
+) -> Result<(), Stop>
+    requires names { IsNamed (seen names.now) (state_of U.tables builder.old) }
+    requires free { DeclaresFree (seen names.now) ((seen names.now).declared bind.now.at.id.0) }
+    requires may { IsLowerable (seen names.now) (syntax init.tree.now) }
+    requires room { HasRoom (state_of U.tables builder.old) (share (nodes (syntax init.tree.now)) + 6) }
+    ensures same_reference { builder.new.env.ghost_name ≡ builder.old.env.ghost_name }
+    ensures lowered { OnOk result ((there : At) → LowersDeclarator (seen names.now) span kind (Node there Word.Declarator (Then (seen_binding_identifier bind.now) (Then (syntax init.entry.tree.now) End))) (state_of U.tables builder.old) (state_of U.tables builder.new)) }
+    ensures memory { IfErr result (λ e. e ≡ Stop.OutOfMemory) }
+{
+    let value = lower_expression(alloc, builder, names, init)?;
+    let identifier = resolve_declared(builder, names, bind)?;
+    let place = Place {
+        identifier,
+        span: Some(span),
+    };
+    let value = InstructionValue::StoreLocal { kind, place, value };
+    lower_value_to_temporary(builder, value, Some(span))?;
+    Ok(())
+}
+
+/// Lowers a declarator of a variable, in a declaration with the span.
+fn lower_declarator<U: ReadsUnit>(
+    alloc: Global,
+    builder: &mut GraphBuilder<'_, U>,
+    names: &FunctionNames<'_>,
+    span: Span,
+    kind: InstructionKind,
+    declarator: VariableDeclaratorTree<'_>,
+) -> Result<(), Stop>
+    requires names { IsNamed (seen names.now) (state_of U.tables builder.old) }
+    requires may { IsLowerable (seen names.now) (syntax declarator.tree.now) }
+    requires room { HasRoom (state_of U.tables builder.old) (share (nodes (syntax declarator.tree.now))) }
+    ensures same_reference { builder.new.env.ghost_name ≡ builder.old.env.ghost_name }
+    ensures lowered { OnOk result (LowersDeclarator (seen names.now) span kind (syntax declarator.entry.tree.now) (state_of U.tables builder.old) (state_of U.tables builder.new)) }
+    ensures memory { IfErr result (λ e. e ≡ Stop.OutOfMemory) }
+{
+    let declarator = variable_declarator_view(declarator);
+    match binding_pattern_view(declarator.pattern) {
+        BindingPattern::Identifier(bind) => {
+            let bind = binding_identifier_view(bind);
+            match declarator.init {
+                Some(init) => lower_initialized(alloc, builder, names, span, kind, &bind, init),
+                None => lower_declared(builder, names, kind, &bind),
+            }
+        }
+        BindingPattern::Array { .. } => unreachable!(),
+        BindingPattern::Object { .. } => unreachable!(),
+    }
+}
+
+/// Lowers the declarators of a declaration with the span, in order.
+fn lower_declarators<U: ReadsUnit>(
+    alloc: Global,
+    builder: &mut GraphBuilder<'_, U>,
+    names: &FunctionNames<'_>,
+    span: Span,
+    kind: InstructionKind,
+    declarators: VariableDeclaratorTrees<'_>,
+) -> Result<(), Stop>
+    requires names { IsNamed (seen names.now) (state_of U.tables builder.old) }
+    requires may { AreLowerable (seen names.now) (pieces_of (map syntax declarators.trees.now)) }
+    requires room { HasRoom (state_of U.tables builder.old) (share (nodes_of (pieces_of (map syntax declarators.trees.now)))) }
+    ensures same_reference { builder.new.env.ghost_name ≡ builder.old.env.ghost_name }
+    ensures lowered { OnOk result (LoweredDeclarators (seen names.now) span kind (pieces_of (map syntax declarators.entry.trees.now)) (state_of U.tables builder.old) (state_of U.tables builder.new)) }
+    ensures memory { IfErr result (λ e. e ≡ Stop.OutOfMemory) }
+{
+    let mut left = declarators;
+    'declarators: while let Some((declarator, rest)) = left.split_first() {
+        lower_declarator(alloc, builder, names, span, kind, declarator)?;
+        left = rest;
+    }
+    Ok(())
+}
+
+/// Lowers a declaration of variables.
+pub(crate) fn lower_variables<U: ReadsUnit>(
+    alloc: Global,
+    builder: &mut GraphBuilder<'_, U>,
+    names: &FunctionNames<'_>,
+    declaration: VariableDeclarationTree<'_>,
+) -> Result<(), Stop>
+    requires names { IsNamed (seen names.now) (state_of U.tables builder.old) }
+    requires may { IsLowerable (seen names.now) (syntax declaration.tree.now) }
+    requires room { HasRoom (state_of U.tables builder.old) (share (nodes (syntax declaration.tree.now))) }
+    ensures same_reference { builder.new.env.ghost_name ≡ builder.old.env.ghost_name }
+    ensures lowered { OnOk result (LowersStatement (seen names.now) (syntax declaration.entry.tree.now) (state_of U.tables builder.old) (state_of U.tables builder.new)) }
+    ensures memory { IfErr result (λ e. e ≡ Stop.OutOfMemory) }
+{
+    let declaration = variable_declaration_view(declaration);
+    note_keyword(alloc, builder, declaration.kind, declaration.at.span)?;
+    lower_declarators(
+        alloc,
+        builder,
+        names,
+        declaration.at.span,
+        kind_of(declaration.kind),
+        declaration.declarators,
+    )
+}
