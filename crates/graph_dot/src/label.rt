@@ -3,7 +3,8 @@
 use rl_base::closed_text::ClosedText;
 use rl_base::error::OutOfMemory;
 use rl_hir::instruction::{
-    Instruction, InstructionValue, NonLocalBinding, PlaceOrSpread, PrimitiveValue,
+    ArrayElement, HirType, Instruction, InstructionValue, NonLocalBinding, ObjectProperty, Place,
+    PlaceOrSpread, PrimitiveValue, PropertyLiteral, TemplateLiteral,
 };
 use rl_hir::terminal::{Terminal, TerminalKind, each_terminal_successor};
 use rl_text::written::Written;
@@ -123,7 +124,7 @@ fn push_value(
     }
 }
 
-/// As `push_value`, for constructions, operators before a value, properties and stores.
+/// As `push_value`, for constructions, operators before a value, stores and declarations.
 fn push_operation(
     alloc: Global,
     value: &InstructionValue,
@@ -134,6 +135,11 @@ fn push_operation(
             let place = place.identifier.0;
             let value = value.identifier.0;
             write!(line, "${place} := ${value}")?;
+            Ok(())
+        }
+        InstructionValue::DeclareLocal { place, .. } => {
+            let place = place.identifier.0;
+            write!(line, "declare ${place}")?;
             Ok(())
         }
         InstructionValue::UnaryExpression { operator, value } => {
@@ -152,14 +158,225 @@ fn push_operation(
             write!(line, "new ${callee}")?;
             push_arguments(arguments.as_slice(), line)
         }
-        InstructionValue::ComputedLoad { object, property } => {
-            let object = object.identifier.0;
-            let property = property.identifier.0;
-            write!(line, "${object}[${property}]")?;
+        other => push_member(alloc, other, line),
+    }
+}
+
+/// As `push_value`, for what is done with a property, and for an update: `$PLACE := ++$VALUE` or `$PLACE := $VALUE++`.
+fn push_member(
+    alloc: Global,
+    value: &InstructionValue,
+    line: &mut String,
+) -> Result<(), OutOfMemory> {
+    match value {
+        InstructionValue::PropertyLoad { object, property } => push_property(
+            object,
+            property.get(),
+            line,
+        ),
+        InstructionValue::PropertyStore {
+            object,
+            property,
+            value,
+        } => {
+            push_property(object, property.get(), line)?;
+            push_stored(value, line)
+        }
+        InstructionValue::PropertyDelete { object, property } => {
+            line.push_str("delete ")?;
+            push_property(object, property.get(), line)
+        }
+        InstructionValue::ComputedLoad { object, property } => push_item(object, property, line),
+        InstructionValue::ComputedStore(store) => {
+            let store = store.get();
+            push_item(&store.object, &store.property, line)?;
+            push_stored(&store.value, line)
+        }
+        InstructionValue::ComputedDelete { object, property } => {
+            line.push_str("delete ")?;
+            push_item(object, property, line)
+        }
+        InstructionValue::MethodCall(call) => {
+            let call = call.get();
+            let receiver = call.receiver.identifier.0;
+            let property = call.property.identifier.0;
+            write!(line, "${receiver}.${property}")?;
+            push_arguments(call.arguments.as_slice(), line)
+        }
+        InstructionValue::PrefixUpdate {
+            operator,
+            place,
+            value,
+        } => {
+            let operator = operator.as_str();
+            let place = place.identifier.0;
+            let value = value.identifier.0;
+            write!(line, "${place} := {operator}${value}")?;
+            Ok(())
+        }
+        InstructionValue::PostfixUpdate {
+            operator,
+            place,
+            value,
+        } => {
+            let operator = operator.as_str();
+            let place = place.identifier.0;
+            let value = value.identifier.0;
+            write!(line, "${place} := ${value}{operator}")?;
+            Ok(())
+        }
+        other => push_literal(alloc, other, line),
+    }
+}
+
+/// As `push_value`, for literals that have parts, and for operations without operands.
+fn push_literal(
+    alloc: Global,
+    value: &InstructionValue,
+    line: &mut String,
+) -> Result<(), OutOfMemory> {
+    match value {
+        InstructionValue::ArrayExpression(elements) => push_elements(elements.as_slice(), line),
+        InstructionValue::ObjectExpression(properties) => push_properties(
+            properties.as_slice(),
+            line,
+        ),
+        InstructionValue::TemplateLiteral(template) => push_template(template.get(), line),
+        InstructionValue::TaggedTemplateExpression { tag, template } => {
+            let tag = tag.identifier.0;
+            write!(line, "${tag}")?;
+            push_template(template.get(), line)
+        }
+        InstructionValue::RegExpLiteral(literal) => {
+            let literal = literal.get();
+            let pattern = literal.pattern.as_str();
+            let flags = literal.flags.as_str();
+            write!(line, "/{pattern}/{flags}")?;
+            Ok(())
+        }
+        InstructionValue::TypeCastExpression { value, cast, .. } => {
+            let value = value.identifier.0;
+            write!(line, "${value} as ")?;
+            push_type(*cast, line)
+        }
+        InstructionValue::MetaProperty => {
+            line.push_str("import.meta")?;
+            Ok(())
+        }
+        InstructionValue::Debugger => {
+            line.push_str("debugger")?;
             Ok(())
         }
         listed => push_listed(alloc, listed, line),
     }
+}
+
+/// Appends `$OBJECT."NAME"` or `$OBJECT[NUMBER]`.
+fn push_property(
+    object: &Place,
+    property: &PropertyLiteral,
+    line: &mut String,
+) -> Result<(), OutOfMemory> {
+    let object = object.identifier.0;
+    write!(line, "${object}")?;
+    match property {
+        PropertyLiteral::String(name) => {
+            line.push('.')?;
+            push_text(name.as_str(), line)
+        }
+        PropertyLiteral::Number(number) => {
+            let number = number.get();
+            write!(line, "[{number}]")?;
+            Ok(())
+        }
+    }
+}
+
+/// Appends `$OBJECT[$PROPERTY]`.
+fn push_item(object: &Place, property: &Place, line: &mut String) -> Result<(), OutOfMemory> {
+    let object = object.identifier.0;
+    let property = property.identifier.0;
+    write!(line, "${object}[${property}]")?;
+    Ok(())
+}
+
+/// Appends ` := $VALUE`.
+fn push_stored(value: &Place, line: &mut String) -> Result<(), OutOfMemory> {
+    let value = value.identifier.0;
+    write!(line, " := ${value}")?;
+    Ok(())
+}
+
+/// Appends `[$ID, ...$ID, -]`, with dots before an item that is spread, and a dash for a hole.
+fn push_elements(elements: &[ArrayElement], line: &mut String) -> Result<(), OutOfMemory> {
+    let mut before = "";
+    line.push('[')?;
+    for element in elements {
+        line.push_str(before)?;
+        before = ", ";
+        match element {
+            ArrayElement::Place(item) => push_place("", item, line)?,
+            ArrayElement::Spread(items) => push_place("...", items, line)?,
+            ArrayElement::Hole => line.push('-')?,
+        }
+    }
+    line.push(']')?;
+    Ok(())
+}
+
+/// Appends `{"NAME": $ID, [$ID]: $ID, ...$ID}`.
+fn push_properties(properties: &[ObjectProperty], line: &mut String) -> Result<(), OutOfMemory> {
+    let mut before = "";
+    line.push('{')?;
+    for property in properties {
+        line.push_str(before)?;
+        before = ", ";
+        match property {
+            ObjectProperty::Property { key, place } => {
+                push_text(key.as_str(), line)?;
+                push_place(": ", place, line)?;
+            }
+            ObjectProperty::Computed { key, place } => {
+                push_place("[", key, line)?;
+                push_place("]: ", place, line)?;
+            }
+            ObjectProperty::Spread(object) => push_place("...", object, line)?,
+        }
+    }
+    line.push('}')?;
+    Ok(())
+}
+
+/// Appends the texts of a template as the source writes them, each but the last with `${$ID}` behind it, between backticks.
+fn push_template(template: &TemplateLiteral, line: &mut String) -> Result<(), OutOfMemory> {
+    let mut values = template.subexpressions.as_slice().iter();
+    line.push('`')?;
+    for quasi in template.quasis.as_slice() {
+        line.push_str(quasi.raw.as_str())?;
+        if let Some(value) = values.next() {
+            push_place("${", value, line)?;
+            line.push('}')?;
+        }
+    }
+    line.push('`')?;
+    Ok(())
+}
+
+/// Appends a type that is asserted: `primitive`, `array`, or the number of a type variable.
+fn push_type(cast: HirType, line: &mut String) -> Result<(), OutOfMemory> {
+    match cast {
+        HirType::Var(variable) => write!(line, "type {}", variable.0)?,
+        HirType::Primitive => line.push_str("primitive")?,
+        HirType::Array => line.push_str("array")?,
+    }
+    Ok(())
+}
+
+/// Appends a text and, behind it, `$ID`.
+fn push_place(before: &str, place: &Place, line: &mut String) -> Result<(), OutOfMemory> {
+    let identifier = place.identifier.0;
+    write!(line, "{before}${identifier}")?;
+    Ok(())
 }
 
 /// Appends the listing of a value.

@@ -1,5 +1,5 @@
 -- The bytes that were read, and the answer to them, if the bytes that were left need not be known.
-use Rattle.std.proofs.Common.{◌≡◌, ◌≢◌, inl, inr, ℕ, ◌++◌, ◌≤◌, ◌<◌, min, List, Option, Some, None, IfSome, length, length-take, take, refl, ap, sym, subst, ◌∙◌, arith}
+use Rattle.std.proofs.Common.{◌≡◌, ◌≢◌, inl, inr, ℕ, true, true≢false, [], ◌++◌, ◌≤◌, ◌<◌, min, List, Option, Some, None, IfSome, length, length-take, take, refl, ap, sym, subst, ◌∙◌, arith}
 use Rattle.std.proofs.lemmas.Bool.{cases_lt}
 use Rattle.std.proofs.lemmas.List.{take_all}
 use Rattle.std.specs.Io.KnownBytes.{Consumes}
@@ -11,10 +11,15 @@ use Rattle.rl_ast.specs.Units.{Spells}
 use Rattle.rl_ast.proofs.Units.{one_unit}
 use Rattle.rl_hir.specs.declared.function.Lowered.{Lowered}
 use Rattle.rl_promises.specs.Headline.{LowersTo}
-use Rattle.rl_promises.specs.Rows.{refusals_of, stop_of}
+use Rattle.rl_promises.specs.Rows.{IsTold, Nothing, refusals_of}
+use Rattle.rl_promises.specs.Stops.{has_using, stop_of}
 use Rattle.rl_model.specs.Marked.{marked}
 use Rattle.rl_model.specs.Units.{names_of}
-use Rattle.rl_unit.specs.Answers.{AnswersSteadily, Explains, IsAnswer, IsOutput, IsComplete, IsMalformed, IsPending, IsRefused, IsReportOf, IsStopped, WritesKnown, ReadsWhole, Refuses, RefusesKnown, lines, output, pending_line, report_of}
+use Rattle.rl_names.specs.Functions.{body_in}
+use Rattle.rl_promises.specs.Covered.{pending}
+use Rattle.rl_semantic.specs.Rules.{least_broken}
+use Rattle.rl_unit.specs.Answers.{AnswersSteadily, Explains, IsAnswer, IsOutput, IsComplete, IsMalformed, IsPending, IsRefused, IsReportOf, IsRowReport, IsRowText, IsSkipped, IsStopped, WritesKnown, ReadsWhole, Refuses, RefusesKnown, lines, output, pending_line, skipped_line}
+use Rattle.rl_unit.specs.Answers.{StopText, RefusalsText, SkipText}
 use Rattle.rl_unit.specs.declared.run.Status.{Status}
 use Rattle.rl_unit.specs.declared.run.Status.TheVariants.{Done, Reported, Malformed, TooLarge, ReadFault, WriteFault, OutOfMemory, Usage}
 
@@ -50,6 +55,46 @@ pub record Writes (bytes : List ℕ) (status : Status) (text : List ℕ) : Type 
 never_both : (o : Option Diagnostic) (d : Diagnostic) → o ≡ Some d → o ≡ None → ⊥
 never_both o d some none = absurd (cc)
 
+-- Of no refusals none is told.
+told_none : (told : List Diagnostic) → IsTold [] told → told ≡ []
+told_none told Nothing = refl
+
+-- The causes of a report on rows, of a unit that keeps the rules and whose marked function is covered.
+module _ (u : Syntax) (rules : least_broken u ≡ None) (covered : pending u ≡ None) where
+  pub stop_row : (said : Diagnostic) → stop_of (names_of u) (marked u) ≡ Some said → IsRowReport u (line_of said)
+  stop_row said stops = record {
+    row = record {
+      rules = rules;
+      covered = covered;
+      unsupported = λ supported. never_both (stop_of (names_of u) (marked u)) said stops supported.goes_on;
+    };
+    written = subst (λ (o : Option Diagnostic). IsRowText o (refusals_of (names_of u) (marked u)) (line_of said)) (sym stops) (StopText said);
+  }
+
+  pub refusals_row : (said : List Diagnostic) → stop_of (names_of u) (marked u) ≡ None
+      → IsTold (refusals_of (names_of u) (marked u)) said → said ≢ [] → IsRowReport u (lines said)
+  refusals_row said goes_on told some = record {
+    row = record {
+      rules = rules;
+      covered = covered;
+      unsupported = λ supported. some (told_none said (subst (λ (l : List Diagnostic). IsTold l said) supported.accepted told));
+    };
+    written = subst (λ (o : Option Diagnostic). IsRowText o (refusals_of (names_of u) (marked u)) (lines said)) (sym goes_on)
+        (RefusalsText said told some);
+  }
+
+  pub skip_row : stop_of (names_of u) (marked u) ≡ None → refusals_of (names_of u) (marked u) ≡ []
+      → has_using (body_in (marked u)) ≡ true → IsRowReport u skipped_line
+  skip_row goes_on accepted skips = record {
+    row = record {
+      rules = rules;
+      covered = covered;
+      unsupported = λ supported. true≢false (sym skips ∙ supported.unskipped);
+    };
+    written = subst (λ (o : Option Diagnostic). IsRowText o (refusals_of (names_of u) (marked u)) skipped_line) (sym goes_on)
+        (subst (λ (l : List Diagnostic). IsRowText None l skipped_line) (sym accepted) SkipText);
+  }
+
 -- A result, a stop, a report and the line of a pending node are outputs.
 pub writes_result : (bytes : List ℕ) (l : Lowered) (text : List ℕ) → LowersTo bytes l → text ≡ output l → Writes bytes Done text
 writes_result bytes l text lowers written = record { source = lowers.0; spelled = lowers.1.spells; is_output = record { rules = lowers.1.rules; result = l; is_lowered = lowers.2; written = written } }
@@ -61,33 +106,24 @@ writes_pending bytes node text waits written = record {
   is_output = inl (record { uncovered = record { rules = waits.spelled.rules; node = node; waits = waits.waits }; written = written });
 }
 
+-- The text is a report on the rows of the unit.
+row_written : (bytes : List ℕ) (u : Syntax) (line text : List ℕ) → Spells bytes u → IsRowReport u line → text ≡ line → Writes bytes Reported text
+row_written bytes u line text spells row written =
+    record { source = u; spelled = spells; is_output = inr (subst (λ (t : List ℕ). IsRowReport u t) (sym written) row) }
+
 pub writes_stop : (bytes : List ℕ) (said : Diagnostic) (text : List ℕ) → IsStopped bytes said → text ≡ line_of said → Writes bytes Reported text
-writes_stop bytes said text stopped written = record {
-  source = stopped.source;
-  spelled = stopped.spelled.spells;
-  is_output = inr (record {
-    row = record {
-      covered = stopped.covered;
-      rules = stopped.spelled.rules;
-      unsupported = λ supported. never_both (stop_of (names_of stopped.source) (marked stopped.source)) said stopped.stops supported.goes_on;
-    };
-    written = written ∙ ap (λ (o : Option Diagnostic). report_of o (refusals_of (names_of stopped.source) (marked stopped.source))) (sym stopped.stops);
-  });
-}
+writes_stop bytes said text s written =
+    row_written bytes s.source (line_of said) text s.spelled.spells (stop_row s.source s.spelled.rules s.covered said s.stops) written
 
 pub writes_report : (bytes : List ℕ) (said : List Diagnostic) (text : List ℕ) → IsRefused bytes said → text ≡ lines said → Writes bytes Reported text
-writes_report bytes said text refused written = record {
-  source = refused.source;
-  spelled = refused.spelled.spells;
-  is_output = inr (record {
-    row = record {
-      covered = refused.covered;
-      rules = refused.spelled.rules;
-      unsupported = λ supported. refused.some (refused.names ∙ supported.accepted);
-    };
-    written = written ∙ ap lines refused.names ∙ ap (λ (o : Option Diagnostic). report_of o (refusals_of (names_of refused.source) (marked refused.source))) (sym refused.goes_on);
-  });
-}
+writes_report bytes said text r written =
+    row_written bytes r.source (lines said) text r.spelled.spells
+    (refusals_row r.source r.spelled.rules r.covered said r.goes_on r.names r.some) written
+
+pub writes_skip : (bytes : List ℕ) (text : List ℕ) → IsSkipped bytes → text ≡ skipped_line → Writes bytes Reported text
+writes_skip bytes text s written =
+    row_written bytes s.source skipped_line text s.spelled.spells
+    (skip_row s.source s.spelled.rules s.covered s.goes_on s.accepted s.skips) written
 
 malformed_known : (left : Option (List ℕ)) (bytes : List ℕ) → IfSome left (λ known. bytes ≡ known) → IsMalformed bytes → RefusesKnown left Malformed
 malformed_known None bytes same m = record { no_output = tt; refuses = tt }

@@ -15,11 +15,11 @@ use Rattle.rl_unit.specs.declared.run.Status.{Status}
 use Rattle.rl_unit.specs.declared.run.Status.TheVariants.{Reported}
 use Rattle.rl_base.specs.declared.diagnostic.Diagnostic.{Diagnostic}
 use Rattle.rl_base.specs.declared.ids.NodeId.{NodeId}
-use Rattle.rl_unit.specs.Answers.{IsMalformed, IsPending, IsRefused, IsStopped}
+use Rattle.rl_unit.specs.Answers.{IsMalformed, IsPending, IsRefused, IsSkipped, IsStopped}
 use Rattle.rl_unit.specs.Outcomes.{reported}
 use Rattle.rl_unit.specs.declared.unit.LowerError.{LowerError}
 use Rattle.rl_unit.specs.declared.unit.LowerError.TheVariants as errors
-use Rattle.rl_unit.proofs.Answering.{Writes, all_read, output_complete, within_bytes, writes_pending, writes_report, writes_stop}
+use Rattle.rl_unit.proofs.Answering.{Writes, all_read, output_complete, within_bytes, writes_pending, writes_report, writes_skip, writes_stop}
 
 pub comes_result : (bytes : List ℕ) (l : Lowered) → LowersTo bytes l → ComesTo bytes (outcomes.Lowered l)
 comes_result bytes l lowers = record { source = lowers.0; spelled = lowers.1.spells; is_outcome = (lowers.1.rules, lowers.2) }
@@ -31,6 +31,7 @@ comes_report bytes text writes = record { source = writes.source; spelled = writ
 pub record HasCauses (bytes : List ℕ) (e : LowerError) : Type 0 where
   pub stopped : (said : Diagnostic) → e ≡ errors.Stopped said → IsStopped bytes said
   pub refused : (said : List Diagnostic) → e ≡ errors.Refused said → IsRefused bytes said
+  pub skipped : e ≡ errors.Skipped → IsSkipped bytes
   pub pending : (node : NodeId) → e ≡ errors.Pending node → IsPending bytes node.0
   pub too_large : e ≡ errors.TooLarge → IsTooLarge bytes
   pub malformed : e ≡ errors.Malformed → IsMalformed bytes
@@ -44,6 +45,8 @@ comes_error bytes (errors.Stopped said) text causes is =
     comes_report bytes text (writes_stop bytes said text.items (causes.stopped said refl) (sym (same_Some _ _ is)))
 comes_error bytes (errors.Refused said) text causes is =
     comes_report bytes text (writes_report bytes said text.items (causes.refused said refl) (sym (same_Some _ _ is)))
+comes_error bytes errors.Skipped text causes is =
+    comes_report bytes text (writes_skip bytes text.items (causes.skipped refl) (sym (same_Some _ _ is)))
 comes_error bytes errors.TooLarge text causes is = absurd (none-some text.items is)
 comes_error bytes errors.Malformed text causes is = absurd (none-some text.items is)
 comes_error bytes errors.OutOfMemory text causes is = absurd (none-some text.items is)

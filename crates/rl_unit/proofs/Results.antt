@@ -1,5 +1,5 @@
 -- The result of the marked function is that of its unit.
-use Rattle.std.proofs.Common.{◌≡◌, ℕ, ◌<◌, true, Option, None, Some, List, [], All, length, slice_get, refl, ap, sym, subst, ◌∙◌}
+use Rattle.std.proofs.Common.{◌≡◌, ℕ, ◌<◌, ◌≤◌, ◌^◌, true, Option, None, Some, List, [], All, length, slice_get, refl, ap, sym, subst, ◌∙◌, arith}
 use Rattle.std.proofs.lemmas.Option.{none-some, slice_get_within}
 use Rattle.std.specs.Option.{option_map}
 use Rattle.rl_ast.proofs.MarkedFunctions.{marked_fits}
@@ -15,7 +15,6 @@ use Rattle.rl_hir.specs.declared.function.Lowered.{Lowered}
 use Rattle.rl_hir.specs.declared.function.Pair.{Pair}
 use Rattle.rl_promises.proofs.Alike.{same_as_written}
 use Rattle.rl_promises.proofs.CountedOnce.{function_placed}
-use Rattle.rl_promises.proofs.CoveredNames.{covered_nameless}
 use Rattle.rl_promises.specs.Covered.{IsCoveredFunction, uncovered_in}
 use Rattle.rl_promises.specs.Fields.{HaveSymbolsOf, IsNamedPair}
 use Rattle.rl_promises.specs.Headline.{IsGraph}
@@ -30,20 +29,26 @@ use Rattle.rl_hir.specs.declared.function.InnerFunction.{InnerFunction}
 use Rattle.rl_runs.specs.Continuations.{SharesVariables}
 use Rattle.std.proofs.lemmas.List.Elements.{All-nil}
 use Rattle.rl_model.specs.Marked.{marked}
-use Rattle.rl_promises.proofs.LocalParameters.{locals_are_parameters}
-use Rattle.rl_names.proofs.UnitTexts.{unit_texts}
-use Rattle.rl_names.specs.Locals.{HasTexts, LocalsAreParameters}
+use Rattle.rl_promises.proofs.LocalVariables.{has_locals}
+use Rattle.rl_promises.specs.Locals.{HasLocals}
 use Rattle.rl_names.specs.Names.{Names, function_names}
 use Rattle.rl_resolver.specs.Lookups.{declaration_ident, identified}
 use Rattle.rl_semantic.specs.Items.{of_item}
 use Rattle.rl_semantic.specs.Rules.{least_broken}
-use Rattle.rl_syntax.specs.Syntax.{Syntax}
+use Rattle.rl_syntax.specs.Syntax.{Syntax, width}
 use Rattle.rl_unit.proofs.Answering.{within_bytes}
 use Rattle.rl_unit.proofs.Marked.{body_there, has_body, is_covered, marked_is}
 use Rattle.rl_unit.proofs.Room.{alone_bounded, few_nodes, unit_nodes}
 use Rattle.rl_unit.proofs.Small.{unit_small}
 use Rattle.rl_unit.specs.Functions.{IsFunctionError, IsFunctionErrorOf, IsRead, IsResultOf, IsUnitResult, MayLower}
 use Rattle.rl_unit.specs.declared.unit.LowerError.{LowerError}
+
+-- A unit within the limits has a short text.
+short_unit : (u : Syntax) → (r : IsRead u) → width u < 2 ^ 32
+short_unit u r =
+    let long : length r.bytes ≡ width u = ap length r.spells.spelled.spelled in
+    let short : length r.bytes ≤ 2 ^ 24 = within_bytes r.bytes r.within in
+    omega (arith, long, short)
 
 -- The marked function of a unit that was read may be lowered, if it has no uncovered node.
 pub may_lower : (u : Syntax) (f : FunctionNode) (names : Names) → IsRead u → least_broken u ≡ None → first (marked_functions u) ≡ Some (seen_function_node f)
@@ -52,13 +57,12 @@ may_lower u f names r rules found none same =
     let tree : Syntax = seen_function_node f in
     let covered : IsCoveredFunction tree = is_covered u tree found none in
     let has = has_body u tree rules found in
-    let plain = covered_nameless tree (marked_fits u tree found r.spells.grammar) covered in
     record {
       covered = covered;
-      body = body_there f covered has;
-      locals = subst (λ (n : Names). LocalsAreParameters n tree) (sym same)
-          (locals_are_parameters u tree r.spells.grammar r.spells.numbers found plain rules (unit_nodes r.bytes u r.spells r.within));
-      texts = subst HasTexts (sym same) (unit_texts u tree r.spells.spelled.writable);
+      body = body_there f (marked_fits u tree found r.spells.grammar) has;
+      locals = subst (λ (n : Names). HasLocals n tree) (sym same)
+          (has_locals u tree r.spells.grammar r.spells.numbers r.spells.spelled.writable (short_unit u r)
+          (unit_nodes r.bytes u r.spells r.within) rules found covered);
       few = few_nodes r.bytes u tree r.spells r.within found;
       from = (function_placed r.bytes u tree r.spells found).0;
       placed = (function_placed r.bytes u tree r.spells found).1;
@@ -128,6 +132,7 @@ unit_result u f names l r rules found none same result =
         symbols = pairs_of_unit u (marked u) l.identifiers l.pairs whole.identifiers.pairs.named;
         bounded = alone_bounded u f l.function found result.bounded l.inner result.inner;
         writable = whole.writable;
+        spanned = whole.spanned;
       };
     }
 

@@ -1,5 +1,5 @@
 -- The results of `lower_unit`, and the exit statuses of the program, each with its cause.
-use Rattle.std.specs.Prelude.{◌≡◌, ◌≢◌, ◌⊎◌, ℕ, List, [], ◌∷◌, ◌++◌, take, None, Some, IfSome, ⊤, codes}
+use Rattle.std.specs.Prelude.{◌≡◌, ◌≢◌, ◌⊎◌, ℕ, true, List, [], ◌∷◌, ◌++◌, take, None, Some, IfSome, ⊤, codes}
 use Rattle.std.specs.Fmt.{decimal}
 use Rattle.std.specs.declared.option.Option.{Option}
 use Rattle.std.specs.Io.KnownBytes.{Consumes, Keeps, Appends}
@@ -12,7 +12,9 @@ use Rattle.rl_ast.specs.Units.{Spells}
 use Rattle.rl_base.specs.Diagnostics.{line_of}
 use Rattle.rl_base.specs.declared.diagnostic.Diagnostic.{Diagnostic}
 use Rattle.rl_promises.specs.Covered.{pending}
-use Rattle.rl_promises.specs.Rows.{IsSupported, refusals_of, stop_of}
+use Rattle.rl_names.specs.Functions.{body_in}
+use Rattle.rl_promises.specs.Rows.{IsSupported, IsTold, refusals_of}
+use Rattle.rl_promises.specs.Stops.{has_using, stop_of}
 use Rattle.rl_model.specs.Marked.{marked}
 use Rattle.rl_promises.specs.Headline.{IsLowered}
 use Rattle.rl_model.specs.Units.{IsUnit, names_of}
@@ -78,24 +80,41 @@ pub record IsStopped (bytes : List ℕ) (said : Diagnostic) : Type 0 where
   pub covered : pending source ≡ None
   pub stops : stop_of (names_of source) (marked source) ≡ Some said
 
--- The bytes spell a unit whose marked function is covered, not stopped, and refused, by the diagnostics `said`, at least one.
+-- The bytes spell a unit whose marked function is covered, not stopped, and refused, by the diagnostics `said`, at least one: those of its
+-- nodes to which a row applies, but that F40 may lack where a variable got another name.
 pub record IsRefused (bytes : List ℕ) (said : List Diagnostic) : Type 0 where
   pub source : Syntax
   pub spelled : IsUnit bytes source
   pub covered : pending source ≡ None
   pub goes_on : stop_of (names_of source) (marked source) ≡ None
-  pub names : said ≡ refusals_of (names_of source) (marked source)
+  pub names : IsTold (refusals_of (names_of source) (marked source)) said
   pub some : said ≢ []
+
+-- The bytes spell a unit whose marked function is covered, to which no row applies, and which declares a variable by `using`.
+pub record IsSkipped (bytes : List ℕ) : Type 0 where
+  pub source : Syntax
+  pub spelled : IsUnit bytes source
+  pub covered : pending source ≡ None
+  pub goes_on : stop_of (names_of source) (marked source) ≡ None
+  pub accepted : refusals_of (names_of source) (marked source) ≡ []
+  pub skips : has_using (body_in (marked source)) ≡ true
 
 -- The lines of diagnostics, in order.
 abbrev pub lines : List Diagnostic → List ℕ
 lines [] = []
 lines (d ∷ ds) = line_of d ++ lines ds
 
--- The report on a function: the line of its stop, or else the lines of its refusals.
-abbrev pub report_of : Option Diagnostic → List Diagnostic → List ℕ
-report_of (Some stop) refusals = line_of stop
-report_of None refusals = lines refusals
+-- The report on a function that is skipped, and a line feed.
+abbrev pub skipped_line : List ℕ
+skipped_line = codes "Skipped: an enum or a using declaration\n"
+
+-- The report on a function with this stop and these refusals: the line of its stop, or else a line for each refusal that is told, or else
+-- that it is skipped.
+pub data IsRowText : Option Diagnostic → (refusals : List Diagnostic) → (text : List ℕ) → Type 0 where
+  StopText : {refusals : List Diagnostic} (stop : Diagnostic) → IsRowText (Some stop) refusals (line_of stop)
+  RefusalsText : {refusals : List Diagnostic} (told : List Diagnostic) → IsTold refusals told → told ≢ []
+      → IsRowText None refusals (lines told)
+  SkipText : IsRowText None [] skipped_line
 
 -- The report on a unit whose marked function is not covered, by the id of the least uncovered node: `Pending N`, and a line feed.
 abbrev pub pending_line : (node : ℕ) → List ℕ
@@ -116,7 +135,7 @@ pub record IsPendingReport (u : Syntax) (text : List ℕ) : Type 0 where
 -- A row applies to the unit, and the text is its report.
 pub record IsRowReport (u : Syntax) (text : List ℕ) : Type 0 where
   pub row : MeetsRow u
-  pub written : text ≡ report_of (stop_of (names_of u) (marked u)) (refusals_of (names_of u) (marked u))
+  pub written : IsRowText (stop_of (names_of u) (marked u)) (refusals_of (names_of u) (marked u)) text
 
 -- The text is the report on the unit.
 abbrev pub IsReportOf : Syntax → List ℕ → Type 0

@@ -9,14 +9,16 @@ use Rattle.rl_lowered.specs.Sound.{IsSmallTree}
 use Rattle.rl_promises.specs.Covered.{IsCoveredFunction, pending}
 use Rattle.rl_promises.specs.Fields.{HasIdentifiersOf}
 use Rattle.rl_promises.specs.Headline.{IsGraph, IsLowered}
-use Rattle.rl_promises.specs.Rows.{IsSupported, refusals_of, stop_of}
+use Rattle.rl_promises.specs.Rows.{IsSupported, IsTold, refusals_of}
+use Rattle.rl_promises.specs.Spans.{IsSpanned}
+use Rattle.rl_promises.specs.Stops.{has_using, stop_of}
 use Rattle.rl_promises.specs.Size.{function_size}
 use Rattle.rl_model.specs.Marked.{marked}
 use Rattle.rl_model.specs.Scene.{Scene}
 use Rattle.rl_model.specs.Units.{names_of}
 use Rattle.rl_model.specs.Worlds.{graphs, world_in}
 use Rattle.rl_names.specs.Functions.{body_in}
-use Rattle.rl_names.specs.Locals.{HasTexts, LocalsAreParameters}
+use Rattle.rl_promises.specs.Locals.{HasLocals}
 use Rattle.rl_names.specs.Names.{Names}
 use Rattle.rl_semantic.specs.Rules.{least_broken}
 use Rattle.rl_syntax.specs.Limits.{IsTooLarge}
@@ -32,13 +34,12 @@ pub record IsRead (u : Syntax) : Type 0 where
   pub spells : Spells bytes u
   pub within : IsTooLarge bytes → ⊥
 
--- The function may be lowered under these names: it is covered and has a body, its local variables are its parameters, it is not too
--- large, and its nodes stand where they are numbered.
+-- The function may be lowered under these names: it is covered and has a body, its local variables are known, it is not too large, and
+-- its nodes stand where they are numbered.
 pub record MayLower (names : Names) (f : Syntax) : Type 0 where
   pub covered : IsCoveredFunction f
   pub body : body_in f ≢ Absent
-  pub locals : LocalsAreParameters names f
-  pub texts : HasTexts names
+  pub locals : HasLocals names f
   pub few : nodes f ≤ 65536
   pub from : Position
   pub placed : IsPlaced from f
@@ -54,11 +55,13 @@ pub record IsResultOf (names : Names) (f : Syntax) (l : Lowered) : Type 0 where
   pub identifiers : HasIdentifiersOf names f l
   pub bounded : function_size l.function ≤ 64 * nodes f
   pub writable : IsWritable (lowered l)
+  pub spanned : IsSpanned f l.function l.identifiers
 
 -- The cause of an error in the lowering of a function.
 abbrev pub IsFunctionError : Names → Syntax → LowerError → Type 0
 IsFunctionError names f (errors.Stopped said) = stop_of names f ≡ Some said
-IsFunctionError names f (errors.Refused said) = (stop_of names f ≡ None) × (said ≡ refusals_of names f) × (said ≢ [])
+IsFunctionError names f (errors.Refused said) = (stop_of names f ≡ None) × IsTold (refusals_of names f) said × (said ≢ [])
+IsFunctionError names f errors.Skipped = (stop_of names f ≡ None) × (refusals_of names f ≡ []) × (has_using (body_in f) ≡ true)
 IsFunctionError names f errors.OutOfMemory = Unit {0}
 IsFunctionError names f errors.TooLarge = ⊥
 IsFunctionError names f errors.Malformed = ⊥
@@ -79,6 +82,7 @@ pub record IsFunctionErrorOf (u : Syntax) (e : LowerError) : Type 0 where
 abbrev pub IsUnitError : Syntax → LowerError → Type 0
 IsUnitError u (errors.Stopped said) = IsFunctionErrorOf u (errors.Stopped said)
 IsUnitError u (errors.Refused said) = IsFunctionErrorOf u (errors.Refused said)
+IsUnitError u errors.Skipped = IsFunctionErrorOf u errors.Skipped
 IsUnitError u (errors.Pending node) = (least_broken u ≡ None) × (pending u ≡ Some node.0)
 IsUnitError u errors.Malformed = least_broken u ≢ None
 IsUnitError u errors.OutOfMemory = Unit {0}

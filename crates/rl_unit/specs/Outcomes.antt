@@ -6,7 +6,7 @@ use Rattle.rl_ast.specs.Units.{Spells}
 use Rattle.rl_promises.specs.Headline.{IsLowered}
 use Rattle.rl_semantic.specs.Rules.{least_broken}
 use Rattle.rl_base.specs.Diagnostics.{line_of}
-use Rattle.rl_unit.specs.Answers.{IsReportOf, lines, output, pending_line}
+use Rattle.rl_unit.specs.Answers.{IsReportOf, lines, output, pending_line, skipped_line}
 use Rattle.rl_unit.specs.declared.run.Outcome.{Outcome}
 use Rattle.rl_unit.specs.declared.run.Outcome.TheVariants as outcomes
 use Rattle.rl_unit.specs.declared.run.Status.{Status}
@@ -47,6 +47,7 @@ abbrev pub reported : LowerError → Option (List ℕ)
 reported (errors.Pending node) = Some (pending_line node.0)
 reported (errors.Stopped said) = Some (line_of said)
 reported (errors.Refused said) = Some (lines said)
+reported errors.Skipped = Some skipped_line
 reported errors.TooLarge = None
 reported errors.Malformed = None
 reported errors.OutOfMemory = None

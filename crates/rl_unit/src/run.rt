@@ -6,7 +6,7 @@ ghost use Rattle.rl_base.specs.Faults.{Rose};
 ghost use Rattle.rl_base.specs.Diagnostics.{line_of};
 ghost use Rattle.rl_syntax.specs.Limits.{IsTooLarge};
 ghost use Rattle.rl_unit.specs.Outcomes.{ComesTo, ComesToKnown, IsStatusOf, outcome_status, outcome_text, reported};
-ghost use Rattle.rl_unit.specs.Answers.{AnswersSteadily, Explains, HasRead, IsComplete, ReadsWhole, RefusesKnown, WritesKnown, exit_code, lines, output, pending_line};
+ghost use Rattle.rl_unit.specs.Answers.{AnswersSteadily, Explains, HasRead, IsComplete, ReadsWhole, RefusesKnown, WritesKnown, exit_code, lines, output, pending_line, skipped_line};
 
 use crate::unit::{LowerError, lower_unit};
 use rl_ast::read::LARGEST_INPUT;
@@ -152,6 +152,15 @@ fn pending_line(alloc: Global, node: NodeId) -> Result<Vec<u8>, OutOfMemory>
     Ok(text)
 }
 
+/// The line of a unit that is skipped.
+fn skipped_line(alloc: Global) -> Result<Vec<u8>, OutOfMemory>
+    ensures { IfOk result (λ text. text.items ≡ skipped_line) }
+{
+    let mut text = Vec::new(alloc);
+    text.extend_from_slice(b"Skipped: an enum or a using declaration\n")?;
+    Ok(text)
+}
+
 /// Number of bytes that a listing has for an instruction without its operands and texts, with its entries in the tables: about as
 /// many as where offsets have six digits and ids five.
 const BYTES_OF_INSTRUCTION: usize = 124;
@@ -166,7 +175,8 @@ const BYTES_OF_PARAMETER: usize = 110;
 fn room_for_parts(value: &InstructionValue) -> usize {
     match value {
         InstructionValue::Primitive(PrimitiveValue::String(text)) => text.as_bytes().len(),
-        InstructionValue::LoadLocal(_) => BYTES_OF_OPERAND,
+        InstructionValue::LoadLocal(_) | InstructionValue::DeclareLocal { .. } => BYTES_OF_OPERAND,
+        InstructionValue::StoreLocal { .. } => 2 * BYTES_OF_OPERAND,
         InstructionValue::BinaryExpression { .. } => 2 * BYTES_OF_OPERAND,
         InstructionValue::CallExpression { arguments, .. } => {
             BYTES_OF_OPERAND.saturating_mul(arguments.len().saturating_add(1))
@@ -198,9 +208,9 @@ fn listed(alloc: Global, lowered: &Lowered) -> Result<Vec<u8>, OutOfMemory>
     Ok(text)
 }
 
-/// The lines of the report on a unit that has no result: the line of a stop, those of the refusals, or that of the least node that the
-/// lowering does not cover. An error is the exit status of a program that has nothing to write: `Malformed`, `TooLarge` or
-/// `OutOfMemory`.
+/// The lines of the report on a unit that has no result: the line of a stop, those of the refusals, that of a unit which is skipped,
+/// or that of the least node which the lowering does not cover. An error is the exit status of a program that has nothing to write:
+/// `Malformed`, `TooLarge` or `OutOfMemory`.
 pub fn report_of(alloc: Global, error: LowerError) -> Result<Vec<u8>, Status>
     ensures reported { IfOk result (λ text. reported error ≡ Some text.items) }
     ensures status { IfErr result (λ status. IsStatusOf error status) }
@@ -209,6 +219,7 @@ pub fn report_of(alloc: Global, error: LowerError) -> Result<Vec<u8>, Status>
         LowerError::Pending(node) => Ok(pending_line(alloc, node)?),
         LowerError::Stopped(stop) => Ok(stop_line(alloc, &stop)?),
         LowerError::Refused(said) => Ok(report(alloc, said.as_slice())?),
+        LowerError::Skipped => Ok(skipped_line(alloc)?),
         LowerError::TooLarge => Err(Status::TooLarge),
         LowerError::Malformed => Err(Status::Malformed),
         LowerError::OutOfMemory => Err(Status::OutOfMemory),

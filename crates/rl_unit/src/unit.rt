@@ -9,7 +9,8 @@ ghost use Rattle.rl_promises.specs.Headline.{LowersTo};
 ghost use Rattle.rl_semantic.specs.Rules.{least_broken};
 ghost use Rattle.rl_syntax.specs.Limits.{IsTooLarge};
 ghost use Rattle.rl_syntax.specs.Syntax.{syntax};
-ghost use Rattle.rl_unit.specs.Answers.{IsMalformed, IsPending, IsRefused, IsStopped};
+ghost use Rattle.rl_promises.specs.Spans.{KnowsSpans};
+ghost use Rattle.rl_unit.specs.Answers.{IsMalformed, IsPending, IsRefused, IsSkipped, IsStopped};
 ghost use Rattle.rl_unit.specs.Functions.{IsFunctionError, IsRead, IsResultOf, IsUnitError, IsUnitResult, MayLower};
 ghost use Rattle.rl_names.specs.Names.{at_of};
 ghost use Rattle.rl_names.specs.Seen.{seen, shown};
@@ -49,9 +50,15 @@ pub enum LowerError {
     /// A stop row applies to the unit: its diagnostic. Refusals that were recorded before it are dropped.
     #[error("Stopped")]
     Stopped(Diagnostic),
-    /// Rows apply to the unit: the diagnostic of each node to which one does, in the order in which the lowering meets them.
+    /// Rows apply to the unit: the diagnostic of each node to which one does, in the order in which the lowering meets them. A
+    /// variable `fbt` that gets another name, since one of that name has an identifier already, has row F40 where it is met first,
+    /// and not again.
     #[error("Refused")]
     Refused(List<Diagnostic>),
+    /// No row applies to the unit, and its marked function declares a variable by `using` or `await using`: what is done at the end of the
+    /// variable's block is not lowered.
+    #[error("Skipped")]
+    Skipped,
     /// An allocation failed.
     #[error("OutOfMemory")]
     OutOfMemory,
@@ -129,6 +136,7 @@ fn lower_function(
     function: FunctionNode<'_>,
 ) -> Result<Lowered, LowerError>
     requires may { MayLower (seen names.now) (seen_function_node function) }
+    requires spans { KnowsSpans names.now.resolver.now.semantic.now.bindings.symbols (seen_function_node function) }
     ensures lowered { IfOk result (λ l. IsResultOf (seen names.now) (seen_function_node function.entry) l) }
     ensures error { IfErr result (λ e. IsFunctionError (seen names.now) (seen_function_node function.entry) e) }
 {
@@ -141,6 +149,9 @@ fn lower_function(
     if !is_accepted(&env) {
         return Err(LowerError::Refused(env.into_diagnostics()));
     }
+    if env.skip_compilation() {
+        return Err(LowerError::Skipped);
+    }
     Ok(env.into_lowered(lowered))
 }
 
@@ -151,6 +162,7 @@ fn lower_in(
     function: FunctionNode<'_>,
 ) -> Result<Lowered, LowerError>
     requires may { MayLower (shown semantic.now (at_of (seen_function_node function))) (seen_function_node function) }
+    requires spans { KnowsSpans semantic.now.bindings.symbols (seen_function_node function) }
     ensures lowered { IfOk result (λ l. IsResultOf (shown semantic.now (at_of (seen_function_node function.entry))) (seen_function_node function.entry) l) }
     ensures error { IfErr result (λ e. IsFunctionError (shown semantic.now (at_of (seen_function_node function.entry))) (seen_function_node function.entry) e) }
 {
@@ -179,6 +191,7 @@ pub fn lower_unit(alloc: Global, bytes: &[u8]) -> Result<Lowered, LowerError>
     ensures lowered { IfOk result (λ l. LowersTo bytes.now l) }
     ensures stopped { IfErr result (λ e. (d : Diagnostic) → e ≡ LowerError.Stopped d → IsStopped bytes.now d) }
     ensures refused { IfErr result (λ e. (said : List Diagnostic) → e ≡ LowerError.Refused said → IsRefused bytes.now said) }
+    ensures skipped { IsErrOf result LowerError.Skipped → IsSkipped bytes.now }
     ensures pending { IfErr result (λ e. (node : Id) → e ≡ LowerError.Pending node → IsPending bytes.now node.0) }
     ensures too_large { IsErrOf result LowerError.TooLarge ↔ IsTooLarge bytes.now }
     ensures malformed { IsErrOf result LowerError.Malformed → IsMalformed bytes.now }

@@ -7,6 +7,7 @@ returns-in-Ok-report_of-clause-comes c =
     let causes : HasCauses c.args.bytes.now c.in-Err.error = record {
       stopped = c.in-Err.ensures.stopped;
       refused = c.in-Err.ensures.refused;
+      skipped = λ is. c.in-Err.ensures.skipped (ap Err is);
       pending = c.in-Err.ensures.pending;
       too_large = λ is. c.in-Err.ensures.too_large.0 (ap Err is);
       malformed = λ is. c.in-Err.ensures.malformed (ap Err is);

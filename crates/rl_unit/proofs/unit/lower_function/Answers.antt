@@ -1,22 +1,21 @@
-use Rattle.std.proofs.Common.{◌≡◌, ◌++◌, List, [], All, length, ap, sym, subst, refl, ◌∙◌, arith}
-use Rattle.std.proofs.lemmas.List.Elements.{All-weaker}
+use Rattle.std.proofs.Common.{◌≡◌, ◌||◌, false, List, [], All, length, ap, sym, subst, refl, ◌∙◌, arith}
 use Rattle.rl_ast.specs.FunctionNodes.{seen_function_node}
 use Rattle.rl_hir.specs.Listing.{identifier, pair}
 use Rattle.rl_hir.specs.declared.environment.Environment.{Environment}
 use Rattle.rl_hir.specs.declared.function.Lowered.{Lowered}
-use Rattle.rl_lowered.specs.Sound.{HasSmallSymbol}
 use Rattle.rl_promises.specs.Fields.{AreGiven, HasFieldsOf, places_from}
 use Rattle.rl_promises.proofs.HeldOnce.{held_once}
-use Rattle.rl_promises.specs.Rows.{refusals_of}
-use Rattle.rl_names.proofs.SymbolRange.{IsInRange, declared_in_range, parameters_in_range}
-use Rattle.rl_names.specs.Functions.{parameters_of}
+use Rattle.rl_promises.specs.Rows.{Records, refusals_of}
+use Rattle.rl_promises.specs.Spans.{AreSpannedIdentifiers, IsSpanOf}
+use Rattle.rl_promises.specs.Stops.{has_using}
+use Rattle.rl_names.specs.Functions.{body_in, parameters_of}
 use Rattle.rl_names.specs.Names.{Names}
 use Rattle.rl_names.specs.Seen.{seen}
 use Rattle.rl_names.specs.declared.parameters.Parameter.{Parameter}
 use Rattle.rl_syntax.specs.Syntax.{Syntax}
 use Rattle.rl_text.specs.Notation.{IsWritable}
 use Rattle.rl_unit.proofs.Room.{fresh_room}
-use Rattle.rl_unit.proofs.Small.{all_writable, result_writable, small_symbol}
+use Rattle.rl_unit.proofs.Small.{all_writable, result_writable}
 use Rattle.rl_unit.specs.Functions.{IsResultOf}
 use Rattle.rl_unit.proofs.unit.lower_function.Goals as goal
 
@@ -34,22 +33,22 @@ returns-clause-lowered c =
     let may = c.requires.may in
     let graph = c.in-Ok.ensures in
     let env : Environment = c.lower.new.env in
-    let diagnostics : env.diagnostics ≡ refusals_of names tree = graph.refused ∙ ap (λ (e : Environment). e.diagnostics ++ refusals_of names tree) c.fresh_environment-env.ensures in
-    let none : refusals_of names tree ≡ [] = sym diagnostics ∙ c.if-not-is_accepted.ensures.0 refl in
+    let refused = subst (λ (e : Environment). Records (refusals_of names tree) e.diagnostics env.diagnostics) c.fresh_environment-env.ensures graph.refused in
+    let none : refusals_of names tree ≡ [] = refused.none (c.if-not-is_accepted.ensures.0 refl) in
+    let unskipped : has_using (body_in tree) ≡ false =
+    sym (graph.skip ∙ ap (λ (e : Environment). e.skip || has_using (body_in tree)) c.fresh_environment-env.ensures) ∙ sym c.if-skip_compilation.ensures in
     let functions : env.functions ≡ [] = graph.functions ∙ ap (λ (e : Environment). e.functions) c.fresh_environment-env.ensures in
     let given = subst (λ (e : Environment). AreGiven env.identifiers env.pairs (length e.identifiers) e.next_type parameters) c.fresh_environment-env.ensures graph.given in
     let params = graph.params ∙ ap (λ (e : Environment). places_from (length e.identifiers) parameters) c.fresh_environment-env.ensures in
     let known = graph.known may.small (subst (λ (e : Environment). All (λ i. IsWritable (identifier i)) e.identifiers) (sym c.fresh_environment-env.ensures) (λ k d h. absurd (omega arith))) in
-    let range = parameters_in_range names tree (λ node symbol is. declared_in_range _ _ node symbol is) in
-    let small = All-weaker (λ (p : Parameter). IsInRange p.symbol) HasSmallSymbol (λ p below. small_symbol p below) parameters range in
     let l : Lowered = record { function = c.in-Ok.lowered; inner = env.functions; identifiers = env.identifiers; pairs = env.pairs } in
     subst (λ (r : Lowered). IsResultOf names tree r) (sym c.into_lowered.ensures) (record {
-      supported = record { goes_on = graph.goes_on; accepted = none };
+      supported = record { goes_on = graph.goes_on; accepted = none; unskipped = unskipped };
       main = λ scene stands. record {
         closed = graph.closed;
-        same_runs = graph.same_runs none scene _ stands;
-        never_stuck = graph.never_stuck none scene _ stands;
-        held = held_once tree may.from may.placed may.covered may.fits c.in-Ok.lowered graph.held;
+        same_runs = graph.same_runs none unskipped scene _ stands;
+        never_stuck = graph.never_stuck none unskipped scene _ stands;
+        held = held_once tree may.from may.placed may.covered may.fits c.in-Ok.lowered (graph.held none);
         fields = subst (λ (n : Names). HasFieldsOf n tree c.in-Ok.lowered) (sym stands.named) (record {
           span = graph.span;
           name = graph.name;
@@ -66,5 +65,6 @@ returns-clause-lowered c =
       inner = functions;
       identifiers = record { pairs = graph.pairs; parameters = given; returns_at = graph.returns.0; returns_last = graph.returns.1 };
       bounded = graph.bounded;
-      writable = result_writable l (graph.writable may.small) functions known (all_writable pair env.pairs (graph.paired small));
+      writable = result_writable l (graph.writable may.small) functions known (all_writable pair env.pairs graph.paired);
+      spanned = graph.spanned (subst (λ (e : Environment). AreSpannedIdentifiers (IsSpanOf tree) e.identifiers) (sym c.fresh_environment-env.ensures) (λ k d h. absurd (omega arith)));
     })

@@ -1,7 +1,10 @@
-use Rattle.std.proofs.Common.{sym}
+use Rattle.std.proofs.Common.{List, subst, sym}
 use Rattle.rl_ast.specs.FunctionNodes.{seen_function_node}
+use Rattle.rl_bindings.specs.declared.event.Bound.{Bound}
 use Rattle.rl_lower.proofs.Answering.{ok_so}
 use Rattle.rl_names.proofs.SeenNames.{AreTablesOf, shown_names}
+use Rattle.rl_promises.proofs.DeclarationSpans.{marked_spans}
+use Rattle.rl_promises.specs.Spans.{KnowsSpans}
 use Rattle.rl_syntax.specs.Syntax.{Syntax, syntax}
 use Rattle.rl_unit.proofs.Results.{may_lower, unit_result}
 use Rattle.rl_unit.proofs.unit.lower_tree.Goals as goal
@@ -14,6 +17,8 @@ lower_in-requires c =
     record {
       may = may_lower u c.function_of-function.result _ c.requires.read semantic.kept c.function_of-function.ensures (sym c.in_default.ensures.first)
           (shown_names c.in_ok-semantic.semantic u (seen_function_node c.function_of-function.result) tables);
+      spans = subst (λ (symbols : List Bound). KnowsSpans symbols (seen_function_node c.function_of-function.result)) (sym semantic.symbols)
+          (marked_spans u (seen_function_node c.function_of-function.result) c.requires.read.spells.numbers c.function_of-function.ensures);
     }
 
 pub returns-clause-lowered : goal.returns-clause-lowered
