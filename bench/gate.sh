@@ -1,8 +1,7 @@
 #!/usr/bin/env bash
-# Runs `rt ci --anew` at the top, or over the crates that are named, passes on what it prints, and prints after it the wall and
-# processor minutes of each crate (its check, its tests, its edits that must be refused), the gigabytes of its largest process, and
-# the minutes of the whole. With `--kept` first, `rt ci` takes what it passed before on this machine, and the table has the rest
-# alone. Ends with its status.
+# Runs `rt ci` at the top with the arguments given, passes on what it prints, and prints after it the wall and processor minutes of
+# each crate (its check, its tests, its edits that must be refused), the gigabytes of its largest process, and the minutes of the
+# whole. Ends with its status.
 cd "$(dirname "$0")/.." || exit 2
 exec python3 - "$@" <<'GATE'
 import collections, os, re, resource, subprocess, sys, threading, time
@@ -68,9 +67,8 @@ def watch(root, ended, seconds, walls, peaks):
 
 begun, ended, edits = time.monotonic(), threading.Event(), collections.Counter()
 seconds, walls, peaks = (collections.defaultdict(float) for _ in range(3))
-anew, crates = (["--anew"], sys.argv[1:]) if sys.argv[1:2] != ["--kept"] else ([], sys.argv[2:])
 how = {"stdin": subprocess.DEVNULL, "stdout": subprocess.PIPE, "text": True, "errors": "replace"}
-gate = subprocess.Popen(["rt", "ci", *anew, *crates], **how)
+gate = subprocess.Popen(["rt", "ci", *sys.argv[1:]], **how)
 watcher = threading.Thread(target=watch, args=(gate.pid, ended, seconds, walls, peaks))
 watcher.start()
 for line in gate.stdout:
