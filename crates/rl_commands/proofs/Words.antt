@@ -1,8 +1,14 @@
 -- Words that spell the arguments of `trace`.
-use Rattle.std.proofs.Common.{◌≡◌, ℕ, ◌<◌, ◌≤◌, List, [], ◌∷◌, Option, Some, None, IfSome, IfNone, codes, get_or, length, refl, sym, subst, arith}
+use Rattle.std.proofs.Common.{◌≡◌, ℕ, ◌<◌, ◌≤◌, List, [], ◌∷◌, Option, Some, None, Result, Ok, Err, IfOk, IfSome, IfNone}
+use Rattle.std.proofs.Common.{codes, get_or, length, refl, sym, subst, arith}
 use Rattle.rl_commands.specs.Traced.{AreWords}
 use Rattle.rl_trace_text.specs.RunWords.{AreOnlyArguments, SpellArguments}
 use Rattle.rl_trace_text.specs.declared.words.Arguments.{Arguments}
+
+-- What holds of the value of an Ok.
+pub ok_so : {X E : Type 0} {P Q : X → Type 0} (r : Result X E) → IfOk r P → ((x : X) → P x → Q x) → IfOk r Q
+ok_so (Ok x) p f = f x p
+ok_so (Err e) p f = tt
 
 -- The arguments that words spell, where these are the words of `trace`.
 

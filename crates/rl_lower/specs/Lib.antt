@@ -5,5 +5,6 @@ pub mod Groups
 pub mod Keys
 pub mod Members
 pub mod Parameters
+pub mod Rooms
 pub mod Scenes
 pub mod Sound

@@ -14,7 +14,7 @@ use Rattle.rl_hir.specs.declared.function.HirFunction.{HirFunction}
 use Rattle.rl_hir.specs.declared.function.InnerFunction.{InnerFunction}
 use Rattle.rl_promises.specs.Size.{function_size, inner_size}
 use Rattle.rl_lower.specs.Begun.{FunctionTables, begun_by}
-use Rattle.rl_lowered.specs.Promised.{HasRoom, share}
+use Rattle.rl_lower.specs.Rooms.{HasRoom, share}
 
 pub unit_nodes : (bytes : List ℕ) (u : Syntax) → Spells bytes u → (IsTooLarge bytes → ⊥) → nodes u ≤ 65536
 unit_nodes bytes u spells small =

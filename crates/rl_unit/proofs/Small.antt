@@ -12,7 +12,7 @@ use Rattle.rl_syntax.specs.Words.{word_text}
 use Rattle.rl_hir.specs.Listing.{lowered, function, identifier, inner, pair}
 use Rattle.rl_hir.specs.declared.function.InnerFunction.{InnerFunction}
 use Rattle.rl_hir.specs.declared.function.Lowered.{Lowered}
-use Rattle.rl_lowered.specs.Sound.{AreSmallTrees, HasSmallSpans, HasSmallSymbol, HaveSmallSpans, IsSmallTree}
+use Rattle.rl_lower.specs.Rooms.{AreSmallTrees, HasSmallSpans, HasSmallSymbol, HaveSmallSpans, IsSmallTree}
 use Rattle.rl_names.proofs.SymbolRange.{IsInRange}
 use Rattle.rl_names.specs.declared.parameters.Parameter.{Parameter}
 

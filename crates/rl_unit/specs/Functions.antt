@@ -5,7 +5,7 @@ use Rattle.rl_ast.specs.Units.{Spells}
 use Rattle.rl_hir.specs.Listing.{lowered}
 use Rattle.rl_hir.specs.declared.function.Lowered.{Lowered}
 use Rattle.rl_lower.specs.Scenes.{IsSceneOf}
-use Rattle.rl_lowered.specs.Sound.{IsSmallTree}
+use Rattle.rl_lower.specs.Rooms.{IsSmallTree}
 use Rattle.rl_promises.specs.Covered.{IsCoveredFunction, pending}
 use Rattle.rl_promises.specs.Fields.{HasIdentifiersOf}
 use Rattle.rl_promises.specs.Headline.{IsGraph, IsLowered}

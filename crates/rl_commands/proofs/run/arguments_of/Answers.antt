@@ -1,6 +1,5 @@
 use Rattle.std.proofs.Common.{◌≡◌, [], ◌∷◌, codes, map, string_bytes, refl, ap, sym, ◌∙◌}
-use Rattle.rl_commands.proofs.Words.{five, trace_found, trace_none, trace_only}
-use Rattle.rl_lower.proofs.Answering.{ok_so}
+use Rattle.rl_commands.proofs.Words.{five, ok_so, trace_found, trace_none, trace_only}
 use Rattle.rl_commands.proofs.run.arguments_of.Goals as goal
 
 pub returns-else-not-is_trace : goal.returns-else-not-is_trace
