@@ -5,7 +5,7 @@ use Rattle.rl_commands.specs.Traced.{AreWords}
 use Rattle.rl_trace_text.specs.RunWords.{AreOnlyArguments, SpellArguments}
 use Rattle.rl_trace_text.specs.declared.words.Arguments.{Arguments}
 
--- What holds of the value of an Ok.
+-- The value of an Ok: one fact of it from another.
 pub ok_so : {X E : Type 0} {P Q : X → Type 0} (r : Result X E) → IfOk r P → ((x : X) → P x → Q x) → IfOk r Q
 ok_so (Ok x) p f = f x p
 ok_so (Err e) p f = tt
