@@ -4,6 +4,8 @@ use Rattle.rl_base.specs.declared.ids.BlockId.{BlockId}
 use Rattle.rl_base.specs.declared.span.Span.{Span}
 use Rattle.rl_builder.specs.Builder.{State, completed_by, pushed, with_handler, with_scope}
 use Rattle.rl_builder.specs.declared.jumps.JumpScope.{JumpScope}
+use Rattle.rl_frames.proofs.ForBlocks.{for_blocks, for_blocks_plain}
+use Rattle.rl_frames.proofs.ForRuns.{for_runs, for_runs_plain}
 use Rattle.rl_frames.proofs.Ifs.{if_runs, if_then_runs}
 use Rattle.rl_frames.proofs.IfThenBlocks.{if_then_blocks}
 use Rattle.rl_frames.proofs.LabelFrames.{label_blocks, label_runs}
@@ -15,13 +17,14 @@ use Rattle.rl_frames.proofs.ValueFrames.{logical_blocks, ternary_blocks}
 use Rattle.rl_frames.proofs.Tries.{try_runs}
 use Rattle.rl_frames.proofs.TryBlocks.{try_blocks}
 use Rattle.rl_frames.proofs.Wholes.{do_while_blocks, if_blocks, while_blocks}
-use Rattle.rl_frames.specs.Frames.{DoWhileComposes, IfComposes, IfParts, LabelComposes, LabelParts, LogicalComposes, LogicalParts}
+use Rattle.rl_frames.specs.Frames.{DoWhileComposes, ForComposes, ForParts, for_ended}
+use Rattle.rl_frames.specs.Frames.{IfComposes, IfParts, LabelComposes, LabelParts, LogicalComposes, LogicalParts}
 use Rattle.rl_frames.specs.Frames.{SequenceComposes, SequenceParts, TernaryComposes, TernaryParts, TryComposes, TryParts, WhileComposes}
 use Rattle.rl_frames.specs.Frames.{WhileParts, if_ended, label_at, label_ended, logical_after, logical_at, logical_ended}
 use Rattle.rl_frames.specs.Frames.{sequence_at, sequence_ended, ternary_after, ternary_at, ternary_ended, ternary_parted, while_ended}
-use Rattle.rl_frames.specs.Meanings.{chosen, connected, do_looped, looped, selected}
+use Rattle.rl_frames.specs.Meanings.{chosen, connected, do_looped, for_looped, looped, selected}
 use Rattle.rl_frames.specs.Frames.{try_after, try_at, try_ended}
-use Rattle.rl_frames.specs.Parts.{if_finished, loads, try_end, while_finished}
+use Rattle.rl_frames.specs.Parts.{for_finished, if_finished, loads, try_end, while_finished}
 use Rattle.rl_hir.specs.declared.instruction.Place.{Place}
 use Rattle.rl_hir.specs.declared.terminal.GotoVariant.TheVariants as gotos
 use Rattle.rl_hir.specs.declared.terminal.Terminal.{Terminal}
@@ -109,6 +112,22 @@ do_while_composes f old new value ended = record {
       let at : new ≡ while_finished old s.env.next_block span value = ended ∙ ap (λ (g : WhileParts). while_ended g old value) is in
       subst (λ (z : State). PreservesBlocks s z × RunsStatement world (do_looped world label dt db) s z) (sym at)
       (do_while_blocks s s2 old label value span part gb gt, do_while_runs s s2 old label value span part gb.extends gt.extends world dt db rb rt);
+}
+
+pub for_composes : (f : ForParts) (old new : State) (value : Place) → new ≡ for_ended f old value → ForComposes f old new value
+for_composes f old new value ended = record {
+  both = λ s s2 s3 s4 span part other last label world di dt du db is bi bu bb bt pi pt ri ru rb rt.
+      let at : new ≡ for_finished old s.env.next_block s3.env.next_block span value = ended ∙ ap (λ (g : ForParts). for_ended g old value) is in
+      subst (λ (z : State). PreservesBlocks s z × RunsStatement world (for_looped world label di dt du db) s z) (sym at) (
+        for_blocks s s2 s3 s4 old label value span part other last bi bu bb bt pi pt,
+        for_runs s s2 s3 s4 old label value span part other last bi.extends bu.extends bb.extends bt.extends world di dt du db ri ru rb rt,
+      );
+  one = λ s s2 s3 span part last label world di dt db is bi bb bt pi pt ri rb rt.
+      let at : new ≡ for_finished old s.env.next_block s2.env.next_block span value = ended ∙ ap (λ (g : ForParts). for_ended g old value) is in
+      subst (λ (z : State). PreservesBlocks s z × RunsStatement world (for_looped world label di dt done db) s z) (sym at) (
+        for_blocks_plain s s2 s3 old label value span part last bi bb bt pi pt,
+        for_runs_plain s s2 s3 old label value span part last bi.extends bb.extends bt.extends world di dt db ri rb rt,
+      );
 }
 
 pub label_composes : (f : LabelParts) (old new : State) (part : Span) → new ≡ label_ended f old part → LabelComposes f old new

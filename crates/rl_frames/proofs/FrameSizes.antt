@@ -3,9 +3,12 @@ use Rattle.std.proofs.Common.{◌≡◌, ℕ, ◌+◌, ◌≤◌, Bool, true, fa
 use Rattle.rl_base.specs.declared.operator.LogicalOperator.{LogicalOperator}
 use Rattle.rl_base.specs.declared.span.Span.{Span}
 use Rattle.rl_builder.specs.Builder.{State, reserved}
-use Rattle.rl_frames.specs.Frames.{IfParts, LogicalParts, SequenceParts, TernaryParts, if_alternate, if_branched, if_consequent, if_ended}
+use Rattle.rl_frames.specs.Frames.{ForParts, IfParts, LogicalParts, SequenceParts, TernaryParts, if_alternate, if_branched, if_consequent}
+use Rattle.rl_frames.specs.Frames.{if_ended}
+use Rattle.rl_frames.specs.Frames.{for_bodied, for_ended, for_inited, for_inited_by, for_updated}
 use Rattle.rl_frames.specs.Frames.{logical_ended, logical_righted, sequence_ended, ternary_alternated, ternary_consequent, ternary_ended}
 use Rattle.rl_frames.specs.Parts.{do_while_body, if_begun, if_finished, label_begun, label_finished, loads, logical_begun, logical_entered}
+use Rattle.rl_frames.specs.Parts.{for_begun, for_body, for_finished, for_test, for_update}
 use Rattle.rl_frames.specs.Parts.{logical_finished, logical_left, logical_place, logical_right, sequence_begun, ternary_begun, try_bound}
 use Rattle.rl_frames.specs.Parts.{try_finished, try_handler, try_started, while_begun, while_body, while_finished}
 use Rattle.rl_hir.specs.declared.function.BlockKind.TheVariants as block
@@ -13,9 +16,10 @@ use Rattle.rl_hir.specs.declared.instruction.InstructionKind.TheVariants as kind
 use Rattle.rl_hir.specs.declared.instruction.InstructionValue.TheVariants as values
 use Rattle.rl_hir.specs.declared.instruction.Place.{Place}
 use Rattle.rl_hir.specs.declared.terminal.GotoVariant.TheVariants as gotos
+use Rattle.rl_model.specs.Actions.{Label}
 use Rattle.rl_runs.proofs.Sizes.{size_pushed, size_value}
 use Rattle.rl_runs.specs.Blocks.{size_of}
-use Rattle.rl_runs.specs.Moves.{last_hole, next_hole, stored_in}
+use Rattle.rl_runs.specs.Moves.{block_id, last_hole, next_hole, stored_in}
 
 -- The states between the holes of a construct, each with what it adds to the one before. Under a handler each instruction takes a block
 -- more.
@@ -74,6 +78,28 @@ if_consequent_size f s part = branched_size f.has_alternate f s part
 pub if_ended_size : (f : IfParts) (s : State) (test : Place) → size_of (if_ended f s test) ≤ size_of s + 0
 if_ended_size f s test = omega arith
 
+-- A `for` loop: its states between its holes.
+
+for_inited_by_size : (has_update : Bool) (f : ForParts) (s : State) (part : Span)
+    → size_of (for_inited_by has_update f s part) ≤ size_of s + 1
+for_inited_by_size true f s part = omega arith
+for_inited_by_size false f s part = omega arith
+
+pub for_begun_size : (s : State) → size_of (for_begun s) ≤ size_of s + 3
+for_begun_size s = omega arith
+
+pub for_inited_size : (f : ForParts) (s : State) (part : Span) → size_of (for_inited f s part) ≤ size_of s + 1
+for_inited_size f s part = for_inited_by_size f.has_update f s part
+
+pub for_updated_size : (f : ForParts) (s : State) (part : Span) → size_of (for_updated f s part) ≤ size_of s + 1
+for_updated_size f s part = omega arith
+
+pub for_bodied_size : (f : ForParts) (s : State) (part : Span) → size_of (for_bodied f s part) ≤ size_of s + 0
+for_bodied_size f s part = omega arith
+
+pub for_ended_size : (f : ForParts) (s : State) (value : Place) → size_of (for_ended f s value) ≤ size_of s + 0
+for_ended_size f s value = omega arith
+
 -- Constructs, each with what its holes add.
 
 pub if_size : (s s2 s3 s4 : State) (test : Place) (span part other : Span) (m n k : ℕ) → size_of s2 ≤ size_of (if_begun s) + m
@@ -92,6 +118,24 @@ pub do_while_size : (s s2 s4 : State) (label : Option (List ℕ)) (test : Place)
     → size_of s4 ≤ size_of (do_while_body s2 s.env.next_block span s.current part) + n
     → size_of (while_finished s4 s.env.next_block span test) ≤ size_of s + (3 + m + n)
 do_while_size s s2 s4 label test span part m n a b = omega (arith, a, b)
+
+-- Without an update, and with one.
+
+pub for_plain_size : (s s2 s4 s5 : State) (label : Label) (test : Place) (span part last : Span) (l m n : ℕ)
+    → size_of s2 ≤ size_of (for_begun s) + l
+    → size_of s4 ≤ size_of (for_body s2 s.env.next_block label (block_id s.env.next_block) part) + m
+    → size_of s5 ≤ size_of (for_test s4 s.env.next_block (block_id s.env.next_block) None s2.env.next_block span s.current last) + n
+    → size_of (for_finished s5 s.env.next_block s2.env.next_block span test) ≤ size_of s + (4 + l + m + n)
+for_plain_size s s2 s4 s5 label test span part last l m n a b c = omega (arith, a, b, c)
+
+pub for_size : (s s2 s3 s4 s5 : State) (label : Label) (test : Place) (span part other last : Span) (k l m n : ℕ)
+    → size_of s2 ≤ size_of (for_begun s) + k → size_of s3 ≤ size_of (for_update s2 s.env.next_block part) + l
+    → size_of s4 ≤ size_of (for_body s3 s.env.next_block label (block_id s2.env.next_block) other) + m
+    → size_of s5 ≤ size_of
+    (for_test s4 s.env.next_block (block_id s2.env.next_block) (Some (block_id s2.env.next_block)) s3.env.next_block span s.current
+    last) + n
+    → size_of (for_finished s5 s.env.next_block s3.env.next_block span test) ≤ size_of s + (5 + k + l + m + n)
+for_size s s2 s3 s4 s5 label test span part other last k l m n a b c d = omega (arith, a, b, c, d)
 
 pub label_size : (s s2 : State) (label : List ℕ) (span part : Span) (m : ℕ) → size_of s2 ≤ size_of (label_begun s label) + m
     → size_of (label_finished s2 s.env.next_block span s.current part) ≤ size_of s + (2 + m)

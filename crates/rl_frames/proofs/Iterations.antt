@@ -1,43 +1,44 @@
 -- The runs of a `for`-`of` loop.
-use Rattle.std.proofs.Common.{◌≡◌, ℕ, zero, suc, ◌+◌, ◌-◌, ◌<◌, ◌≤◌, inl, inr, true, false, List, [], ◌∷◌, length, length-append, take}
+use Rattle.std.proofs.Common.{◌≡◌, ℕ, suc, ◌+◌, ◌-◌, ◌<◌, ◌≤◌, inl, inr, true, false, List, [], ◌∷◌, length, length-append, take}
 use Rattle.std.proofs.Common.{Option, Some, refl, sym, ap, ◌∙◌, subst, arith}
 use Rattle.rl_base.specs.declared.span.Span.{Span}
 use Rattle.rl_builder.specs.Builder.{State, innermost, new_block, pushed, reserved, with_temporary}
 use Rattle.rl_builder.specs.Temporaries.{temporary, unordered}
 use Rattle.rl_builder.specs.declared.jumps.JumpScope.{JumpScope}
 use Rattle.rl_builder.specs.declared.jumps.JumpScope.TheVariants as scope
+use Rattle.rl_frames.proofs.RoundRuns.{IsKept, OfPoints, round_body_part, round_head_part, rounds_again}
 use Rattle.rl_frames.specs.Meanings.{front_ways, iterated, rounds}
-use Rattle.rl_frames.specs.Parts.{forof_begun, forof_body, forof_end, forof_finished, forof_init, forof_next, forof_opened, forof_test}
+use Rattle.rl_frames.specs.Parts.{forof_begun, forof_end, forof_init, forof_next, forof_opened, forof_test, rounds_body, rounds_finished}
 use Rattle.rl_hir.specs.declared.function.BlockKind.TheVariants as block
 use Rattle.rl_hir.specs.declared.instruction.Instruction.{Instruction}
 use Rattle.rl_hir.specs.declared.instruction.InstructionValue.TheVariants as values
 use Rattle.rl_hir.specs.declared.instruction.Place.{Place}
 use Rattle.rl_hir.specs.declared.terminal.GotoVariant.TheVariants as gotos
+use Rattle.rl_machine.specs.Acts.{Steps}
 use Rattle.rl_machine.specs.declared.trace.Answer.{Answer}
 use Rattle.rl_machine.specs.declared.trace.Value.{Value}
 use Rattle.rl_machine.specs.Ends.{Iterates, Note, Notes, noted}
-use Rattle.rl_machine.specs.Machine.{Code, Ends, Runs, branched, caught, changer, choice_at, exit_at, opened, step_to}
-use Rattle.rl_machine.specs.Traces.{Cont, Store, World, fired, set, set_open, stepped, waiting}
+use Rattle.rl_machine.specs.Machine.{Code, Runs, caught, changer, choice_at, exit_at, opened}
+use Rattle.rl_machine.specs.Traces.{Cont, Store, World, fired, set, set_open}
 use Rattle.rl_model.specs.Actions.{Action, Label, Ways}
 use Rattle.rl_model.specs.Events.{get_iterator, next_of}
-use Rattle.rl_runs.proofs.Events.{fired_comes, steps_come}
-use Rattle.rl_runs.proofs.Holes.{aside, contained_hole, contained_stacked, front_added, hole_goes, same_throws, use_expression}
-use Rattle.rl_runs.proofs.Holes.{use_statement}
-use Rattle.rl_runs.proofs.Jumping.{jumps_in_loop}
+use Rattle.rl_runs.proofs.Events.{fired_comes}
+use Rattle.rl_runs.proofs.Holes.{aside, front_added, hole_goes, same_throws, use_expression}
 use Rattle.rl_runs.proofs.Moves.{catches, contained_before, extends_completed, extends_pushed, extends_reserved, extends_then}
-use Rattle.rl_runs.proofs.Moves.{extends_value, goes_behind, goes_on, inside, instruction_met, push_runs, terminal_met, thrown_comes}
+use Rattle.rl_runs.proofs.Moves.{extends_value, goes_behind, goes_on, inside, instruction_met, push_runs, thrown_comes}
 use Rattle.rl_runs.proofs.Moves.{value_free}
-use Rattle.rl_runs.proofs.Steps.{inside_refl, follows_then, jumps_then, noted_other, noted_same, set_other, set_same, since_noted}
-use Rattle.rl_runs.proofs.Steps.{since_set, since_start, since_then, steps_on, throws_then}
-use Rattle.rl_runs.specs.Continuations.{Agrees, Eventually, Follows, Inside, IsBehind, IsOutside, Jumps, Range, SharesVariables, Since}
+use Rattle.rl_runs.proofs.Steps.{inside_refl, noted_other, noted_same, set_other, set_same, since_noted}
+use Rattle.rl_runs.proofs.Steps.{since_set, since_start, since_then, steps_on}
+use Rattle.rl_runs.specs.Continuations.{Agrees, Eventually, Follows, Inside, IsOutside, Jumps, Range, SharesVariables, Since}
 use Rattle.rl_runs.specs.Continuations.{Throws, TracesAt, TracesFrom, between}
-use Rattle.rl_runs.specs.Exits.{loop_ways, switch_ways}
 use Rattle.rl_runs.specs.Facts.{Extends, HasSoundNames, IsContainedIn, Nobody}
-use Rattle.rl_runs.specs.Moves.{block_id, branch, goto, without_scope}
+use Rattle.rl_runs.specs.Moves.{block_id, branch, goto}
 use Rattle.rl_runs.specs.Simulation.{RunsExpression, RunsPattern, RunsStatement}
 
 -- A round of the loop begins: the iterator and the collection are in their places, and the loop is noted at its blocks.
-pub record IsRound (c : Code) (r : Range) (store : Store) (notes : Notes) (answers : List Answer) (behind init test iterator collection : ℕ) (it v : Value) (source1 store1 : Store) (notes1 : Notes) (answers1 : List Answer) : Type 0 where
+pub record IsRound (c : Code) (r : Range) (store : Store) (notes : Notes) (answers : List Answer)
+    (behind init test iterator collection : ℕ) (it v : Value) (source1 store1 : Store) (notes1 : Notes)
+    (answers1 : List Answer) : Type 0 where
   pub since : Since c r store notes answers source1 store1 notes1 answers1
   pub has_iterator : store1 iterator ≡ it
   pub has_collection : store1 collection ≡ v
@@ -46,7 +47,9 @@ pub record IsRound (c : Code) (r : Range) (store : Store) (notes : Notes) (answe
   pub at_behind : notes1 behind ≡ Some (Iterates (block_id behind) false)
 
 -- A part runs that changes neither.
-round_then : {c : Code} {r : Range} {store : Store} {notes : Notes} {answers : List Answer} {behind init test iterator collection : ℕ} {it v : Value} {source1 store1 : Store} {notes1 : Notes} {answers1 : List Answer} {r1 : Range} {source2 store2 : Store} {notes2 : Notes} {answers2 : List Answer}
+round_then : {c : Code} {r : Range} {store : Store} {notes : Notes} {answers : List Answer} {behind init test iterator collection : ℕ}
+    {it v : Value} {source1 store1 : Store} {notes1 : Notes} {answers1 : List Answer} {r1 : Range} {source2 store2 : Store}
+    {notes2 : Notes} {answers2 : List Answer}
     → IsRound c r store notes answers behind init test iterator collection it v source1 store1 notes1 answers1 → Inside r r1
     → Since c r1 store1 notes1 answers1 source2 store2 notes2 answers2
     → Nobody c.ident iterator → Nobody c.ident collection → IsOutside r1.identifier r1.identifiers iterator
@@ -82,7 +85,7 @@ module _ (s s2 s3 s5 : State) (label : Label) (collection test : Place) (span le
   s0 = forof_begun s label
 
   abbrev pub shut : State
-  shut = forof_body s2 f s.current part
+  shut = rounds_body s2 f s.current part
 
   abbrev pub si : State
   si = forof_init s3 f span
@@ -97,13 +100,13 @@ module _ (s s2 s3 s5 : State) (label : Label) (collection test : Place) (span le
   sn = forof_next s3 f collection span left
 
   abbrev pub finished : State
-  finished = forof_finished s5 f span test
+  finished = rounds_finished s5 f l span test
 
   abbrev pub opens : Instruction
-  opens = unordered (temporary si (Some span)) (values.GetIterator collection) (Some span)
+  opens = unordered (temporary si collection.span) (values.GetIterator collection) collection.span
 
   abbrev pub steps : Instruction
-  steps = unordered (temporary st (Some left)) (values.IteratorNext (temporary si (Some span)) collection) (Some left)
+  steps = unordered (temporary st (Some left)) (values.IteratorNext (temporary si collection.span) collection) (Some left)
 
   abbrev pub iterator : ℕ
   iterator = length si.env.identifiers
@@ -111,7 +114,8 @@ module _ (s s2 s3 s5 : State) (label : Label) (collection test : Place) (span le
   abbrev pub next_id : ℕ
   next_id = length st.env.identifiers
 
-  module _ (gb : Extends (forof_begun s label) s2) (gr : Extends (forof_body s2 s.env.next_block s.current part) s3) (gp : Extends (forof_next s3 s.env.next_block collection span left) s5) where
+  module _ (gb : Extends (forof_begun s label) s2) (gr : Extends (rounds_body s2 s.env.next_block s.current part) s3)
+      (gp : Extends (forof_next s3 s.env.next_block collection span left) s5) where
     scopes_left : take (length s2.scopes - 1) s2.scopes ≡ s.scopes
     scopes_left =
         ap (λ (x : List JumpScope). take (length x - 1) x) gb.scopes ∙ front_added s.scopes (scope.Loop label (block_id i) (block_id f))
@@ -130,13 +134,13 @@ module _ (s s2 s3 s5 : State) (label : Label) (collection test : Place) (span le
     init_extends = extends_completed s3 (forof_end f span) (new_block i block.Loop) (λ none. refl)
 
     open_extends : Extends si so
-    open_extends = extends_value si (values.GetIterator collection) (Some span)
+    open_extends = extends_value si (values.GetIterator collection) collection.span
 
     test_extends : Extends so st
     test_extends = extends_completed so (goto t gotos.Break span) (new_block t block.Loop) (λ none. refl)
 
     next_extends : Extends st sn
-    next_extends = extends_value st (values.IteratorNext (temporary si (Some span)) collection) (Some left)
+    next_extends = extends_value st (values.IteratorNext (temporary si collection.span) collection) (Some left)
 
     last_extends : Extends s5 finished
     last_extends = extends_completed s5 (branch test l f f span) (new_block f block.Block) (λ none. refl)
@@ -156,7 +160,7 @@ module _ (s s2 s3 s5 : State) (label : Label) (collection test : Place) (span le
     pub forof_extends : Extends s finished
     forof_extends = extends_then tested_extends (extends_then next_extends (extends_then gp last_extends))
 
-    made_iterator : length (with_temporary si (Some span)).env.identifiers ≡ iterator + 1
+    made_iterator : length (with_temporary si collection.span).env.identifiers ≡ iterator + 1
     made_iterator = simp length-append (omega arith)
 
     made_next : length (with_temporary st (Some left)).env.identifiers ≡ next_id + 1
@@ -170,7 +174,7 @@ module _ (s s2 s3 s5 : State) (label : Label) (collection test : Place) (span le
 
     pub forof_runs : (world : World) (dr : Action Value) (dp : Value → Action (Unit {0})) (db : Action (Unit {0}))
         → RunsStatement world db (forof_begun s label) s2
-        → RunsExpression world dr (forof_body s2 s.env.next_block s.current part) s3 collection.identifier.0
+        → RunsExpression world dr (rounds_body s2 s.env.next_block s.current part) s3 collection.identifier.0
         → RunsPattern world dp (forof_next s3 s.env.next_block collection span left) s5
         (length (forof_test s3 s.env.next_block collection span).env.identifiers)
         → RunsStatement world (iterated world label dr dp db) s finished
@@ -184,7 +188,7 @@ module _ (s s2 s3 s5 : State) (label : Label) (collection test : Place) (span le
         run_it c cover sound shares ways normal source store notes answers a throws jumps onward =
             use_expression (front_ways label normal ways)
             (λ v after rest. fired (set_open world.opens) (get_iterator v) after rest
-            (λ a e r. rounds world (suc (length r)) label a.value v dp db ways normal e r) ways.throws) rr cover3
+            (λ a e r. rounds world (suc (length r)) label (next_of a.value v) dp db ways normal e r) ways.throws) rr cover3
             (shut_extends.sound sound) shares
             (inside shut_extends (extends_then init_extends
             (extends_then open_extends (extends_then test_extends (extends_then next_extends (extends_then gp last_extends))))))
@@ -214,25 +218,18 @@ module _ (s s2 s3 s5 : State) (label : Label) (collection test : Place) (span le
             cover3 : IsContainedIn s3 c
             cover3 = contained_before init_extends cover_i
 
-            cover_s : IsContainedIn shut c
-            cover_s = contained_before gr cover3
-
-            cover2 : IsContainedIn s2 c
-            cover2 = contained_stacked s2 (take (length s2.scopes - 1) s2.scopes) s2.handlers c (λ none. none)
-                (contained_hole (without_scope s2) i gotos.Continue part s.current c cover_s)
-
             iterator_free : Nobody c.ident iterator
-            iterator_free = value_free si (values.GetIterator collection) (Some span) c cover_o (right_extends.sound sound)
+            iterator_free = value_free si (values.GetIterator collection) collection.span c cover_o (right_extends.sound sound)
 
             next_free : Nobody c.ident next_id
             next_free =
-                value_free st (values.IteratorNext (temporary si (Some span)) collection) (Some left) c cover_n (tested_extends.sound sound)
+                value_free st (values.IteratorNext (temporary si collection.span) collection) (Some left) c cover_n (tested_extends.sound sound)
 
             collection_free : Nobody c.ident collection.identifier.0
             collection_free = rr.free c cover3 (shut_extends.sound sound)
 
             iterator_made : iterator < length st.env.identifiers
-            iterator_made = omega (arith, made_iterator, pushed_identifiers (with_temporary si (Some span)) opens)
+            iterator_made = omega (arith, made_iterator, pushed_identifiers (with_temporary si collection.span) opens)
 
             next_made : next_id < length sn.env.identifiers
             next_made = omega (arith, made_next, pushed_identifiers (with_temporary st (Some left)) steps)
@@ -251,217 +248,116 @@ module _ (s s2 s3 s5 : State) (label : Label) (collection test : Place) (span le
 
             body_part : Inside R (between s0 s2)
             body_part =
-                record {
-                  identifier = omega arith;
-                  identifiers = omega
-                      (arith, gr.identifiers, open_extends.identifiers, next_extends.identifiers, gp.identifiers);
-                  block = omega arith;
-                  blocks =
-                      omega (arith, gr.blocks, open_extends.blocks, next_extends.blocks, gp.blocks);
-                }
+                round_body_part s s2 st s5 l label (values.IteratorNext (temporary si collection.span) collection) test span left part
+                (omega arith) gb tested_extends (extends_then gr (extends_then init_extends (extends_then open_extends test_extends))) gp
 
-            next_part : Inside R (between sn s5)
-            next_part =
-                record {
-                  identifier = omega
-                      (arith, tested_extends.identifiers, next_extends.identifiers);
+            head_part : Inside R (between sn s5)
+            head_part =
+                round_head_part s s2 st s5 l label (values.IteratorNext (temporary si collection.span) collection) test span left part
+                (omega arith) gb tested_extends (extends_then gr (extends_then init_extends (extends_then open_extends test_extends))) gp
+
+            -- The rounds of this iterator and collection.
+            Q : (it v : Value) → OfPoints
+            Q it v source1 store1 notes1 answers1 =
+                IsRound c R store notes answers f i t iterator collection.identifier.0 it v source1 store1 notes1 answers1
+
+            keeps : (it v : Value)
+                → IsKept c (Q it v) R store notes answers (between s0 s2) (between sn s5) (between finished finished)
+                (values.IteratorNext (temporary si collection.span) collection) next_id t f (next_of it v)
+            keeps it v = record {
+              since = λ source1 store1 notes1 answers1 q. q.since;
+              body = λ source1 store1 notes1 answers1 q source2 store2 notes2 answers2 u.
+                  round_then q body_part u iterator_free collection_free (inr (omega (arith, collection_late, collection_made)))
+                  (inr collection_late) (inl (omega arith)) (inl (omega arith)) (inl (omega arith));
+              head = λ source1 store1 notes1 answers1 q source2 store2 notes2 answers2 u.
+                  round_then q head_part u iterator_free collection_free (inl (omega (arith, iterator_made, next_extends.identifiers)))
+                  (inl (omega (arith, collection_made, iterator_made, next_extends.identifiers))) (inl below_i) (inl below_t) (inl below_f);
+              answer = λ source1 store1 notes1 answers1 q source2 store2 notes2 answers2 u.
+                  round_then q whole_part u iterator_free collection_free
+                  (inl (omega (arith, iterator_made, next_made, ids_end)))
+                  (inl (omega (arith, collection_made, iterator_made, next_made, ids_end))) (inl (omega (arith, blocks_end)))
+                  (inl (omega (arith, blocks_end))) (inl (omega (arith, blocks_end)));
+              takes = λ source1 store1 notes1 answers1 q y. record {
+                since = since_set next_id y next_free (omega (arith, tested_extends.identifiers))
+                    (omega (arith, next_made, ids_end)) q.since;
+                has_iterator = (let ne : iterator ≡ next_id → ⊥ = λ e. omega (arith, e, iterator_made) in set_other store1 next_id iterator y ne) ∙ q.has_iterator;
+                has_collection = (let ne : collection.identifier.0 ≡ next_id → ⊥ = λ e. omega (arith, e, iterator_made, collection_made) in set_other store1 next_id collection.identifier.0 y ne) ∙ q.has_collection;
+                at_init = q.at_init;
+                at_test = q.at_test;
+                at_behind = q.at_behind;
+              };
+              asks = λ source1 store1 notes1 answers1 q.
+                  ap (λ (w : Value). Steps (next_of w (store1 collection.identifier.0)) next_id) q.has_iterator
+                  ∙ ap (λ (w : Value). Steps (next_of it w) next_id) q.has_collection;
+              exits = λ source1 store1 notes1 answers1 q. ap exit_at q.at_test;
+              straight = λ source1 store1 notes1 answers1 q. ap choice_at q.at_behind;
+            }
+              where
+                whole_part : Inside R (between finished finished)
+                whole_part = record {
+                  identifier = omega (arith, tested_extends.identifiers, next_extends.identifiers, gp.identifiers);
                   identifiers = omega arith;
-                  block =
-                      omega (arith, tested_extends.blocks, next_extends.blocks);
+                  block = omega (arith, tested_extends.blocks, next_extends.blocks, gp.blocks);
                   blocks = omega arith;
                 }
 
-            in_body : ℕ → Value → Value → Ways
-            in_body n it v = loop_ways label (rounds world n label it v dp db ways normal) normal ways
+                below_i : i < sn.env.next_block
+                below_i = omega (arith, aside_extends.blocks, gr.blocks, open_extends.blocks, next_extends.blocks)
 
-            -- The ways that the loop leaves to the assignment.
-            in_head : Ways
-            in_head = switch_ways label normal (λ after rest. waiting) ways
+                below_t : t < sn.env.next_block
+                below_t = omega (arith, aside_extends.blocks, gr.blocks, open_extends.blocks, next_extends.blocks)
 
-            -- From the init, once the iterator is there.
+                below_f : f < sn.env.next_block
+                below_f = omega (arith, aside_extends.blocks, gr.blocks, open_extends.blocks, next_extends.blocks)
+
+            -- From the init, once the iterator is there: it is not asked again.
             onto : (it v : Value) (n : ℕ)
-                → ((source6 store6 : Store) (notes6 : Notes) (answers6 : List Answer)
-                → IsRound c R store notes answers f i t iterator collection.identifier.0 it v source6 store6 notes6 answers6
+                → ((source6 store6 : Store) (notes6 : Notes) (answers6 : List Answer) → Q it v source6 store6 notes6 answers6
                 → length answers6 < n
-                → TracesAt c t 0 store6 notes6 answers6 (rounds world n label it v dp db ways normal source6 answers6))
-                → (source6 store6 : Store) (notes6 : Notes) (answers6 : List Answer)
-                → IsRound c R store notes answers f i t iterator collection.identifier.0 it v source6 store6 notes6 answers6
+                → TracesAt c t 0 store6 notes6 answers6 (rounds world n label (next_of it v) dp db ways normal source6 answers6))
+                → (source6 store6 : Store) (notes6 : Notes) (answers6 : List Answer) → Q it v source6 store6 notes6 answers6
                 → length answers6 < n
-                → TracesAt c i 0 store6 notes6 answers6 (rounds world n label it v dp db ways normal source6 answers6)
+                → TracesAt c i 0 store6 notes6 answers6 (rounds world n label (next_of it v) dp db ways normal source6 answers6)
             onto it v n next source6 store6 notes6 answers6 q less =
-                push_runs (with_temporary si (Some span)) opens c store6 store6 notes6 answers6 _
+                push_runs (with_temporary si collection.span) opens c store6 store6 notes6 answers6 _
                 (λ stuck k place. ap (λ (o : Option Note). opened stuck c o
                 (get_iterator (store6 collection.identifier.0)) iterator k k i place store6 notes6 answers6) q.at_init) cover_o
                 (hole_goes so t gotos.Break span (new_block t block.Loop) c store6 notes6 answers6 _ cover_t
                 (next source6 store6 notes6 answers6 q less))
 
-            -- The body, and the rounds behind it.
-            round : (it v : Value) (n : ℕ)
-                → ((source6 store6 : Store) (notes6 : Notes) (answers6 : List Answer)
-                → IsRound c R store notes answers f i t iterator collection.identifier.0 it v source6 store6 notes6 answers6
-                → length answers6 < n
-                → TracesAt c t 0 store6 notes6 answers6 (rounds world n label it v dp db ways normal source6 answers6))
-                → (source6 store6 : Store) (notes6 : Notes) (answers6 : List Answer)
-                → IsRound c R store notes answers f i t iterator collection.identifier.0 it v source6 store6 notes6 answers6
-                → length answers6 < n
-                → TracesAt c l 0 store6 notes6 answers6
-                (db (in_body n it v) (λ end. rounds world n label it v dp db ways normal) source6 answers6)
-            round it v n next source6 store6 notes6 answers6 q less =
-                use_statement (in_body n it v) (rounds world n label it v dp db ways normal) rb cover2 (first_extends.sound sound) shares
-                (inside_refl (between s0 s2)) (throws_then (innermost s.handlers) ways.throws body_part q.since.later throws) jumps2
-                (since_start q.since.agrees)
-                (λ source7 store7 notes7 answers7 u7 w7. hole_goes
-                (without_scope s2) i gotos.Continue part s.current c store7 notes7 answers7 _ cover_s
-                (onto it v n next source7 store7 notes7 answers7 (on u7) (omega (arith, u7.later.fewer, less))))
-              where
-                on : {source7 store7 : Store} {notes7 : Notes} {answers7 : List Answer}
-                    → Since c (between s0 s2) store6 notes6 answers6 source7 store7 notes7 answers7
-                    → IsRound c R store notes answers f i t iterator collection.identifier.0 it v source7 store7 notes7 answers7
-                on u = round_then q body_part u iterator_free collection_free (inr (omega (arith, collection_late, collection_made)))
-                    (inr collection_late) (inl (omega arith)) (inl (omega arith)) (inl (omega arith))
-
-                jumps2 : Jumps c (between s0 s2) store6 notes6 answers6 s0.scopes (in_body n it v).breaks (in_body n it v).continues
-                jumps2 =
-                    jumps_in_loop label (block_id i) (block_id f) (rounds world n label it v dp db ways normal) normal ways s.scopes
-                    (record {
-                      goes = λ source7 store7 notes7 answers7 u7. onto it v n next source7 store7 notes7 answers7 (on u7)
-                          (omega (arith, u7.later.fewer, less));
-                    })
-                    (follows_then body_part q.since.later onward)
-                    (jumps_then body_part q.since.later jumps)
-
             -- At most n rounds, from the test.
             again : (it v : Value) (n : ℕ) (source6 store6 : Store) (notes6 : Notes) (answers6 : List Answer)
-                → IsRound c R store notes answers f i t iterator collection.identifier.0 it v source6 store6 notes6 answers6
-                → length answers6 < n
-                → TracesAt c t 0 store6 notes6 answers6 (rounds world n label it v dp db ways normal source6 answers6)
-            again it v zero source6 store6 notes6 answers6 q less = absurd (omega (arith, less))
-            again it v (suc n) source6 store6 notes6 answers6 q less =
-                steps_on c t 0 store6 notes6 answers6 (Runs steps) _ (instruction_met (with_temporary st (Some left)) steps c cover_n)
-                (subst (λ (o : Option Note). Eventually c
-                (λ stuck next. step_to stuck c (exit_at o)
-                (next_of (store6 iterator) (store6 collection.identifier.0)) next_id next t 0 store6 notes6 answers6)
-                (rounds world (suc n) label it v dp db ways normal source6 answers6)) (sym q.at_test)
-                (subst (λ (w : Value). Eventually c
-                (λ stuck next. stepped (changer c) (next_of w (store6 collection.identifier.0)) store6 answers6
-                (λ y later rest. next t 1 (set later next_id y) notes6 rest) (λ later rest. next f 0 later notes6 rest)
-                (caught stuck (c.catcher t) notes6 next)) (rounds world (suc n) label it v dp db ways normal source6 answers6))
-                (sym q.has_iterator)
-                (subst (λ (w : Value). Eventually c
-                (λ stuck next. stepped (changer c) (next_of it w) store6 answers6
-                (λ y later rest. next t 1 (set later next_id y) notes6 rest) (λ later rest. next f 0 later notes6 rest)
-                (caught stuck (c.catcher t) notes6 next)) (rounds world (suc n) label it v dp db ways normal source6 answers6))
-                (sym q.has_collection)
-                (steps_come c world cover.names.one shares (next_of it v) answers6
-                (λ next y later rest. next t 1 (set later next_id y) notes6 rest) (λ next later rest. next f 0 later notes6 rest)
-                (λ stuck next. caught stuck (c.catcher t) notes6 next)
-                (λ y. dp y in_head (λ end. db (in_body n it v)
-                (λ end. rounds world n label it v dp db ways normal))) normal ways.throws q.since.agrees
-                (λ y source7 store7 rest after. goes_behind (innermost st.handlers) (with_temporary st (Some left)) steps c
-                (set store7 next_id y) notes6 rest _ refl cover_n
-                (taken (again it v n) y source7 store7 rest (behind source7 store7 rest after) (omega (arith, after.fewer, less))))
-                (λ source7 store7 rest after. onward.goes source7 store7 notes6 rest
-                (since_then (inside_refl R) q.since.later (after.since R)))
-                (λ w source7 store7 rest after. subst
-                (λ (o : Option ℕ). Eventually c (λ stuck next. caught stuck o notes6 next w store7 rest) (ways.throws w source7 rest))
-                (sym (catches (innermost st.handlers) (with_temporary st (Some left)) steps c refl cover_n))
-                (thrown_comes (innermost st.handlers) c R store notes answers ways.throws w source7 store7 notes6 rest
-                (same_throws c R store notes answers s st ways.throws tested_extends.handlers throws)
-                (since_then (inside_refl R) q.since.later (after.since R))))))))
-              where
-                -- Behind the answer.
-                behind : (source7 store7 : Store) (rest : List Answer) → IsBehind c store6 notes6 answers6 source7 store7 rest
-                    → IsRound c R store notes answers f i t iterator collection.identifier.0 it v source7 store7 notes6 rest
-                behind source7 store7 rest after =
-                    round_then q (record {
-                      identifier = omega
-                          (arith, tested_extends.identifiers, next_extends.identifiers, gp.identifiers);
-                      identifiers = omega arith;
-                      block =
-                          omega (arith, tested_extends.blocks, next_extends.blocks, gp.blocks);
-                      blocks = omega arith;
-                    })
-                    (after.since (between finished finished)) iterator_free collection_free
-                    (inl (omega (arith, iterator_made, next_made, ids_end)))
-                    (inl (omega (arith, collection_made, iterator_made, next_made, ids_end))) (inl (omega (arith, blocks_end)))
-                    (inl (omega (arith, blocks_end))) (inl (omega (arith, blocks_end)))
-
-                -- The assignment of the next value, and the body.
-                taken : ((source8 store8 : Store) (notes8 : Notes) (answers8 : List Answer)
-                    → IsRound c R store notes answers f i t iterator collection.identifier.0 it v source8 store8 notes8 answers8
-                    → length answers8 < n
-                    → TracesAt c t 0 store8 notes8 answers8 (rounds world n label it v dp db ways normal source8 answers8))
-                    → (y : Value) (source7 store7 : Store) (rest : List Answer)
-                    → IsRound c R store notes answers f i t iterator collection.identifier.0 it v source7 store7 notes6 rest
-                    → length rest < n
-                    → TracesFrom c sn (set store7 next_id y) notes6 rest
-                    (dp y in_head (λ end. db (in_body n it v) (λ end. rounds world n label it v dp db ways normal)) source7 rest)
-                taken next y source7 store7 rest q7 less7 =
-                    rp.runs c cover5 (next_extends.sound (tested_extends.sound sound)) shares next_free next_made in_head
-                    (db (in_body n it v) (λ end. rounds world n label it v dp db ways normal)) y source7
-                    (set store7 next_id y) notes6 rest q8.since.agrees (set_same store7 next_id y)
-                    (throws_then (innermost sn.handlers) ways.throws next_part q8.since.later
-                    (same_throws c R store notes answers s sn ways.throws handlers_next throws))
-                    (record {
-                      goes = λ source9 store9 notes9 answers9 u9.
-                          let q9 = round_then q8 next_part u9 iterator_free collection_free (inl (omega (arith, iterator_made, next_extends.identifiers))) (inl (omega (arith, collection_made, iterator_made, next_extends.identifiers))) (inl below_i) (inl below_t) (inl below_f) in
-                          steps_on c s5.current.id.0 (length s5.current.instructions) store9 notes9 answers9
-                          (Ends (branch test l f f span)) _ (terminal_met s5 (branch test l f f span) (new_block f block.Block) c cover)
-                          (subst (λ (o : Option Note). Eventually c
-                          (λ stuck next. branched stuck c (choice_at o) test.identifier.0 (block_id l)
-                          (block_id f) next next notes9 store9 answers9)
-                          (db (in_body n it v) (λ end. rounds world n label it v dp db ways normal) source9 answers9))
-                          (sym q9.at_behind)
-                          (round it v n next source9 store9 notes9 answers9 q9 (omega (arith, u9.later.fewer, less7))));
-                    })
-                  where
-                    handlers_next : sn.handlers ≡ s.handlers
-                    handlers_next = next_extends.handlers ∙ tested_extends.handlers
-
-                    below_i : i < sn.env.next_block
-                    below_i = omega (arith, aside_extends.blocks, gr.blocks, open_extends.blocks, next_extends.blocks)
-
-                    below_t : t < sn.env.next_block
-                    below_t = omega (arith, aside_extends.blocks, gr.blocks, open_extends.blocks, next_extends.blocks)
-
-                    below_f : f < sn.env.next_block
-                    below_f = omega (arith, aside_extends.blocks, gr.blocks, open_extends.blocks, next_extends.blocks)
-
-                    q8 : IsRound c R store notes answers f i t iterator collection.identifier.0 it v source7
-                        (set store7 next_id y) notes6 rest
-                    q8 = record {
-                      since = since_set next_id y next_free (omega (arith, tested_extends.identifiers))
-                          (omega (arith, next_made, ids_end)) q7.since;
-                      has_iterator = (let ne : iterator ≡ next_id → ⊥ = λ e. omega (arith, e, iterator_made) in set_other store7 next_id iterator y ne) ∙ q7.has_iterator;
-                      has_collection = (let ne : collection.identifier.0 ≡ next_id → ⊥ = λ e. omega (arith, e, iterator_made, collection_made) in set_other store7 next_id collection.identifier.0 y ne) ∙ q7.has_collection;
-                      at_init = q7.at_init;
-                      at_test = q7.at_test;
-                      at_behind = q7.at_behind;
-                    }
+                → Q it v source6 store6 notes6 answers6 → length answers6 < n
+                → TracesAt c t 0 store6 notes6 answers6 (rounds world n label (next_of it v) dp db ways normal source6 answers6)
+            again it v =
+                rounds_again s s2 st s5 l label (values.IteratorNext (temporary si collection.span) collection) test span left part
+                (omega arith) gb tested_extends (extends_then gr (extends_then init_extends (extends_then open_extends test_extends))) gp
+                world dp db rb rp c cover sound shares ways normal store notes answers throws jumps onward (next_of it v) (Q it v)
+                (keeps it v) (onto it v)
 
             -- In the init, with the loop noted.
             from_init : (v : Value) (source1 store1 : Store) (notes1 : Notes) (answers1 : List Answer)
                 → Since c R store notes answers source1 store1 notes1 answers1 → store1 collection.identifier.0 ≡ v
                 → TracesAt c i 0 store1 (noted (noted (noted notes1 (block_id i) X) (block_id t) X) (block_id f) X) answers1
                 (fired (set_open world.opens) (get_iterator v) source1 answers1
-                (λ it e r. rounds world (suc (length r)) label it.value v dp db ways normal e r) ways.throws)
+                (λ it e r. rounds world (suc (length r)) label (next_of it.value v) dp db ways normal e r) ways.throws)
             from_init v source1 store1 notes1 answers1 t1 is =
-                steps_on c i 0 store1 notes2 answers1 (Runs opens) _ (instruction_met (with_temporary si (Some span)) opens c cover_o)
+                steps_on c i 0 store1 notes2 answers1 (Runs opens) _ (instruction_met (with_temporary si collection.span) opens c cover_o)
                 (subst (λ (o : Option Note). Eventually c
                 (λ stuck next. opened stuck c o
                 (get_iterator (store1 collection.identifier.0)) iterator next next i 0 store1 notes2 answers1)
                 (fired (set_open world.opens) (get_iterator v) source1 answers1
-                (λ it e r. rounds world (suc (length r)) label it.value v dp db ways normal e r) ways.throws)) (sym at_i)
+                (λ it e r. rounds world (suc (length r)) label (next_of it.value v) dp db ways normal e r) ways.throws)) (sym at_i)
                 (subst (λ (w : Value). Eventually c
                 (λ stuck next. fired (changer c) (get_iterator w) store1 answers1
                 (λ it later rest. next i 1 (set later iterator it.value) notes3 rest) (caught stuck (c.catcher i) notes3 next))
                 (fired (set_open world.opens) (get_iterator v) source1 answers1
-                (λ it e r. rounds world (suc (length r)) label it.value v dp db ways normal e r) ways.throws)) (sym is)
+                (λ it e r. rounds world (suc (length r)) label (next_of it.value v) dp db ways normal e r) ways.throws)) (sym is)
                 (fired_comes c world cover.names.one shares (get_iterator v) answers1
                 (λ next it later rest. next i 1 (set later iterator it.value) notes3 rest)
                 (λ stuck next. caught stuck (c.catcher i) notes3 next)
-                (λ it e r. rounds world (suc (length r)) label it.value v dp db ways normal e r) ways.throws t1.agrees
-                (λ it source4 store4 rest after. goes_behind (innermost si.handlers) (with_temporary si (Some span)) opens c
+                (λ it e r. rounds world (suc (length r)) label (next_of it.value v) dp db ways normal e r) ways.throws t1.agrees
+                (λ it source4 store4 rest after. goes_behind (innermost si.handlers) (with_temporary si collection.span) opens c
                 (set store4 iterator it.value) notes3 rest _ refl cover_o
                 (hole_goes so t gotos.Break span (new_block t block.Loop) c (set store4 iterator it.value) notes3 rest _ cover_t
                 (again it.value v (suc (length rest)) source4 (set store4 iterator it.value) notes3 rest
@@ -470,7 +366,7 @@ module _ (s s2 s3 s5 : State) (label : Label) (collection test : Place) (span le
                 (inl (omega (arith, collection_made, iterator_made, next_made, ids_end))) ∙ is)) (omega arith))))
                 (λ w source4 store4 rest after. subst
                 (λ (o : Option ℕ). Eventually c (λ stuck next. caught stuck o notes3 next w store4 rest) (ways.throws w source4 rest))
-                (sym (catches (innermost si.handlers) (with_temporary si (Some span)) opens c refl cover_o))
+                (sym (catches (innermost si.handlers) (with_temporary si collection.span) opens c refl cover_o))
                 (thrown_comes (innermost si.handlers) c R store notes answers ways.throws w source4 store4 notes3 rest
                 (same_throws c R store notes answers s si ways.throws right_extends.handlers throws)
                 (since_then (inside_refl R) since3.later (after.since R)))))))

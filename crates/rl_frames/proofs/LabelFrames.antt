@@ -1,5 +1,5 @@
 -- A labelled statement that is no loop: its runs, and what it preserves of the blocks.
-use Rattle.std.proofs.Common.{◌≡◌, ℕ, zero, suc, ◌+◌, ◌-◌, ◌<◌, ◌≤◌, inl, inr, ◌++◌, Bool, true, false, List, [], ◌∷◌, length, take, Option}
+use Rattle.std.proofs.Common.{◌≡◌, ℕ, zero, suc, ◌+◌, ◌-◌, ◌<◌, ◌≤◌, inl, inr, ◌++◌, false, List, [], ◌∷◌, length, take, Option}
 use Rattle.std.proofs.Common.{Ok, Err, refl, ap, ◌∙◌, subst, arith}
 use Rattle.rl_base.specs.declared.span.Span.{Span}
 use Rattle.rl_builder.specs.Builder.{State, completed_by, ended_by, innermost, new_block, reserved}
@@ -17,16 +17,19 @@ use Rattle.rl_machine.specs.Machine.{Code}
 use Rattle.rl_machine.specs.Silence.{LeavesStraight, Settles}
 use Rattle.rl_machine.specs.Traces.{Cont, Store, World, waiting}
 use Rattle.rl_model.specs.Actions.{Action, Ways, labeled}
+use Rattle.rl_model.specs.Dead.{Outs, labeled_outs}
 use Rattle.rl_order.proofs.Ordering.{or_left, same_self}
 use Rattle.rl_runs.proofs.BlockIds.{IsFree, free_aside, free_fresh, ids_aside, ids_counted, ids_ended}
 use Rattle.rl_runs.proofs.Holes.{aside, contained_hole, contained_stacked, front_added, hole_goes, use_statement}
 use Rattle.rl_runs.proofs.Jumping.{jumps_in_label}
+use Rattle.rl_runs.proofs.Leaving.{label_breaks, label_completes, label_continues}
 use Rattle.rl_runs.proofs.Moves.{contained_before, extends_completed, extends_reserved, extends_then, goes_on, terminal_met}
 use Rattle.rl_runs.proofs.Naming.{named_ended, named_goto, named_then, named_two, scope_targets}
 use Rattle.rl_runs.proofs.Points.{empty_settles, scope_jumps_settle, settle_aside, settle_completed, settle_goto}
 use Rattle.rl_runs.proofs.Steps.{since_noted, since_start}
 use Rattle.rl_runs.proofs.Used.{below_or, ended_there, ends_more, looped_ended, notes_back, straight_ended, straight_then}
-use Rattle.rl_runs.specs.Blocks.{AreUsed, HasPoint, IsLedTo, IsNameSince, IsTarget, Leads, Lives, NamesSince, Passes, PointsSettle}
+use Rattle.rl_runs.specs.Blocks.{AreUsed, HasPoint, IsLedTo, IsNameSince, IsTarget, Leads, Leaves, Lives, NamesSince, Passes}
+use Rattle.rl_runs.specs.Blocks.{PointsSettle}
 use Rattle.rl_runs.specs.Blocks.{PreservesBlocks, PreservesIds, Settling, StraightSince, UniqueIds}
 use Rattle.rl_runs.specs.Continuations.{Agrees, Follows, Inside, Jumps, SharesVariables, Throws, TracesFrom, between}
 use Rattle.rl_runs.specs.Exits.{label_ways}
@@ -256,30 +259,45 @@ module _ (x s2 : State) (own : List ℕ) (span part : Span) where
                 by_length zero is same = subst (λ (m : ℕ). Settles c m 0) same (subst (λ (m : ℕ). Settles c sr.current.id.0 m) is end)
                 by_length (suc m) is same = all_points (n + 1) 0 (inr (record { named = same; within = omega (arith, is) }))
 
-    -- Live instructions.
-    module _ {K : Type 0} (key_of : Instruction → Option K) where
-      at_hole : (c : Code) → IsContainedIn last c → (entry : ℕ) → IsLedTo c entry x.current.id.0 → IsLedTo c entry (n + 1)
-      at_hole c cover entry led =
-          Leads x.current.id.0 (length x.current.instructions) (label_end n span) (block_id (n + 1)) led
-          (terminal_met closed (label_end n span) (new_block n block.Block) c cover)
-          (or_left (same_id (block_id (n + 1)) (block_id (n + 1))) false (same_self (block_id (n + 1))))
+    -- Live instructions, and jumps.
 
-      -- A body that completes leads behind the statement.
-      pub label_comes : Passes (label_begun x own) s2 → (c : Code) → IsContainedIn last c → (entry : ℕ)
-          → IsLedTo c entry (x.env.next_block + 1) → IsLedTo c entry x.env.next_block
-      label_comes passes c cover entry led =
-          Leads s2.current.id.0 (length s2.current.instructions) (goto n gotos.Break part) (block_id n)
-          (passes c (cover_body c cover) entry led)
-          (terminal_met sr (goto n gotos.Break part) x.current c
-          (contained_before (extends_completed closed (label_end n span) (new_block n block.Block) (λ none. refl)) cover))
-          (or_left (same_id (block_id n) (block_id n)) false (same_self (block_id n)))
+    at_hole : (c : Code) → IsContainedIn last c → (entry : ℕ) → IsLedTo c entry x.current.id.0 → IsLedTo c entry (n + 1)
+    at_hole c cover entry led =
+        Leads x.current.id.0 (length x.current.instructions) (label_end n span) (block_id (n + 1)) led
+        (terminal_met closed (label_end n span) (new_block n block.Block) c cover)
+        (or_left (same_id (block_id (n + 1)) (block_id (n + 1))) false (same_self (block_id (n + 1))))
 
-      -- The statement completes where its body does, or where a `break` in it leads behind the statement.
-      pub label_lives : (live : List K) (one left : Bool)
-          → (left ≡ true → (c : Code) → IsContainedIn last c → (entry : ℕ) → IsLedTo c entry (x.env.next_block + 1)
-          → IsLedTo c entry x.env.next_block)
-          → Lives key_of live one (label_begun x own) s2 → Lives key_of live left x last
-      label_lives live one left comes l = record {
-        onward = λ is c cover entry led. comes is c cover entry (at_hole c cover entry led);
-        stands = λ c cover entry led. l.stands c (cover_body c cover) entry (at_hole c cover entry led);
-      }
+    -- A body that completes leads behind the statement.
+    comes : Passes (label_begun x own) s2 → (c : Code) → IsContainedIn last c → (entry : ℕ)
+        → IsLedTo c entry (x.env.next_block + 1) → IsLedTo c entry x.env.next_block
+    comes passes c cover entry led =
+        Leads s2.current.id.0 (length s2.current.instructions) (goto n gotos.Break part) (block_id n)
+        (passes c (cover_body c cover) entry led)
+        (terminal_met sr (goto n gotos.Break part) x.current c
+        (contained_before (extends_completed closed (label_end n span) (new_block n block.Block) (λ none. refl)) cover))
+        (or_left (same_id (block_id n) (block_id n)) false (same_self (block_id n)))
+
+    -- The statement completes where its body does, or where a `break` to its label leads behind it.
+    pub label_lives : {K : Type 0} (key_of : Instruction → Option K) (live : List K) (body : Outs)
+        → Lives key_of live body.falls (label_begun x own) s2 → Leaves body (label_begun x own) s2
+        → Lives key_of live (labeled_outs own body).falls x last
+    label_lives key_of live body l j = record {
+      onward = λ is c cover entry led.
+          label_completes (IsLedTo c entry) x.scopes own (block_id n) body
+          (j.breaks c (cover_body c cover) entry (at_hole c cover entry led))
+          (j.continues c (cover_body c cover) entry (at_hole c cover entry led))
+          (λ falls. comes (l.onward falls) c cover entry (at_hole c cover entry led)) is;
+      stands = λ c cover entry led. l.stands c (cover_body c cover) entry (at_hole c cover entry led);
+    }
+
+    pub label_leaves : (body : Outs) → Leaves body (label_begun x own) s2 → Leaves (labeled_outs own body) x last
+    label_leaves body j = record {
+      breaks = λ c cover entry led.
+          label_breaks (IsLedTo c entry) x.scopes own (block_id n) body
+          (j.breaks c (cover_body c cover) entry (at_hole c cover entry led))
+          (j.continues c (cover_body c cover) entry (at_hole c cover entry led));
+      continues = λ c cover entry led.
+          label_continues (IsLedTo c entry) x.scopes own (block_id n) body
+          (j.breaks c (cover_body c cover) entry (at_hole c cover entry led))
+          (j.continues c (cover_body c cover) entry (at_hole c cover entry led));
+    }

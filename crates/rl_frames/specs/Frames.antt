@@ -1,11 +1,14 @@
 -- The parts that frames hold between their calls, the states that the calls leave, and what a frame makes of the runs of its holes.
 use Rattle.std.specs.Prelude.{◌≡◌, ℕ, ◌+◌, Bool, true, false, Option, Some, None, List, unwrap_or}
 use Rattle.std.specs.Option.{option_map}
+use Rattle.rl_base.specs.declared.ids.BlockId.{BlockId}
 use Rattle.rl_base.specs.declared.operator.LogicalOperator.{LogicalOperator}
 use Rattle.rl_base.specs.declared.span.Span.{Span}
-use Rattle.rl_builder.specs.Builder.{State, completed_by, new_block, placeholder, pushed, reserved}
+use Rattle.rl_builder.specs.Builder.{State, completed_by, new_block, placeholder, pushed, reserved, with_scope}
 use Rattle.rl_builder.specs.declared.blocks.WipBlock.{WipBlock}
+use Rattle.rl_builder.specs.declared.jumps.JumpScope.TheVariants as scope
 use Rattle.rl_frames.specs.declared.do_while_frame.DoWhileFrame.{DoWhileFrame}
+use Rattle.rl_frames.specs.declared.for_frame.ForFrame.{ForFrame}
 use Rattle.rl_frames.specs.declared.if_frame.IfFrame.{IfFrame}
 use Rattle.rl_frames.specs.declared.label_frame.LabelFrame.{LabelFrame}
 use Rattle.rl_frames.specs.declared.logical.Logical.{Logical}
@@ -14,14 +17,15 @@ use Rattle.rl_frames.specs.declared.sequence.SequenceFrame.{SequenceFrame}
 use Rattle.rl_frames.specs.declared.ternary.Ternary.{Ternary}
 use Rattle.rl_frames.specs.declared.try_frame.TryFrame.{TryFrame}
 use Rattle.rl_frames.specs.declared.while_frame.WhileFrame.{WhileFrame}
-use Rattle.rl_frames.specs.Meanings.{chosen, connected, do_looped, looped, selected}
-use Rattle.rl_frames.specs.Parts.{if_begun, if_end, label_begun, loads, logical_begun, logical_entered, logical_left, logical_place}
-use Rattle.rl_frames.specs.Parts.{sequence_begun}
-use Rattle.rl_frames.specs.Parts.{sequence_place, ternary_alternate, ternary_begun, ternary_place, while_begun}
+use Rattle.rl_frames.specs.Meanings.{chosen, connected, do_looped, for_looped, looped, selected}
+use Rattle.rl_frames.specs.Parts.{for_begun, for_update, if_begun, if_end, label_begun, loads, logical_begun, logical_entered}
+use Rattle.rl_frames.specs.Parts.{logical_left, logical_place, sequence_begun, sequence_place, ternary_alternate, ternary_begun}
+use Rattle.rl_frames.specs.Parts.{ternary_place, while_begun}
 use Rattle.rl_frames.specs.Parts.{IsFreshBinding, try_bound, try_end, try_handler, try_started}
 use Rattle.rl_hir.specs.declared.function.BlockKind.TheVariants as block
 use Rattle.rl_hir.specs.declared.instruction.Place.{Place}
 use Rattle.rl_hir.specs.declared.terminal.GotoVariant.TheVariants as gotos
+use Rattle.rl_hir.specs.declared.terminal.Terminal.{Terminal}
 use Rattle.rl_hir.specs.declared.terminal.TerminalKind.{TerminalKind}
 use Rattle.rl_hir.specs.declared.terminal.TerminalKind.TheVariants as kinds
 use Rattle.rl_machine.specs.declared.trace.Value.{Value}
@@ -29,8 +33,8 @@ use Rattle.rl_machine.specs.Ends.{bound}
 use Rattle.rl_machine.specs.Traces.{World}
 use Rattle.rl_model.specs.Actions.{Action, Label, catching, done, labeled}
 use Rattle.rl_runs.specs.Blocks.{Passes, PreservesBlocks}
-use Rattle.rl_runs.specs.Moves.{block_id, branch, ends_by, last_hole, next_hole, stored_in, without_handler, without_scope}
-use Rattle.rl_runs.specs.Simulation.{RunsExpression, RunsHandler, RunsStatement}
+use Rattle.rl_runs.specs.Moves.{block_id, branch, ends_by, goto, last_hole, next_hole, stored_in, without_handler, without_scope}
+use Rattle.rl_runs.specs.Simulation.{RunsExpression, RunsHandler, RunsJumpless, RunsStatement}
 
 -- The parts of an `IfFrame`.
 pub record IfParts : Type 0 where
@@ -327,6 +331,125 @@ pub record DoWhileComposes (f : WhileParts) (old new : State) (value : Place) : 
       → RunsStatement world db (while_begun s label) s2
       → RunsExpression world dt (do_while_bodied (while_at s span) s2 part) old value.identifier.0
       → PreservesBlocks s new × RunsStatement world (do_looped world label dt db) s new
+
+-- The parts of a `ForFrame`. Before they are known, `update` is absent, and `body` the block of the init.
+pub record ForParts : Type 0 where
+  pub span : Span
+  pub label : Label
+  pub behind : WipBlock
+  pub test : ℕ
+  pub init : ℕ
+  pub update : Option BlockId
+  pub body : ℕ
+  pub has_update : Bool
+  pub aside : Option (WipBlock × WipBlock)
+
+abbrev pub for_of : ForFrame → ForParts
+for_of f = record {
+  span = f.span;
+  label = f.label;
+  behind = f.behind;
+  test = f.test.0;
+  init = f.init.0;
+  update = f.update;
+  body = f.body.0;
+  has_update = f.has_update;
+  aside = option_map (λ p. (p.0.block, p.1)) f.aside;
+}
+
+abbrev pub for_at : State → (span : Span) → Label → (has_update : Bool) → ForParts
+for_at s span label has_update = record {
+  span = span;
+  label = label;
+  behind = new_block (s.env.next_block + 1) block.Block;
+  test = s.env.next_block;
+  init = s.env.next_block + 1 + 1;
+  update = None;
+  body = s.env.next_block + 1 + 1;
+  has_update = has_update;
+  aside = Some (s.current, new_block s.env.next_block block.Loop);
+}
+
+-- The blocks that were set aside; placeholders where none are.
+abbrev pub for_aside : ForParts → WipBlock × WipBlock
+for_aside f = unwrap_or f.aside (placeholder, placeholder)
+
+-- The block to which a `continue` goes: that of the update, or that of the test if there is none.
+abbrev pub for_again : ForParts → BlockId
+for_again f = unwrap_or f.update (block_id f.test)
+
+-- The hole in front of the body ends, that of the init or of the update, and that of the body opens.
+abbrev pub for_opened : ForParts → State → (part : Span) → State
+for_opened f s part =
+    with_scope (next_hole s f.test gotos.Break part block.Block) (scope.Loop f.label (for_again f) f.behind.id)
+
+abbrev pub for_entered : ForParts → State → ForParts
+for_entered f s = record f { label = None; body = s.env.next_block }
+
+abbrev pub for_inited_by : (has_update : Bool) → ForParts → State → (part : Span) → State
+for_inited_by true f s part = for_update s f.test part
+for_inited_by false f s part = for_opened f s part
+
+-- The hole of the init ends, and that of the update opens, or that of the body if there is none.
+abbrev pub for_inited : ForParts → State → (part : Span) → State
+for_inited f s part = for_inited_by f.has_update f s part
+
+abbrev pub for_parted : (has_update : Bool) → ForParts → State → ForParts
+for_parted true f s = record f { update = Some (block_id s.env.next_block) }
+for_parted false f s = for_entered f s
+
+abbrev pub for_after_init : ForParts → State → ForParts
+for_after_init f s = for_parted f.has_update f s
+
+-- The hole of the update ends, and that of the body opens.
+abbrev pub for_updated : ForParts → State → (part : Span) → State
+for_updated f s part = for_opened f s part
+
+abbrev pub for_after_update : ForParts → State → ForParts
+for_after_update f s = for_entered f s
+
+-- The hole of the body ends by `end`, and that of the test opens behind a terminal of this kind.
+abbrev pub for_shut : ForParts → (end : Terminal) → TerminalKind → State → State
+for_shut f end kind s =
+    completed_by (completed_by (without_scope s) end (for_aside f).0) (ends_by kind (Some f.span)) (for_aside f).1
+
+abbrev pub for_bodied : ForParts → State → (part : Span) → State
+for_bodied f s part =
+    for_shut f (goto (for_again f).0 gotos.Continue part)
+    (kinds.For (block_id f.init) (block_id f.test) f.update (block_id f.body) f.behind.id) s
+
+abbrev pub for_after : ForParts → ForParts
+for_after f = record f { aside = None }
+
+abbrev pub for_ended : ForParts → State → (value : Place) → State
+for_ended f s value = completed_by s (branch value f.body f.behind.id.0 f.behind.id.0 f.span) f.behind
+
+-- From any begin, and whatever the holes mean, if the init and the test complete. No jump leaves the init and the update.
+pub record ForComposes (f : ForParts) (old new : State) (value : Place) : Type 0 where
+  pub both : (s s2 s3 s4 : State) (span part other last : Span) (label : Label) (world : World) (di : Action (Unit {0})) (dt : Action Value)
+      (du db : Action (Unit {0}))
+      → f ≡ for_after (for_after_update (for_after_init (for_at s span label true) s2) s3)
+      → PreservesBlocks (for_begun s) s2 → PreservesBlocks (for_inited (for_at s span label true) s2 part) s3
+      → PreservesBlocks (for_updated (for_after_init (for_at s span label true) s2) s3 other) s4
+      → PreservesBlocks (for_bodied (for_after_update (for_after_init (for_at s span label true) s2) s3) s4 last) old
+      → Passes (for_begun s) s2
+      → Passes (for_bodied (for_after_update (for_after_init (for_at s span label true) s2) s3) s4 last) old
+      → RunsJumpless world di (for_begun s) s2
+      → RunsJumpless world du (for_inited (for_at s span label true) s2 part) s3
+      → RunsStatement world db (for_updated (for_after_init (for_at s span label true) s2) s3 other) s4
+      → RunsExpression world dt (for_bodied (for_after_update (for_after_init (for_at s span label true) s2) s3) s4 last) old
+      value.identifier.0
+      → PreservesBlocks s new × RunsStatement world (for_looped world label di dt du db) s new
+  pub one : (s s2 s3 : State) (span part last : Span) (label : Label) (world : World) (di : Action (Unit {0})) (dt : Action Value)
+      (db : Action (Unit {0}))
+      → f ≡ for_after (for_after_init (for_at s span label false) s2)
+      → PreservesBlocks (for_begun s) s2 → PreservesBlocks (for_inited (for_at s span label false) s2 part) s3
+      → PreservesBlocks (for_bodied (for_after_init (for_at s span label false) s2) s3 last) old
+      → Passes (for_begun s) s2 → Passes (for_bodied (for_after_init (for_at s span label false) s2) s3 last) old
+      → RunsJumpless world di (for_begun s) s2
+      → RunsStatement world db (for_inited (for_at s span label false) s2 part) s3
+      → RunsExpression world dt (for_bodied (for_after_init (for_at s span label false) s2) s3 last) old value.identifier.0
+      → PreservesBlocks s new × RunsStatement world (for_looped world label di dt done db) s new
 
 -- The parts of a `LabelFrame`.
 pub record LabelParts : Type 0 where

@@ -3,11 +3,12 @@ use Rattle.std.specs.Prelude.{if◌then◌else◌, Bool, true, false, ℕ, zero,
 use Rattle.rl_base.specs.declared.operator.LogicalOperator.{LogicalOperator}
 use Rattle.rl_base.specs.declared.operator.LogicalOperator.TheVariants as logical
 use Rattle.rl_machine.specs.declared.trace.Answer.{Answer}
+use Rattle.rl_machine.specs.declared.trace.Event.{Event}
 use Rattle.rl_machine.specs.declared.trace.Trace.{Trace}
 use Rattle.rl_machine.specs.declared.trace.Value.{Value}
 use Rattle.rl_machine.specs.Traces.{Changer, Cont, Store, World, fired, nullish, set_open, stepped, tested, truthy, waiting}
 use Rattle.rl_model.specs.Actions.{Action, Label, Ways}
-use Rattle.rl_model.specs.Events.{get_iterator, next_of}
+use Rattle.rl_model.specs.Events.{get_iterator, next_key, next_of}
 use Rattle.rl_runs.specs.Exits.{is_named, loop_ways, switch_ways}
 
 -- An `if` statement.
@@ -30,7 +31,7 @@ abbrev pub looped : World → Label → Action Value → Action (Unit {0}) → A
 looped world own test body ways onward source answers =
     while_turns world (suc (length answers)) own test body ways (onward (tt {0})) source answers
 
--- The test of a `do`-`while` loop under a label, or without one, behind its body.
+-- The test of a loop under a label, or without one: after a yes the run goes on as `again`.
 abbrev pub again_tested : World → Label → Action Value → Ways → (again behind : Cont) → Cont
 again_tested world own test ways again behind =
     test (switch_ways own behind (λ source answers. waiting) ways)
@@ -47,6 +48,35 @@ do_while_turns world (suc n) own test body ways behind =
 abbrev pub do_looped : World → Label → Action Value → Action (Unit {0}) → Action (Unit {0})
 do_looped world own test body ways onward source answers =
     do_while_turns world (suc (length answers)) own test body ways (onward (tt {0})) source answers
+
+-- The ways that a label leaves to what a loop under it runs once, in front.
+abbrev pub front_ways : (own : Label) → (behind : Cont) → Ways → Ways
+front_ways own behind ways = record ways {
+  breaks = λ jump. if is_named own jump then behind else ways.breaks jump;
+  continues = λ jump. if is_named own jump then (λ source answers. waiting) else ways.continues jump;
+}
+
+-- The update of a `for` loop under a label, or without one, in front of the next turn.
+abbrev pub updated : Label → (update : Action (Unit {0})) → Ways → (again behind : Cont) → Cont
+updated own update ways again behind = update (switch_ways own behind (λ source answers. waiting) ways) (λ end. again)
+
+-- At most so many turns of a `for` loop: each takes an answer at its test. A `continue` goes on with the update.
+abbrev pub for_turns : World → ℕ → Label → Action Value → (update body : Action (Unit {0})) → Ways → (behind : Cont) → Cont
+for_turns world zero own test update body ways behind = λ source answers. waiting
+for_turns world (suc n) own test update body ways behind =
+    again_tested world own test ways
+    (body (loop_ways own (updated own update ways (for_turns world n own test update body ways behind) behind) behind ways)
+    (λ end. updated own update ways (for_turns world n own test update body ways behind) behind)) behind
+
+-- A `for` loop, behind its init.
+abbrev pub for_repeated : World → Label → Action Value → (update body : Action (Unit {0})) → Ways → (behind : Cont) → Cont
+for_repeated world own test update body ways behind source answers =
+    for_turns world (suc (length answers)) own test update body ways behind source answers
+
+-- A `for` loop.
+abbrev pub for_looped : World → Label → (init : Action (Unit {0})) → Action Value → (update body : Action (Unit {0})) → Action (Unit {0})
+for_looped world own init test update body ways onward =
+    init (front_ways own (onward (tt {0})) ways) (λ end. for_repeated world own test update body ways (onward (tt {0})))
 
 -- The test of a logical expression: its value is that of the left part, or that of the right part.
 abbrev pub decided : LogicalOperator → Changer → Value → Store → List Answer → (left right : Cont) → Trace
@@ -65,30 +95,28 @@ selected world test consequent alternate ways onward =
     test ways
     (λ v source answers. tested (set_open world.opens) (truthy v) source answers (consequent ways onward) (alternate ways onward))
 
--- At most so many rounds of a `for`-`of` loop under a label, or without one. Each round takes an answer.
-abbrev pub rounds : World → ℕ → Label → (iterator collection : Value) → (Value → Action (Unit {0})) → Action (Unit {0}) → Ways
-    → (behind : Cont) → Cont
-rounds world zero own iterator collection pattern body ways behind = λ source answers. waiting
-rounds world (suc n) own iterator collection pattern body ways behind = λ source answers.
-    stepped (set_open world.opens) (next_of iterator collection) source answers
+-- At most so many rounds of a loop over keys or values, under a label or without one. Each round asks the event, which takes an answer.
+abbrev pub rounds : World → ℕ → Label → Event → (Value → Action (Unit {0})) → Action (Unit {0}) → Ways → (behind : Cont) → Cont
+rounds world zero own event pattern body ways behind = λ source answers. waiting
+rounds world (suc n) own event pattern body ways behind = λ source answers.
+    stepped (set_open world.opens) event source answers
     (λ v. pattern v (switch_ways own behind (λ source answers. waiting) ways)
-    (λ end. body (loop_ways own (rounds world n own iterator collection pattern body ways behind) behind ways)
-    (λ end. rounds world n own iterator collection pattern body ways behind)))
+    (λ end. body (loop_ways own (rounds world n own event pattern body ways behind) behind ways)
+    (λ end. rounds world n own event pattern body ways behind)))
     behind ways.throws
-
--- The ways that a label leaves to what a loop under it runs once, in front.
-abbrev pub front_ways : (own : Label) → (behind : Cont) → Ways → Ways
-front_ways own behind ways = record ways {
-  breaks = λ jump. if is_named own jump then behind else ways.breaks jump;
-  continues = λ jump. if is_named own jump then (λ source answers. waiting) else ways.continues jump;
-}
 
 -- A `for`-`of` loop.
 abbrev pub iterated : World → Label → Action Value → (Value → Action (Unit {0})) → Action (Unit {0}) → Action (Unit {0})
 iterated world own right pattern body ways onward =
     right (front_ways own (onward (tt {0})) ways)
     (λ v source answers. fired (set_open world.opens) (get_iterator v) source answers
-    (λ a after rest. rounds world (suc (length rest)) own a.value v pattern body ways (onward (tt {0})) after rest) ways.throws)
+    (λ a after rest. rounds world (suc (length rest)) own (next_of a.value v) pattern body ways (onward (tt {0})) after rest) ways.throws)
+
+-- A `for`-`in` loop.
+abbrev pub enumerated : World → Label → Action Value → (Value → Action (Unit {0})) → Action (Unit {0}) → Action (Unit {0})
+enumerated world own right pattern body ways onward =
+    right (front_ways own (onward (tt {0})) ways)
+    (λ v source answers. rounds world (suc (length answers)) own (next_key v) pattern body ways (onward (tt {0})) source answers)
 
 -- The test in front of a link: in front of an optional one the chain ends early at null and undefined.
 abbrev pub passed : Bool → Changer → Value → Store → List Answer → (onward early : Cont) → Trace

@@ -1,5 +1,6 @@
 -- The moves of each construct, as functions of the builder's states between its holes.
 use Rattle.std.specs.Prelude.{ℕ, ◌+◌, ◌<◌, ◌≤◌, Bool, Option, Some, None, List, length}
+use Rattle.rl_base.specs.declared.ids.BlockId.{BlockId}
 use Rattle.rl_base.specs.declared.operator.LogicalOperator.{LogicalOperator}
 use Rattle.rl_base.specs.declared.span.Span.{Span}
 use Rattle.rl_builder.specs.Builder.{State, completed_by, entered, new_block, pushed, reserved, with_handler, with_scope, with_temporary}
@@ -105,6 +106,36 @@ do_while_end test span = ends_by (kinds.DoWhile (block_id (test + 1 + 1)) (block
 abbrev pub do_while_body : State → (test : ℕ) → (span : Span) → (outer : WipBlock) → (part : Span) → State
 do_while_body s test span outer part = loop_body s test (do_while_end test span) outer part
 
+-- A `for` loop: the blocks of its test, behind it and of its init are numbered, and the hole of the init opens.
+abbrev pub for_begun : State → State
+for_begun s = entered (reserved (reserved (reserved s))) (new_block (s.env.next_block + 1 + 1) block.Loop)
+
+-- The hole of the init ends, and that of the update opens.
+abbrev pub for_update : State → (test : ℕ) → (part : Span) → State
+for_update s test part = next_hole s test gotos.Break part block.Loop
+
+abbrev pub for_scope : (test : ℕ) → Label → (again : BlockId) → JumpScope
+for_scope test label again = scope.Loop label again (block_id (test + 1))
+
+-- The hole in front of the body ends, that of the init or of the update, and that of the body opens; a `continue` in it goes to `again`.
+abbrev pub for_body : State → (test : ℕ) → Label → (again : BlockId) → (part : Span) → State
+for_body s test label again part = with_scope (next_hole s test gotos.Break part block.Block) (for_scope test label again)
+
+abbrev pub for_end : (test : ℕ) → (update : Option BlockId) → (body : ℕ) → Span → Terminal
+for_end test update body span =
+    ends_by (kinds.For (block_id (test + 1 + 1)) (block_id test) update (block_id body) (block_id (test + 1))) (Some span)
+
+-- The hole of the body ends, and that of the test opens behind the loop's terminal.
+abbrev pub for_test : State → (test : ℕ) → (again : BlockId) → (update : Option BlockId) → (body : ℕ) → Span → (outer : WipBlock)
+    → (part : Span) → State
+for_test s test again update body span outer part =
+    completed_by (last_hole (without_scope s) again.0 gotos.Continue part outer) (for_end test update body span) (new_block test block.Loop)
+
+-- The hole of the test ends.
+abbrev pub for_finished : State → (test body : ℕ) → Span → (value : Place) → State
+for_finished s test body span value =
+    completed_by s (branch value body (test + 1) (test + 1) span) (new_block (test + 1) block.Block)
+
 -- A conditional expression: the blocks behind it and of its test are numbered, and the place of its value made.
 abbrev pub ternary_reserved : State → (span : Span) → State
 ternary_reserved s span = with_temporary (reserved (reserved s)) (Some span)
@@ -202,15 +233,37 @@ try_finished s behind handler body binding span outer part =
     completed_by (last_hole (without_handler s) behind gotos.Try part outer) (try_end behind handler body binding span)
     (new_block behind block.Block)
 
--- A `for`-`of` loop: the blocks behind it, of its init, of its test and of its body are numbered, and the hole of the body opens.
+-- Loops over keys or values: the blocks behind the loop and of its init are numbered first, and that of its body last.
+-- The hole of the body ends, and that of the right side opens.
+abbrev pub rounds_body : State → (behind : ℕ) → (outer : WipBlock) → (part : Span) → State
+rounds_body s behind outer part = last_hole (without_scope s) (behind + 1) gotos.Continue part outer
+
+-- The hole of the assignment ends. The block behind the loop goes on.
+abbrev pub rounds_finished : State → (behind body : ℕ) → Span → (test : Place) → State
+rounds_finished s behind body span test = completed_by s (branch test body behind behind span) (new_block behind block.Block)
+
+-- A `for`-`in` loop: the hole of the body opens.
+abbrev pub forin_begun : State → Label → State
+forin_begun s label =
+    with_scope (entered (reserved (reserved (reserved s))) (new_block (s.env.next_block + 1 + 1) block.Block))
+    (scope.Loop label (block_id (s.env.next_block + 1)) (block_id s.env.next_block))
+
+abbrev pub forin_end : (behind : ℕ) → Span → Terminal
+forin_end behind span = ends_by (kinds.ForIn (block_id (behind + 1)) (block_id (behind + 1 + 1)) (block_id behind)) (Some span)
+
+-- The hole of the right side ends with its value: the loop's terminal, and its init.
+abbrev pub forin_init : State → (behind : ℕ) → Span → State
+forin_init s behind span = completed_by s (forin_end behind span) (new_block (behind + 1) block.Loop)
+
+-- The hole of the assignment opens.
+abbrev pub forin_next : State → (behind : ℕ) → (collection : Place) → (span left : Span) → State
+forin_next s behind collection span left = with_value (forin_init s behind span) (values.NextPropertyOf collection) (Some left)
+
+-- A `for`-`of` loop: behind the block of its init that of its test is numbered, and the hole of the body opens.
 abbrev pub forof_begun : State → Label → State
 forof_begun s label =
     with_scope (entered (reserved (reserved (reserved (reserved s)))) (new_block (s.env.next_block + 1 + 1 + 1) block.Block))
     (scope.Loop label (block_id (s.env.next_block + 1)) (block_id s.env.next_block))
-
--- The hole of the body ends, and that of the right side opens.
-abbrev pub forof_body : State → (behind : ℕ) → (outer : WipBlock) → (part : Span) → State
-forof_body s behind outer part = last_hole (without_scope s) (behind + 1) gotos.Continue part outer
 
 abbrev pub forof_end : (behind : ℕ) → Span → Terminal
 forof_end behind span =
@@ -221,7 +274,7 @@ abbrev pub forof_init : State → (behind : ℕ) → Span → State
 forof_init s behind span = completed_by s (forof_end behind span) (new_block (behind + 1) block.Loop)
 
 abbrev pub forof_opened : State → (behind : ℕ) → (collection : Place) → Span → State
-forof_opened s behind collection span = with_value (forof_init s behind span) (values.GetIterator collection) (Some span)
+forof_opened s behind collection span = with_value (forof_init s behind span) (values.GetIterator collection) collection.span
 
 -- The test begins.
 abbrev pub forof_test : State → (behind : ℕ) → (collection : Place) → Span → State
@@ -232,12 +285,7 @@ forof_test s behind collection span =
 abbrev pub forof_next : State → (behind : ℕ) → (collection : Place) → (span left : Span) → State
 forof_next s behind collection span left =
     with_value (forof_test s behind collection span)
-    (values.IteratorNext (temporary (forof_init s behind span) (Some span)) collection) (Some left)
-
--- The hole of the assignment ends.
-abbrev pub forof_finished : State → (behind : ℕ) → Span → (test : Place) → State
-forof_finished s behind span test =
-    completed_by s (branch test (behind + 1 + 1 + 1) behind behind span) (new_block behind block.Block)
+    (values.IteratorNext (temporary (forof_init s behind span) collection.span) collection) (Some left)
 
 -- A link of an optional chain: the block of its test is numbered, and the hole of the object opens.
 abbrev pub link_begun : State → State

@@ -1,7 +1,9 @@
 //! Ends of the holes of constructs, and values that go into places that were made before.
 
-ghost use Rattle.std.specs.Prelude.{◌≡◌, ◌+◌, ◌<◌, ◌≤◌, ◌^◌, length, OnOk};
+ghost use Rattle.std.specs.Prelude.{◌≡◌, ◌+◌, ◌<◌, ◌≤◌, ◌^◌, length, OnOk, IfOk};
 ghost use Rattle.rl_builder.specs.Builder.{state_of};
+ghost use Rattle.rl_builder.specs.Temporaries.{temporary, with_value};
+ghost use Rattle.rl_runs.specs.Blocks.{size_of};
 ghost use Rattle.rl_runs.specs.Moves as spec;
 
 use rl_base::error::OutOfMemory;
@@ -50,4 +52,26 @@ pub(crate) fn store_in<U: ReadsUnit, B>(
         span: Some(span),
     })?;
     Ok(())
+}
+
+/// Appends an instruction that puts a value into a fresh temporary, whose place it returns. On `OutOfMemory` an allocation failed.
+pub(crate) fn put_value<U: ReadsUnit, B>(
+    b: &mut HirBuilder<'_, U, B>,
+    value: InstructionValue,
+    span: Option<Span>,
+) -> Result<Place, OutOfMemory>
+    requires room { size_of (state_of U.tables b.old) + 4 < 2 ^ 32 }
+    ensures same_reference { b.new.env.ghost_name ≡ b.old.env.ghost_name }
+    ensures state { OnOk result (state_of U.tables b.new ≡ with_value (state_of U.tables b.old) value span) }
+    ensures grown { OnOk result (size_of (state_of U.tables b.new) ≤ size_of (state_of U.tables b.old) + 4) }
+    ensures place { IfOk result (λ p. p ≡ temporary (state_of U.tables b.old) span) }
+{
+    let place = b.create_temporary_place(span)?;
+    b.push(Instruction {
+        order: EvaluationOrder(0),
+        lvalue: place,
+        value,
+        span,
+    })?;
+    Ok(place)
 }

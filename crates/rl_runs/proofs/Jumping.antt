@@ -16,11 +16,11 @@ use Rattle.rl_runs.specs.Exits.{is_named, label_ways, loop_ways, switch_ways}
 
 -- The targets of jumps with one more scope.
 
-break_is : (outer : List JumpScope) (scope : JumpScope) (l : Label)
+pub break_is : (outer : List JumpScope) (scope : JumpScope) (l : Label)
     → lookup_break (outer ++ scope ∷ []) l ≡ (if takes_break l scope then Ok (break_block_of scope) else lookup_break outer l)
 break_is outer scope l = ap (λ (x : List JumpScope). break_target l x) (reverse-append outer (scope ∷ []))
 
-continue_is : (outer : List JumpScope) (scope : JumpScope) (l : Label)
+pub continue_is : (outer : List JumpScope) (scope : JumpScope) (l : Label)
     → lookup_continue (outer ++ scope ∷ []) l ≡ (if takes_continue l scope then continue_block_of scope else lookup_continue outer l)
 continue_is outer scope l = ap (λ (x : List JumpScope). continue_target l x) (reverse-append outer (scope ∷ []))
 

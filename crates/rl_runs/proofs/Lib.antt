@@ -6,9 +6,12 @@ pub mod FinalNames
 pub mod Finished
 pub mod Graphs
 pub mod Growing
+pub mod HoleNotes
 pub mod Holes
 pub mod Jumping
+pub mod Jumpless
 pub mod Labels
+pub mod Leaving
 pub mod Links
 pub mod Listed
 pub mod Living

@@ -7,7 +7,7 @@ use Rattle.rl_base.specs.Distinct.{AreDistinct}
 use Rattle.rl_builder.specs.Builder.{State}
 use Rattle.rl_builder.specs.declared.blocks.WipBlock.{WipBlock}
 use Rattle.rl_builder.specs.declared.jumps.JumpScope.{JumpScope}
-use Rattle.rl_builder.specs.Jumps.{break_block_of, continue_block_of}
+use Rattle.rl_builder.specs.Jumps.{break_block_of, continue_block_of, lookup_break, lookup_continue}
 use Rattle.rl_hir.specs.Blocks.{Pair as BlockPair, same_id}
 use Rattle.rl_hir.specs.declared.instruction.Instruction.{Instruction}
 use Rattle.rl_hir.specs.declared.terminal.Terminal.{Terminal}
@@ -19,6 +19,7 @@ use Rattle.rl_machine.specs.Ends.{leaving}
 use Rattle.rl_machine.specs.Machine.{Code, Ends, Runs}
 use Rattle.rl_machine.specs.Prunes.{Each}
 use Rattle.rl_machine.specs.Silence.{IsNotedStraight, LeavesStraight, Settles}
+use Rattle.rl_model.specs.Dead.{Outs}
 use Rattle.rl_runs.specs.Facts.{Extends, IsCompleted, IsContainedIn, IsCurrentOrCompleted}
 
 -- The ids of blocks, the current one included, are distinct and below the counter `next`.
@@ -184,3 +185,10 @@ pub record Stands {K : Type 0} (key_of : Instruction → Option K) (c : Code) (e
 pub record Lives {K : Type 0} (key_of : Instruction → Option K) (live : List K) (completes : Bool) (old new : State) : Type 0 where
   pub onward : completes ≡ true → Passes old new
   pub stands : (c : Code) → IsContainedIn new c → (entry : ℕ) → IsLedTo c entry old.current.id.0 → All (Stands key_of c entry) live
+
+-- A part with these exits: if it is reached, so are the targets of the jumps out of it.
+pub record Leaves (outs : Outs) (old new : State) : Type 0 where
+  pub breaks : (c : Code) → IsContainedIn new c → (entry : ℕ) → IsLedTo c entry old.current.id.0
+      → All (λ jump. (block : BlockId) → lookup_break old.scopes jump ≡ Ok block → IsLedTo c entry block.0) outs.breaks
+  pub continues : (c : Code) → IsContainedIn new c → (entry : ℕ) → IsLedTo c entry old.current.id.0
+      → All (λ jump. (block : BlockId) → lookup_continue old.scopes jump ≡ Ok block → IsLedTo c entry block.0) outs.continues

@@ -103,6 +103,14 @@ pub record RunsStatement (world : World) (d : Action (Unit {0})) (old new : Stat
       → Follows c (between old new) store notes answers new.current.id.0 (length new.current.instructions) normal
       → TracesFrom c old store notes answers (d ways (λ end. normal) source answers)
 
+-- As `RunsStatement`, for a part that no jump leaves: a declaration, or an expression whose value is dropped.
+pub record RunsJumpless (world : World) (d : Action (Unit {0})) (old new : State) : Type 0 where
+  pub runs : (c : Code) → IsContainedIn new c → HasSoundNames old → SharesVariables c.ident world c.world
+      → (ways : Ways) (normal : Cont) (source store : Store) (notes : Notes) (answers : List Answer) → Agrees c.ident source store
+      → Throws c (between old new) store notes answers (innermost old.handlers) ways.throws
+      → Follows c (between old new) store notes answers new.current.id.0 (length new.current.instructions) normal
+      → TracesFrom c old store notes answers (d ways (λ end. normal) source answers)
+
 -- As `RunsStatement`, for a handler that takes the value of a throw.
 pub record RunsHandler (world : World) (d : Value → Action (Unit {0})) (old new : State) (binding : Option ℕ) : Type 0 where
   pub runs : (c : Code) → IsContainedIn new c → HasSoundNames old → SharesVariables c.ident world c.world
