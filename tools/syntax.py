@@ -362,8 +362,10 @@ def view_spec(module):
 
 
 def covered_file():
-    conditions = sorted({name for marks in GRAMMAR.covered().values() for name in marks})
-    arms = [f"        Word::{camel(word)} => {' && '.join(f'{name}(parts)' for name in marks) or 'true'}," for word, marks in GRAMMAR.covered().items()]
+    covered = GRAMMAR.covered()
+    conditions = sorted({name for marks in covered.values() for name in marks})
+    tests = {word: " && ".join(f"{name}(parts)" for name in marks) or "true" for word, marks in covered.items()}
+    arms = [f"        Word::{camel(word)} => {tests.get(word, 'false')}," for word in WORDS]
     return filled("covered_words.rt", {"NOTE": NOTE, "CONDITIONS": ", ".join(conditions), "ARMS": "\n".join(arms)})
 
 

@@ -152,7 +152,7 @@ module _ (names : Names) (tables : FunctionTables) (parameters : List Parameter)
   graph_closed none =
       g.graph.closed
       (subst (λ (blocks : List BlockPair). MayOrder (record { blocks = blocks; table = last.table; entry = last.entry })) (sym graph_table)
-      (function_may begun g.state (begun_fresh env tables parameters) lowered_from.blocks graph_fits lowered_from.lists
+      (function_may begun g.state (begun_fresh env tables parameters) lowered_from.blocks graph_fits lowered_from.lists lowered_from.unread
       (λ symbol. identifier_of last.env.pairs symbol) alone (sound_covers last (graph_names none)) graph_unlinked))
     where
       -- A world in which no variable is shared.
@@ -235,7 +235,7 @@ lower_runs_by : (f body : Syntax) (names : Names) (tables : FunctionTables) (par
     → trace_by stuck world h pairs start arguments answers ≡ run_function scene f start arguments answers
 lower_runs_by f body names tables given env new params built w declared own is distinct none g supported unskipped h pairs final body_is instructions_is params_is scene world stands =
     function_runs_by scene world begun graph.state (exec_before_end scene body) (begun_fresh env tables parameters) sound
-    lowered.blocks (graph_fits names tables parameters body env new params built graph apart) lowered.lists
+    lowered.blocks (graph_fits names tables parameters body env new params built graph apart) lowered.lists lowered.unread
     (lowered.runs (body_supported names f body w declared own supported) (sym (ap has_using w.is_body) ∙ unskipped) scene stands.named stands.ported) h pairs covers stands.shares f
     built new graph.graph (graph_table names tables parameters body env new params built graph apart) (graph_unlinked names tables parameters body env new params built graph apart) body_is instructions_is
     (λ start arguments. take parameters arguments (set_all start unset))

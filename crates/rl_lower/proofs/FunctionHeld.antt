@@ -39,8 +39,9 @@ use Rattle.rl_lower.specs.Endings.{IsGraphOf, closed_off, hir_of}
 use Rattle.rl_lowered.specs.Promised.{LowersBody, held_by}
 use Rattle.rl_machine.specs.Machine.{Code, Graph, Runs, block_of, item_at, item_by}
 use Rattle.rl_machine.specs.Traces.{World}
+use Rattle.rl_model.specs.Actions.{Label}
 use Rattle.rl_model.specs.Counted.{Counted}
-use Rattle.rl_model.specs.Dead.{lives}
+use Rattle.rl_model.specs.Dead.{goes_on, lives}
 use Rattle.rl_names.specs.Functions.{params_in, parameters_of}
 use Rattle.rl_names.specs.Locals.{AreApart, DeclaresAll}
 use Rattle.rl_names.specs.Names.{Names}
@@ -60,7 +61,7 @@ use Rattle.rl_runs.proofs.Moves.{contained_before}
 use Rattle.rl_runs.proofs.Ordered.{found_holds}
 use Rattle.rl_runs.specs.Blocks as blocks
 use Rattle.rl_runs.specs.Blocks.{IsLedTo, Stands}
-use Rattle.rl_syntax.specs.Syntax.{Syntax, Node, Listed, Pieces, End, Then}
+use Rattle.rl_syntax.specs.Syntax.{Syntax, Node, Listed, Said, Pieces, End, Then}
 use Rattle.rl_syntax.specs.declared.word.Word.{Word}
 use Rattle.rl_syntax.specs.declared.word.Word.TheVariants as word
 
@@ -117,20 +118,38 @@ mutual
   nodes_counted End = All-nil IsCountedNode
   nodes_counted (Then part parts) = All-append IsCountedNode (held_in part) (held_among parts) (node_counted part) (nodes_counted parts)
 
+where_counted : (live : Bool) (part : Syntax) → All IsCountedNode (if live then held_in part else [])
+where_counted true part = node_counted part
+where_counted false part = All-nil IsCountedNode
+
 mutual
-  statement_counted : (statement : Syntax) → All IsCountedNode (live_in statement)
-  statement_counted (Node at word.Block (Then (Listed statements) End)) = statements_counted statements
-  statement_counted (Node at word.If (Then test (Then consequent (Then alternate End)))) =
-      All-append IsCountedNode (held_in test ++ live_in consequent) (live_in alternate)
-      (All-append IsCountedNode (held_in test) (live_in consequent) (node_counted test) (statement_counted consequent))
-      (statement_counted alternate)
-  statement_counted statement = node_counted statement
+  statement_counted : (own : Label) (statement : Syntax) → All IsCountedNode (live_in own statement)
+  statement_counted own (Node at word.Block (Then (Listed statements) End)) = statements_counted statements
+  statement_counted own (Node at word.If (Then test (Then consequent (Then alternate End)))) =
+      All-append IsCountedNode (held_in test ++ live_in None consequent) (live_in None alternate)
+      (All-append IsCountedNode (held_in test) (live_in None consequent) (node_counted test) (statement_counted None consequent))
+      (statement_counted None alternate)
+  statement_counted own (Node at word.While (Then test (Then body End))) =
+      All-append IsCountedNode (held_in test) (live_in None body) (node_counted test) (statement_counted None body)
+  statement_counted own (Node at word.Dowhile (Then body (Then test End))) =
+      let again : Bool = goes_on own (lives None body).outs in
+      All-append IsCountedNode (live_in None body) (if again then held_in test else []) (statement_counted None body)
+      (where_counted again test)
+  statement_counted own (Node at word.For (Then init (Then test (Then update (Then body End))))) =
+      let again : Bool = goes_on own (lives None body).outs in
+      let updates : List Held = if again then held_in update else [] in
+      All-append IsCountedNode (held_in init ++ held_in test ++ updates) (live_in None body)
+      (All-append IsCountedNode (held_in init ++ held_in test) updates
+      (All-append IsCountedNode (held_in init) (held_in test) (node_counted init) (node_counted test)) (where_counted again update))
+      (statement_counted None body)
+  statement_counted own (Node at word.Labeled (Then (Said label) (Then body End))) = statement_counted (Some label) body
+  statement_counted own statement = node_counted statement
 
   statements_counted : (statements : Pieces) → All IsCountedNode (live_all statements)
   statements_counted End = All-nil IsCountedNode
   statements_counted (Then statement statements) =
-      All-append IsCountedNode (live_in statement) (if (lives None statement).outs.falls then live_all statements else [])
-      (statement_counted statement) (by_test (lives None statement).outs.falls (statements_counted statements))
+      All-append IsCountedNode (live_in None statement) (if (lives None statement).outs.falls then live_all statements else [])
+      (statement_counted None statement) (by_test (lives None statement).outs.falls (statements_counted statements))
     where
       by_test : (b : Bool) → All IsCountedNode (live_all statements) → All IsCountedNode (if b then live_all statements else [])
       by_test true rest = rest

@@ -8,11 +8,11 @@ use Rattle.rl_base.specs.Distinct.{AreDistinct}
 use Rattle.rl_base.specs.declared.ids.BlockId.{BlockId}
 use Rattle.rl_base.specs.declared.ids.InstructionId.{InstructionId}
 use Rattle.rl_builder.specs.Build.{IsBuilt, graph_of, unordered_graph}
-use Rattle.rl_builder.specs.Builder.{State, ended_by, innermost, placeholder, pushed_under, with_temporary}
+use Rattle.rl_builder.specs.Builder.{State, ended_by, innermost, placeholder}
 use Rattle.rl_builder.specs.Temporaries.{temporary, unordered}
 use Rattle.rl_builder.specs.declared.jumps.JumpScope.{JumpScope}
 use Rattle.rl_builder.specs.Jumps.{lookup_break, lookup_continue}
-use Rattle.rl_hir.specs.Blocks.{Pair as BlockPair, same_id}
+use Rattle.rl_hir.specs.Blocks.{Pair as BlockPair}
 use Rattle.rl_hir.specs.Pairs.{identifier_of}
 use Rattle.rl_hir.specs.declared.function.BlockKind.TheVariants as block_kinds
 use Rattle.rl_hir.specs.declared.function.Hir.{Hir}
@@ -24,13 +24,14 @@ use Rattle.rl_hir.specs.declared.instruction.InstructionValue.TheVariants as val
 use Rattle.rl_hir.specs.declared.instruction.PrimitiveValue.TheVariants as primitives
 use Rattle.rl_hir.specs.declared.terminal.ReturnVariant.TheVariants as returns
 use Rattle.rl_hir.specs.declared.terminal.Terminal.{Terminal}
-use Rattle.rl_hir.specs.declared.terminal.TerminalKind.{TerminalKind}
-use Rattle.rl_hir.specs.declared.terminal.TerminalKind.TheVariants as kinds
 use Rattle.rl_lower.proofs.Building.{IsFresh}
 use Rattle.rl_lower.proofs.Ranges.{few_within}
 use Rattle.rl_lower.proofs.StartStores.{start_values, take_arguments}
 use Rattle.rl_lower.specs.Endings.{closed_off, hir_of, with_undefined}
-use Rattle.rl_lowered.specs.Listing.{ListsSince}
+use Rattle.rl_lowered.proofs.Listing.{lists_completed, lists_then, lists_value}
+use Rattle.rl_lowered.proofs.Stepless.{stepless_whole, unread_whole}
+use Rattle.rl_lowered.proofs.Unread.{unreads_ended, unreads_then, unreads_value}
+use Rattle.rl_lowered.specs.Listing.{ListsSince, is_step}
 use Rattle.rl_machine.proofs.Silence.{settled_walks, settles_passes_once}
 use Rattle.rl_machine.specs.Conditions.{MayOrder}
 use Rattle.rl_machine.specs.Ends.{Notes, no_notes}
@@ -47,7 +48,6 @@ use Rattle.rl_model.specs.Actions.{Action, Label, Ways, give}
 use Rattle.rl_model.specs.Functions.{outside, run_function}
 use Rattle.rl_model.specs.Runs.{param_identifier, trace_by}
 use Rattle.rl_model.specs.Scene.{Scene, kept_values}
-use Rattle.rl_order.proofs.Ordering.{or_left, same_self}
 use Rattle.rl_order.specs.Walk.{IsWhole}
 use Rattle.rl_runs.proofs.BlockIds.{apart_ended, completed_in, ids_of}
 use Rattle.rl_runs.proofs.Expressions.{literal_runs}
@@ -64,9 +64,9 @@ use Rattle.rl_runs.specs.Blocks.{AreEnds, IsLedTo, IsOwn, Looping, NamesSince, P
 use Rattle.rl_runs.specs.Continuations.{Agrees, Jumps, SharesVariables, Throws, TracesAt, TracesFrom, between, kept_in}
 use Rattle.rl_runs.specs.Facts.{CoversNames, Extends, HasSoundNames, IsCompleted, IsContainedIn}
 use Rattle.rl_runs.specs.Moves.{return_of}
-use Rattle.rl_runs.specs.ReadNotes.{HasId, MarkedAt, Unread, replaced_of}
+use Rattle.rl_runs.specs.ReadNotes.{KeepsUnread, Unread}
 use Rattle.rl_runs.specs.Simulation.{RunsStatement}
-use Rattle.rl_runs.specs.StepNotes.{Stepless, stepless_of}
+use Rattle.rl_runs.specs.StepNotes.{Stepless}
 use Rattle.rl_syntax.specs.Syntax.{Syntax}
 
 -- The return at the end of a body.
@@ -180,45 +180,26 @@ module _ (begun s : State) (fresh : IsFresh begun) (b : PreservesBlocks begun s)
       (λ id above below. ended_there ending (last_end s) placeholder id (behind.used id above below))
       (subst (λ (id : ℕ). IsCompleted last.completed id) (sym entry_is) (ended_there ending (last_end s) placeholder begun.current.id.0 behind.extends.current))
 
-  -- Notes and steps: `build` replaces no terminal of the builder.
-  module _ (lists : ListsSince begun s) where
-    no_handlers : s.handlers ≡ []
-    no_handlers = b.extends.handlers ∙ fresh.handlers
-
-    same_completed : ending.completed ≡ s.completed
-    same_completed =
-        ap (λ (h : List BlockId). (pushed_under (innermost h) (with_temporary s None) (unordered (temporary s None) (values.Primitive primitives.Undefined) None)).completed) no_handlers
-
-    none_begun : (id : ℕ) → MarkedAt replaced_of begun.completed id → ⊥
-    none_begun id m =
-        (let never : slice_get {X = BlockPair} [] m.one.index ≡ Some m.block = ap (λ (l : List BlockPair). slice_get l m.one.index) (sym fresh.completed) ∙ m.one.found in absurd (cc))
-
-    none_replaced : (id : ℕ) → MarkedAt replaced_of last.completed id → ⊥
-    none_replaced id m = elim (added_cases ending.completed (ended_by ending.current (last_end s)) m.one.index m.block m.one.found) [
-      | inl e ↦ none_begun id (lists.replaced id (subst (λ (blocks : List BlockPair). MarkedAt replaced_of blocks id) same_completed (record { block = m.block; one = record { index = m.one.index; found = e }; marks = m.marks })))
-      | inr e ↦ none_ended (subst (λ (x : BlockPair). HasId (replaced_of x.1.terminal.kind) id) e m.marks)
-    ]
-      where
-        none_ended : HasId [] id → ⊥
-        none_ended h = let never : false ≡ true = h in absurd (cc)
-
+  -- Notes and steps.
+  module _ (lists : ListsSince begun s) (kept : KeepsUnread begun s) where
     unread : Unread last
-    unread id replaced read = none_replaced id replaced
+    unread =
+        unread_whole begun last fresh.completed fresh.handlers
+        (unreads_then begun s last (record { grows = b.extends.blocks; handlers = b.extends.handlers; keeps = kept })
+        (unreads_then s ending last (unreads_value s (values.Primitive primitives.Undefined) None)
+        (unreads_ended ending (last_end s) placeholder refl refl))).keeps
 
-    -- A terminal at whose blocks no step may stand may be replaced.
+    all_lists : ListsSince begun last
+    all_lists =
+        lists_then begun s last lists
+        (lists_then s ending last (lists_value s (values.Primitive primitives.Undefined) None refl)
+        (lists_completed ending (last_end s) placeholder refl))
+
     stepless : Stepless last
-    stepless id m step = by_kind m.block.1.terminal.kind refl m.marks
-      where
-        marked : (kind : TerminalKind) (fallthrough : BlockId) → m.block.1.terminal.kind ≡ kind → HasId (replaced_of kind) fallthrough.0 → ⊥
-        marked kind fallthrough is has =
-            none_replaced fallthrough.0 (record { block = m.block; one = m.one; marks = subst (λ (k : TerminalKind). HasId (replaced_of k) fallthrough.0) (sym is) has })
-
-        by_kind : (kind : TerminalKind) → m.block.1.terminal.kind ≡ kind → HasId (stepless_of kind) id → ⊥
-        by_kind (kinds.DoWhile body test fallthrough) is h =
-            marked (kinds.DoWhile body test fallthrough) fallthrough is (or_left (same_id fallthrough fallthrough) false (same_self fallthrough))
-        by_kind (kinds.Try block binding handler fallthrough) is h =
-            marked (kinds.Try block binding handler fallthrough) fallthrough is (or_left (same_id fallthrough fallthrough) false (same_self fallthrough))
-        by_kind _ is h = let never : false ≡ true = h in absurd (cc)
+    stepless =
+        stepless_whole last
+        (all_lists.no_steps (subst (λ (l : List Instruction). All (λ i. is_step i.value ≡ false) l) (sym fresh.table)
+        (All-nil (λ (i : Instruction). is_step i.value ≡ false))))
 
     -- The blocks may be ordered.
     pub function_may : (ident : ℕ → Option ℕ) (world : World) → CoversNames last.env.pairs (length last.env.identifiers) ident
@@ -300,7 +281,7 @@ function_runs scene begun s m ident world fresh sound b fits covers r shares sou
 
 -- The function that is built has the traces of its source, whatever trace a stuck run has: `build` keeps the runs of the completed blocks.
 pub function_runs_by : (scene : Scene) (world : World) (begun s : State) (m : Action (Unit {0})) → IsFresh begun → HasSoundNames begun
-    → PreservesBlocks begun s → (closed_off s).env.next_block < 2 ^ 32 → ListsSince begun s → RunsStatement scene.world m begun s
+    → PreservesBlocks begun s → (closed_off s).env.next_block < 2 ^ 32 → ListsSince begun s → KeepsUnread begun s → RunsStatement scene.world m begun s
     → (f : HirFunction (List BlockPair)) (pairs : List Pair)
     → CoversNames (closed_off s).env.pairs (length (closed_off s).env.identifiers) (λ symbol. identifier_of pairs symbol)
     → SharesVariables (λ symbol. identifier_of pairs symbol) scene.world world
@@ -313,7 +294,7 @@ pub function_runs_by : (scene : Scene) (world : World) (begun s : State) (m : Ac
     → ((start : List Assignment) (arguments : List Value) (answers : List Answer) → run_function scene function start arguments answers ≡ body_trace scene m outside (source start arguments) answers)
     → (stuck : Trace) (start : List Assignment) (arguments : List Value) (answers : List Answer)
     → trace_by stuck world f pairs start arguments answers ≡ run_function scene function start arguments answers
-function_runs_by scene world begun s m fresh sound b fits lists r f pairs covers shares function built env is_built table_is unlinked body_is instructions_is source agrees means stuck start arguments answers =
+function_runs_by scene world begun s m fresh sound b fits lists kept r f pairs covers shares function built env is_built table_is unlinked body_is instructions_is source agrees means stuck start arguments answers =
     ap (λ (h : Hir (List BlockPair)). graph_trace stuck (record { blocks = h.blocks; table = f.instructions; entry = h.entry }) ident world params start arguments answers) body_is
     ∙ ap (λ (l : List Instruction). graph_trace stuck (record { blocks = built.blocks; table = l; entry = built.entry }) ident world params start arguments answers) instructions_is
     ∙ is_built.runs may stuck ident world params once start arguments answers
@@ -338,7 +319,7 @@ function_runs_by scene world begun s m fresh sound b fits lists r f pairs covers
     trace = body_trace scene m outside (source start arguments) answers
 
     ordered : MayOrder (completed_graph last)
-    ordered = function_may begun s fresh b fits lists ident world covers unlinked
+    ordered = function_may begun s fresh b fits lists kept ident world covers unlinked
 
     may : MayOrder (unordered_graph last)
     may = subst (λ (blocks : List BlockPair). MayOrder (record { blocks = blocks; table = last.table; entry = last.entry })) (sym table_is) ordered

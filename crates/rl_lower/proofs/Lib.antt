@@ -14,6 +14,7 @@ pub mod GivenNames
 pub mod HeldNodes
 pub mod Inside
 pub mod Linked
+pub mod LoopDerivations
 pub mod MemberDerivations
 pub mod NameDerivations
 pub mod OperandDerivations

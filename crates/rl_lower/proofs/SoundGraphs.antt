@@ -39,8 +39,8 @@ use Rattle.rl_lowered.proofs.SoundListing.{function_writable, named_writable, pl
 use Rattle.rl_lowered.proofs.SoundMoves.{counters_before, none_known, sound_next, table_more, terminals_more}
 use Rattle.rl_lowered.specs.Named.{declared_span}
 use Rattle.rl_lowered.specs.Promised.{HasRoom, LowersBody, share}
-use Rattle.rl_lowered.specs.Sound.{AreWritableIdentifiers, AreWritablePairs, HasKnownParts, HasSmallCounters, HasSmallSymbol, HasWritableParts}
-use Rattle.rl_lowered.specs.Sound.{IsSmallParameter, IsSmallTree, StaysSound}
+use Rattle.rl_lowered.specs.Sound.{AreWritableIdentifiers, AreWritablePairs, HasKnownParts, HasSmallCounters, HasSmallSymbol, HasSmallTargets}
+use Rattle.rl_lowered.specs.Sound.{HasWritableParts, IsSmallParameter, IsSmallTree, StaysSound}
 use Rattle.rl_machine.specs.Machine.{Graph}
 use Rattle.rl_model.specs.WellFormed.{AreKnown, HasKnownPlaces, instruction_places, param_place, terminal_places}
 use Rattle.rl_names.specs.Functions.{name_in, params_in, parameters_of}
@@ -118,6 +118,7 @@ begun_writable env tables parameters fits = record {
   current = omega (arith, fits.blocks);
   listed = All-nil (λ (id : InstructionId). id.0 ≤ largest);
   handlers = All-nil (λ (id : BlockId). id.0 ≤ largest);
+  scopes = All-nil HasSmallTargets;
 }
 
 begun_identifiers : (env : Environment) (tables : FunctionTables) (parameters : List Parameter) → AreDeclaredAt tables.semantic parameters

@@ -8,7 +8,7 @@ ghost use Rattle.rl_builder.specs.Builder.{state_of};
 ghost use Rattle.rl_lower.specs.Declarators.{IsDeclared, LowersDeclarator};
 ghost use Rattle.rl_lowered.specs.Lowered.{LoweredDeclarators, declaring, kind_of};
 ghost use Rattle.rl_lowered.specs.Named.{IsNamed};
-ghost use Rattle.rl_lowered.specs.Promised.{HasRoom, LowersStatement, share};
+ghost use Rattle.rl_lowered.specs.Promised.{HasRoom, LowersInit, LowersStatement, share};
 ghost use Rattle.rl_promises.specs.Lowerable.{AreLowerable, DeclaresFree, IsLowerable};
 ghost use Rattle.rl_names.specs.Seen.{seen};
 
@@ -193,7 +193,7 @@ fn lower_declarators<U: ReadsUnit>(
     Ok(())
 }
 
-/// Lowers a declaration of variables.
+/// Lowers a declaration of variables, which may stand in front in a `for` loop.
 pub(crate) fn lower_variables<U: ReadsUnit>(
     alloc: Global,
     builder: &mut GraphBuilder<'_, U>,
@@ -205,6 +205,7 @@ pub(crate) fn lower_variables<U: ReadsUnit>(
     requires room { HasRoom (state_of U.tables builder.old) (share (nodes (syntax declaration.tree.now))) }
     ensures same_reference { builder.new.env.ghost_name ≡ builder.old.env.ghost_name }
     ensures lowered { OnOk result (LowersStatement (seen names.now) (syntax declaration.entry.tree.now) (state_of U.tables builder.old) (state_of U.tables builder.new)) }
+    ensures init { OnOk result ((at : Span) → LowersInit (seen names.now) at (syntax declaration.entry.tree.now) (state_of U.tables builder.old) (state_of U.tables builder.new)) }
     ensures memory { IfErr result (λ e. e ≡ Stop.OutOfMemory) }
 {
     let declaration = variable_declaration_view(declaration);

@@ -28,11 +28,11 @@ ghost use Rattle.rl_promises.specs.Headline.{NeverStuck, SameRuns};
 ghost use Rattle.rl_promises.specs.HeldNodes.{HoldsNodes};
 ghost use Rattle.rl_model.specs.Scene.{Scene};
 ghost use Rattle.rl_lower.specs.Scenes.{IsSceneOf};
-ghost use Rattle.rl_promises.specs.Lowerable.{IsLowerable};
+ghost use Rattle.rl_promises.specs.Lowerable.{IsLowerableBody};
 ghost use Rattle.rl_promises.specs.Rows.{Records, refusals_of};
 ghost use Rattle.rl_promises.specs.SeenStops.{seen_stop};
 ghost use Rattle.rl_promises.specs.Spans.{AreSpannedIdentifiers, IsSpanOf, IsSpanned, KnowsSpans};
-ghost use Rattle.rl_promises.specs.Stops.{first_named, first_stop, has_using, stop_of};
+ghost use Rattle.rl_promises.specs.Stops.{first_named, first_stop, has_using, stop_in_body, stop_of};
 ghost use Rattle.rl_promises.specs.Size.{function_size};
 ghost use Rattle.rl_model.specs.WellFormed.{HasKnownPlaces, IsLinked};
 ghost use Rattle.rl_names.specs.Functions.{async_in, body_in, generator_in, name_in, parameters_of, params_in, said_by};
@@ -69,8 +69,10 @@ use rl_hir::instruction::Place;
 use rl_hir::terminal::{ReturnVariant, Terminal, TerminalKind};
 use rl_names::names::FunctionNames;
 use rl_names::parameters::{Parameter, parameters};
+use rl_promises::body_stops::stop_in_body;
+use rl_promises::found_stop::FoundStop;
 use rl_promises::skips::has_using;
-use rl_promises::stops::{ReservedName, first_stop};
+use rl_promises::stops::first_stop;
 use rl_syntax::numbered::{At, Numbered};
 use rl_syntax::parts::text_of;
 use std::alloc::Global;
@@ -196,7 +198,8 @@ fn lower_body<U: ReadsUnit>(
     body: ArrowBody<'_>,
 ) -> Result<(), Stop>
     requires names { IsNamed (seen names.now) (state_of U.tables builder.old) }
-    requires may { IsLowerable (seen names.now) (seen_arrow_body body) }
+    requires may { IsLowerableBody (seen names.now) (seen_arrow_body body) }
+    requires outermost { (state_of U.tables builder.old).scopes ≡ [] }
     requires room { HasRoom (state_of U.tables builder.old) (share (nodes (seen_arrow_body body) + 1)) }
     ensures same_reference { builder.new.env.ghost_name ≡ builder.old.env.ghost_name }
     ensures lowered { OnOk result (LoweredBody (seen names.now) (seen_arrow_body body.entry) (state_of U.tables builder.old) (state_of U.tables builder.new)) }
@@ -241,7 +244,7 @@ fn lower_graph<U: ReadsUnit>(
     requires locals { AreLocals (seen names.now) parameters.now }
     requires apart { AreApart parameters.now }
     requires free { All (λ p. is_reserved p.name ≡ false) parameters.now }
-    requires may { IsLowerable (seen names.now) (seen_arrow_body body) }
+    requires may { IsLowerableBody (seen names.now) (seen_arrow_body body) }
     requires room { HasRoom (begun_by env.old (function_tables names.now scope (U.tables unit).sites)) (share (nodes (seen_arrow_body body) + 2) + 2 * length parameters.now) }
     ensures graph { IfOk result (λ graph. IsGraphOf (seen names.now) (function_tables names.now scope (U.tables unit).sites) parameters.now (seen_arrow_body body.entry) env.old env.new graph.params (graph_of graph.built)) }
     ensures sound { IfOk result (λ graph. IsSoundGraph parameters.now (seen_arrow_body body.entry) env.old env.new (graph_of graph.built)) }
@@ -332,32 +335,28 @@ fn params_tree<'b>(function: FunctionNode<'b>) -> &'b Numbered
     }
 }
 
-/// The first reserved name of a local variable, in the parameters and then in the body.
-fn first_reserved(
-    names: &FunctionNames<'_>,
-    params: &Numbered,
-    body: &Numbered,
-) -> Option<ReservedName>
-    ensures { option_map (seen_stop (seen names.now)) result ≡ option_or (first_stop (seen names.now) (syntax params.now)) (first_stop (seen names.now) (syntax body.now)) }
+/// The first stop in the parameters, and then in the body.
+fn first_found(names: &FunctionNames<'_>, params: &Numbered, body: &Numbered) -> Option<FoundStop>
+    ensures { option_map (seen_stop (seen names.now)) result ≡ option_or (first_stop (seen names.now) (syntax params.now)) (stop_in_body (seen names.now) (syntax body.now)) }
 {
     match first_stop(names, params) {
-        Some(reserved) => Some(reserved),
-        None => first_stop(names, body),
+        Some(found) => Some(found),
+        None => stop_in_body(names, body),
     }
 }
 
-/// Looks for a stop at a reserved name, in the parameters and then in the body. On `Stop::OutOfMemory` an allocation failed.
-fn look_for_reserved(
+/// Looks for a stop in the parameters, and then in the body. On `Stop::OutOfMemory` an allocation failed.
+fn look_inside(
     alloc: Global,
     names: &FunctionNames<'_>,
     params: &Numbered,
     body: &Numbered,
 ) -> Result<(), Stop>
-    ensures goes_on { OnOk result (option_or (first_stop (seen names.now) (syntax params.now)) (first_stop (seen names.now) (syntax body.now)) ≡ None) }
-    ensures stopped { IfErr result (λ e. (d : Said) → e ≡ Stop.Diagnostic d → option_or (first_stop (seen names.now) (syntax params.now)) (first_stop (seen names.now) (syntax body.now)) ≡ Some d) }
+    ensures goes_on { OnOk result (option_or (first_stop (seen names.now) (syntax params.now)) (stop_in_body (seen names.now) (syntax body.now)) ≡ None) }
+    ensures stopped { IfErr result (λ e. (d : Said) → e ≡ Stop.Diagnostic d → option_or (first_stop (seen names.now) (syntax params.now)) (stop_in_body (seen names.now) (syntax body.now)) ≡ Some d) }
 {
-    match first_reserved(names, params, body) {
-        Some(reserved) => Err(Stop::Diagnostic(reserved.diagnostic(alloc, names)?)),
+    match first_found(names, params, body) {
+        Some(found) => Err(Stop::Diagnostic(found.diagnostic(alloc, names)?)),
         None => Ok(()),
     }
 }
@@ -381,7 +380,7 @@ fn look_for_stops(
             let diagnostic = Diagnostic::at(alloc, Row::S2, word, parameter.declaration)?;
             Err(Stop::Diagnostic(diagnostic))
         }
-        None => look_for_reserved(alloc, names, params_tree(function), body),
+        None => look_inside(alloc, names, params_tree(function), body),
     }
 }
 

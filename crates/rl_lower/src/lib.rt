@@ -6,6 +6,8 @@ mod declaration;
 mod expression;
 pub mod function;
 mod graph_builder;
+mod jumps;
+mod loops;
 mod member;
 mod name;
 mod operator;

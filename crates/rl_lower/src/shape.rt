@@ -8,6 +8,7 @@ ghost use Rattle.rl_lower.specs.Groups.{is_parenthesized, is_property};
 ghost use Rattle.rl_lowered.specs.Forms.{IsInside};
 ghost use Rattle.rl_model.specs.Applied.{deletes};
 ghost use Rattle.rl_model.specs.Shapes.{is_computed, is_link};
+ghost use Rattle.rl_promises.specs.Jumps.{is_loop};
 
 use rl_ast::expression::{Expression, expression_view};
 use rl_base::operator::UnaryOperator;
@@ -44,6 +45,28 @@ pub(crate) fn is_link(tree: &Numbered) -> bool
             Word::Member => true,
             Word::Index => true,
             Word::Privatemember => true,
+            _ => false,
+        },
+        Numbered::List(_) => false,
+        Numbered::Text(_) => false,
+        Numbered::Number(_) => false,
+        Numbered::Flag(_) => false,
+        Numbered::Absent => false,
+    }
+}
+
+/// True of a loop.
+#[tactic(auto, using(rl_syntax::proofs::Layers::by_layer))]
+pub(crate) fn is_loop(tree: &Numbered) -> bool
+    ensures { result ≡ is_loop (syntax tree.now) }
+{
+    match tree {
+        Numbered::Node(_, word, _) => match word {
+            Word::While => true,
+            Word::Dowhile => true,
+            Word::For => true,
+            Word::Forin => true,
+            Word::Forof => true,
             _ => false,
         },
         Numbered::List(_) => false,

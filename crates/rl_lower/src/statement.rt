@@ -4,15 +4,18 @@ ghost use Rattle.std.specs.Prelude.{◌≡◌, map, OnOk, IfErr, None, Some};
 ghost use Rattle.rl_syntax.specs.Syntax.{nodes, nodes_of, pieces_of, syntax};
 ghost use Rattle.rl_ast.specs.StatementViews.{seen_statement};
 ghost use Rattle.rl_builder.specs.Builder.{state_of};
+ghost use Rattle.rl_lowered.specs.Arounds.{arounds};
 ghost use Rattle.rl_lowered.specs.Named.{IsNamed};
 ghost use Rattle.rl_lowered.specs.Promised.{HasRoom, LowersStatement, LowersStatements, share};
-ghost use Rattle.rl_promises.specs.Lowerable.{AreLowerable, IsLowerable};
+ghost use Rattle.rl_promises.specs.Lowerable.{AreLowerableIn, IsLowerable, IsLowerableIn};
 ghost use Rattle.rl_names.specs.Seen.{seen};
 ghost use Rattle.rl_runs.specs.Moves.{returned_from};
 
 use crate::declaration::lower_variables;
 use crate::expression::lower_expression;
 use crate::graph_builder::GraphBuilder;
+use crate::jumps::{lower_break, lower_continue};
+use crate::loops::{lower_labeled, lower_loop};
 use crate::span::span_of;
 use crate::temporary::{lower_undefined, lower_value_to_temporary};
 use rl_ast::statement::{Statement, statement_view};
@@ -94,7 +97,7 @@ fn lower_if_then<U: ReadsUnit>(
     consequent: StatementTree<'_>,
 ) -> Result<(), Stop>
     requires names { IsNamed (seen names.now) (state_of U.tables builder.old) }
-    requires may { IsLowerable (seen names.now) (seen_statement (Statement.If at test consequent None)) }
+    requires may { IsLowerableIn (seen names.now) (arounds (state_of U.tables builder.old)) None (seen_statement (Statement.If at test consequent None)) }
     requires room { HasRoom (state_of U.tables builder.old) (share (nodes (seen_statement (Statement.If at test consequent None)))) }
     ensures same_reference { builder.new.env.ghost_name ≡ builder.old.env.ghost_name }
     ensures lowered { OnOk result (LowersStatement (seen names.now) (seen_statement (Statement.If at test.entry consequent.entry None)) (state_of U.tables builder.old) (state_of U.tables builder.new)) }
@@ -120,7 +123,7 @@ fn lower_if_else<U: ReadsUnit>(
     alternate: StatementTree<'_>,
 ) -> Result<(), Stop>
     requires names { IsNamed (seen names.now) (state_of U.tables builder.old) }
-    requires may { IsLowerable (seen names.now) (seen_statement (Statement.If at test consequent (Some alternate))) }
+    requires may { IsLowerableIn (seen names.now) (arounds (state_of U.tables builder.old)) None (seen_statement (Statement.If at test consequent (Some alternate))) }
     requires room { HasRoom (state_of U.tables builder.old) (share (nodes (seen_statement (Statement.If at test consequent (Some alternate))))) }
     ensures same_reference { builder.new.env.ghost_name ≡ builder.old.env.ghost_name }
     ensures lowered { OnOk result (LowersStatement (seen names.now) (seen_statement (Statement.If at test.entry consequent.entry (Some alternate.entry))) (state_of U.tables builder.old) (state_of U.tables builder.new)) }
@@ -138,14 +141,14 @@ fn lower_if_else<U: ReadsUnit>(
 
 /// Lowers a statement (`lowerStatement`).
 #[cycle(statements)]
-fn lower_statement<U: ReadsUnit>(
+pub(crate) fn lower_statement<U: ReadsUnit>(
     alloc: Global,
     builder: &mut GraphBuilder<'_, U>,
     names: &FunctionNames<'_>,
     statement: StatementTree<'_>,
 ) -> Result<(), Stop>
     requires names { IsNamed (seen names.now) (state_of U.tables builder.old) }
-    requires may { IsLowerable (seen names.now) (syntax statement.tree.now) }
+    requires may { IsLowerableIn (seen names.now) (arounds (state_of U.tables builder.old)) None (syntax statement.tree.now) }
     requires room { HasRoom (state_of U.tables builder.old) (share (nodes (syntax statement.tree.now))) }
     ensures same_reference { builder.new.env.ghost_name ≡ builder.old.env.ghost_name }
     ensures lowered { OnOk result (LowersStatement (seen names.now) (syntax statement.entry.tree.now) (state_of U.tables builder.old) (state_of U.tables builder.new)) }
@@ -178,6 +181,14 @@ fn lower_statement<U: ReadsUnit>(
             }
             None => lower_if_then(alloc, builder, names, at, test, consequent),
         },
+        Statement::While { .. } => lower_loop(alloc, builder, names, None, statement),
+        Statement::DoWhile { .. } => lower_loop(alloc, builder, names, None, statement),
+        Statement::For { .. } => lower_loop(alloc, builder, names, None, statement),
+        Statement::Labeled { at, label, body } => {
+            lower_labeled(alloc, builder, names, at, label, body)
+        }
+        Statement::Break { at, label } => lower_break(builder, at, label),
+        Statement::Continue { at, label } => lower_continue(builder, at, label),
         _ => unreachable!(),
     }
 }
@@ -191,7 +202,7 @@ pub(crate) fn lower_statements<U: ReadsUnit>(
     statements: StatementTrees<'_>,
 ) -> Result<(), Stop>
     requires names { IsNamed (seen names.now) (state_of U.tables builder.old) }
-    requires may { AreLowerable (seen names.now) (pieces_of (map syntax statements.trees.now)) }
+    requires may { AreLowerableIn (seen names.now) (arounds (state_of U.tables builder.old)) (pieces_of (map syntax statements.trees.now)) }
     requires room { HasRoom (state_of U.tables builder.old) (share (nodes_of (pieces_of (map syntax statements.trees.now)))) }
     ensures same_reference { builder.new.env.ghost_name ≡ builder.old.env.ghost_name }
     ensures lowered { OnOk result (LowersStatements (seen names.now) (pieces_of (map syntax statements.entry.trees.now)) (state_of U.tables builder.old) (state_of U.tables builder.new)) }

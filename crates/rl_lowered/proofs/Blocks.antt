@@ -1,5 +1,6 @@
--- The lowering preserves the blocks.
-use Rattle.std.proofs.Common.{◌≡◌, ℕ, ◌+◌, ◌<◌, inl, inr, Bool, List, Option, Some, None, refl, arith}
+-- The lowering preserves the blocks, and what is lowered of an expression completes, refused or not.
+use Rattle.std.proofs.Common.{◌≡◌, ℕ, ◌+◌, ◌<◌, inl, inr, Bool, true, false, List, [], Option, Some, None, refl, arith}
+use Rattle.rl_base.specs.VariableKinds.{variable_text}
 use Rattle.rl_base.specs.Diagnostics.{diagnostic_at}
 use Rattle.rl_base.specs.declared.diagnostic.Diagnostic.{Diagnostic}
 use Rattle.rl_base.specs.declared.ids.SymbolId.{SymbolId}
@@ -10,41 +11,54 @@ use Rattle.rl_base.specs.declared.type_kind.TypeKind.{TypeKind}
 use Rattle.rl_base.specs.declared.type_kind.TypeKind.TheVariants as types
 use Rattle.rl_base.specs.declared.variable_kind.VariableKind.{VariableKind}
 use Rattle.rl_base.specs.declared.variable_kind.VariableKind.TheVariants as kinds
-use Rattle.rl_builder.specs.Builder.{State, completed_by, ended_by, new_block, recorded, reserved}
-use Rattle.rl_builder.specs.Temporaries.{temporary, with_value}
+use Rattle.rl_builder.specs.Builder.{State, completed_by, ended_by, new_block, recorded, reserved, with_temporary}
+use Rattle.rl_builder.specs.Temporaries.{temporary, unordered, with_value}
+use Rattle.rl_frames.proofs.ForBlocks.{for_blocks, for_blocks_plain}
 use Rattle.rl_frames.proofs.IfThenBlocks.{if_then_blocks}
+use Rattle.rl_frames.proofs.LabelFrames.{label_blocks}
 use Rattle.rl_frames.proofs.Sequences.{sequence_blocks}
 use Rattle.rl_frames.proofs.ValueFrames.{logical_blocks, ternary_blocks}
-use Rattle.rl_frames.proofs.Wholes.{if_blocks}
+use Rattle.rl_frames.proofs.Wholes.{do_while_blocks, if_blocks, while_blocks}
 use Rattle.rl_hir.specs.Pieces.{Piece}
 use Rattle.rl_hir.specs.declared.function.BlockKind.{BlockKind}
 use Rattle.rl_hir.specs.declared.function.BlockKind.TheVariants as blocks
+use Rattle.rl_hir.specs.declared.instruction.Instruction.{Instruction}
 use Rattle.rl_hir.specs.declared.instruction.InstructionKind.{InstructionKind}
 use Rattle.rl_hir.specs.declared.instruction.InstructionValue.{InstructionValue}
 use Rattle.rl_hir.specs.declared.instruction.InstructionValue.TheVariants as values
 use Rattle.rl_hir.specs.declared.instruction.Place.{Place}
 use Rattle.rl_hir.specs.declared.instruction.PrimitiveValue.TheVariants as primitives
+use Rattle.rl_hir.specs.declared.terminal.GotoVariant.TheVariants as gotos
 use Rattle.rl_hir.specs.declared.terminal.ReturnVariant.{ReturnVariant}
 use Rattle.rl_hir.specs.declared.terminal.ReturnVariant.TheVariants as returns
 use Rattle.rl_hir.specs.declared.terminal.Terminal.{Terminal}
-use Rattle.rl_lowered.specs.Forms.{MemberKey, load_of, store_of, typed}
-use Rattle.rl_lowered.specs.Lowered.{Lowered, LoweredBody, LoweredDeclarators, LoweredLast, LoweredParts, LoweredStatement, LoweredStatements}
-use Rattle.rl_lowered.specs.Lowered.{declaring, member_loaded, member_one, member_stored, member_updated, value_span}
+use Rattle.rl_lowered.proofs.LiveFrames.{logical_lives, sequence_lives, ternary_lives}
+use Rattle.rl_lowered.specs.Forms.{MemberKey, load_of, store_of, type_of, typed}
+use Rattle.rl_lowered.specs.Lowered.{Lowered, LoweredBody, LoweredDeclarators, LoweredInit, LoweredLast, LoweredLoop, LoweredParts}
+use Rattle.rl_lowered.specs.Lowered.{LoweredStatement, LoweredStatements, LoweredTest, declaring, kind_of, member_loaded, member_one}
+use Rattle.rl_lowered.specs.Lowered.{member_stored, member_updated, part_span, update_of, value_span}
 use Rattle.rl_lowered.specs.Lowered as lowered
 use Rattle.rl_lowered.specs.Named.{IsFound, found}
+use Rattle.rl_model.specs.Actions.{Label}
 use Rattle.rl_names.specs.Names.{Names}
+use Rattle.rl_promises.specs.Jumps.{is_loop}
 use Rattle.rl_promises.specs.Rows.{refusal}
+use Rattle.rl_runs.proofs.Living.{lives_none}
 use Rattle.rl_runs.proofs.BlockIds.{free_fresh, free_then, ids_counted, ids_ended, ids_then}
-use Rattle.rl_runs.proofs.Moves.{contained_before, extends_completed, extends_reserved, extends_then}
+use Rattle.rl_runs.proofs.Moves.{contained_before, extends_completed, extends_reserved, extends_then, extends_value}
 use Rattle.rl_runs.proofs.Naming.{named_ended, named_none, named_then}
+use Rattle.rl_runs.proofs.Passing.{passes_pushed, passes_refl, passes_then}
 use Rattle.rl_runs.proofs.Points.{settle_returned}
-use Rattle.rl_runs.proofs.Preserving.{blocks_recorded, blocks_refl, blocks_resolved, blocks_returned, blocks_then, blocks_value}
+use Rattle.rl_runs.proofs.Preserving.{blocks_broken, blocks_continued, blocks_recorded, blocks_refl, blocks_resolved, blocks_returned}
+use Rattle.rl_runs.proofs.Preserving.{blocks_then, blocks_value}
 use Rattle.rl_runs.proofs.Types.{blocks_typed}
 use Rattle.rl_runs.proofs.Used.{below_or, ended_there, ends_more, looped_ended, notes_back, straight_ended, straight_then}
-use Rattle.rl_runs.specs.Blocks.{AreUsed, IsLedTo, PreservesBlocks, StraightBelow, StraightSince}
+use Rattle.rl_runs.specs.Blocks.{AreUsed, IsLedTo, Lives, Passes, PreservesBlocks, StraightBelow, StraightSince}
 use Rattle.rl_runs.specs.Facts.{Extends}
 use Rattle.rl_runs.specs.Moves.{return_of}
-use Rattle.rl_syntax.specs.Syntax.{Syntax, Pieces, span_of}
+use Rattle.rl_syntax.specs.declared.numbered.At.{At}
+use Rattle.rl_syntax.specs.declared.word.Word.TheVariants as word
+use Rattle.rl_syntax.specs.Syntax.{Syntax, Node, Listed, Said, Pieces, End, Then, span_of}
 
 -- A value that is returned, behind which a block goes on that was reserved before.
 module _ (s t : State) (span : Option Span) (variant : ReturnVariant) (place : Place) (kind : BlockKind)
@@ -209,6 +223,159 @@ declarators_blocks {names} {at} (lowered.NextInitialized there bind name type in
     blocks_then s t u (expression_blocks d)
     (blocks_then t _ u (blocks_found_value names t symbol bind.span identifier _ (Some at) f) (declarators_blocks ds))
 
+-- Expressions and declarations complete: the block behind is reached where that in front is.
+
+abbrev unkeyed : Instruction → Option (Unit {0})
+unkeyed i = None
+
+passed : {s t : State} → Lives unkeyed [] true s t → Passes s t
+passed l = l.onward refl
+
+passing : {s t : State} → Passes s t → Lives unkeyed [] true s t
+passing {s} {t} onward = lives_none unkeyed s t true (λ is. onward)
+
+value_passes : (s : State) (v : InstructionValue) (span : Option Span) → Passes s (with_value s v span)
+value_passes s v span = passes_pushed (with_temporary s span) (unordered (temporary s span) v span)
+
+-- A value behind a part.
+passes_value : (s t : State) (v : InstructionValue) (span : Option Span) → Passes s t → Passes s (with_value t v span)
+passes_value s t v span first = passes_then s (extends_value t v span) first (value_passes t v span)
+
+typed_passes : (s t : State) (k : TypeKind) (v : InstructionValue) (span : Option Span) → Passes s t
+    → Passes s (with_value (typed t k) v span)
+typed_passes s t types.Array v span first = passes_value s t v span first
+typed_passes s t types.Primitive v span first = passes_value s t v span first
+typed_passes s t types.Other v span first =
+    passes_then s (extends_then (blocks_typed t).extends (extends_value (typed t types.Other) v span)) first
+    (value_passes (typed t types.Other) v span)
+
+member_passes : (t : State) (object : Place) (key : MemberKey) (operator : UpdateOperator) (there : Span)
+    → Passes t (member_stored t object key operator there)
+member_passes t object key operator there =
+    let loaded : State = member_loaded t object key there in
+    let one : State = member_one t object key there in
+    let updated : State = member_updated t object key operator there in
+    passes_value t updated (store_of object key (temporary one (Some there))) (Some there)
+    (passes_value t one _ (Some there)
+    (passes_value t loaded (values.Primitive (primitives.Number 1)) None (value_passes t (load_of object key) (Some there))))
+
+mutual
+  pub expression_passes : {names : Names} {e : Syntax} {s t : State} {p : Place} → Lowered names e s t p → Passes s t
+  expression_passes (lowered.Literal at w fields p s is) = value_passes s (values.Primitive p) (Some at.span)
+  expression_passes (lowered.Refused at w fields r s is) =
+      value_passes (recorded s (refusal r at.span)) (values.Primitive primitives.Undefined) (Some at.span)
+  expression_passes (lowered.RefusedBefore at w fields parts r pieces s t is l) =
+      passes_value s t (values.Primitive primitives.Undefined) (Some at.span) (all_passes l)
+  expression_passes (lowered.RefusedBehind at object name s t p l) =
+      passes_then s (blocks_noted_value t (refusal row.F3 at.span) (values.Primitive primitives.Undefined) (Some at.span)).extends
+      (expression_passes l) (value_passes (recorded t (refusal row.F3 at.span)) (values.Primitive primitives.Undefined) (Some at.span))
+  expression_passes (lowered.Private at w fields e s t p is l) = expression_passes l
+  expression_passes {names} (lowered.Variable at name symbol identifier s is f) =
+      value_passes (found names s symbol at.span)
+      (values.LoadLocal (record { identifier = record { 0 = identifier }; span = Some at.span })) (Some at.span)
+  expression_passes {names} (lowered.UpdatedVariable at there name symbol identifier operator prefix s is mutable f g) =
+      value_passes (found names (found names s symbol there.span) symbol there.span)
+      (update_of prefix operator (record { identifier = record { 0 = identifier }; span = Some there.span })) (Some at.span)
+  expression_passes {names} (lowered.UpdatedConstant at there name symbol identifier operator prefix s is constant f) =
+      value_passes (recorded (found names s symbol there.span) (diagnostic_at row.F6 (names.name symbol.0) there.span))
+      (values.Primitive primitives.Undefined) (Some at.span)
+  expression_passes (lowered.UpdatedMember at there w fields parts pieces object key operator prefix s t is l) =
+      passes_then s (blocks_member t object key operator there.span).extends (all_passes l) (member_passes t object key operator there.span)
+  expression_passes (lowered.Method at there w fields parts es pieces given_pieces object key given s t u is l given_are m) =
+      let loaded : State = with_value t (load_of object key) (Some there.span) in
+      passes_value s u _ (Some at.span)
+      (passes_then s (all_blocks given_are).extends (passes_value s t (load_of object key) (Some there.span) (all_passes l))
+      (all_passes given_are))
+  expression_passes (lowered.Cast at there w fields e type k s t p is annotated l) =
+      typed_passes s t k (values.TypeCastExpression p (type_of t k) (Some there.span)) (Some at.span) (expression_passes l)
+  expression_passes (lowered.Global at name binding s means other) = value_passes s (values.LoadGlobal binding) (Some at.span)
+  expression_passes (lowered.RefusedGlobal at name binding s means is) =
+      value_passes (recorded s (refusal row.F2 at.span)) (values.LoadGlobal binding) (Some at.span)
+  expression_passes (lowered.Same at w fields e s t p is d) = expression_passes d
+  expression_passes (lowered.Asked at w fields parts pieces v s t form d) = passes_value s t v (Some at.span) (all_passes d)
+  expression_passes (lowered.Object at es pieces properties s t is l) =
+      passes_value s t (values.ObjectExpression properties) (Some at.span) (all_passes l)
+  expression_passes (lowered.Logical at operator left right s s2 s3 l r dr dl) =
+      passed (logical_lives unkeyed s s2 s3 operator r l at.span (span_of left) (value_span r right) [] [] (expression_blocks dr)
+      (expression_blocks dl) (passing (expression_passes dr)) (passing (expression_passes dl)))
+  expression_passes (lowered.Conditional at test consequent alternate s s2 s3 s4 c a p dc da dt) =
+      passed (ternary_lives unkeyed s s2 s3 s4 c a p at.span (span_of consequent) (span_of alternate) [] [] [] (expression_blocks da)
+      (expression_blocks dt) (passing (expression_passes dc)) (passing (expression_passes da)) (passing (expression_passes dt)))
+  expression_passes (lowered.Sequence at e es s s2 p d) =
+      passed (sequence_lives unkeyed s s2 p at.span at.span [] (passing (last_passes d)))
+
+  pub all_passes : {names : Names} {of_object : Bool} {es : Pieces} {s t : State} {pieces : List Piece}
+      → LoweredParts names of_object es s t pieces → Passes s t
+  all_passes (lowered.NoPart s) = passes_refl s
+  all_passes (lowered.NextPart e es s t u p pieces d ds) = passes_then s (all_blocks ds).extends (expression_passes d) (all_passes ds)
+  all_passes (lowered.NextSpread at e es s t u p pieces d ds) = passes_then s (all_blocks ds).extends (expression_passes d) (all_passes ds)
+  all_passes (lowered.NextHole at es s u pieces ds) = all_passes ds
+  all_passes (lowered.NextProperty at computed key e text es s t u p pieces is d ds) =
+      passes_then s (all_blocks ds).extends (expression_passes d) (all_passes ds)
+  all_passes (lowered.NextComputed at key e es s r t u p q pieces is k d ds) =
+      passes_then s (all_blocks ds).extends (passes_then s (expression_blocks d).extends (expression_passes k) (expression_passes d))
+      (all_passes ds)
+  all_passes (lowered.NextFraction at there e text es s t u p pieces is d ds) =
+      passes_then (recorded s (refusal row.F43 there.span)) (all_blocks ds).extends (expression_passes d) (all_passes ds)
+  all_passes (lowered.NextUnknown at computed key e es s u pieces is ds) = all_passes ds
+
+  pub last_passes : {names : Names} {es : Pieces} {s t : State} {p : Place} → LoweredLast names es s t p → Passes s t
+  last_passes (lowered.LastPart e s t p d) = expression_passes d
+  last_passes (lowered.EarlierPart e next es s t u p q d ds) = passes_then s (last_blocks ds).extends (expression_passes d) (last_passes ds)
+
+declarators_passes : {names : Names} {at : Span} {k : InstructionKind} {es : Pieces} {s t : State} → LoweredDeclarators names at k es s t
+    → Passes s t
+declarators_passes (lowered.NoDeclarator s) = passes_refl s
+declarators_passes {names} {k} (lowered.NextDeclared there bind name type more symbol identifier s u annotated is f d) =
+    passes_then s (declarators_blocks d).extends
+    (value_passes (found names s symbol bind.span)
+    (values.DeclareLocal k (record { identifier = record { 0 = identifier }; span = Some bind.span })) (Some bind.span))
+    (declarators_passes d)
+declarators_passes {names} {at} {k} (lowered.NextInitialized there bind name type init more symbol identifier s t u p annotated is d f ds) =
+    passes_then s (declarators_blocks ds).extends
+    (passes_then s (blocks_found_value names t symbol bind.span identifier _ (Some at) f).extends (expression_passes d)
+    (value_passes (found names t symbol bind.span)
+    (values.StoreLocal k (record { identifier = record { 0 = identifier }; span = Some at }) p) (Some at)))
+    (declarators_passes ds)
+
+-- A declaration of variables, from its statement.
+pub record Declares (names : Names) (at : At) (fields : Pieces) (s t : State) : Type 0 where
+  pub kind : VariableKind
+  pub declarators : Pieces
+  pub are : Then (Said (variable_text kind)) (Then (Listed declarators) End) ≡ fields
+  pub by : LoweredDeclarators names at.span (kind_of kind) declarators (declaring s kind at.span) t
+
+pub loop_is : {names : Names} {own : Label} {e : Syntax} {s t : State} → LoweredLoop names own e s t → is_loop e ≡ true
+loop_is (lowered.While at test body s s2 s3 p d dt) = refl
+loop_is (lowered.DoWhile at test body s s2 s3 p d dt) = refl
+loop_is (lowered.ForUpdated at init test update body s s2 s3 s4 s5 u p di du d dt) = refl
+loop_is (lowered.ForPlain at init test body s s2 s3 s4 p di d dt) = refl
+
+pub declares_of : {names : Names} {at : At} {fields : Pieces} {s t : State} → LoweredStatement names (Node at word.Var fields) s t
+    → Declares names at fields s t
+declares_of (lowered.Variables at k declarators s t d) = record { kind = k; declarators = declarators; are = refl; by = d }
+declares_of (lowered.Unlabeled loop s t d) = let never : false ≡ true = loop_is d in absurd (cc)
+
+declaring_passes : (s t : State) (k : VariableKind) (at : Span) → Passes (declaring s k at) t → Passes s t
+declaring_passes s t kinds.Var at onward = onward
+declaring_passes s t _ at onward = onward
+
+pub init_passes : {names : Names} {at : Span} {e : Syntax} {s t : State} → LoweredInit names at e s t → Passes s t
+init_passes {at} (lowered.NoInit s) = value_passes s (values.Primitive primitives.Undefined) (Some at)
+init_passes (lowered.DeclaredInit there fields s t d) =
+    let v = declares_of d in declaring_passes s t v.kind there.span (declarators_passes v.by)
+init_passes (lowered.RefusedInit e s t p d) = expression_passes d
+
+pub test_passes : {names : Names} {at : Span} {e : Syntax} {s t : State} {p : Place} → LoweredTest names at e s t p → Passes s t
+test_passes {at} (lowered.NoTest s) =
+    value_passes (recorded s (refusal row.F32 at)) (values.Primitive (primitives.Boolean true)) (Some at)
+test_passes (lowered.Tested e s t p d) = expression_passes d
+
+pub test_blocks : {names : Names} {at : Span} {e : Syntax} {s t : State} {p : Place} → LoweredTest names at e s t p → PreservesBlocks s t
+test_blocks {at} (lowered.NoTest s) =
+    blocks_noted_value s (refusal row.F32 at) (values.Primitive (primitives.Boolean true)) (Some at)
+test_blocks (lowered.Tested e s t p d) = expression_blocks d
+
 mutual
   pub statement_blocks : {names : Names} {e : Syntax} {s t : State} → LoweredStatement names e s t → PreservesBlocks s t
   statement_blocks (lowered.Empty at s) = blocks_refl s
@@ -228,6 +395,29 @@ mutual
   statement_blocks (lowered.IfElse at test consequent alternate s s2 s3 s4 p dc da dt) =
       if_blocks s s2 s3 s4 p at.span (span_of consequent) (span_of alternate) (statement_blocks dc) (statement_blocks da)
       (expression_blocks dt)
+  statement_blocks (lowered.Unlabeled loop s t d) = loop_blocks d
+  statement_blocks (lowered.LabeledLoop at label loop s t d) = loop_blocks d
+  statement_blocks (lowered.Labeled at label body s s2 other d) = label_blocks s s2 label at.span (span_of body) (statement_blocks d)
+  statement_blocks (lowered.Break at label target s is) = blocks_broken s label target gotos.Break at.span blocks.Block is
+  statement_blocks (lowered.Continue at label target s is) = blocks_continued s label target gotos.Continue at.span blocks.Block is
+
+  pub loop_blocks : {names : Names} {own : Label} {e : Syntax} {s t : State} → LoweredLoop names own e s t → PreservesBlocks s t
+  loop_blocks {own} (lowered.While at test body s s2 s3 p d dt) =
+      while_blocks s s2 s3 own p at.span (span_of body) (statement_blocks d) (expression_blocks dt) (expression_passes dt)
+  loop_blocks {own} (lowered.DoWhile at test body s s2 s3 p d dt) =
+      do_while_blocks s s2 s3 own p at.span (span_of body) (statement_blocks d) (expression_blocks dt)
+  loop_blocks {own} (lowered.ForUpdated at init test update body s s2 s3 s4 s5 u p di du d dt) =
+      for_blocks s s2 s3 s4 s5 own p at.span (part_span at.span init) (span_of update) (span_of body) (init_blocks di)
+      (expression_blocks du) (statement_blocks d) (test_blocks dt) (init_passes di) (test_passes dt)
+  loop_blocks {own} (lowered.ForPlain at init test body s s2 s3 s4 p di d dt) =
+      for_blocks_plain s s2 s3 s4 own p at.span (part_span at.span init) (span_of body) (init_blocks di) (statement_blocks d)
+      (test_blocks dt) (init_passes di) (test_passes dt)
+
+  pub init_blocks : {names : Names} {at : Span} {e : Syntax} {s t : State} → LoweredInit names at e s t → PreservesBlocks s t
+  init_blocks {at} (lowered.NoInit s) = blocks_value s (values.Primitive primitives.Undefined) (Some at)
+  init_blocks (lowered.DeclaredInit there fields s t d) = statement_blocks d
+  init_blocks {at} (lowered.RefusedInit e s t p d) =
+      blocks_then s (recorded s (refusal row.F31 at)) t (blocks_recorded s (refusal row.F31 at)) (expression_blocks d)
 
   pub statements_blocks : {names : Names} {es : Pieces} {s t : State} → LoweredStatements names es s t → PreservesBlocks s t
   statements_blocks (lowered.NoStatement s) = blocks_refl s

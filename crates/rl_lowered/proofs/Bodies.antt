@@ -6,9 +6,10 @@ use Rattle.rl_lowered.proofs.Living.{body_lives}
 use Rattle.rl_lowered.proofs.Names.{body_names}
 use Rattle.rl_lowered.proofs.Refused.{body_refused}
 use Rattle.rl_lowered.proofs.Sizes.{body_size}
-use Rattle.rl_lowered.proofs.Sound.{body_sound}
+use Rattle.rl_lowered.proofs.SoundStatements.{body_sound}
 use Rattle.rl_lowered.proofs.StatementRuns.{body_runs}
 use Rattle.rl_lowered.proofs.Tallies.{body_tallies}
+use Rattle.rl_lowered.proofs.Unread.{body_unread}
 use Rattle.rl_lowered.specs.Lowered.{LoweredBody}
 use Rattle.rl_lowered.specs.Named.{IsNamed}
 use Rattle.rl_lowered.specs.Promised.{LowersBody}
@@ -23,6 +24,7 @@ told_body named l = record {
   size = body_size l;
   blocks = body_blocks l;
   lists = body_lists l;
+  unread = body_unread l;
   refused = body_refused l;
   tallies = λ none key held. body_tallies key held l none;
   lives = λ none. body_lives l none;

@@ -5,6 +5,7 @@ use Rattle.rl_base.specs.declared.diagnostic.Diagnostic.{Diagnostic}
 use Rattle.rl_base.specs.declared.ids.SymbolId.{SymbolId}
 use Rattle.rl_base.specs.declared.row.Row.{Row}
 use Rattle.rl_base.specs.declared.row.Row.TheVariants as row
+use Rattle.rl_base.specs.declared.span.Span.{Span}
 use Rattle.rl_hir.specs.Pieces.{Piece}
 use Rattle.rl_hir.specs.declared.instruction.InstructionValue.{InstructionValue}
 use Rattle.rl_hir.specs.declared.instruction.NonLocalBinding.{NonLocalBinding}
@@ -18,7 +19,7 @@ use Rattle.rl_names.specs.Names.{Names}
 use Rattle.rl_names.specs.declared.names.Meaning.TheVariants.{Local, Outer}
 use Rattle.rl_promises.proofs.Covering.{none_in}
 use Rattle.rl_promises.specs.Outs.{is_known_key}
-use Rattle.rl_promises.specs.Rows.{is_eval, label_of, refusals, refusals_in, said_of_local}
+use Rattle.rl_promises.specs.Rows.{is_eval, label_of, refusals, refusals_in, said_of_init, said_of_local, said_of_test}
 use Rattle.rl_syntax.specs.Syntax.{Syntax, Node, Listed, Said, Flag, Pieces, End, Then}
 use Rattle.rl_syntax.specs.declared.numbered.At.{At}
 use Rattle.rl_syntax.specs.declared.word.Word.{Word}
@@ -46,6 +47,44 @@ pub branches_clean : (names : Names) (consequent alternate test : Syntax)
 branches_clean names consequent alternate test none =
     let front = none_in (refusals names consequent) (refusals names alternate) (first_none _ (refusals names test) none) in
     (front.0, front.1, second_none (refusals names consequent ++ refusals names alternate) (refusals names test) none)
+
+-- Loops.
+
+pub while_clean : (names : Names) (test body : Syntax) → refusals names body ++ refusals names test ≡ []
+    → (refusals names body ≡ []) × (refusals names test ≡ [])
+while_clean names test body none = none_in (refusals names body) (refusals names test) none
+
+pub do_while_clean : (names : Names) (test body : Syntax) → refusals names body ++ (refusals names test ++ []) ≡ []
+    → (refusals names body ≡ []) × (refusals names test ≡ [])
+do_while_clean names test body none =
+    let parts = none_in (refusals names body) (refusals names test ++ []) none in (parts.0, first_none (refusals names test) [] parts.1)
+
+-- The parts of a `for` loop have none, and its head is none that is refused.
+pub record IsCleanFor (names : Names) (at : Span) (front condition behind inside : Syntax) : Type 0 where
+  pub init_said : said_of_init at front ≡ []
+  pub init : refusals names front ≡ []
+  pub update : refusals names behind ≡ []
+  pub body : refusals names inside ≡ []
+  pub test_said : said_of_test at condition ≡ []
+  pub test : refusals names condition ≡ []
+
+pub for_clean : (names : Names) (at : Span) (init test update body : Syntax)
+    → said_of_init at init ++ refusals names init ++ refusals names update ++ refusals names body ++ said_of_test at test
+    ++ refusals names test ≡ []
+    → IsCleanFor names at init test update body
+for_clean names at init test update body none =
+    let five = none_in _ (refusals names test) none in
+    let four = none_in _ (said_of_test at test) five.0 in
+    let three = none_in _ (refusals names body) four.0 in
+    let two = none_in _ (refusals names update) three.0 in
+    let one = none_in (said_of_init at init) (refusals names init) two.0 in record {
+      init_said = one.0;
+      init = one.1;
+      update = two.1;
+      body = three.1;
+      test_said = four.1;
+      test = five.1;
+    }
 
 -- Kinds that are refused.
 

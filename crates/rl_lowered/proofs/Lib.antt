@@ -1,3 +1,4 @@
+pub mod Arounds
 pub mod Blocks
 pub mod Bodies
 pub mod Clean
@@ -10,7 +11,6 @@ pub mod LiveFrames
 pub mod Living
 pub mod Meant
 pub mod Names
-pub mod Passing
 pub mod Plain
 pub mod Refusals
 pub mod Refused
@@ -20,8 +20,10 @@ pub mod Sound
 pub mod SoundForms
 pub mod SoundFrames
 pub mod SoundListing
+pub mod SoundLoops
 pub mod SoundMoves
 pub mod SoundNames
+pub mod SoundStatements
 pub mod SoundTrees
 pub mod Spanned
 pub mod SpannedForms
@@ -29,5 +31,7 @@ pub mod SpannedFrames
 pub mod SpannedMoves
 pub mod SpannedTrees
 pub mod StatementRuns
+pub mod Stepless
 pub mod Tallies
 pub mod Told
+pub mod Unread

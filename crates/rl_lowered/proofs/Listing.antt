@@ -1,5 +1,5 @@
 -- The instructions that blocks list since the lowering of a part began: each that was made is listed once more.
-use Rattle.std.proofs.Common.{◌≡◌, ℕ, ◌+◌, ◌<◌, ◌≤◌, inl, inr, ◌&&◌, ◌++◌, Bool, true, false, if◌then◌else◌, nat_le, nat_lt}
+use Rattle.std.proofs.Common.{◌≡◌, ℕ, ◌+◌, ◌<◌, ◌≤◌, inl, inr, ◌&&◌, ◌||◌, ◌++◌, Bool, true, false, if◌then◌else◌, nat_le, nat_lt}
 use Rattle.std.proofs.Common.{List, [], ◌∷◌, All, length, length-append, append-nil, Option, Some, None}
 use Rattle.std.proofs.Common.{refl, sym, ap, ◌∙◌, subst, arith}
 use Rattle.std.proofs.Common.{eq-eqb}
@@ -24,11 +24,15 @@ use Rattle.rl_builder.specs.Builder.{recorded, reserved, with_temporary, with_ty
 use Rattle.rl_builder.specs.declared.blocks.WipBlock.{WipBlock}
 use Rattle.rl_builder.specs.Dropped.{is_function_expression}
 use Rattle.rl_builder.specs.Temporaries.{temporary, unordered, with_value}
+use Rattle.rl_frames.specs.Frames.{ForParts, for_after_init, for_after_update, for_again, for_aside, for_at, for_bodied, for_inited}
+use Rattle.rl_frames.specs.Frames.{for_opened, for_updated}
+use Rattle.rl_frames.specs.Frames.{LabelParts, WhileParts, do_while_bodied, label_at, while_aside, while_at, while_bodied}
 use Rattle.rl_frames.specs.Frames.{IfParts, if_after_consequent, if_alternate, if_at, if_consequent, if_ended, if_shut}
 use Rattle.rl_frames.specs.Frames.{LogicalParts, aside_of, logical_after, logical_at, logical_ended, logical_righted}
 use Rattle.rl_frames.specs.Frames.{SequenceParts, sequence_at, sequence_ended}
 use Rattle.rl_frames.specs.Frames.{TernaryParts, ternary_after, ternary_aside, ternary_at, ternary_ended, ternary_parted}
 use Rattle.rl_frames.specs.Frames.{ternary_alternated, ternary_consequent}
+use Rattle.rl_frames.specs.Parts.{for_begun, for_end, label_begun, while_begun}
 use Rattle.rl_frames.specs.Parts.{if_begun, if_end, loads, logical_begun, logical_entered, logical_left, logical_place}
 use Rattle.rl_frames.specs.Parts.{sequence_begun, ternary_begun}
 use Rattle.rl_hir.specs.Blocks.{Pair as BlockPair}
@@ -50,19 +54,19 @@ use Rattle.rl_hir.specs.declared.instruction.InstructionValue.{InstructionValue}
 use Rattle.rl_hir.specs.declared.terminal.Terminal.{Terminal}
 use Rattle.rl_lowered.specs.Forms.{IsForm, MemberKey, delete_of, load_of, store_of, typed}
 use Rattle.rl_lowered.specs.Forms as forms
-use Rattle.rl_lowered.specs.Lowered.{Lowered, LoweredBody, LoweredDeclarators, LoweredLast, LoweredParts, LoweredStatement, LoweredStatements}
-use Rattle.rl_lowered.specs.Lowered.{declaring, member_loaded, member_one, member_stored, member_updated, update_of, value_span}
+use Rattle.rl_lowered.specs.Lowered.{Lowered, LoweredBody, LoweredDeclarators, LoweredInit, LoweredLast, LoweredLoop, LoweredParts}
+use Rattle.rl_lowered.specs.Lowered.{LoweredStatement, LoweredStatements, LoweredTest, declaring, member_loaded, member_one, member_stored}
+use Rattle.rl_lowered.specs.Lowered.{member_updated, part_span, update_of, value_span}
 use Rattle.rl_lowered.specs.Lowered as lowered
-use Rattle.rl_lowered.specs.Listing.{ListsSince, ListsTable, all_listed, occurrences, one_within}
+use Rattle.rl_lowered.specs.Listing.{ListsSince, ListsTable, all_listed, is_marked, is_step, occurrences, one_within}
 use Rattle.rl_lowered.specs.Named.{found}
+use Rattle.rl_model.specs.Actions.{Label}
 use Rattle.rl_names.specs.Names.{Names}
 use Rattle.rl_order.specs.Numbering.{orders_of}
 use Rattle.rl_promises.specs.Rows.{refusal}
 use Rattle.rl_runs.proofs.Listed.{ListsBelow, numbers, orders_append}
-use Rattle.rl_runs.proofs.ReadNotes.{marked_ended}
 use Rattle.rl_runs.specs.Listed.{AreBelow}
-use Rattle.rl_runs.specs.Moves.{branch, ends_by, goto, last_hole, next_hole, return_of, returned_from, stored_in}
-use Rattle.rl_runs.specs.ReadNotes.{HasId, MarkedAt, replaced_of}
+use Rattle.rl_runs.specs.Moves.{branch, ends_by, goto, last_hole, next_hole, return_of, returned_from, stored_in, without_scope}
 use Rattle.rl_syntax.specs.Syntax.{Syntax, Pieces, span_of}
 use Rattle.rl_syntax.specs.declared.word.Word.{Word}
 
@@ -162,8 +166,8 @@ lists_then a b c j k = record {
   counted = omega (arith, j.counted, k.counted);
   unordered = λ all. k.unordered (j.unordered all);
   no_functions = λ all. k.no_functions (j.no_functions all);
+  no_steps = λ all. k.no_steps (j.no_steps all);
   predecessors = λ all. k.predecessors (j.predecessors all);
-  replaced = λ id m. j.replaced id (k.replaced id m);
 }
 
 -- All of a state that the listing speaks of.
@@ -194,8 +198,8 @@ lists_same s t same = record {
       ≡ orders_of s.completed + length s.current.instructions + (length v.table + length v.completed)) same refl;
   unordered = λ all. subst (λ (v : Lists). All (λ (i : Instruction). i.order.0 ≡ 0) v.table) same all;
   no_functions = λ all. subst (λ (v : Lists). All (λ (i : Instruction). is_function_expression i.value ≡ false) v.table) same all;
+  no_steps = λ all. subst (λ (v : Lists). All (λ (i : Instruction). is_step i.value ≡ false) v.table) same all;
   predecessors = λ all. subst (λ (v : Lists). All (λ (b : BlockPair). b.1.preds ≡ []) v.completed) same all;
-  replaced = λ id m. subst (λ (v : Lists). MarkedAt replaced_of v.completed id) (sym same) m;
 }
 
 pub lists_refl : (s : State) → ListsSince s s
@@ -232,14 +236,14 @@ lists_beside outer a b k = record {
   counted = omega (arith, k.counted, length-append outer a.current.instructions, length-append outer b.current.instructions);
   unordered = k.unordered;
   no_functions = k.no_functions;
+  no_steps = k.no_steps;
   predecessors = k.predecessors;
-  replaced = k.replaced;
 }
 
 -- The current block is complete, and the block goes on that was set aside.
-pub lists_left : (s : State) (t : Terminal) (outer : WipBlock) → replaced_of t.kind ≡ []
+pub lists_left : (s : State) (t : Terminal) (outer : WipBlock)
     → ListsSince (beside outer.instructions s) (completed_by s t outer)
-lists_left s t outer unmarked = record {
+lists_left s t outer = record {
   longer = omega arith;
   within = λ l. record {
     completed = All-push (ListsBelow (length s.table)) s.completed ended l.completed
@@ -258,26 +262,20 @@ lists_left s t outer unmarked = record {
       omega (arith, more, orders_append s.completed (ended ∷ []), length-append outer.instructions s.current.instructions);
   unordered = λ all. all;
   no_functions = λ all. all;
+  no_steps = λ all. all;
   predecessors = λ all. All-push (λ (b : BlockPair). b.1.preds ≡ []) s.completed ended all refl;
-  replaced = λ id m. elim (marked_ended replaced_of s t outer id m) [
-    | inl e ↦ e
-    | inr e ↦ absurd (never id (subst (λ (ids : List BlockId). HasId ids id) unmarked e))
-  ];
 }
   where
     ended : BlockPair
     ended = ended_by s.current t
 
-    never : (id : ℕ) → HasId [] id → ⊥
-    never id h = cc
-
 -- A fresh block goes on.
-pub lists_completed : (s : State) (t : Terminal) (next : WipBlock) → next.instructions ≡ [] → replaced_of t.kind ≡ []
+pub lists_completed : (s : State) (t : Terminal) (next : WipBlock) → next.instructions ≡ []
     → ListsSince s (completed_by s t next)
-lists_completed s t next none unmarked =
+lists_completed s t next none =
     lists_then s (beside next.instructions s) (completed_by s t next)
     (lists_same s (beside next.instructions s) (ap (λ (ids : List InstructionId). lists_of (beside ids s)) (sym none)))
-    (lists_left s t next unmarked)
+    (lists_left s t next)
 
 -- A fresh block is entered, and the current one is set aside.
 pub lists_entered : (s t : State) → t.completed ≡ s.completed → t.current.instructions ≡ [] → t.table ≡ s.table
@@ -296,7 +294,11 @@ lists_entered s t completed none table = lists_same s (beside s.current.instruct
 
 -- Instructions.
 
-lists_plain : (s : State) (i : Instruction) → i.order.0 ≡ 0 → is_function_expression i.value ≡ false
+neither : (a b : Bool) → a || b ≡ false → (a ≡ false) × (b ≡ false)
+neither true b is = absurd (cc)
+neither false b is = (refl, is)
+
+lists_plain : (s : State) (i : Instruction) → i.order.0 ≡ 0 → is_marked i.value ≡ false
     → ListsSince s (plainly_pushed s i)
 lists_plain s i fresh plain = record {
   longer = omega (arith, longer);
@@ -316,11 +318,14 @@ lists_plain s i fresh plain = record {
       omega (arith, here, behind, before, occurs_numbers n s.current.instructions (next ∷ []));
   counted = omega (arith, longer, length-append s.current.instructions (next ∷ []));
   unordered = λ all. All-push (λ (j : Instruction). j.order.0 ≡ 0) s.table i all fresh;
-  no_functions = λ all. All-push (λ (j : Instruction). is_function_expression j.value ≡ false) s.table i all plain;
+  no_functions = λ all. All-push (λ (j : Instruction). is_function_expression j.value ≡ false) s.table i all both.0;
+  no_steps = λ all. All-push (λ (j : Instruction). is_step j.value ≡ false) s.table i all both.1;
   predecessors = λ all. all;
-  replaced = λ id m. m;
 }
   where
+    both : (is_function_expression i.value ≡ false) × (is_step i.value ≡ false)
+    both = neither (is_function_expression i.value) (is_step i.value) plain
+
     next : InstructionId
     next = record { 0 = length s.table }
 
@@ -331,19 +336,19 @@ lists_plain s i fresh plain = record {
     grows = omega (arith, longer)
 
 -- Under a handler the block ends behind it.
-lists_under : (o : Option BlockId) (s : State) (i : Instruction) → i.order.0 ≡ 0 → is_function_expression i.value ≡ false
+lists_under : (o : Option BlockId) (s : State) (i : Instruction) → i.order.0 ≡ 0 → is_marked i.value ≡ false
     → ListsSince s (pushed_under o s i)
 lists_under None s i fresh plain = lists_plain s i fresh plain
 lists_under (Some handler) s i fresh plain =
     let on : State = reserved (plainly_pushed s i) in
     lists_then s (plainly_pushed s i) (pushed_under (Some handler) s i) (lists_plain s i fresh plain)
     (lists_then (plainly_pushed s i) on (pushed_under (Some handler) s i) (lists_same (plainly_pushed s i) on refl)
-    (lists_completed on (maybe_throw s.env.next_block handler i.span) (new_block s.env.next_block s.current.kind) refl refl))
+    (lists_completed on (maybe_throw s.env.next_block handler i.span) (new_block s.env.next_block s.current.kind) refl))
 
-pub lists_pushed : (s : State) (i : Instruction) → i.order.0 ≡ 0 → is_function_expression i.value ≡ false → ListsSince s (pushed s i)
+pub lists_pushed : (s : State) (i : Instruction) → i.order.0 ≡ 0 → is_marked i.value ≡ false → ListsSince s (pushed s i)
 lists_pushed s i fresh plain = lists_under (innermost s.handlers) s i fresh plain
 
-pub lists_value : (s : State) (v : InstructionValue) (span : Option Span) → is_function_expression v ≡ false
+pub lists_value : (s : State) (v : InstructionValue) (span : Option Span) → is_marked v ≡ false
     → ListsSince s (with_value s v span)
 lists_value s v span plain =
     lists_then s (with_temporary s span) (with_value s v span) (lists_same s (with_temporary s span) refl)
@@ -358,11 +363,11 @@ lists_next : (s : State) (behind : ℕ) (variant : GotoVariant) (part : Span) (k
     → ListsSince s (next_hole s behind variant part kind)
 lists_next s behind variant part kind =
     lists_then s (reserved s) (next_hole s behind variant part kind) (lists_same s (reserved s) refl)
-    (lists_completed (reserved s) (goto behind variant part) (new_block s.env.next_block kind) refl refl)
+    (lists_completed (reserved s) (goto behind variant part) (new_block s.env.next_block kind) refl)
 
 lists_last : (s : State) (behind : ℕ) (variant : GotoVariant) (part : Span) (outer : WipBlock)
     → ListsSince (beside outer.instructions s) (last_hole s behind variant part outer)
-lists_last s behind variant part outer = lists_left s (goto behind variant part) outer refl
+lists_last s behind variant part outer = lists_left s (goto behind variant part) outer
 
 -- The hole ends with its value.
 lists_stored_last : (s : State) (place value : Place) (span part : Span) (behind : ℕ) (outer : WipBlock)
@@ -371,6 +376,24 @@ lists_stored_last s place value span part behind outer =
     let stored : State = stored_in s place value span in
     lists_then (beside outer.instructions s) (beside outer.instructions stored) (last_hole stored behind gotos.Break part outer)
     (lists_beside outer.instructions s stored (lists_stored s place value span)) (lists_last stored behind gotos.Break part outer)
+
+-- The body of a loop or of a labelled statement ends, and the block that was set aside with the terminal `end`.
+lists_scope_ended : (s : State) (behind : ℕ) (variant : GotoVariant) (part : Span) (outer : WipBlock) (end : Terminal) (next : WipBlock)
+    → next.instructions ≡ []
+    → ListsSince (beside outer.instructions s) (completed_by (last_hole (without_scope s) behind variant part outer) end next)
+lists_scope_ended s behind variant part outer end next none =
+    let ids : List InstructionId = outer.instructions in
+    let left : State = without_scope s in
+    let gone : State = last_hole left behind variant part outer in
+    lists_then (beside ids s) (beside ids left) (completed_by gone end next) (lists_same (beside ids s) (beside ids left) refl)
+    (lists_then (beside ids left) gone (completed_by gone end next) (lists_last left behind variant part outer)
+    (lists_completed gone end next none))
+
+-- The part in front of a loop's body ends, and the body's hole opens.
+lists_for_opened : (f : ForParts) (s : State) (part : Span) → ListsSince s (for_opened f s part)
+lists_for_opened f s part =
+    let next : State = next_hole s f.test gotos.Break part blocks.Block in
+    lists_then s next (for_opened f s part) (lists_next s f.test gotos.Break part blocks.Block) (lists_same next (for_opened f s part) refl)
 
 lists_logical_begun : (s : State) (span left : Span) → ListsSince s (beside s.current.instructions (logical_begun s span left))
 lists_logical_begun s span left =
@@ -388,14 +411,14 @@ lists_logical_righted f s value part none =
     let gone : State = last_hole (stored_in s f.place value part) f.behind.id.0 gotos.Break part (aside_of f).0 in
     lists_then (beside (aside_of f).0.instructions s) gone (logical_righted f s value part)
     (lists_stored_last s f.place value part part f.behind.id.0 (aside_of f).0)
-    (lists_completed gone (ends_by (kinds.Logical f.operator (aside_of f).1.id f.behind.id) (Some f.span)) (aside_of f).1 none refl)
+    (lists_completed gone (ends_by (kinds.Logical f.operator (aside_of f).1.id f.behind.id) (Some f.span)) (aside_of f).1 none)
 
 lists_logical_ended : (f : LogicalParts) (s : State) (value : Place) → f.behind.instructions ≡ []
     → ListsSince s (logical_ended f s value)
 lists_logical_ended f s value none =
     let loaded : State = pushed s (loads f.left value f.span) in
     lists_then s loaded (logical_ended f s value) (lists_pushed s (loads f.left value f.span) refl refl)
-    (lists_completed loaded (branch f.left f.consequent f.alternate f.behind.id.0 f.span) f.behind none refl)
+    (lists_completed loaded (branch f.left f.consequent f.alternate f.behind.id.0 f.span) f.behind none)
 
 lists_ternary_consequent : (f : TernaryParts) (s : State) (value : Place) (part : Span)
     → ListsSince s (ternary_consequent f s value part)
@@ -410,7 +433,7 @@ lists_ternary_alternated f s value part none =
     let gone : State = last_hole (stored_in s f.place value f.span) f.behind.id.0 gotos.Break part (ternary_aside f).0 in
     lists_then (beside (ternary_aside f).0.instructions s) gone (ternary_alternated f s value part)
     (lists_stored_last s f.place value f.span part f.behind.id.0 (ternary_aside f).0)
-    (lists_completed gone (ends_by (kinds.Ternary (ternary_aside f).1.id f.behind.id) (Some f.span)) (ternary_aside f).1 none refl)
+    (lists_completed gone (ends_by (kinds.Ternary (ternary_aside f).1.id f.behind.id) (Some f.span)) (ternary_aside f).1 none)
 
 lists_sequence_ended : (f : SequenceParts) (s : State) (value : Place) (part : Span) → f.behind.instructions ≡ []
     → ListsSince (beside f.outer.instructions s) (sequence_ended f s value part)
@@ -418,32 +441,32 @@ lists_sequence_ended f s value part none =
     let gone : State = last_hole (stored_in s f.place value part) f.behind.id.0 gotos.Break part f.outer in
     lists_then (beside f.outer.instructions s) gone (sequence_ended f s value part)
     (lists_stored_last s f.place value part part f.behind.id.0 f.outer)
-    (lists_completed gone (ends_by (kinds.Sequence (record { 0 = f.block }) f.behind.id) (Some f.span)) f.behind none refl)
+    (lists_completed gone (ends_by (kinds.Sequence (record { 0 = f.block }) f.behind.id) (Some f.span)) f.behind none)
 
 lists_if_ended : (f : IfParts) (s : State) (test : Place) → f.behind.instructions ≡ [] → ListsSince s (if_ended f s test)
-lists_if_ended f s test none = lists_completed s (if_end f.behind.id.0 f.consequent f.alternate test f.span) f.behind none refl
+lists_if_ended f s test none = lists_completed s (if_end f.behind.id.0 f.consequent f.alternate test f.span) f.behind none
 
 -- No value that an expression leaves makes a function.
 
-load_plain : (object : Place) (key : MemberKey) → is_function_expression (load_of object key) ≡ false
+load_plain : (object : Place) (key : MemberKey) → is_marked (load_of object key) ≡ false
 load_plain object (forms.Fixed key) = refl
 load_plain object (forms.Computed key) = refl
 
-store_plain : (object : Place) (key : MemberKey) (value : Place) → is_function_expression (store_of object key value) ≡ false
+store_plain : (object : Place) (key : MemberKey) (value : Place) → is_marked (store_of object key value) ≡ false
 store_plain object (forms.Fixed key) value = refl
 store_plain object (forms.Computed key) value = refl
 
-delete_plain : (object : Place) (key : MemberKey) → is_function_expression (delete_of object key) ≡ false
+delete_plain : (object : Place) (key : MemberKey) → is_marked (delete_of object key) ≡ false
 delete_plain object (forms.Fixed key) = refl
 delete_plain object (forms.Computed key) = refl
 
 update_plain : (prefix : Bool) (operator : UpdateOperator) (variable : Place)
-    → is_function_expression (update_of prefix operator variable) ≡ false
+    → is_marked (update_of prefix operator variable) ≡ false
 update_plain true operator variable = refl
 update_plain false operator variable = refl
 
 form_plain : {w : Word} {fields parts : Pieces} {pieces : List Piece} {v : InstructionValue} → IsForm w fields parts pieces v
-    → is_function_expression v ≡ false
+    → is_marked v ≡ false
 form_plain (forms.Load {object} {key} is) = load_plain object key
 form_plain (forms.Delete operator {object} {key} is inside member) = delete_plain object key
 form_plain _ = refl
@@ -454,14 +477,14 @@ lists_found : (names : Names) (s : State) (symbol : SymbolId) (at : Span) → Li
 lists_found names s symbol at = lists_same s (found names s symbol at) refl
 
 lists_found_value : (names : Names) (s : State) (symbol : SymbolId) (at : Span) (v : InstructionValue) (span : Option Span)
-    → is_function_expression v ≡ false → ListsSince s (with_value (found names s symbol at) v span)
+    → is_marked v ≡ false → ListsSince s (with_value (found names s symbol at) v span)
 lists_found_value names s symbol at v span plain =
     lists_then s (found names s symbol at) _ (lists_found names s symbol at) (lists_value (found names s symbol at) v span plain)
 
 lists_noted : (s : State) (d : Diagnostic) → ListsSince s (recorded s d)
 lists_noted s d = lists_same s (recorded s d) refl
 
-lists_noted_value : (s : State) (d : Diagnostic) (v : InstructionValue) (span : Option Span) → is_function_expression v ≡ false
+lists_noted_value : (s : State) (d : Diagnostic) (v : InstructionValue) (span : Option Span) → is_marked v ≡ false
     → ListsSince s (with_value (recorded s d) v span)
 lists_noted_value s d v span plain = lists_then s (recorded s d) _ (lists_noted s d) (lists_value (recorded s d) v span plain)
 
@@ -554,7 +577,7 @@ mutual
       (lists_then (beside outer between) (beside outer s3) ended (lists_beside outer between s3 (expression_lists third))
       (lists_then (beside outer s3) behind ended (lists_ternary_alternated parted s3 a (span_of alternate) refl)
       (lists_then behind s4 ended (expression_lists first)
-      (lists_completed s4 (branch p parted.consequent parted.alternate parted.behind.id.0 parted.span) parted.behind refl refl))))))
+      (lists_completed s4 (branch p parted.consequent parted.alternate parted.behind.id.0 parted.span) parted.behind refl))))))
   expression_lists (lowered.Sequence at e es s s2 p l) =
       let outer : List InstructionId = s.current.instructions in
       let begun : State = sequence_begun s at.span in
@@ -595,7 +618,12 @@ declarators_lists {names} {at} (lowered.NextInitialized there bind name type ini
 lists_returned : (s : State) (span : Option Span) (place : Place) → ListsSince s (returned_from s span returns.Explicit place blocks.Block)
 lists_returned s span place =
     lists_then s (reserved s) _ (lists_same s (reserved s) refl)
-    (lists_completed (reserved s) (return_of span returns.Explicit place) (new_block s.env.next_block blocks.Block) refl refl)
+    (lists_completed (reserved s) (return_of span returns.Explicit place) (new_block s.env.next_block blocks.Block) refl)
+
+test_lists : {names : Names} {at : Span} {e : Syntax} {s t : State} {p : Place} → LoweredTest names at e s t p → ListsSince s t
+test_lists {at} (lowered.NoTest s) =
+    lists_noted_value s (refusal row.F32 at) (values.Primitive (primitives.Boolean true)) (Some at) refl
+test_lists (lowered.Tested e s t p l) = expression_lists l
 
 mutual
   pub statement_lists : {names : Names} {e : Syntax} {s t : State} → LoweredStatement names e s t → ListsSince s t
@@ -631,6 +659,86 @@ mutual
       (lists_then (beside outer between) (beside outer s3) _ (lists_beside outer between s3 (statement_lists third))
       (lists_then (beside outer s3) behind _ (lists_last s3 f.behind.id.0 gotos.Break (span_of alternate) s.current)
       (lists_then behind s4 _ (expression_lists first) (lists_if_ended (if_shut parted) s4 p refl))))))
+  statement_lists (lowered.Unlabeled loop s t l) = loop_lists l
+  statement_lists (lowered.LabeledLoop at label loop s t l) = loop_lists l
+  statement_lists (lowered.Labeled at label body s s2 other l) =
+      let outer : List InstructionId = s.current.instructions in
+      let f : LabelParts = label_at s at.span in
+      let begun : State = label_begun s label in
+      lists_then s (beside outer begun) _ (lists_entered s begun refl refl refl)
+      (lists_then (beside outer begun) (beside outer s2) _ (lists_beside outer begun s2 (statement_lists l))
+      (lists_scope_ended s2 f.behind.id.0 gotos.Break (span_of body) s.current
+      (ends_by (kinds.Label (record { 0 = f.block }) f.behind.id) (Some f.span)) f.behind refl))
+  statement_lists (lowered.Break at label target s is) = lists_next s target.0 gotos.Break at.span blocks.Block
+  statement_lists (lowered.Continue at label target s is) = lists_next s target.0 gotos.Continue at.span blocks.Block
+
+  pub loop_lists : {names : Names} {own : Label} {e : Syntax} {s t : State} → LoweredLoop names own e s t → ListsSince s t
+  loop_lists {own} (lowered.While at test body s s2 s3 p second first) =
+      let outer : List InstructionId = s.current.instructions in
+      let f : WhileParts = while_at s at.span in
+      let begun : State = while_begun s own in
+      let behind : State = while_bodied f s2 (span_of body) in
+      lists_then s (beside outer begun) _ (lists_entered s begun refl refl refl)
+      (lists_then (beside outer begun) (beside outer s2) _ (lists_beside outer begun s2 (statement_lists second))
+      (lists_then (beside outer s2) behind _
+      (lists_scope_ended s2 f.test gotos.Continue (span_of body) s.current
+      (ends_by (kinds.While (record { 0 = f.test }) (record { 0 = f.body }) f.behind.id) (Some f.span)) (while_aside f).1 refl)
+      (lists_then behind s3 _ (expression_lists first)
+      (lists_completed s3 (branch p f.body f.behind.id.0 f.test f.span) f.behind refl))))
+  loop_lists {own} (lowered.DoWhile at test body s s2 s3 p first second) =
+      let outer : List InstructionId = s.current.instructions in
+      let f : WhileParts = while_at s at.span in
+      let begun : State = while_begun s own in
+      let behind : State = do_while_bodied f s2 (span_of body) in
+      lists_then s (beside outer begun) _ (lists_entered s begun refl refl refl)
+      (lists_then (beside outer begun) (beside outer s2) _ (lists_beside outer begun s2 (statement_lists first))
+      (lists_then (beside outer s2) behind _
+      (lists_scope_ended s2 f.test gotos.Continue (span_of body) s.current
+      (ends_by (kinds.DoWhile (record { 0 = f.body }) (record { 0 = f.test }) f.behind.id) (Some f.span)) (while_aside f).1 refl)
+      (lists_then behind s3 _ (expression_lists second)
+      (lists_completed s3 (branch p f.body f.behind.id.0 f.test f.span) f.behind refl))))
+  loop_lists {own} (lowered.ForUpdated at init test update body s s2 s3 s4 s5 u p first third fourth second) =
+      let outer : List InstructionId = s.current.instructions in
+      let f : ForParts = for_at s at.span own true in
+      let g : ForParts = for_after_init f s2 in
+      let h : ForParts = for_after_update g s3 in
+      let updating : State = for_inited f s2 (part_span at.span init) in
+      let opened : State = for_updated g s3 (span_of update) in
+      let testing : State = for_bodied h s4 (span_of body) in
+      lists_then s (beside outer (for_begun s)) _ (lists_entered s (for_begun s) refl refl refl)
+      (lists_then (beside outer (for_begun s)) (beside outer s2) _ (lists_beside outer (for_begun s) s2 (init_lists first))
+      (lists_then (beside outer s2) (beside outer updating) _
+      (lists_beside outer s2 updating (lists_next s2 f.test gotos.Break (part_span at.span init) blocks.Loop))
+      (lists_then (beside outer updating) (beside outer s3) _ (lists_beside outer updating s3 (expression_lists third))
+      (lists_then (beside outer s3) (beside outer opened) _ (lists_beside outer s3 opened (lists_for_opened g s3 (span_of update)))
+      (lists_then (beside outer opened) (beside outer s4) _ (lists_beside outer opened s4 (statement_lists fourth))
+      (lists_then (beside outer s4) testing _
+      (lists_scope_ended s4 (for_again h).0 gotos.Continue (span_of body) s.current (for_end f.test h.update h.body at.span)
+      (for_aside h).1 refl)
+      (lists_then testing s5 _ (test_lists second)
+      (lists_completed s5 (branch p h.body h.behind.id.0 h.behind.id.0 h.span) h.behind refl))))))))
+  loop_lists {own} (lowered.ForPlain at init test body s s2 s3 s4 p first third second) =
+      let outer : List InstructionId = s.current.instructions in
+      let f : ForParts = for_at s at.span own false in
+      let g : ForParts = for_after_init f s2 in
+      let opened : State = for_inited f s2 (part_span at.span init) in
+      let testing : State = for_bodied g s3 (span_of body) in
+      lists_then s (beside outer (for_begun s)) _ (lists_entered s (for_begun s) refl refl refl)
+      (lists_then (beside outer (for_begun s)) (beside outer s2) _ (lists_beside outer (for_begun s) s2 (init_lists first))
+      (lists_then (beside outer s2) (beside outer opened) _
+      (lists_beside outer s2 opened (lists_for_opened f s2 (part_span at.span init)))
+      (lists_then (beside outer opened) (beside outer s3) _ (lists_beside outer opened s3 (statement_lists third))
+      (lists_then (beside outer s3) testing _
+      (lists_scope_ended s3 (for_again g).0 gotos.Continue (span_of body) s.current (for_end f.test g.update g.body at.span)
+      (for_aside g).1 refl)
+      (lists_then testing s4 _ (test_lists second)
+      (lists_completed s4 (branch p g.body g.behind.id.0 g.behind.id.0 g.span) g.behind refl))))))
+
+  init_lists : {names : Names} {at : Span} {e : Syntax} {s t : State} → LoweredInit names at e s t → ListsSince s t
+  init_lists {at} (lowered.NoInit s) = lists_value s (values.Primitive primitives.Undefined) (Some at) refl
+  init_lists (lowered.DeclaredInit there fields s t l) = statement_lists l
+  init_lists {at} (lowered.RefusedInit e s t p l) =
+      lists_then s (recorded s (refusal row.F31 at)) t (lists_noted s (refusal row.F31 at)) (expression_lists l)
 
   pub statements_lists : {names : Names} {es : Pieces} {s t : State} → LoweredStatements names es s t → ListsSince s t
   statements_lists (lowered.NoStatement s) = lists_refl s
@@ -641,4 +749,4 @@ body_lists (lowered.Statements at directives statements s t texts l) = statement
 body_lists (lowered.Value e s t p l) =
     lists_then s (reserved s) _ (lists_same s (reserved s) refl)
     (lists_then (reserved s) t _ (expression_lists l)
-    (lists_completed t (return_of None returns.Implicit p) (new_block s.env.next_block blocks.Block) refl refl))
+    (lists_completed t (return_of None returns.Implicit p) (new_block s.env.next_block blocks.Block) refl))

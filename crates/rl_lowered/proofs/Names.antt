@@ -21,12 +21,15 @@ use Rattle.rl_builder.specs.Builder.{State, completed_by, new_block, pushed, pus
 use Rattle.rl_builder.specs.Names.{fbt_label, fresh_identifier, resolved_by}
 use Rattle.rl_builder.specs.Temporaries.{temporary, unordered, with_value}
 use Rattle.rl_frames.specs.Frames.{IfParts, if_after_consequent, if_alternate, if_at, if_consequent, if_ended, if_shut}
+use Rattle.rl_frames.specs.Frames.{ForParts, for_after, for_after_init, for_after_update, for_at, for_bodied, for_ended, for_inited}
+use Rattle.rl_frames.specs.Frames.{for_updated}
+use Rattle.rl_frames.specs.Frames.{do_while_bodied, label_at, label_ended, while_after, while_at, while_bodied, while_ended}
 use Rattle.rl_frames.specs.Frames.{LogicalParts, logical_after, logical_at, logical_ended, logical_righted}
 use Rattle.rl_frames.specs.Frames.{SequenceParts, sequence_at, sequence_ended}
 use Rattle.rl_frames.specs.Frames.{TernaryParts, ternary_after, ternary_at, ternary_ended, ternary_parted}
 use Rattle.rl_frames.specs.Frames.{ternary_alternated, ternary_consequent}
-use Rattle.rl_frames.specs.Parts.{if_begun, loads, logical_begun, logical_entered, logical_left, logical_place}
-use Rattle.rl_frames.specs.Parts.{sequence_begun, ternary_begun}
+use Rattle.rl_frames.specs.Parts.{for_begun, if_begun, label_begun, loads, logical_begun, logical_entered, logical_left, logical_place}
+use Rattle.rl_frames.specs.Parts.{sequence_begun, ternary_begun, while_begun}
 use Rattle.rl_hir.specs.Pairs.{identifier_of, pair}
 use Rattle.rl_hir.specs.Pieces.{Piece}
 use Rattle.rl_hir.specs.declared.function.Identifier.{Identifier}
@@ -42,19 +45,22 @@ use Rattle.rl_hir.specs.declared.instruction.InstructionValue.{InstructionValue}
 use Rattle.rl_hir.specs.declared.instruction.InstructionValue.TheVariants as values
 use Rattle.rl_hir.specs.declared.instruction.Place.{Place}
 use Rattle.rl_hir.specs.declared.instruction.PrimitiveValue.TheVariants as primitives
+use Rattle.rl_hir.specs.declared.terminal.GotoVariant.TheVariants as gotos
 use Rattle.rl_hir.specs.declared.terminal.ReturnVariant.TheVariants as returns
 use Rattle.rl_lowered.specs.Forms.{MemberKey, load_of, store_of, typed}
-use Rattle.rl_lowered.specs.Lowered.{Lowered, LoweredBody, LoweredDeclarators, LoweredLast, LoweredParts, LoweredStatement, LoweredStatements}
-use Rattle.rl_lowered.specs.Lowered.{declaring, member_loaded, member_one, member_stored, member_updated, value_span}
+use Rattle.rl_lowered.specs.Lowered.{Lowered, LoweredBody, LoweredDeclarators, LoweredInit, LoweredLast, LoweredLoop, LoweredParts}
+use Rattle.rl_lowered.specs.Lowered.{LoweredStatement, LoweredStatements, LoweredTest, declaring, member_loaded, member_one, member_stored}
+use Rattle.rl_lowered.specs.Lowered.{member_updated, part_span, value_span}
 use Rattle.rl_lowered.specs.Lowered as lowered
 use Rattle.rl_lowered.specs.Named.{IsFound, IsNamed, KeepsNames, declared_span, found}
+use Rattle.rl_model.specs.Actions.{Label}
 use Rattle.rl_names.specs.Names.{Names}
-use Rattle.rl_names.specs.Candidates.{candidate}
+use Rattle.rl_used_names.specs.Candidates.{candidate}
 use Rattle.rl_promises.specs.Fields.{IsNamedPair, name_at}
 use Rattle.rl_promises.specs.Locals.{IsVariable}
 use Rattle.rl_promises.specs.Rows.{refusal}
 use Rattle.rl_runs.proofs.Steps.{get_more}
-use Rattle.rl_runs.specs.Moves.{return_of, returned_from, stored_in}
+use Rattle.rl_runs.specs.Moves.{next_hole, return_of, returned_from, stored_in}
 use Rattle.rl_semantic.specs.declared.semantic.Semantic.{Semantic}
 use Rattle.rl_syntax.specs.Syntax.{Syntax, Pieces, span_of}
 use Rattle.rl_used_names.proofs.NameLaws.{identifier_of-append_none, identifier_of-append_some, name_of-append, name_of-last}
@@ -456,6 +462,11 @@ declarators_names {names} {at} (lowered.NextInitialized there bind name type ini
     names_then s t u (expression_names l)
     (names_then t _ u (names_found_value t symbol bind.span identifier _ (Some at) f) (declarators_names m))
 
+pub test_names : {names : Names} {at : Span} {e : Syntax} {s t : State} {p : Place} → LoweredTest names at e s t p → KeepsNames names s t
+test_names {at} (lowered.NoTest s) =
+    names_noted_value s (refusal row.F32 at) (values.Primitive (primitives.Boolean true)) (Some at)
+test_names (lowered.Tested e s t p l) = expression_names l
+
 mutual
   pub statement_names : {names : Names} {e : Syntax} {s t : State} → LoweredStatement names e s t → KeepsNames names s t
   statement_names (lowered.Empty at s) = names_refl s
@@ -488,6 +499,62 @@ mutual
       (names_then between s3 _ (statement_names third)
       (names_then s3 behind _ (names_same s3 behind refl)
       (names_then behind s4 _ (expression_names first) (names_same s4 (if_ended (if_shut parted) s4 p) refl))))))
+  statement_names (lowered.Unlabeled loop s t l) = loop_names l
+  statement_names (lowered.LabeledLoop at label loop s t l) = loop_names l
+  statement_names (lowered.Labeled at label body s s2 other l) =
+      names_then s (label_begun s label) _ (names_same s (label_begun s label) refl)
+      (names_then (label_begun s label) s2 _ (statement_names l)
+      (names_same s2 (label_ended (label_at s at.span) s2 (span_of body)) refl))
+  statement_names (lowered.Break at label target s is) = names_same s (next_hole s target.0 gotos.Break at.span blocks.Block) refl
+  statement_names (lowered.Continue at label target s is) = names_same s (next_hole s target.0 gotos.Continue at.span blocks.Block) refl
+
+  pub loop_names : {names : Names} {own : Label} {e : Syntax} {s t : State} → LoweredLoop names own e s t → KeepsNames names s t
+  loop_names {own} (lowered.While at test body s s2 s3 p second first) =
+      let begun : State = while_begun s own in
+      let behind : State = while_bodied (while_at s at.span) s2 (span_of body) in
+      names_then s begun _ (names_same s begun refl)
+      (names_then begun s2 _ (statement_names second)
+      (names_then s2 behind _ (names_same s2 behind refl)
+      (names_then behind s3 _ (expression_names first) (names_same s3 (while_ended (while_after (while_at s at.span)) s3 p) refl))))
+  loop_names {own} (lowered.DoWhile at test body s s2 s3 p first second) =
+      let begun : State = while_begun s own in
+      let behind : State = do_while_bodied (while_at s at.span) s2 (span_of body) in
+      names_then s begun _ (names_same s begun refl)
+      (names_then begun s2 _ (statement_names first)
+      (names_then s2 behind _ (names_same s2 behind refl)
+      (names_then behind s3 _ (expression_names second) (names_same s3 (while_ended (while_after (while_at s at.span)) s3 p) refl))))
+  loop_names {own} (lowered.ForUpdated at init test update body s s2 s3 s4 s5 u p first third fourth second) =
+      let f : ForParts = for_at s at.span own true in
+      let g : ForParts = for_after_init f s2 in
+      let h : ForParts = for_after_update g s3 in
+      let updating : State = for_inited f s2 (part_span at.span init) in
+      let opened : State = for_updated g s3 (span_of update) in
+      let testing : State = for_bodied h s4 (span_of body) in
+      names_then s (for_begun s) _ (names_same s (for_begun s) refl)
+      (names_then (for_begun s) s2 _ (init_names first)
+      (names_then s2 updating _ (names_same s2 updating refl)
+      (names_then updating s3 _ (expression_names third)
+      (names_then s3 opened _ (names_same s3 opened refl)
+      (names_then opened s4 _ (statement_names fourth)
+      (names_then s4 testing _ (names_same s4 testing refl)
+      (names_then testing s5 _ (test_names second) (names_same s5 (for_ended (for_after h) s5 p) refl))))))))
+  loop_names {own} (lowered.ForPlain at init test body s s2 s3 s4 p first third second) =
+      let f : ForParts = for_at s at.span own false in
+      let g : ForParts = for_after_init f s2 in
+      let opened : State = for_inited f s2 (part_span at.span init) in
+      let testing : State = for_bodied g s3 (span_of body) in
+      names_then s (for_begun s) _ (names_same s (for_begun s) refl)
+      (names_then (for_begun s) s2 _ (init_names first)
+      (names_then s2 opened _ (names_same s2 opened refl)
+      (names_then opened s3 _ (statement_names third)
+      (names_then s3 testing _ (names_same s3 testing refl)
+      (names_then testing s4 _ (test_names second) (names_same s4 (for_ended (for_after g) s4 p) refl))))))
+
+  pub init_names : {names : Names} {at : Span} {e : Syntax} {s t : State} → LoweredInit names at e s t → KeepsNames names s t
+  init_names {at} (lowered.NoInit s) = names_value s (values.Primitive primitives.Undefined) (Some at)
+  init_names (lowered.DeclaredInit there fields s t l) = statement_names l
+  init_names {at} (lowered.RefusedInit e s t p l) =
+      names_then s (recorded s (refusal row.F31 at)) t (names_recorded s (refusal row.F31 at)) (expression_names l)
 
   pub statements_names : {names : Names} {es : Pieces} {s t : State} → LoweredStatements names es s t → KeepsNames names s t
   statements_names (lowered.NoStatement s) = names_refl s

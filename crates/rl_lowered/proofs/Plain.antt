@@ -1,6 +1,8 @@
 -- A lowered expression is one by itself: as an argument it has one value, in one place, and as a body it is no list of statements.
 use Rattle.std.proofs.Common.{◌≡◌, ℕ, ◌++◌, Bool, false, true, List, [], ◌∷◌, None, Option, codes, unwrap_or, refl, sym, ap, ◌∙◌}
 use Rattle.rl_base.specs.declared.row.Row.{Row}
+use Rattle.rl_base.specs.declared.row.Row.TheVariants as row
+use Rattle.rl_base.specs.declared.span.Span.{Span}
 use Rattle.rl_builder.specs.Builder.{State}
 use Rattle.rl_hir.specs.declared.instruction.InstructionValue.{InstructionValue}
 use Rattle.rl_hir.specs.declared.instruction.Place.{Place}
@@ -10,24 +12,31 @@ use Rattle.rl_hir.specs.Pieces.{Piece, texts}
 use Rattle.rl_lowered.proofs.Clean.{computed_row_clean, fraction_row_never, property_row_clean, row_clean, spread_row_clean, unknown_row_never}
 use Rattle.rl_lowered.specs.Forms.{IsCast, IsForm, IsLiteral, IsMember, IsPrivate, IsRefused, IsRefusing, IsWrapper, MemberKey}
 use Rattle.rl_lowered.specs.Forms as forms
-use Rattle.rl_lowered.specs.Lowered.{Lowered, LoweredParts}
+use Rattle.rl_lowered.specs.Lowered.{Lowered, LoweredParts, part_span}
 use Rattle.rl_lowered.specs.Lowered as lowered
 use Rattle.rl_lowered.specs.Promised.{body_falls, exec_before_end}
 use Rattle.rl_machine.specs.declared.trace.Value.{Value}
 use Rattle.rl_model.specs.Actions.{Action, ◌>>=◌, give, return_with}
 use Rattle.rl_model.specs.Expressions.{eval, one_value, values, values_of}
 use Rattle.rl_model.specs.Scene.{Scene}
-use Rattle.rl_model.specs.Shapes.{is_computed, key_text, shape_of, shapes}
+use Rattle.rl_model.specs.Shapes.{is_absent, is_computed, key_text, shape_of, shapes}
+use Rattle.rl_model.specs.Statements.{has_meaning}
 use Rattle.rl_names.specs.Names.{Names}
 use Rattle.rl_promises.specs.Live.{held_in, live_in_body}
 use Rattle.rl_promises.specs.Outs.{is_known_key}
-use Rattle.rl_promises.specs.Rows.{refusals_in}
+use Rattle.rl_promises.specs.Rows.{refusal, refusals_in, said_of_init, said_of_test}
 use Rattle.rl_syntax.specs.declared.numbered.At.{At}
 use Rattle.rl_syntax.specs.declared.word.Word.{Word}
 use Rattle.rl_syntax.specs.declared.word.Word.TheVariants as word
-use Rattle.rl_syntax.specs.Syntax.{Syntax, Node, Pieces, End, Then}
+use Rattle.rl_syntax.specs.Syntax.{Syntax, Node, Listed, Said, Count, Flag, Absent, Pieces, End, Then, span_of}
 
--- The argument has one value, its own; the body returns it; and a key in brackets may be computed.
+-- True of a node that is no declaration.
+abbrev pub is_operand : Syntax → Bool
+is_operand (Node at word.Var parts) = false
+is_operand (Node at w parts) = true
+is_operand _ = false
+
+-- The argument has one value, its own; the body returns it; a key in brackets may be computed; and it is no declaration.
 pub record IsPlain (e : Syntax) : Type 0 where
   pub shape : shape_of e ≡ codes "place" ∷ []
   pub value : (scene : Scene) (plain : Action Value) → values_of scene e plain ≡ one_value plain
@@ -35,40 +44,56 @@ pub record IsPlain (e : Syntax) : Type 0 where
   pub key : is_known_key true e ≡ true
   pub alone : held_in e ≡ live_in_body e
   pub ends : body_falls e ≡ false
+  pub node : is_operand e ≡ true
 
 literal_plain : {w : Word} {fields : Pieces} {p : PrimitiveValue} → IsLiteral w fields p → (at : At) → IsPlain (Node at w fields)
-literal_plain forms.Null at = record { shape = refl; value = λ scene plain. refl; last = λ scene. refl; key = refl; alone = refl; ends = refl }
-literal_plain _ at = record { shape = refl; value = λ scene plain. refl; last = λ scene. refl; key = refl; alone = refl; ends = refl }
+literal_plain forms.Null at =
+    record { shape = refl; value = λ scene plain. refl; last = λ scene. refl; key = refl; alone = refl; ends = refl; node = refl }
+literal_plain _ at =
+    record { shape = refl; value = λ scene plain. refl; last = λ scene. refl; key = refl; alone = refl; ends = refl; node = refl }
 
 refused_plain : {names : Names} {w : Word} {fields : Pieces} {r : Row} → IsRefused names w fields r → (at : At) → IsPlain (Node at w fields)
-refused_plain forms.Super at = record { shape = refl; value = λ scene plain. refl; last = λ scene. refl; key = refl; alone = refl; ends = refl }
-refused_plain _ at = record { shape = refl; value = λ scene plain. refl; last = λ scene. refl; key = refl; alone = refl; ends = refl }
+refused_plain forms.Super at =
+    record { shape = refl; value = λ scene plain. refl; last = λ scene. refl; key = refl; alone = refl; ends = refl; node = refl }
+refused_plain _ at =
+    record { shape = refl; value = λ scene plain. refl; last = λ scene. refl; key = refl; alone = refl; ends = refl; node = refl }
 
 refusing_plain : {w : Word} {fields parts : Pieces} {r : Row} → IsRefusing w fields parts r → (at : At) → IsPlain (Node at w fields)
-refusing_plain forms.PrivateIn at = record { shape = refl; value = λ scene plain. refl; last = λ scene. refl; key = refl; alone = refl; ends = refl }
-refusing_plain _ at = record { shape = refl; value = λ scene plain. refl; last = λ scene. refl; key = refl; alone = refl; ends = refl }
+refusing_plain forms.PrivateIn at =
+    record { shape = refl; value = λ scene plain. refl; last = λ scene. refl; key = refl; alone = refl; ends = refl; node = refl }
+refusing_plain _ at =
+    record { shape = refl; value = λ scene plain. refl; last = λ scene. refl; key = refl; alone = refl; ends = refl; node = refl }
 
 private_plain : {w : Word} {fields : Pieces} {e : Syntax} → IsPrivate w fields e → (at : At) → IsPlain (Node at w fields)
-private_plain forms.PrivateUpdate at = record { shape = refl; value = λ scene plain. refl; last = λ scene. refl; key = refl; alone = refl; ends = refl }
-private_plain _ at = record { shape = refl; value = λ scene plain. refl; last = λ scene. refl; key = refl; alone = refl; ends = refl }
+private_plain forms.PrivateUpdate at =
+    record { shape = refl; value = λ scene plain. refl; last = λ scene. refl; key = refl; alone = refl; ends = refl; node = refl }
+private_plain _ at =
+    record { shape = refl; value = λ scene plain. refl; last = λ scene. refl; key = refl; alone = refl; ends = refl; node = refl }
 
 wrapper_plain : {w : Word} {fields : Pieces} {e : Syntax} → IsWrapper w fields e → (at : At) → IsPlain (Node at w fields)
-wrapper_plain forms.Parenthesized at = record { shape = refl; value = λ scene plain. refl; last = λ scene. refl; key = refl; alone = refl; ends = refl }
-wrapper_plain _ at = record { shape = refl; value = λ scene plain. refl; last = λ scene. refl; key = refl; alone = refl; ends = refl }
+wrapper_plain forms.Parenthesized at =
+    record { shape = refl; value = λ scene plain. refl; last = λ scene. refl; key = refl; alone = refl; ends = refl; node = refl }
+wrapper_plain _ at =
+    record { shape = refl; value = λ scene plain. refl; last = λ scene. refl; key = refl; alone = refl; ends = refl; node = refl }
 
 cast_plain : {w : Word} {fields : Pieces} {e type : Syntax} → IsCast w fields e type → (at : At) → IsPlain (Node at w fields)
-cast_plain forms.As at = record { shape = refl; value = λ scene plain. refl; last = λ scene. refl; key = refl; alone = refl; ends = refl }
-cast_plain _ at = record { shape = refl; value = λ scene plain. refl; last = λ scene. refl; key = refl; alone = refl; ends = refl }
+cast_plain forms.As at =
+    record { shape = refl; value = λ scene plain. refl; last = λ scene. refl; key = refl; alone = refl; ends = refl; node = refl }
+cast_plain _ at =
+    record { shape = refl; value = λ scene plain. refl; last = λ scene. refl; key = refl; alone = refl; ends = refl; node = refl }
 
 member_plain : {w : Word} {fields parts : Pieces} {pieces : List Piece} {object : Place} {key : MemberKey}
     → IsMember w fields parts pieces object key → (at : At) → IsPlain (Node at w fields)
-member_plain forms.Static at = record { shape = refl; value = λ scene plain. refl; last = λ scene. refl; key = refl; alone = refl; ends = refl }
-member_plain _ at = record { shape = refl; value = λ scene plain. refl; last = λ scene. refl; key = refl; alone = refl; ends = refl }
+member_plain forms.Static at =
+    record { shape = refl; value = λ scene plain. refl; last = λ scene. refl; key = refl; alone = refl; ends = refl; node = refl }
+member_plain _ at =
+    record { shape = refl; value = λ scene plain. refl; last = λ scene. refl; key = refl; alone = refl; ends = refl; node = refl }
 
 form_plain : {w : Word} {fields parts : Pieces} {pieces : List Piece} {v : InstructionValue} → IsForm w fields parts pieces v → (at : At)
     → IsPlain (Node at w fields)
 form_plain (forms.Load is) at = member_plain is at
-form_plain _ at = record { shape = refl; value = λ scene plain. refl; last = λ scene. refl; key = refl; alone = refl; ends = refl }
+form_plain _ at =
+    record { shape = refl; value = λ scene plain. refl; last = λ scene. refl; key = refl; alone = refl; ends = refl; node = refl }
 
 pub lowered_plain : {names : Names} {e : Syntax} {s t : State} {p : Place} → Lowered names e s t p → IsPlain e
 lowered_plain (lowered.Literal at w fields p s is) = literal_plain is at
@@ -78,7 +103,39 @@ lowered_plain (lowered.Private at w fields e s t p is by) = private_plain is at
 lowered_plain (lowered.Same at w fields e s t p is by) = wrapper_plain is at
 lowered_plain (lowered.Cast at there w fields e type k s t p is annotated by) = cast_plain is at
 lowered_plain (lowered.Asked at w fields parts pieces v s t form all) = form_plain form at
-lowered_plain _ = record { shape = refl; value = λ scene plain. refl; last = λ scene. refl; key = refl; alone = refl; ends = refl }
+lowered_plain _ =
+    record { shape = refl; value = λ scene plain. refl; last = λ scene. refl; key = refl; alone = refl; ends = refl; node = refl }
+
+-- As a part of the head of a `for` loop: in front it is refused, and as a test it is not.
+
+pub init_said : (e : Syntax) → is_operand e ≡ true → (at : Span) → said_of_init at e ≡ refusal row.F31 at ∷ []
+init_said (Node there word.Var parts) is at = absurd (cc)
+init_said (Listed parts) is at = absurd (cc)
+init_said (Said text) is at = absurd (cc)
+init_said (Count number) is at = absurd (cc)
+init_said (Flag flag) is at = absurd (cc)
+init_said Absent is at = absurd (cc)
+init_said _ is at = refl
+
+pub test_unsaid : (e : Syntax) → is_operand e ≡ true → (at : Span) → said_of_test at e ≡ []
+test_unsaid Absent is at = absurd (cc)
+test_unsaid _ is at = refl
+
+pub undeclared_meant : (e : Syntax) → is_operand e ≡ true → has_meaning Absent e ≡ true
+undeclared_meant Absent is = absurd (cc)
+undeclared_meant _ is = refl
+
+pub declared_meant : (there : At) (fields : Pieces) (e : Syntax) → is_operand e ≡ true → has_meaning (Node there word.Var fields) e ≡ true
+declared_meant there fields Absent is = absurd (cc)
+declared_meant there fields _ is = refl
+
+pub operand_span : (e : Syntax) → is_operand e ≡ true → (loop : Span) → part_span loop e ≡ span_of e
+operand_span Absent is loop = absurd (cc)
+operand_span _ is loop = refl
+
+pub operand_there : (e : Syntax) → is_operand e ≡ true → is_absent e ≡ false
+operand_there Absent is = absurd (cc)
+operand_there _ is = refl
 
 -- A key that is computed has no text.
 pub computed_textless : (key : Syntax) → is_computed true key ≡ true → key_text true key ≡ None

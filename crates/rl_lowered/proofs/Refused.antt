@@ -33,19 +33,22 @@ use Rattle.rl_hir.specs.declared.instruction.InstructionValue.{InstructionValue}
 use Rattle.rl_hir.specs.declared.instruction.InstructionValue.TheVariants as values
 use Rattle.rl_hir.specs.declared.instruction.Place.{Place}
 use Rattle.rl_hir.specs.declared.instruction.PrimitiveValue.TheVariants as primitives
-use Rattle.rl_lowered.proofs.Plain.{lowered_plain}
+use Rattle.rl_lowered.proofs.Plain.{init_said, lowered_plain, test_unsaid}
 use Rattle.rl_lowered.proofs.Refusals.{bind_refuses, cast_refuses, computed_refuses, constant_refuses, form_refuses, fraction_refuses, literal_refuses}
 use Rattle.rl_lowered.proofs.Refusals.{method_refuses, name_refuses, outer_refuses, private_refuses, property_refuses, refused_refuses}
 use Rattle.rl_lowered.proofs.Refusals.{refusing_refuses, texts_refuse, unknown_refuses, update_refuses, updated_member_refuses, wrapper_refuses}
 use Rattle.rl_lowered.specs.Forms.{MemberKey, load_of, store_of, typed}
-use Rattle.rl_lowered.specs.Lowered.{Lowered, LoweredBody, LoweredDeclarators, LoweredLast, LoweredParts, LoweredStatement, LoweredStatements}
-use Rattle.rl_lowered.specs.Lowered.{declaring, member_loaded, member_one, member_stored, member_updated, value_span}
+use Rattle.rl_lowered.specs.Lowered.{Lowered, LoweredBody, LoweredDeclarators, LoweredInit, LoweredLast, LoweredLoop, LoweredParts}
+use Rattle.rl_lowered.specs.Lowered.{LoweredStatement, LoweredStatements, LoweredTest, declaring, label_part, member_loaded, member_one}
+use Rattle.rl_lowered.specs.Lowered.{member_stored, member_updated, value_span}
 use Rattle.rl_lowered.specs.Lowered as lowered
 use Rattle.rl_lowered.specs.Named.{IsFound, TellDeclarations, found}
+use Rattle.rl_model.specs.Actions.{Label}
 use Rattle.rl_names.specs.Names.{Names}
 use Rattle.rl_names.specs.declared.names.Meaning.TheVariants.{Local}
 use Rattle.rl_promises.proofs.Covering.{none_in}
-use Rattle.rl_promises.specs.Rows.{IsTold, Nothing, Records, Renamed, Told, label_of, refusal, refusals, refusals_in, said_of_local}
+use Rattle.rl_promises.specs.Rows.{IsTold, Nothing, Records, Renamed, Told, label_of, refusal, refusals, refusals_in, said_of_init}
+use Rattle.rl_promises.specs.Rows.{said_of_local, said_of_test}
 use Rattle.rl_resolver.specs.Lookups.{declaration_ident}
 use Rattle.rl_runs.specs.Moves.{stored_in}
 use Rattle.rl_bindings.specs.declared.event.Bound.{Bound}
@@ -321,6 +324,20 @@ declarators_refused {names} {at} (lowered.NextInitialized there bind name type i
     (records_same _ _ (said t) _ (bind_refuses names bind name type symbol annotated is)
     (found_value_said names t symbol bind.span identifier _ (Some at) f))) (declarators_refused m)
 
+-- The test of a `for` loop.
+test_refused : {names : Names} {at : Span} {e : Syntax} {s t : State} {p : Place} → LoweredTest names at e s t p
+    → Records (said_of_test at e ++ refusals names e) (said s) (said t)
+test_refused {at} (lowered.NoTest s) =
+    noted_said s (refusal row.F32 at) (values.Primitive (primitives.Boolean true)) (Some at)
+test_refused {names} {at} (lowered.Tested e s t p l) =
+    records_same _ _ (said s) (said t)
+    (ap (λ (ds : List Diagnostic). ds ++ refusals names e) (test_unsaid e (lowered_plain l).node at)) (expression_refused l)
+
+-- A jump has no refusals.
+jump_refuses : (names : Names) (label : Label) → refusals names (label_part label) ++ [] ≡ []
+jump_refuses names None = refl
+jump_refuses names (Some label) = refl
+
 mutual
   pub statement_refused : {names : Names} {e : Syntax} {s t : State} → LoweredStatement names e s t
       → Records (refusals names e) (said s) (said t)
@@ -344,6 +361,48 @@ mutual
       records_then (refusals names consequent ++ refusals names alternate) (refusals names test) (said s) (said s3) (said s4)
       (records_then (refusals names consequent) (refusals names alternate) (said s) (said s2) (said s3) (statement_refused second)
       (statement_refused third)) (expression_refused first)
+  statement_refused (lowered.Unlabeled loop s t l) = loop_refused l
+  statement_refused {names} (lowered.LabeledLoop at label loop s t l) =
+      records_unit (refusals names loop) (said s) (said t) (loop_refused l)
+  statement_refused {names} (lowered.Labeled at label body s s2 other l) =
+      records_unit (refusals names body) (said s) (said s2) (statement_refused l)
+  statement_refused {names} (lowered.Break at label target s is) = records_none _ (said s) _ (jump_refuses names label) refl
+  statement_refused {names} (lowered.Continue at label target s is) = records_none _ (said s) _ (jump_refuses names label) refl
+
+  pub loop_refused : {names : Names} {own : Label} {e : Syntax} {s t : State} → LoweredLoop names own e s t
+      → Records (refusals names e) (said s) (said t)
+  loop_refused {names} (lowered.While at test body s s2 s3 p second first) =
+      records_then (refusals names body) (refusals names test) (said s) (said s2) (said s3) (statement_refused second)
+      (expression_refused first)
+  loop_refused {names} (lowered.DoWhile at test body s s2 s3 p first second) =
+      records_then (refusals names body) (refusals names test ++ []) (said s) (said s2) (said s3) (statement_refused first)
+      (records_unit (refusals names test) (said s2) (said s3) (expression_refused second))
+  loop_refused {names} (lowered.ForUpdated at init test update body s s2 s3 s4 s5 u p first third fourth second) =
+      let front : List Diagnostic = said_of_init at.span init ++ refusals names init in
+      records_same _ _ (said s) (said s5)
+      (append_assoc (front ++ refusals names update ++ refusals names body) (said_of_test at.span test) (refusals names test))
+      (records_then (front ++ refusals names update ++ refusals names body) _ (said s) (said s4) (said s5)
+      (records_then (front ++ refusals names update) (refusals names body) (said s) (said s3) (said s4)
+      (records_then front (refusals names update) (said s) (said s2) (said s3) (init_refused first) (expression_refused third))
+      (statement_refused fourth)) (test_refused second))
+  loop_refused {names} (lowered.ForPlain at init test body s s2 s3 s4 p first third second) =
+      let front : List Diagnostic = said_of_init at.span init ++ refusals names init in
+      records_same _ _ (said s) (said s4)
+      (append_assoc (front ++ [] ++ refusals names body) (said_of_test at.span test) (refusals names test))
+      (records_then (front ++ [] ++ refusals names body) _ (said s) (said s3) (said s4)
+      (records_then (front ++ []) (refusals names body) (said s) (said s2) (said s3)
+      (records_unit front (said s) (said s2) (init_refused first)) (statement_refused third)) (test_refused second))
+
+  init_refused : {names : Names} {at : Span} {e : Syntax} {s t : State} → LoweredInit names at e s t
+      → Records (said_of_init at e ++ refusals names e) (said s) (said t)
+  init_refused {at} (lowered.NoInit s) =
+      records_none [] (said s) _ refl (value_said s (values.Primitive primitives.Undefined) (Some at))
+  init_refused (lowered.DeclaredInit there fields s t l) = statement_refused l
+  init_refused {names} {at} (lowered.RefusedInit e s t p l) =
+      records_same _ _ (said s) (said t)
+      (ap (λ (ds : List Diagnostic). ds ++ refusals names e) (init_said e (lowered_plain l).node at))
+      (records_then (refusal row.F31 at ∷ []) (refusals names e) (said s) (said (recorded s (refusal row.F31 at))) (said t)
+      (records_all (refusal row.F31 at ∷ []) (said s) _ refl) (expression_refused l))
 
   pub statements_refused : {names : Names} {es : Pieces} {s t : State} → LoweredStatements names es s t
       → Records (refusals_in names es) (said s) (said t)

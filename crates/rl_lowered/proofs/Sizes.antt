@@ -27,11 +27,13 @@ use Rattle.rl_hir.specs.declared.instruction.Place.{Place}
 use Rattle.rl_hir.specs.declared.instruction.PrimitiveValue.TheVariants as primitives
 use Rattle.rl_lowered.specs.Forms.{IsCast, IsForm, IsInside, IsMember, IsPrivate, IsRefusing, IsWrapper, MemberKey, load_of, store_of, type_of, typed}
 use Rattle.rl_lowered.specs.Forms as forms
-use Rattle.rl_lowered.specs.Lowered.{Lowered, LoweredBody, LoweredDeclarators, LoweredLast, LoweredParts, LoweredStatement, LoweredStatements}
+use Rattle.rl_lowered.specs.Lowered.{Lowered, LoweredBody, LoweredDeclarators, LoweredInit, LoweredLast, LoweredLoop, LoweredParts}
+use Rattle.rl_lowered.specs.Lowered.{LoweredStatement, LoweredStatements, LoweredTest}
 use Rattle.rl_lowered.specs.Lowered.{binary_of, declaring, member_loaded, member_one, member_stored, member_updated, update_of, value_span}
 use Rattle.rl_lowered.specs.Lowered as lowered
 use Rattle.rl_lowered.specs.Named.{found}
 use Rattle.rl_lowered.specs.Promised.{share}
+use Rattle.rl_model.specs.Actions.{Label}
 use Rattle.rl_names.specs.Names.{Names}
 use Rattle.rl_promises.specs.Rows.{refusal}
 use Rattle.rl_runs.proofs.Sizes.{size_value}
@@ -229,6 +231,12 @@ declarators_size {names} {at} {k} (lowered.NextInitialized there bind name type 
       declarators_size m,
     )
 
+pub test_size : {names : Names} {at : Span} {e : Syntax} {s t : State} {p : Place} → LoweredTest names at e s t p
+    → size_of t ≤ size_of s + share (nodes e) + 4
+test_size {at} (lowered.NoTest s) =
+    omega (arith, size_value (recorded s (refusal row.F32 at)) (values.Primitive (primitives.Boolean true)) (Some at))
+test_size (lowered.Tested e s t p l) = omega (arith, expression_size l)
+
 mutual
   pub statement_size : {names : Names} {e : Syntax} {s t : State} → LoweredStatement names e s t
       → size_of t ≤ size_of s + share (nodes e)
@@ -247,6 +255,26 @@ mutual
       let between = if_consequent_size f s2 (span_of consequent) in
       let behind = if_alternate_size (if_after_consequent f s2) s3 (span_of alternate) in
       omega (arith, if_begun_size s, statement_size second, between, statement_size third, behind, expression_size first)
+  statement_size (lowered.Unlabeled loop s t l) = loop_size l
+  statement_size (lowered.LabeledLoop at label loop s t l) = omega (arith, loop_size l)
+  statement_size (lowered.Labeled at label body s s2 other l) = omega (arith, statement_size l)
+  statement_size (lowered.Break at label target s is) = omega arith
+  statement_size (lowered.Continue at label target s is) = omega arith
+
+  pub loop_size : {names : Names} {own : Label} {e : Syntax} {s t : State} → LoweredLoop names own e s t
+      → size_of t ≤ size_of s + share (nodes e)
+  loop_size (lowered.While at test body s s2 s3 p second first) = omega (arith, statement_size second, expression_size first)
+  loop_size (lowered.DoWhile at test body s s2 s3 p first second) = omega (arith, statement_size first, expression_size second)
+  loop_size (lowered.ForUpdated at init test update body s s2 s3 s4 s5 u p first third fourth second) =
+      omega (arith, init_size first, expression_size third, statement_size fourth, test_size second)
+  loop_size (lowered.ForPlain at init test body s s2 s3 s4 p first third second) =
+      omega (arith, init_size first, statement_size third, test_size second)
+
+  pub init_size : {names : Names} {at : Span} {e : Syntax} {s t : State} → LoweredInit names at e s t
+      → size_of t ≤ size_of s + share (nodes e) + 4
+  init_size {at} (lowered.NoInit s) = omega (arith, size_value s (values.Primitive primitives.Undefined) (Some at))
+  init_size (lowered.DeclaredInit there fields s t l) = omega (arith, statement_size l)
+  init_size (lowered.RefusedInit e s t p l) = omega (arith, expression_size l)
 
   pub statements_size : {names : Names} {es : Pieces} {s t : State} → LoweredStatements names es s t
       → size_of t ≤ size_of s + share (nodes_of es)

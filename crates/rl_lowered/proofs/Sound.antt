@@ -1,71 +1,61 @@
--- Lowering a part keeps places known and parts writable, and its value is in a place that was made.
+-- Lowering an expression keeps places known and parts writable, and its value is in a place that was made.
 use Rattle.std.proofs.Common.{◌≡◌, ℕ, ◌++◌, ◌<◌, Bool, true, false, List, [], ◌∷◌, length, map, All, Some, None, refl, sym, subst, arith}
-use Rattle.std.proofs.lemmas.List.Elements.{All-append, All-cons, All-head, All-nil, All-tail, All-weaker}
+use Rattle.std.proofs.lemmas.List.Elements.{All-append, All-cons, All-head, All-nil, All-weaker}
 use Rattle.rl_base.specs.Diagnostics.{diagnostic_at}
 use Rattle.rl_base.specs.Operators.{logical_text, update_text}
-use Rattle.rl_base.specs.VariableKinds.{variable_text}
 use Rattle.rl_base.specs.declared.ids.SymbolId.{SymbolId}
 use Rattle.rl_base.specs.declared.operator.LogicalOperator.{LogicalOperator}
 use Rattle.rl_base.specs.declared.operator.UpdateOperator.{UpdateOperator}
 use Rattle.rl_base.specs.declared.row.Row.TheVariants as row
 use Rattle.rl_base.specs.declared.span.Span.{Span}
 use Rattle.rl_base.specs.declared.type_kind.TypeKind.{TypeKind}
-use Rattle.rl_base.specs.declared.variable_kind.VariableKind.{VariableKind}
-use Rattle.rl_base.specs.declared.variable_kind.VariableKind.TheVariants as kinds
-use Rattle.rl_builder.specs.Builder.{State, completed_by, new_block, recorded, reserved}
+use Rattle.rl_builder.specs.Builder.{State, recorded}
 use Rattle.rl_builder.specs.Temporaries.{temporary, with_value}
-use Rattle.rl_frames.specs.Frames.{if_alternate, if_after_consequent, if_at, if_consequent, if_ended, if_shut}
 use Rattle.rl_frames.specs.Frames.{logical_after, logical_at, logical_ended, logical_righted}
 use Rattle.rl_frames.specs.Frames.{sequence_at, sequence_ended}
 use Rattle.rl_frames.specs.Frames.{ternary_after, ternary_alternated, ternary_at, ternary_consequent, ternary_ended, ternary_parted}
-use Rattle.rl_frames.specs.Parts.{if_begun, logical_begun, logical_place, sequence_begun, sequence_place, ternary_begun, ternary_place}
+use Rattle.rl_frames.specs.Parts.{logical_begun, logical_place, sequence_begun, sequence_place, ternary_begun, ternary_place}
 use Rattle.rl_hir.specs.Instructions.{binding_texts}
 use Rattle.rl_hir.specs.Listing as listing
 use Rattle.rl_hir.specs.Pieces.{Piece, Says, argument_pieces, gathered, operands}
-use Rattle.rl_hir.specs.declared.function.BlockKind.TheVariants as blocks
-use Rattle.rl_hir.specs.declared.instruction.InstructionKind.{InstructionKind}
 use Rattle.rl_hir.specs.declared.instruction.InstructionValue.{InstructionValue}
 use Rattle.rl_hir.specs.declared.instruction.InstructionValue.TheVariants as values
 use Rattle.rl_hir.specs.declared.instruction.NonLocalBinding.{NonLocalBinding}
 use Rattle.rl_hir.specs.declared.instruction.Place.{Place}
 use Rattle.rl_hir.specs.declared.instruction.PlaceOrSpread.{PlaceOrSpread}
 use Rattle.rl_hir.specs.declared.instruction.PrimitiveValue.TheVariants as primitives
-use Rattle.rl_hir.specs.declared.terminal.ReturnVariant.TheVariants as returns
 use Rattle.rl_model.specs.WellFormed.{AreKnown, operand_places, value_places}
 use Rattle.rl_names.specs.Locals.{HasTexts}
 use Rattle.rl_names.specs.Names.{Names}
 use Rattle.rl_names.specs.declared.names.Meaning.TheVariants.{Outer}
 use Rattle.rl_promises.specs.Locals.{IsSmallSpan, KnowsNames}
 use Rattle.rl_promises.specs.Rows.{refusal}
-use Rattle.rl_runs.specs.Moves.{return_of, returned_from}
 use Rattle.rl_syntax.specs.declared.numbered.At.{At}
 use Rattle.rl_syntax.specs.declared.word.Word.{Word}
 use Rattle.rl_syntax.specs.declared.word.Word.TheVariants as word
-use Rattle.rl_syntax.specs.Syntax.{Syntax, Node, Listed, Said, Flag, Absent, Pieces, End, Then, span_of}
+use Rattle.rl_syntax.specs.Syntax.{Syntax, Node, Listed, Said, Flag, Pieces, End, Then, span_of}
 use Rattle.rl_text.specs.Notation.{IsWritable}
 use Rattle.rl_lowered.specs.Forms.{IsForm, IsMember, Indexed, MemberKey, Numbered, Static, load_of, places_in, store_of, type_of, typed}
-use Rattle.rl_lowered.specs.Lowered.{Lowered, LoweredBody, LoweredDeclarators, LoweredLast, LoweredParts, LoweredStatement, LoweredStatements}
+use Rattle.rl_lowered.specs.Lowered.{Lowered, LoweredLast, LoweredParts}
 use Rattle.rl_lowered.specs.Lowered.{Asked, Cast, Conditional, Global, Literal, Logical, Method, Object, Private, Refused, RefusedBefore}
 use Rattle.rl_lowered.specs.Lowered.{RefusedBehind, RefusedGlobal, Same, Sequence, UpdatedConstant, UpdatedMember, UpdatedVariable, Variable}
 use Rattle.rl_lowered.specs.Lowered.{EarlierPart, LastPart, NextComputed, NextFraction, NextHole, NextPart, NextProperty, NextSpread}
-use Rattle.rl_lowered.specs.Lowered.{NextDeclared, NextInitialized, NextUnknown, NoDeclarator, NoPart}
-use Rattle.rl_lowered.specs.Lowered.{Block, Debugger, Empty, Expression, IfElse, IfThen, NextStatement, NoStatement, Return, ReturnNothing}
-use Rattle.rl_lowered.specs.Lowered.{Statements, Value, Variables}
-use Rattle.rl_lowered.specs.Lowered.{binary_of, declaring, member_loaded, member_one, member_result, member_stored, member_updated, update_of}
+use Rattle.rl_lowered.specs.Lowered.{NextUnknown, NoPart}
+use Rattle.rl_lowered.specs.Lowered.{binary_of, member_loaded, member_one, member_result, member_stored, member_updated, update_of}
 use Rattle.rl_lowered.specs.Lowered.{value_span}
 use Rattle.rl_lowered.specs.Named.{IsFound, found}
 use Rattle.rl_lowered.specs.Sound.{AreSmallTrees, HasSmallCounters, IsSmallTree, IsSoundPlace, StaysSound}
 use Rattle.rl_lowered.proofs.Keys.{has_text}
-use Rattle.rl_lowered.proofs.SoundForms.{AreWritten, cast_small, debugger_writable, form_places, form_small, form_writable, hole_utf8}
+use Rattle.rl_lowered.proofs.SoundForms.{AreWritten, cast_small, form_places, form_small, form_writable, hole_utf8}
 use Rattle.rl_lowered.proofs.SoundForms.{key_utf8, literal_writable, load_writable, member_places, member_small, method_places}
 use Rattle.rl_lowered.proofs.SoundForms.{method_writable, object_places, object_writable, private_small, refusing_small, store_writable}
 use Rattle.rl_lowered.proofs.SoundForms.{stored_places, wrapper_small}
-use Rattle.rl_lowered.proofs.SoundFrames.{if_else_sound, if_then_sound, logical_sound, sequence_sound, ternary_sound}
-use Rattle.rl_lowered.proofs.SoundListing.{binary_writable, cast_writable, declared_writable, initialized_writable, local_writable}
+use Rattle.rl_lowered.proofs.SoundFrames.{logical_sound, sequence_sound, ternary_sound}
+use Rattle.rl_lowered.proofs.SoundListing.{binary_writable, cast_writable, local_writable}
 use Rattle.rl_lowered.proofs.SoundListing.{number_writable, outer_writable, span_writable, sum_utf8, type_writable, undefined_writable}
 use Rattle.rl_lowered.proofs.SoundListing.{updated_writable}
-use Rattle.rl_lowered.proofs.SoundMoves.{counters_before, empty_writable, none_known, one_known, place_later, place_made, place_next}
-use Rattle.rl_lowered.proofs.SoundMoves.{place_weaker, sound_next, sound_recorded, sound_refl, sound_reserved, sound_return, sound_returned}
+use Rattle.rl_lowered.proofs.SoundMoves.{counters_before, none_known, one_known, place_later, place_made, place_next}
+use Rattle.rl_lowered.proofs.SoundMoves.{place_weaker, sound_next, sound_recorded, sound_refl}
 use Rattle.rl_lowered.proofs.SoundMoves.{sound_then, sound_typed, sound_value, sound_weaker, value_place}
 use Rattle.rl_lowered.proofs.SoundNames.{found_below, sound_found}
 use Rattle.rl_lowered.proofs.SoundTrees.{each_small, span_small}
@@ -102,15 +92,15 @@ places_weaker : (P R : Type 0) (t : State) (ps : List Place) → (R → P) → A
 places_weaker P R t ps first all =
     All-weaker (IsSoundPlace P t) (IsSoundPlace R t) (λ q known. place_weaker P R t q first known) ps all
 
-one_place : (small : Type 0) (t : State) (p : Place) → IsSoundPlace small t p → All (IsSoundPlace small t) (p ∷ [])
+pub one_place : (small : Type 0) (t : State) (p : Place) → IsSoundPlace small t p → All (IsSoundPlace small t) (p ∷ [])
 one_place small t p place = All-cons (IsSoundPlace small t) p [] place (All-nil (IsSoundPlace small t))
 
-abbrev IsSound : (small : Type 0) → (s t : State) → Place → Type 0
+abbrev pub IsSound : (small : Type 0) → (s t : State) → Place → Type 0
 IsSound small s t p = StaysSound small s t × IsSoundPlace small t p
 
 -- A value over places
 
-over_sound : (small : Type 0) (s t : State) (v : InstructionValue) (span : Span) (ps : List Place) → StaysSound small s t
+pub over_sound : (small : Type 0) (s t : State) (v : InstructionValue) (span : Span) (ps : List Place) → StaysSound small s t
     → All (IsSoundPlace small t) ps → value_places v ≡ ps
     → (small → HasSmallCounters t → All (λ (q : Place). IsWritable (listing.place q)) ps → IsWritable (listing.value v))
     → (small → IsSmallSpan span)
@@ -121,7 +111,7 @@ over_sound small s t v span ps before all same written at =
 
 -- A variable
 
-variable_place : (small : Type 0) (names : Names) (s : State) (symbol : SymbolId) (at span : Span) (identifier : ℕ)
+pub variable_place : (small : Type 0) (names : Names) (s : State) (symbol : SymbolId) (at span : Span) (identifier : ℕ)
     → IsFound names s symbol at identifier → (small → IsSmallSpan span)
     → IsSoundPlace small (found names s symbol at) (record { identifier = record { 0 = identifier }; span = Some span })
 variable_place small names s symbol at span identifier f small_span =
@@ -602,178 +592,3 @@ mutual
             (λ small. (small.0.0, small.1.0)) (λ small. (small.0.1, small.1.1)) (expression_sound knows first).0 others.0,
         place_weaker (AreSmallTrees (Then next es)) (AreSmallTrees (Then e (Then next es))) u q (λ small. (small.0.1, small.1.1)) others.1,
       )
-
--- Statements
-
-return_sound : (at : At) (e : Syntax) (s t : State) (p : Place) → IsSound (IsSmallTree e) s t p
-    → StaysSound (IsSmallTree (Node at word.Return (Then e End))) s (returned_from t (Some at.span) returns.Explicit p blocks.Block)
-return_sound at e s t p inner =
-    sound_next small s t _ (sound_weaker (IsSmallTree e) small s t part_small inner.0)
-    (sound_returned small t (Some at.span) returns.Explicit p blocks.Block (λ holds. span_writable at.span holds.0.0)
-    (place_weaker (IsSmallTree e) small t p part_small inner.1))
-  where
-    small : Type 0
-    small = IsSmallTree (Node at word.Return (Then e End))
-
-    part_small : small → IsSmallTree e
-    part_small holds = (holds.0.1.0, holds.1.1.0)
-
-return_nothing_sound : (at : At) (s : State) → StaysSound (IsSmallTree (Node at word.Return (Then Absent End))) s
-    (returned_from (with_value s (values.Primitive primitives.Undefined) None) (Some at.span) returns.Explicit (temporary s None)
-    blocks.Block)
-return_nothing_sound at s =
-    sound_next small s undefined _
-    (sound_value small s (values.Primitive primitives.Undefined) None (none_known (length s.env.identifiers))
-    (λ holds fits. undefined_writable) (λ holds. tt))
-    (sound_returned small undefined (Some at.span) returns.Explicit (temporary s None) blocks.Block
-    (λ holds. span_writable at.span holds.0.0)
-    (value_place small s (values.Primitive primitives.Undefined) None (none_known (length s.env.identifiers))
-    (λ holds fits. undefined_writable) (λ holds. tt)))
-  where
-    small : Type 0
-    small = IsSmallTree (Node at word.Return (Then Absent End))
-
-    undefined : State
-    undefined = with_value s (values.Primitive primitives.Undefined) None
-
-if_then_tree_sound : (at : At) (test consequent : Syntax) (s s2 s3 : State) (p : Place)
-    → StaysSound (IsSmallTree consequent) (if_begun s) s2
-    → IsSound (IsSmallTree test) (if_consequent (if_at s at.span false) s2 (span_of consequent)) s3 p
-    → StaysSound (IsSmallTree (Node at word.If (Then test (Then consequent (Then Absent End))))) s
-    (if_ended (if_after_consequent (if_at s at.span false) s2) s3 p)
-if_then_tree_sound at test consequent s s2 s3 p first second =
-    if_then_sound small s s2 s3 at.span (span_of consequent) p (λ holds. holds.0.0)
-    (λ holds. span_small consequent (consequent_small holds).0)
-    (sound_weaker (IsSmallTree consequent) small _ s2 consequent_small first)
-    (sound_weaker (IsSmallTree test) small _ s3 test_small second.0) (place_weaker (IsSmallTree test) small s3 p test_small second.1)
-  where
-    small : Type 0
-    small = IsSmallTree (Node at word.If (Then test (Then consequent (Then Absent End))))
-
-    test_small : small → IsSmallTree test
-    test_small holds = (holds.0.1.0, holds.1.1.0)
-
-    consequent_small : small → IsSmallTree consequent
-    consequent_small holds = (holds.0.1.1.0, holds.1.1.1.0)
-
-if_else_tree_sound : (at : At) (test consequent alternate : Syntax) (s s2 s3 s4 : State) (p : Place)
-    → StaysSound (IsSmallTree consequent) (if_begun s) s2
-    → StaysSound (IsSmallTree alternate) (if_consequent (if_at s at.span true) s2 (span_of consequent)) s3
-    → IsSound (IsSmallTree test) (if_alternate (if_after_consequent (if_at s at.span true) s2) s3 (span_of alternate)) s4 p
-    → StaysSound (IsSmallTree (Node at word.If (Then test (Then consequent (Then alternate End))))) s
-    (if_ended (if_shut (if_after_consequent (if_at s at.span true) s2)) s4 p)
-if_else_tree_sound at test consequent alternate s s2 s3 s4 p first second third =
-    if_else_sound small s s2 s3 s4 at.span (span_of consequent) (span_of alternate) p (λ holds. holds.0.0)
-    (λ holds. span_small consequent (consequent_small holds).0) (λ holds. span_small alternate (alternate_small holds).0)
-    (sound_weaker (IsSmallTree consequent) small _ s2 consequent_small first)
-    (sound_weaker (IsSmallTree alternate) small _ s3 alternate_small second)
-    (sound_weaker (IsSmallTree test) small _ s4 test_small third.0) (place_weaker (IsSmallTree test) small s4 p test_small third.1)
-  where
-    small : Type 0
-    small = IsSmallTree (Node at word.If (Then test (Then consequent (Then alternate End))))
-
-    test_small : small → IsSmallTree test
-    test_small holds = (holds.0.1.0, holds.1.1.0)
-
-    consequent_small : small → IsSmallTree consequent
-    consequent_small holds = (holds.0.1.1.0, holds.1.1.1.0)
-
-    alternate_small : small → IsSmallTree alternate
-    alternate_small holds = (holds.0.1.1.1.0, holds.1.1.1.1.0)
-
--- Declarations of variables
-
-declarators_sound : {names : Names} {at : Span} {k : InstructionKind} {es : Pieces} {s t : State} → KnowsNames names
-    → LoweredDeclarators names at k es s t → StaysSound (IsSmallSpan at × AreSmallTrees es) s t
-declarators_sound {at} knows (NoDeclarator s) = sound_refl (IsSmallSpan at × AreSmallTrees End) s
-declarators_sound {names} {at} {k} knows (NextDeclared there bind name type more symbol identifier s u annotated is f rest) =
-    let declarator : Syntax = Node there word.Declarator (Then (Node bind word.Bind (Then (Said name) (Then type End))) (Then Absent End)) in
-    let small : Type 0 = IsSmallSpan at × AreSmallTrees (Then declarator more) in
-    let variable : Place = record { identifier = record { 0 = identifier }; span = Some bind.span } in
-    let mid : State = found names s symbol bind.span in
-    let first = over_sound small s mid (values.DeclareLocal k variable) bind.span (variable ∷ [])
-    (sound_found small names s symbol bind.span identifier f (λ holds. holds.1.0.0.1.0.0))
-    (one_place small mid variable (variable_place small names s symbol bind.span bind.span identifier f (λ holds. holds.1.0.0.1.0.0))) refl
-    (λ holds fits all. declared_writable k variable (All-head (λ (q : Place). IsWritable (listing.place q)) variable [] all))
-    (λ holds. holds.1.0.0.1.0.0) in
-    sound_then small (IsSmallSpan at × AreSmallTrees more) small s
-    (with_value mid (values.DeclareLocal k variable) (Some bind.span)) u (λ holds. holds)
-    (λ holds. (holds.0, (holds.1.0.1, holds.1.1.1))) first.0 (declarators_sound knows rest)
-declarators_sound {names} {at} {k} knows (NextInitialized there bind name type init more symbol identifier s t u p annotated is by f rest) =
-    let declarator : Syntax = Node there word.Declarator (Then (Node bind word.Bind (Then (Said name) (Then type End))) (Then init End)) in
-    let small : Type 0 = IsSmallSpan at × AreSmallTrees (Then declarator more) in
-    let part : small → IsSmallTree init = λ holds. (holds.1.0.0.1.1.0, holds.1.1.0.1.1.0) in
-    let variable : Place = record { identifier = record { 0 = identifier }; span = Some at } in
-    let mid : State = found names t symbol bind.span in
-    let inner = expression_sound knows by in
-    let looked : StaysSound small t mid = sound_found small names t symbol bind.span identifier f (λ holds. holds.1.0.0.1.0.0) in
-    let first = over_sound small s mid (values.StoreLocal k variable p) at (variable ∷ p ∷ [])
-    (sound_next small s t mid (sound_weaker (IsSmallTree init) small s t part inner.0) looked)
-    (All-cons (IsSoundPlace small mid) variable (p ∷ [])
-    (variable_place small names t symbol bind.span at identifier f (λ holds. holds.0))
-    (one_place small mid p (place_next small t mid p looked (place_weaker (IsSmallTree init) small t p part inner.1)))) refl
-    (λ holds fits all. initialized_writable k variable p
-    (All-head (λ (q : Place). IsWritable (listing.place q)) variable (p ∷ []) all)
-    (All-head (λ (q : Place). IsWritable (listing.place q)) p []
-    (All-tail (λ (q : Place). IsWritable (listing.place q)) variable (p ∷ []) all)))
-    (λ holds. holds.0) in
-    sound_then small (IsSmallSpan at × AreSmallTrees more) small s (with_value mid (values.StoreLocal k variable p) (Some at)) u
-    (λ holds. holds) (λ holds. (holds.0, (holds.1.0.1, holds.1.1.1))) first.0 (declarators_sound knows rest)
-
-declaring_sound : (small : Type 0) (s : State) (k : VariableKind) (at : Span) → StaysSound small s (declaring s k at)
-declaring_sound small s kinds.Var at = sound_recorded small s (refusal row.F39 at)
-declaring_sound small s _ at = sound_refl small s
-
-mutual
-  pub statement_sound : {names : Names} {e : Syntax} {s t : State} → KnowsNames names → LoweredStatement names e s t
-      → StaysSound (IsSmallTree e) s t
-  statement_sound knows (Empty at s) = sound_refl (IsSmallTree (Node at word.Empty End)) s
-  statement_sound knows (Expression at e s t p by) =
-      sound_weaker (IsSmallTree e) (IsSmallTree (Node at word.Expr (Then e End))) s t (λ small. (small.0.1.0, small.1.1.0))
-      (expression_sound knows by).0
-  statement_sound knows (Debugger at s) =
-      let small : Type 0 = IsSmallTree (Node at word.Debugger End) in
-      sound_value small s values.Debugger (Some at.span) (none_known (length s.env.identifiers)) (λ holds fits. debugger_writable)
-      (λ holds. span_writable at.span holds.0.0)
-  statement_sound knows (Variables at k declarators s t all) =
-      let small : Type 0 = IsSmallTree (Node at word.Var (Then (Said (variable_text k)) (Then (Listed declarators) End))) in
-      sound_next small s (declaring s k at.span) t (declaring_sound small s k at.span)
-      (sound_weaker (IsSmallSpan at.span × AreSmallTrees declarators) small (declaring s k at.span) t
-      (λ holds. (holds.0.0, (holds.0.1.1.0, holds.1.1.1.0))) (declarators_sound knows all))
-  statement_sound knows (ReturnNothing at s) = return_nothing_sound at s
-  statement_sound knows (Return at e s t p by) = return_sound at e s t p (expression_sound knows by)
-  statement_sound knows (Block at statements s t all) =
-      sound_weaker (AreSmallTrees statements) (IsSmallTree (Node at word.Block (Then (Listed statements) End))) s t
-      (λ small. (small.0.1.0, small.1.1.0)) (statements_sound knows all)
-  statement_sound knows (IfThen at test consequent s s2 s3 p first second) =
-      if_then_tree_sound at test consequent s s2 s3 p (statement_sound knows first) (expression_sound knows second)
-  statement_sound knows (IfElse at test consequent alternate s s2 s3 s4 p first second third) =
-      if_else_tree_sound at test consequent alternate s s2 s3 s4 p (statement_sound knows first) (statement_sound knows second)
-      (expression_sound knows third)
-
-  pub statements_sound : {names : Names} {es : Pieces} {s t : State} → KnowsNames names → LoweredStatements names es s t
-      → StaysSound (AreSmallTrees es) s t
-  statements_sound knows (NoStatement s) = sound_refl (AreSmallTrees End) s
-  statements_sound knows (NextStatement e es s t u first rest) =
-      sound_then (IsSmallTree e) (AreSmallTrees es) (AreSmallTrees (Then e es)) s t u (λ small. (small.0.0, small.1.0))
-      (λ small. (small.0.1, small.1.1)) (statement_sound knows first) (statements_sound knows rest)
-
--- Bodies
-
-value_body_sound : (e : Syntax) (s t : State) (p : Place)
-    → StaysSound (IsSmallTree e) (reserved s) t × IsSoundPlace (IsSmallTree e) t p
-    → StaysSound (IsSmallTree e) s (completed_by t (return_of None returns.Implicit p) (new_block s.env.next_block blocks.Block))
-value_body_sound e s t p inner =
-    let grow = inner.0.counters in
-    sound_next (IsSmallTree e) s (reserved s) _ (sound_reserved (IsSmallTree e) s)
-    (sound_next (IsSmallTree e) (reserved s) t _ inner.0
-    (sound_return (IsSmallTree e) t None returns.Implicit p (new_block s.env.next_block blocks.Block) (λ small. tt) inner.1
-    (λ fits. empty_writable s.env.next_block blocks.Block (omega (arith, grow.blocks, fits.blocks)))))
-
-pub body_sound : {names : Names} {b : Syntax} {s t : State} → KnowsNames names → LoweredBody names b s t
-    → StaysSound (IsSmallTree b) s t
-body_sound knows (Statements at directives statements s t said all) =
-    sound_weaker (AreSmallTrees statements)
-    (IsSmallTree (Node at word.Body (Then (Listed directives) (Then (Listed statements) End)))) s t
-    (λ small. (small.0.1.1.0, small.1.1.1.0)) (statements_sound knows all)
-body_sound knows (Value e s t p by) = value_body_sound e s t p (expression_sound knows by)

@@ -268,6 +268,27 @@ pub sequence_writable : (block behind : ℕ) (at : Span) → block ≤ largest �
 sequence_writable block behind at first second span =
     ((lit< tt, refl), (omega arith, (span_writable at span, (first, (second, tt)))))
 
+pub while_writable : (test body behind : ℕ) (at : Span) → test ≤ largest → body ≤ largest → behind ≤ largest → IsSmallSpan at
+    → IsWritable (listing.terminal (ends_by (ends.While (block_id test) (block_id body) (block_id behind)) (Some at)))
+while_writable test body behind at first second third span =
+    ((lit< tt, refl), (omega arith, (span_writable at span, (first, (second, (third, tt))))))
+
+pub do_while_writable : (body test behind : ℕ) (at : Span) → body ≤ largest → test ≤ largest → behind ≤ largest → IsSmallSpan at
+    → IsWritable (listing.terminal (ends_by (ends.DoWhile (block_id body) (block_id test) (block_id behind)) (Some at)))
+do_while_writable body test behind at first second third span =
+    ((lit< tt, refl), (omega arith, (span_writable at span, (first, (second, (third, tt))))))
+
+pub for_writable : (init test : ℕ) (update : Option BlockId) (body behind : ℕ) (at : Span) → init ≤ largest → test ≤ largest
+    → IsWritable (listing.optional listing.block_id update) → body ≤ largest → behind ≤ largest → IsSmallSpan at
+    → IsWritable (listing.terminal (ends_by (ends.For (block_id init) (block_id test) update (block_id body) (block_id behind)) (Some at)))
+for_writable init test update body behind at first second third fourth fifth span =
+    ((lit< tt, refl), (omega arith, (span_writable at span, (first, (second, (third, (fourth, (fifth, tt))))))))
+
+pub label_writable : (block behind : ℕ) (at : Span) → block ≤ largest → behind ≤ largest → IsSmallSpan at
+    → IsWritable (listing.terminal (ends_by (ends.Label (block_id block) (block_id behind)) (Some at)))
+label_writable block behind at first second span =
+    ((lit< tt, refl), (omega arith, (span_writable at span, (first, (second, tt)))))
+
 terminal_ordered : (order : ℕ) (t : Terminal) → order ≤ largest → IsWritable (listing.terminal t)
     → IsWritable (listing.terminal (with_order order t))
 terminal_ordered order t fits w = (w.0, (fits, w.1.1))

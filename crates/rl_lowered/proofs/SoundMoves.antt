@@ -26,11 +26,13 @@ use Rattle.rl_builder.specs.Builder.{State, completed_by, ended_by, entered, inn
 use Rattle.rl_builder.specs.Builder.{plainly_pushed, pushed, pushed_under, recorded, reserved, with_temporary}
 use Rattle.rl_builder.specs.Temporaries.{temporary, unordered, with_value}
 use Rattle.rl_builder.specs.declared.blocks.WipBlock.{WipBlock}
+use Rattle.rl_builder.specs.declared.jumps.JumpScope.{JumpScope}
 use Rattle.rl_model.specs.WellFormed.{AreKnown, instruction_places, terminal_places, value_places}
 use Rattle.rl_runs.specs.Moves.{goto, last_hole, next_hole, return_of, returned_from, stored_in}
 use Rattle.rl_lowered.specs.Forms.{typed}
 use Rattle.rl_promises.specs.Locals.{IsSmallSpan}
-use Rattle.rl_lowered.specs.Sound.{CountersGrow, HasSmallCounters, HasWritableParts, HasKnownParts, IsSoundPlace, StaysSound}
+use Rattle.rl_lowered.specs.Sound.{CountersGrow, HasSmallCounters, HasSmallTargets, HasWritableParts, HasKnownParts, IsSoundPlace}
+use Rattle.rl_lowered.specs.Sound.{StaysSound}
 use Rattle.rl_lowered.proofs.SoundListing.{ended_writable, goto_end_writable, instruction_span, instruction_writable, place_writable}
 use Rattle.rl_lowered.proofs.SoundListing.{return_writable, span_writable, stored_writable, throw_writable, unnamed_writable}
 
@@ -144,10 +146,31 @@ sound_reserved small s = record {
   counters = record { blocks = omega arith; types = omega arith; identifiers = omega arith; instructions = omega arith };
   known = λ k. record { table = k.table; terminals = k.terminals };
   parts = λ holds fits w.
-      record { table = w.table; completed = w.completed; current = w.current; listed = w.listed; handlers = w.handlers };
+      record { table = w.table; completed = w.completed; current = w.current; listed = w.listed; handlers = w.handlers; scopes = w.scopes };
   identifiers = λ holds fits w. w;
   pairs = λ fits w. w;
 }
+
+-- Other scopes
+pub sound_scopes : (small : Type 0) (s : State) (scopes : List JumpScope)
+    → (HasSmallCounters s → All HasSmallTargets s.scopes → All HasSmallTargets scopes) → StaysSound small s (record s { scopes = scopes })
+sound_scopes small s scopes targets = record {
+  counters = grow;
+  known = λ k. record { table = k.table; terminals = k.terminals };
+  parts = λ holds fits w. record {
+    table = w.table;
+    completed = w.completed;
+    current = w.current;
+    listed = w.listed;
+    handlers = w.handlers;
+    scopes = targets (counters_before s (record s { scopes = scopes }) grow fits) w.scopes;
+  };
+  identifiers = λ holds fits w. w;
+  pairs = λ fits w. w;
+}
+  where
+    grow : CountersGrow s (record s { scopes = scopes })
+    grow = record { blocks = omega arith; types = omega arith; identifiers = omega arith; instructions = omega arith }
 
 abbrev pub with_diagnostics : State → List Diagnostic → State
 with_diagnostics s said = record s { env = record s.env { diagnostics = said } }
@@ -157,7 +180,7 @@ sound_diagnostics small s said = record {
   counters = record { blocks = omega arith; types = omega arith; identifiers = omega arith; instructions = omega arith };
   known = λ k. record { table = k.table; terminals = k.terminals };
   parts = λ holds fits w.
-      record { table = w.table; completed = w.completed; current = w.current; listed = w.listed; handlers = w.handlers };
+      record { table = w.table; completed = w.completed; current = w.current; listed = w.listed; handlers = w.handlers; scopes = w.scopes };
   identifiers = λ holds fits w. w;
   pairs = λ fits w. w;
 }
@@ -177,7 +200,7 @@ sound_temporary small s span at = record {
     terminals = terminals_more (length s.env.identifiers) count s.completed more known.terminals;
   };
   parts = λ holds fits w.
-      record { table = w.table; completed = w.completed; current = w.current; listed = w.listed; handlers = w.handlers };
+      record { table = w.table; completed = w.completed; current = w.current; listed = w.listed; handlers = w.handlers; scopes = w.scopes };
   identifiers = λ holds fits w.
       let before : HasSmallCounters s = counters_before s new grow fits in
       All-push (λ (i : Identifier). IsWritable (listing.identifier i)) s.env.identifiers
@@ -250,6 +273,7 @@ sound_ended small old s t next before places terminal block = record {
         current = b.id;
         listed = b.listed;
         handlers = w.handlers;
+        scopes = w.scopes;
       };
   identifiers = λ holds fits w. before.identifiers holds (counters_before s (completed_by s t next) grow fits) w;
   pairs = λ fits w. before.pairs (counters_before s (completed_by s t next) grow fits) w;
@@ -301,6 +325,7 @@ sound_plainly small s i places written = record {
         listed = All-push (λ (id : InstructionId). id.0 ≤ largest) s.current.instructions (record { 0 = length s.table })
             w.listed before.instructions;
         handlers = w.handlers;
+        scopes = w.scopes;
       };
   identifiers = λ holds fits w. w;
   pairs = λ fits w. w;
@@ -415,7 +440,7 @@ sound_typed small s types.Other = record {
   counters = record { blocks = omega arith; types = omega arith; identifiers = omega arith; instructions = omega arith };
   known = λ k. record { table = k.table; terminals = k.terminals };
   parts = λ holds fits w.
-      record { table = w.table; completed = w.completed; current = w.current; listed = w.listed; handlers = w.handlers };
+      record { table = w.table; completed = w.completed; current = w.current; listed = w.listed; handlers = w.handlers; scopes = w.scopes };
   identifiers = λ holds fits w. w;
   pairs = λ fits w. w;
 }
@@ -429,7 +454,7 @@ sound_entered small s wip block = record {
   known = λ k. record { table = k.table; terminals = k.terminals };
   parts = λ holds fits w.
       let b : IsWritableBlock wip = block (counters_before s (entered s wip) grow fits) in
-      record { table = w.table; completed = w.completed; current = b.id; listed = b.listed; handlers = w.handlers };
+      record { table = w.table; completed = w.completed; current = b.id; listed = b.listed; handlers = w.handlers; scopes = w.scopes };
   identifiers = λ holds fits w. w;
   pairs = λ fits w. w;
 }

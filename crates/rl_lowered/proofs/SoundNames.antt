@@ -22,7 +22,7 @@ use Rattle.rl_lowered.proofs.SoundListing.{named_writable, span_writable}
 use Rattle.rl_lowered.proofs.SoundMoves.{counters_before, sound_diagnostics, table_more, terminals_more}
 use Rattle.rl_lowered.specs.Named.{IsFound, IsNamed, found}
 use Rattle.rl_lowered.specs.Sound.{CountersGrow, HasSmallCounters, StaysSound}
-use Rattle.rl_names.specs.Candidates.{candidate}
+use Rattle.rl_used_names.specs.Candidates.{candidate}
 use Rattle.rl_names.specs.Names.{Names}
 use Rattle.rl_promises.specs.Locals.{IsSmallSpan, IsVariable, KnowsNames}
 use Rattle.rl_resolver.specs.Lookups.{declaration_ident}
@@ -115,7 +115,7 @@ module _ (small : Type 0) (names : Names) (s : State) (symbol : SymbolId) (at : 
       terminals = terminals_more (length s.env.identifiers) (length made.env.identifiers) s.completed grow.identifiers known.terminals;
     };
     parts = λ holds fits w.
-        record { table = w.table; completed = w.completed; current = w.current; listed = w.listed; handlers = w.handlers };
+        record { table = w.table; completed = w.completed; current = w.current; listed = w.listed; handlers = w.handlers; scopes = w.scopes };
     identifiers = λ holds fits w.
         let before : HasSmallCounters s = counters_before s made grow fits in
         All-push (λ (i : Identifier). IsWritable (listing.identifier i)) s.env.identifiers

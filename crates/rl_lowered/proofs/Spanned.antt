@@ -1,5 +1,5 @@
 -- Lowering a part gives no span that is none of the part's nodes or of a declaration, and its value is in a place without another.
-use Rattle.std.proofs.Common.{◌≡◌, Bool, List, [], ◌∷◌, Some, None, sym, subst}
+use Rattle.std.proofs.Common.{◌≡◌, Bool, true, List, [], ◌∷◌, Some, None, sym, subst}
 use Rattle.std.specs.Prelude.{IfSome}
 use Rattle.rl_base.specs.Diagnostics.{diagnostic_at}
 use Rattle.rl_base.specs.declared.row.Row.TheVariants as row
@@ -19,20 +19,25 @@ use Rattle.rl_hir.specs.declared.instruction.NonLocalBinding.{NonLocalBinding}
 use Rattle.rl_hir.specs.declared.instruction.Place.{Place}
 use Rattle.rl_hir.specs.declared.instruction.PlaceOrSpread.{PlaceOrSpread}
 use Rattle.rl_hir.specs.declared.instruction.PrimitiveValue.TheVariants as primitives
+use Rattle.rl_hir.specs.declared.terminal.GotoVariant.TheVariants as gotos
 use Rattle.rl_hir.specs.declared.terminal.ReturnVariant.TheVariants as returns
+use Rattle.rl_lowered.proofs.Plain.{lowered_plain, operand_span}
 use Rattle.rl_lowered.proofs.SoundForms.{form_places, method_places, object_places}
 use Rattle.rl_lowered.proofs.SpannedForms.{cast_each, form_cast, form_each, load_spans, member_each, object_spanned, outer_spanned}
 use Rattle.rl_lowered.proofs.SpannedForms.{private_each, refusing_each, result_spanned, update_cast, update_spanned}
 use Rattle.rl_lowered.proofs.SpannedForms.{update_spans, wrapper_each}
-use Rattle.rl_lowered.proofs.SpannedFrames.{if_else_spans, if_then_spans, logical_spans, sequence_spans, ternary_spans}
-use Rattle.rl_lowered.proofs.SpannedMoves.{found_spans, more_spanned, none_spanned, one_spanned, recorded_spans, reserved_spans}
+use Rattle.rl_lowered.proofs.SpannedFrames.{do_while_spans, for_plain_spans, for_spans, if_else_spans, if_then_spans, label_spans}
+use Rattle.rl_lowered.proofs.SpannedFrames.{logical_spans, sequence_spans, ternary_spans, while_spans}
+use Rattle.rl_lowered.proofs.SpannedMoves.{found_spans, more_spanned, next_hole_spans, none_spanned, one_spanned, recorded_spans}
+use Rattle.rl_lowered.proofs.SpannedMoves.{reserved_spans}
 use Rattle.rl_lowered.proofs.SpannedMoves.{return_spans, returned_spans, span_or, type_spans, value_spans}
 use Rattle.rl_lowered.specs.Forms.{IsMember, MemberKey, load_of, places_in, type_of, typed}
-use Rattle.rl_lowered.specs.Lowered.{Lowered, LoweredBody, LoweredDeclarators, LoweredLast, LoweredParts, LoweredStatement}
-use Rattle.rl_lowered.specs.Lowered.{LoweredStatements, declaring, update_of, value_span}
+use Rattle.rl_lowered.specs.Lowered.{Lowered, LoweredBody, LoweredDeclarators, LoweredInit, LoweredLast, LoweredLoop, LoweredParts}
+use Rattle.rl_lowered.specs.Lowered.{LoweredStatement, LoweredStatements, LoweredTest, declaring, part_span, update_of, value_span}
 use Rattle.rl_lowered.specs.Lowered as lowered
 use Rattle.rl_lowered.specs.Named.{found}
 use Rattle.rl_lowered.specs.Spanned.{EachSpan, EachSpanAmong, KeepsSpans}
+use Rattle.rl_model.specs.Actions.{Label}
 use Rattle.rl_names.specs.Names.{Names}
 use Rattle.rl_promises.specs.Rows.{refusal}
 use Rattle.rl_promises.specs.Spans.{AreSpanned}
@@ -46,8 +51,13 @@ module _ (P : Span → Type 0) where
   part_spanned (lowered.Literal at w fields p s literal) each = each.0
   part_spanned _ each = each.0
 
+  loop_own : {names : Names} {own : Label} {e : Syntax} {s t : State} → LoweredLoop names own e s t → EachSpan P e → P (span_of e)
+  loop_own (lowered.While at test body s s2 s3 p first second) each = each.0
+  loop_own _ each = each.0
+
   pub statement_own : {names : Names} {e : Syntax} {s t : State} → LoweredStatement names e s t → EachSpan P e → P (span_of e)
   statement_own (lowered.Empty at s) each = each.0
+  statement_own (lowered.Unlabeled loop s t d) each = loop_own d each
   statement_own _ each = each.0
 
   -- Places
@@ -58,6 +68,12 @@ module _ (P : Span → Type 0) where
   place_spanned (lowered.UpdatedMember at there w fields parts pieces object key operator prefix s t is all) each =
       result_spanned P t object key operator prefix there.span each.1.1.1.0.0
   place_spanned _ each = each.0
+
+  -- The place of the test of a `for` loop.
+  test_spanned : {names : Names} {at : Span} {e : Syntax} {s t : State} {p : Place} → LoweredTest names at e s t p → P at → EachSpan P e
+      → IfSome p.span P
+  test_spanned (lowered.NoTest s) here each = here
+  test_spanned (lowered.Tested e s t p by) here each = place_spanned by each
 
   -- The span of a part's value, and that of the part where its value has none.
   pub value_spanned : {names : Names} {e : Syntax} {s t : State} {p : Place} → Lowered names e s t p → EachSpan P e → P (value_span p e)
@@ -226,6 +242,19 @@ module _ (P : Span → Type 0) where
       (one_spanned P p (place_spanned by each.0.1.1.0)))
       (found_spans P names t symbol bind.span each.0.1.0.0 (expression_spans by each.0.1.1.0 h)))
 
+  test_spans : {names : Names} {at : Span} {e : Syntax} {s t : State} {p : Place} → LoweredTest names at e s t p → P at → EachSpan P e
+      → KeepsSpans P s t
+  test_spans {at} (lowered.NoTest s) here each h =
+      value_spans P (recorded s (refusal row.F32 at)) (values.Primitive (primitives.Boolean true)) (Some at) here tt (none_spanned P)
+      (recorded_spans P s (refusal row.F32 at) h)
+  test_spans (lowered.Tested e s t p by) here each h = expression_spans by each h
+
+  init_own : {names : Names} {at : Span} {e : Syntax} {s t : State} → LoweredInit names at e s t → P at → EachSpan P e → P (part_span at e)
+  init_own (lowered.NoInit s) here each = here
+  init_own (lowered.DeclaredInit there fields s t by) here each = each.0
+  init_own {at} (lowered.RefusedInit e s t p by) here each =
+      subst P (sym (operand_span e (lowered_plain by).node at)) (part_spanned by each)
+
   mutual
     pub statement_spans : {names : Names} {e : Syntax} {s t : State} → LoweredStatement names e s t → EachSpan P e → KeepsSpans P s t
     statement_spans (lowered.Empty at s) each h = h
@@ -247,6 +276,39 @@ module _ (P : Span → Type 0) where
         if_else_spans P s s2 s3 s4 at.span (span_of consequent) (span_of alternate) p each.0 (statement_own first each.1.1.0)
         (statement_own second each.1.1.1.0) (place_spanned third each.1.0) (statement_spans first each.1.1.0)
         (statement_spans second each.1.1.1.0) (expression_spans third each.1.0) h
+    statement_spans (lowered.Unlabeled loop s t by) each h = loop_spans by each h
+    statement_spans (lowered.LabeledLoop at label loop s t by) each h = loop_spans by each.1.1.0 h
+    statement_spans (lowered.Labeled at label body s s2 other by) each h =
+        label_spans P s s2 label at.span (span_of body) each.0 (statement_own by each.1.1.0) (statement_spans by each.1.1.0) h
+    statement_spans (lowered.Break at label target s is) each h =
+        next_hole_spans P s target.0 gotos.Break at.span blocks.Block each.0 h
+    statement_spans (lowered.Continue at label target s is) each h =
+        next_hole_spans P s target.0 gotos.Continue at.span blocks.Block each.0 h
+
+    loop_spans : {names : Names} {own : Label} {e : Syntax} {s t : State} → LoweredLoop names own e s t → EachSpan P e → KeepsSpans P s t
+    loop_spans {own} (lowered.While at test body s s2 s3 p first second) each h =
+        while_spans P s s2 s3 own at.span (span_of body) p each.0 (statement_own first each.1.1.0) (place_spanned second each.1.0)
+        (statement_spans first each.1.1.0) (expression_spans second each.1.0) h
+    loop_spans {own} (lowered.DoWhile at test body s s2 s3 p first second) each h =
+        do_while_spans P s s2 s3 own at.span (span_of body) p each.0 (statement_own first each.1.0) (place_spanned second each.1.1.0)
+        (statement_spans first each.1.0) (expression_spans second each.1.1.0) h
+    loop_spans {own} (lowered.ForUpdated at init test update body s s2 s3 s4 s5 u p first third fourth second) each h =
+        for_spans P s s2 s3 s4 s5 own at.span (part_span at.span init) (span_of update) (span_of body) p each.0
+        (init_own first each.0 each.1.0) (part_spanned third each.1.1.1.0) (statement_own fourth each.1.1.1.1.0)
+        (test_spanned second each.0 each.1.1.0) (init_spans first each.0 each.1.0) (expression_spans third each.1.1.1.0)
+        (statement_spans fourth each.1.1.1.1.0) (test_spans second each.0 each.1.1.0) h
+    loop_spans {own} (lowered.ForPlain at init test body s s2 s3 s4 p first third second) each h =
+        for_plain_spans P s s2 s3 s4 own at.span (part_span at.span init) (span_of body) p each.0 (init_own first each.0 each.1.0)
+        (statement_own third each.1.1.1.1.0) (test_spanned second each.0 each.1.1.0) (init_spans first each.0 each.1.0)
+        (statement_spans third each.1.1.1.1.0) (test_spans second each.0 each.1.1.0) h
+
+    init_spans : {names : Names} {at : Span} {e : Syntax} {s t : State} → LoweredInit names at e s t → P at → EachSpan P e
+        → KeepsSpans P s t
+    init_spans {at} (lowered.NoInit s) here each h =
+        value_spans P s (values.Primitive primitives.Undefined) (Some at) here tt (none_spanned P) h
+    init_spans (lowered.DeclaredInit there fields s t by) here each h = statement_spans by each h
+    init_spans {at} (lowered.RefusedInit e s t p by) here each h =
+        expression_spans by each (recorded_spans P s (refusal row.F31 at) h)
 
     pub statements_spans : {names : Names} {es : Pieces} {s t : State} → LoweredStatements names es s t → EachSpanAmong P es
         → KeepsSpans P s t

@@ -1,25 +1,33 @@
 -- Constructs give no span that is none of the tree's, where their holes give none.
-use Rattle.std.proofs.Common.{ℕ, ◌+◌, true, false, [], ◌∷◌, Some}
+use Rattle.std.proofs.Common.{ℕ, ◌+◌, true, false, List, [], ◌∷◌, Some}
 use Rattle.std.specs.Prelude.{IfSome}
 use Rattle.rl_base.specs.declared.operator.LogicalOperator.{LogicalOperator}
 use Rattle.rl_base.specs.declared.span.Span.{Span}
 use Rattle.rl_builder.specs.Builder.{State, completed_by, entered, new_block, pushed, reserved, with_temporary}
 use Rattle.rl_builder.specs.declared.blocks.WipBlock.{WipBlock}
+use Rattle.rl_frames.specs.Frames.{ForParts, for_after, for_after_init, for_after_update, for_again, for_aside, for_at, for_bodied}
+use Rattle.rl_frames.specs.Frames.{for_ended, for_inited, for_opened, for_updated}
+use Rattle.rl_frames.specs.Frames.{do_while_bodied, label_at, label_ended, while_after, while_at, while_bodied, while_ended}
 use Rattle.rl_frames.specs.Frames.{IfParts, LogicalParts, SequenceParts, TernaryParts}
 use Rattle.rl_frames.specs.Frames.{if_alternate, if_after_consequent, if_at, if_consequent, if_ended, if_shut}
 use Rattle.rl_frames.specs.Frames.{logical_after, logical_at, logical_ended, logical_righted}
 use Rattle.rl_frames.specs.Frames.{sequence_at, sequence_ended}
 use Rattle.rl_frames.specs.Frames.{ternary_after, ternary_alternated, ternary_at, ternary_consequent, ternary_ended, ternary_parted}
+use Rattle.rl_frames.specs.Parts.{do_while_end, for_begun, label_begun, label_end, while_begun, while_end}
 use Rattle.rl_frames.specs.Parts.{if_begun, if_end, loads, logical_begun, logical_entered, logical_left, logical_place}
 use Rattle.rl_frames.specs.Parts.{sequence_begun, ternary_begun, ternary_place}
 use Rattle.rl_hir.specs.declared.function.BlockKind.TheVariants as block
 use Rattle.rl_hir.specs.declared.instruction.Place.{Place}
+use Rattle.rl_hir.specs.declared.terminal.GotoVariant.{GotoVariant}
 use Rattle.rl_hir.specs.declared.terminal.GotoVariant.TheVariants as gotos
+use Rattle.rl_hir.specs.declared.terminal.Terminal.{Terminal}
 use Rattle.rl_hir.specs.declared.terminal.TerminalKind.TheVariants as kinds
 use Rattle.rl_lowered.proofs.SpannedMoves.{completed_spans, entered_spans, last_hole_spans, more_spanned, next_hole_spans, none_spanned}
-use Rattle.rl_lowered.proofs.SpannedMoves.{one_spanned, pushed_spans, reserved_spans, stored_spans, temporary_spans}
+use Rattle.rl_lowered.proofs.SpannedMoves.{one_spanned, pushed_spans, reserved_spans, scopes_spans, stored_spans, temporary_spans}
 use Rattle.rl_lowered.specs.Spanned.{HasSpans, KeepsSpans}
-use Rattle.rl_runs.specs.Moves.{block_id, branch, ends_by, last_hole, stored_in}
+use Rattle.rl_model.specs.Actions.{Label}
+use Rattle.rl_promises.specs.Spans.{IsSpannedTerminal}
+use Rattle.rl_runs.specs.Moves.{block_id, branch, ends_by, last_hole, next_hole, stored_in, without_scope}
 
 module _ (P : Span → Type 0) where
   two_spans : (s : State) → KeepsSpans P s (reserved (reserved s))
@@ -134,3 +142,93 @@ module _ (P : Span → Type 0) where
       (third
       (last_hole_spans P s3 s.env.next_block gotos.Break other s.current other_at
       (second (next_hole_spans P s2 s.env.next_block gotos.Break part block.Block part_at (first (if_begun_spans s h))))))
+
+  -- Loops and labelled statements
+
+  three_spans : (s : State) → KeepsSpans P s (reserved (reserved (reserved s)))
+  three_spans s h = reserved_spans P (reserved (reserved s)) (two_spans s h)
+
+  while_begun_spans : (s : State) (own : Label) → KeepsSpans P s (while_begun s own)
+  while_begun_spans s own h =
+      scopes_spans P (entered (reserved (reserved (reserved s))) (new_block (s.env.next_block + 1 + 1) block.Block))
+      (while_begun s own).scopes
+      (entered_spans P (reserved (reserved (reserved s))) (new_block (s.env.next_block + 1 + 1) block.Block) (three_spans s h))
+
+  -- A block in a scope ends, and the block that was set aside by the terminal `end`, which reads no place.
+  scope_ended_spans : (s : State) (behind : ℕ) (variant : GotoVariant) (part : Span) (outer : WipBlock) (end : Terminal) (next : WipBlock)
+      → P part → IsSpannedTerminal P end
+      → KeepsSpans P s (completed_by (last_hole (without_scope s) behind variant part outer) end next)
+  scope_ended_spans s behind variant part outer end next part_at spanned h =
+      completed_spans P (last_hole (without_scope s) behind variant part outer) end next spanned
+      (last_hole_spans P (without_scope s) behind variant part outer part_at (scopes_spans P s (without_scope s).scopes h))
+
+  pub while_spans : (s s2 s3 : State) (own : Label) (span part : Span) (p : Place) → P span → P part → IfSome p.span P
+      → KeepsSpans P (while_begun s own) s2 → KeepsSpans P (while_bodied (while_at s span) s2 part) s3
+      → KeepsSpans P s (while_ended (while_after (while_at s span)) s3 p)
+  while_spans s s2 s3 own span part p at part_at place first second h =
+      branched_spans s3 p (s.env.next_block + 1 + 1) (s.env.next_block + 1) s.env.next_block span
+      (new_block (s.env.next_block + 1) block.Block) at place
+      (second
+      (scope_ended_spans s2 s.env.next_block gotos.Continue part s.current (while_end s.env.next_block span)
+      (new_block s.env.next_block block.Loop) part_at (record { own = at; places = none_spanned P }) (first (while_begun_spans s own h))))
+
+  pub do_while_spans : (s s2 s3 : State) (own : Label) (span part : Span) (p : Place) → P span → P part → IfSome p.span P
+      → KeepsSpans P (while_begun s own) s2 → KeepsSpans P (do_while_bodied (while_at s span) s2 part) s3
+      → KeepsSpans P s (while_ended (while_after (while_at s span)) s3 p)
+  do_while_spans s s2 s3 own span part p at part_at place first second h =
+      branched_spans s3 p (s.env.next_block + 1 + 1) (s.env.next_block + 1) s.env.next_block span
+      (new_block (s.env.next_block + 1) block.Block) at place
+      (second
+      (scope_ended_spans s2 s.env.next_block gotos.Continue part s.current (do_while_end s.env.next_block span)
+      (new_block s.env.next_block block.Loop) part_at (record { own = at; places = none_spanned P }) (first (while_begun_spans s own h))))
+
+  pub label_spans : (s s2 : State) (own : List ℕ) (span part : Span) → P span → P part → KeepsSpans P (label_begun s own) s2
+      → KeepsSpans P s (label_ended (label_at s span) s2 part)
+  label_spans s s2 own span part at part_at hole h =
+      scope_ended_spans s2 s.env.next_block gotos.Break part s.current (label_end s.env.next_block span)
+      (new_block s.env.next_block block.Block) part_at (record { own = at; places = none_spanned P })
+      (hole
+      (scopes_spans P (entered (reserved (reserved s)) (new_block (s.env.next_block + 1) block.Block)) (label_begun s own).scopes
+      (entered_spans P (reserved (reserved s)) (new_block (s.env.next_block + 1) block.Block) (two_spans s h))))
+
+  -- `for` loops
+
+  for_begun_spans : (s : State) → KeepsSpans P s (for_begun s)
+  for_begun_spans s h =
+      entered_spans P (reserved (reserved (reserved s))) (new_block (s.env.next_block + 1 + 1) block.Loop) (three_spans s h)
+
+  for_opened_spans : (f : ForParts) (s : State) (part : Span) → P part → KeepsSpans P s (for_opened f s part)
+  for_opened_spans f s part part_at h =
+      scopes_spans P (next_hole s f.test gotos.Break part block.Block) (for_opened f s part).scopes
+      (next_hole_spans P s f.test gotos.Break part block.Block part_at h)
+
+  for_bodied_spans : (f : ForParts) (s : State) (part : Span) → P f.span → P part → KeepsSpans P s (for_bodied f s part)
+  for_bodied_spans f s part at part_at h =
+      scope_ended_spans s (for_again f).0 gotos.Continue part (for_aside f).0
+      (ends_by (kinds.For (block_id f.init) (block_id f.test) f.update (block_id f.body) f.behind.id) (Some f.span)) (for_aside f).1 part_at
+      (record { own = at; places = none_spanned P }) h
+
+  pub for_spans : (s s2 s3 s4 s5 : State) (own : Label) (span part other last : Span) (p : Place) → P span → P part → P other → P last
+      → IfSome p.span P → KeepsSpans P (for_begun s) s2 → KeepsSpans P (for_inited (for_at s span own true) s2 part) s3
+      → KeepsSpans P (for_updated (for_after_init (for_at s span own true) s2) s3 other) s4
+      → KeepsSpans P (for_bodied (for_after_update (for_after_init (for_at s span own true) s2) s3) s4 last) s5
+      → KeepsSpans P s (for_ended (for_after (for_after_update (for_after_init (for_at s span own true) s2) s3)) s5 p)
+  for_spans s s2 s3 s4 s5 own span part other last p at part_at other_at last_at place first third fourth second h =
+      branched_spans s5 p s3.env.next_block (s.env.next_block + 1) (s.env.next_block + 1) span
+      (new_block (s.env.next_block + 1) block.Block) at place
+      (second
+      (for_bodied_spans (for_after_update (for_after_init (for_at s span own true) s2) s3) s4 last at last_at
+      (fourth
+      (for_opened_spans (for_after_init (for_at s span own true) s2) s3 other other_at
+      (third (next_hole_spans P s2 s.env.next_block gotos.Break part block.Loop part_at (first (for_begun_spans s h))))))))
+
+  pub for_plain_spans : (s s2 s3 s4 : State) (own : Label) (span part last : Span) (p : Place) → P span → P part → P last → IfSome p.span P
+      → KeepsSpans P (for_begun s) s2 → KeepsSpans P (for_inited (for_at s span own false) s2 part) s3
+      → KeepsSpans P (for_bodied (for_after_init (for_at s span own false) s2) s3 last) s4
+      → KeepsSpans P s (for_ended (for_after (for_after_init (for_at s span own false) s2)) s4 p)
+  for_plain_spans s s2 s3 s4 own span part last p at part_at last_at place first third second h =
+      branched_spans s4 p s2.env.next_block (s.env.next_block + 1) (s.env.next_block + 1) span
+      (new_block (s.env.next_block + 1) block.Block) at place
+      (second
+      (for_bodied_spans (for_after_init (for_at s span own false) s2) s3 last at last_at
+      (third (for_opened_spans (for_at s span own false) s2 part part_at (first (for_begun_spans s h))))))

@@ -12,6 +12,7 @@ use Rattle.rl_builder.specs.Builder.{plainly_pushed, pushed, pushed_under, recor
 use Rattle.rl_builder.specs.Names.{fresh_identifier, new_span, resolved, resolved_by}
 use Rattle.rl_builder.specs.Temporaries.{temporary, unordered, with_value}
 use Rattle.rl_builder.specs.declared.blocks.WipBlock.{WipBlock}
+use Rattle.rl_builder.specs.declared.jumps.JumpScope.{JumpScope}
 use Rattle.rl_context.specs.Index.{declaration_span}
 use Rattle.rl_hir.specs.Blocks.{Pair as BlockPair}
 use Rattle.rl_hir.specs.Pairs.{identifier_of}
@@ -78,6 +79,11 @@ module _ (P : Span → Type 0) where
         (record { name = None; span = span; type_id = record { 0 = s.env.next_type } }) h.identifiers at;
     declarations = h.declarations;
   }
+
+  -- Other scopes
+  pub scopes_spans : (s : State) (scopes : List JumpScope) → KeepsSpans P s (record s { scopes = scopes })
+  scopes_spans s scopes h =
+      record { table = h.table; terminals = h.terminals; identifiers = h.identifiers; declarations = h.declarations }
 
   -- The end of a block
 

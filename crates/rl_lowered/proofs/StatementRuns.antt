@@ -1,5 +1,6 @@
 -- Lowered statements and bodies have the runs of the source, where nothing of them was refused.
 use Rattle.std.proofs.Common.{◌≡◌, ℕ, ◌++◌, ◌||◌, Bool, true, false, true≢false, List, [], ◌∷◌, length, codes, Option, Some, None, refl, sym, ap}
+use Rattle.std.proofs.Common.{if◌then◌else◌}
 use Rattle.std.proofs.Common.{◌∙◌, subst}
 use Rattle.rl_base.specs.VariableKinds.{variable_text}
 use Rattle.rl_base.specs.declared.ids.SymbolId.{SymbolId}
@@ -9,20 +10,29 @@ use Rattle.rl_base.specs.declared.variable_kind.VariableKind.TheVariants as kind
 use Rattle.rl_builder.specs.Builder.{State, completed_by, new_block, reserved}
 use Rattle.rl_builder.specs.declared.blocks.WipBlock.{WipBlock}
 use Rattle.rl_builder.specs.Temporaries.{temporary, with_value}
+use Rattle.rl_frames.proofs.ForRuns.{for_runs, for_runs_plain}
 use Rattle.rl_frames.proofs.Ifs.{if_runs, if_then_runs}
-use Rattle.rl_frames.proofs.Meant.{if_meant}
+use Rattle.rl_frames.proofs.LabelFrames.{label_runs}
+use Rattle.rl_frames.proofs.Loops.{do_while_runs, while_runs}
+use Rattle.rl_frames.proofs.Meant.{do_while_meant, for_meant, if_meant, while_meant}
+use Rattle.rl_frames.specs.Parts.{label_begun}
 use Rattle.rl_hir.specs.declared.function.BlockKind.TheVariants as blocks
 use Rattle.rl_hir.specs.declared.instruction.InstructionKind.{InstructionKind}
 use Rattle.rl_hir.specs.declared.instruction.InstructionValue.TheVariants as values
 use Rattle.rl_hir.specs.declared.instruction.Place.{Place}
 use Rattle.rl_hir.specs.declared.instruction.PrimitiveValue.TheVariants as primitives
+use Rattle.rl_hir.specs.declared.terminal.GotoVariant.TheVariants as gotos
 use Rattle.rl_hir.specs.declared.terminal.ReturnVariant.{ReturnVariant}
 use Rattle.rl_hir.specs.declared.terminal.ReturnVariant.TheVariants as returns
-use Rattle.rl_lowered.proofs.Blocks.{declarators_blocks, expression_blocks, statement_blocks, statements_blocks}
-use Rattle.rl_lowered.proofs.Clean.{branches_clean, first_none, never, row_clean, second_none}
-use Rattle.rl_lowered.proofs.Plain.{lowered_plain}
+use Rattle.rl_lowered.proofs.Blocks.{declarators_blocks, declares_of, expression_blocks, init_blocks}
+use Rattle.rl_lowered.proofs.Blocks.{loop_is, statement_blocks, statements_blocks, test_blocks}
+use Rattle.rl_lowered.proofs.Clean.{branches_clean, do_while_clean, first_none, for_clean, never, row_clean, second_none, while_clean}
+use Rattle.rl_lowered.proofs.Plain.{declared_meant, init_said, lowered_plain, operand_there, undeclared_meant}
 use Rattle.rl_lowered.proofs.Runs.{expression_runs}
 use Rattle.rl_lowered.specs.Lowered.{Literal, Lowered, LoweredDeclarators, NextDeclared, NextInitialized, NoDeclarator, declaring, kind_of}
+use Rattle.rl_lowered.specs.Lowered.{Break, Continue, DeclaredInit, DoWhile, ForPlain, ForUpdated, Labeled, LabeledLoop, LoweredInit}
+use Rattle.rl_lowered.specs.Lowered.{LoweredLoop, LoweredTest, NoInit, NoTest, RefusedInit, Tested, Unlabeled, While, label_part}
+use Rattle.rl_lowered.specs.Lowered.{part_span}
 use Rattle.rl_lowered.specs.Lowered.{Block, Debugger, Empty, Expression, IfElse, IfThen, LoweredBody, LoweredStatement, LoweredStatements}
 use Rattle.rl_lowered.specs.Lowered.{NextStatement, NoStatement, Return, ReturnNothing, Statements, Value as OfValue, Variables}
 use Rattle.rl_lowered.specs.Named.{found}
@@ -35,27 +45,31 @@ use Rattle.rl_machine.specs.declared.trace.Value.TheVariants as value
 use Rattle.rl_machine.specs.Ends.{Notes}
 use Rattle.rl_machine.specs.Machine.{Code, Ends}
 use Rattle.rl_machine.specs.Traces.{Store, World, returned}
-use Rattle.rl_model.specs.Actions.{Action, Label, ◌>>=◌, give, return_with}
+use Rattle.rl_model.specs.Actions.{Action, Label, ◌>>=◌, break_to, continue_to, done, give, return_with}
 use Rattle.rl_model.specs.Events.{event}
 use Rattle.rl_model.specs.Expressions.{eval}
 use Rattle.rl_model.specs.Patterns.{declare}
 use Rattle.rl_model.specs.Scene.{Scene}
-use Rattle.rl_model.specs.Statements.{declare_all, declare_one, exec, exec_all}
+use Rattle.rl_model.specs.Statements.{declare_all, declare_one, eval_optional, exec, exec_all, has_meaning}
 use Rattle.rl_names.specs.Names.{Names}
-use Rattle.rl_promises.specs.Rows.{refusals, refusals_in}
+use Rattle.rl_promises.specs.Jumps.{is_loop}
+use Rattle.rl_promises.specs.Rows.{refusals, refusals_in, said_of_init, said_of_test}
 use Rattle.rl_promises.specs.Stops.{has_using, have_using}
+use Rattle.rl_runs.proofs.Jumpless.{jumpless_runs, evaluated_jumpless, none_jumpless, order_jumpless, variable_declared}
+use Rattle.rl_runs.proofs.Jumpless.{variable_initialized}
 use Rattle.rl_runs.proofs.Expressions.{literal_runs}
 use Rattle.rl_runs.proofs.Holes.{use_expression}
 use Rattle.rl_runs.proofs.Moves.{contained_before, extends_completed, extends_reserved, extends_resolved, extends_then, extends_value, inside}
 use Rattle.rl_runs.proofs.Moves.{terminal_met}
 use Rattle.rl_runs.proofs.Shared.{kept_same}
-use Rattle.rl_runs.proofs.Statements.{does_same, evaluated_runs, event_runs, nothing_runs, order_runs, return_runs}
+use Rattle.rl_runs.proofs.Statements.{break_runs, continue_runs, does_same, evaluated_runs, event_runs, nothing_runs, order_runs}
+use Rattle.rl_runs.proofs.Statements.{return_runs}
 use Rattle.rl_runs.proofs.Steps.{comes_at_once, since_start, steps_on}
-use Rattle.rl_runs.proofs.Variables.{declared_runs, initialized_runs}
 use Rattle.rl_runs.specs.Continuations.{Agrees, SharesVariables, TracesFrom, kept_in}
+use Rattle.rl_runs.specs.Exits.{labeled_by}
 use Rattle.rl_runs.specs.Facts.{Extends, IsContainedIn}
-use Rattle.rl_runs.specs.Moves.{return_of, returned_from}
-use Rattle.rl_runs.specs.Simulation.{RunsExpression, RunsStatement}
+use Rattle.rl_runs.specs.Moves.{next_hole, return_of, returned_from}
+use Rattle.rl_runs.specs.Simulation.{RunsJumpless, RunsExpression, RunsStatement}
 use Rattle.rl_syntax.specs.declared.numbered.At.{At}
 use Rattle.rl_syntax.specs.declared.word.Word.TheVariants as word
 use Rattle.rl_syntax.specs.Syntax.{Syntax, Node, Listed, Said, Absent, Pieces, End, Then, span_of}
@@ -82,6 +96,15 @@ branches_unused test consequent alternate is =
     let rest = or_false (has_using consequent) (has_using alternate || false) (or_false (has_using test) _ is).1 in
     (rest.0, (or_false (has_using alternate) false rest.1).0)
 
+head_unused : (init test update body : Syntax)
+    → has_using init || (has_using test || (has_using update || (has_using body || false))) ≡ false
+    → (has_using init ≡ false) × (has_using body ≡ false)
+head_unused init test update body is =
+    let first = or_false (has_using init) _ is in
+    let second = or_false (has_using test) _ first.1 in
+    let third = or_false (has_using update) _ second.1 in
+    (first.0, (or_false (has_using body) false third.1).0)
+
 -- Declarations of variables.
 
 initialized_meant : {names : Names} {init : Syntax} {s t : State} {p : Place} → Lowered names init s t p → (scene : Scene) (there bind : At)
@@ -102,17 +125,17 @@ IsUndefined k = (variable : ℕ) → declared k variable ≡ Computes value.Unde
 
 declarators_runs : {names : Names} {at : Span} {k : InstructionKind} {es : Pieces} {s t : State} → LoweredDeclarators names at k es s t
     → IsUndefined k → refusals_in names es ≡ [] → (scene : Scene) → scene.names ≡ names → scene.ported ≡ true
-    → RunsStatement scene.world (declare_all scene es) s t
-declarators_runs (NoDeclarator s) undefined none scene same ported = nothing_runs scene.world s
+    → RunsJumpless scene.world (declare_all scene es) s t
+declarators_runs (NoDeclarator s) undefined none scene same ported = none_jumpless scene.world s
 declarators_runs {names} {at} {k} (NextDeclared there bind name type more symbol identifier s u annotated is f d) undefined none scene same
     ported =
-    subst (λ (o : Option SymbolId). RunsStatement scene.world (λ ways onward. declare o value.Undefined ways
+    subst (λ (o : Option SymbolId). RunsJumpless scene.world (λ ways onward. declare o value.Undefined ways
     (λ end. declare_all scene more ways onward)) s u) (sym (declares scene names bind.id.0 symbol same is))
-    (order_runs scene.world s _ u (declare (Some symbol) value.Undefined) (declare_all scene more)
+    (order_jumpless scene.world s _ u (declare (Some symbol) value.Undefined) (declare_all scene more)
     (extends_then (extends_resolved s (names.name symbol.0) symbol.0 (Some bind.span) f.agree)
     (extends_value (found names s symbol bind.span) (values.DeclareLocal k (there_at identifier bind.span)) (Some bind.span)))
     (declarators_blocks d).extends
-    (declared_runs scene.world s (names.name symbol.0) symbol.0 (Some bind.span) k (there_at identifier bind.span) (Some bind.span) f.agree
+    (variable_declared scene.world s (names.name symbol.0) symbol.0 (Some bind.span) k (there_at identifier bind.span) (Some bind.span) f.agree
     f.bound (undefined identifier))
     (declarators_runs d undefined (row_clean names (Node there word.Declarator (Then (Node bind word.Bind (Then (Said name) (Then type End)))
     (Then Absent End))) more none).1 scene same ported))
@@ -120,16 +143,16 @@ declarators_runs {names} {at} {k} (NextInitialized there bind name type init mor
     none scene same ported =
     let pattern : Syntax = Node bind word.Bind (Then (Said name) (Then type End)) in
     let clean = row_clean names (Node there word.Declarator (Then pattern (Then init End))) more none in
-    subst (λ (one : Action (Unit {0})). RunsStatement scene.world (λ ways onward. one ways (λ end. declare_all scene more ways onward)) s u)
+    subst (λ (one : Action (Unit {0})). RunsJumpless scene.world (λ ways onward. one ways (λ end. declare_all scene more ways onward)) s u)
     (initialized_meant by scene there bind name type)
-    (subst (λ (o : Option SymbolId). RunsStatement scene.world (λ ways onward. eval scene init ways (λ v. declare o v ways
+    (subst (λ (o : Option SymbolId). RunsJumpless scene.world (λ ways onward. eval scene init ways (λ v. declare o v ways
     (λ end. declare_all scene more ways onward))) s u) (sym (declares scene names bind.id.0 symbol same is))
-    (order_runs scene.world s _ u (eval scene init >>= (λ v. declare (Some symbol) v)) (declare_all scene more)
+    (order_jumpless scene.world s _ u (eval scene init >>= (λ v. declare (Some symbol) v)) (declare_all scene more)
     (extends_then (expression_blocks by).extends
     (extends_then (extends_resolved t (names.name symbol.0) symbol.0 (Some bind.span) f.agree)
     (extends_value (found names t symbol bind.span) (values.StoreLocal k (there_at identifier at) p) (Some at))))
     (declarators_blocks d).extends
-    (initialized_runs scene.world s t (eval scene init) (names.name symbol.0) symbol.0 (Some bind.span) k (there_at identifier at) p (Some at)
+    (variable_initialized scene.world s t (eval scene init) (names.name symbol.0) symbol.0 (Some bind.span) k (there_at identifier at) p (Some at)
     (expression_blocks by).extends f.agree f.bound
     (expression_runs by (first_none (refusals names init) (refusals names pattern) clean.0) scene same ported))
     (declarators_runs d undefined clean.1 scene same ported)))
@@ -140,7 +163,7 @@ variables_runs : {names : Names} (at : At) (k : VariableKind) (declarators : Pie
     → refusals names (Node at word.Var (Then (Said (variable_text k)) (Then (Listed declarators) End))) ≡ []
     → has_using (Node at word.Var (Then (Said (variable_text k)) (Then (Listed declarators) End))) ≡ false
     → (scene : Scene) → scene.names ≡ names → scene.ported ≡ true → (own : Label)
-    → RunsStatement scene.world (exec scene own (Node at word.Var (Then (Said (variable_text k)) (Then (Listed declarators) End)))) s t
+    → RunsJumpless scene.world (exec scene own (Node at word.Var (Then (Said (variable_text k)) (Then (Listed declarators) End)))) s t
 variables_runs at kinds.Let declarators s t d none unused scene same ported own =
     declarators_runs d (λ variable. refl) none scene same ported
 variables_runs at kinds.Const declarators s t d none unused scene same ported own =
@@ -150,47 +173,166 @@ variables_runs {names} at kinds.Var declarators s t d none unused scene same por
 variables_runs at kinds.Using declarators s t d none unused scene same ported own = absurd (true≢false unused)
 variables_runs at kinds.AwaitUsing declarators s t d none unused scene same ported own = absurd (true≢false unused)
 
+-- The head of a `for` loop.
+
+init_runs : {names : Names} {at : Span} {e : Syntax} {s t : State} → LoweredInit names at e s t → said_of_init at e ≡ []
+    → refusals names e ≡ [] → has_using e ≡ false → (scene : Scene) → scene.names ≡ names → scene.ported ≡ true
+    → RunsJumpless scene.world (exec scene None e) s t
+init_runs {at} (NoInit s) unsaid none unused scene same ported =
+    evaluated_jumpless scene.world s (with_value s (values.Primitive primitives.Undefined) (Some at)) (give value.Undefined)
+    (length s.env.identifiers)
+    (literal_runs scene.world s (give value.Undefined) primitives.Undefined (Some at) (λ ways k source answers. refl))
+init_runs {names} (DeclaredInit there fields s t d) unsaid none unused scene same ported =
+    let v = declares_of d in
+    let whole : Pieces = Then (Said (variable_text v.kind)) (Then (Listed v.declarators) End) in
+    subst (λ (f : Pieces). RunsJumpless scene.world (exec scene None (Node there word.Var f)) s t) v.are
+    (variables_runs there v.kind v.declarators s t v.by
+    (ap (λ (f : Pieces). refusals names (Node there word.Var f)) v.are ∙ none)
+    (ap (λ (f : Pieces). has_using (Node there word.Var f)) v.are ∙ unused) scene same ported None)
+init_runs {at} (RefusedInit e s t p d) unsaid none unused scene same ported =
+    absurd (never (sym (init_said e (lowered_plain d).node at) ∙ unsaid))
+
+test_runs : {names : Names} {at : Span} {e : Syntax} {s t : State} {p : Place} → LoweredTest names at e s t p → said_of_test at e ≡ []
+    → refusals names e ≡ [] → (scene : Scene) → scene.names ≡ names → scene.ported ≡ true
+    → RunsExpression scene.world (eval scene e) s t p.identifier.0
+test_runs (NoTest s) unsaid none scene same ported = absurd (never unsaid)
+test_runs (Tested e s t p d) unsaid none scene same ported = expression_runs d none scene same ported
+
+head_means : {names : Names} {at : Span} {init test : Syntax} {s t u v : State} {p : Place} → LoweredInit names at init s t
+    → LoweredTest names at test u v p → said_of_init at init ≡ [] → said_of_test at test ≡ [] → has_meaning init test ≡ true
+head_means first (NoTest s) unsaid untold = absurd (never untold)
+head_means (NoInit s) (Tested e u v p d) unsaid untold = undeclared_meant e (lowered_plain d).node
+head_means (DeclaredInit there fields s t by) (Tested e u v p d) unsaid untold = declared_meant there fields e (lowered_plain d).node
+head_means {at} (RefusedInit e s t p by) (Tested f u v q d) unsaid untold =
+    absurd (never (sym (init_said e (lowered_plain by).node at) ∙ unsaid))
+
+-- An update whose value is dropped.
+update_runs : {names : Names} {e : Syntax} {s t : State} {p : Place} → Lowered names e s t p → refusals names e ≡ [] → (scene : Scene)
+    → scene.names ≡ names → scene.ported ≡ true → RunsJumpless scene.world (eval_optional scene e) s t
+update_runs {e = e} {s = s} {t = t} {p = p} d none scene same ported =
+    subst (λ (b : Bool). RunsJumpless scene.world (if b then done else (eval scene e >>= (λ v. done))) s t)
+    (sym (operand_there e (lowered_plain d).node))
+    (evaluated_jumpless scene.world s t (eval scene e) p.identifier.0 (expression_runs d none scene same ported))
+
+-- Jumps, and statements under a label that is not their own.
+
+break_meant : (scene : Scene) (own : Label) (at : At) (label : Label)
+    → exec scene own (Node at word.Break (Then (label_part label) End)) ≡ break_to label
+break_meant scene own at None = refl
+break_meant scene own at (Some label) = refl
+
+continue_meant : (scene : Scene) (own : Label) (at : At) (label : Label)
+    → exec scene own (Node at word.Continue (Then (label_part label) End)) ≡ continue_to label
+continue_meant scene own at None = refl
+continue_meant scene own at (Some label) = refl
+
+unowned_meant : {names : Names} {e : Syntax} {s t : State} → LoweredStatement names e s t → is_loop e ≡ false → (scene : Scene)
+    (own : Label) → exec scene own e ≡ exec scene None e
+unowned_meant (Unlabeled loop s t d) other scene own = let never : false ≡ true = sym other ∙ loop_is d in absurd (cc)
+unowned_meant (Return at e s t p by) other scene own = returned_meant by scene own at ∙ sym (returned_meant by scene None at)
+unowned_meant (Break at label target s is) other scene own = break_meant scene own at label ∙ sym (break_meant scene None at label)
+unowned_meant (Continue at label target s is) other scene own =
+    continue_meant scene own at label ∙ sym (continue_meant scene None at label)
+unowned_meant _ other scene own = refl
+
 mutual
   pub statement_runs : {names : Names} {e : Syntax} {s t : State} → LoweredStatement names e s t → refusals names e ≡ []
-      → has_using e ≡ false → (scene : Scene) → scene.names ≡ names → scene.ported ≡ true → (own : Label) → RunsStatement scene.world (exec scene own e) s t
-  statement_runs (Empty at s) none unused scene same ported own = nothing_runs scene.world s
-  statement_runs {names} (Expression at e s t p by) none unused scene same ported own =
+      → has_using e ≡ false → (scene : Scene) → scene.names ≡ names → scene.ported ≡ true
+      → RunsStatement scene.world (exec scene None e) s t
+  statement_runs (Empty at s) none unused scene same ported = nothing_runs scene.world s
+  statement_runs {names} (Expression at e s t p by) none unused scene same ported =
       evaluated_runs scene.world s t (eval scene e) p.identifier.0 (expression_runs by (first_none (refusals names e) [] none) scene same ported)
-  statement_runs (Debugger at s) none unused scene same ported own =
+  statement_runs (Debugger at s) none unused scene same ported =
       event_runs scene.world s values.Debugger (Some at.span) (event (codes "debugger") [] []) (λ store. refl)
-  statement_runs (Variables at k declarators s t d) none unused scene same ported own =
-      variables_runs at k declarators s t d none unused scene same ported own
-  statement_runs (ReturnNothing at s) none unused scene same ported own =
+  statement_runs (Variables at k declarators s t d) none unused scene same ported =
+      jumpless_runs (variables_runs at k declarators s t d none unused scene same ported None)
+  statement_runs (ReturnNothing at s) none unused scene same ported =
       return_runs scene.world s (with_value s (values.Primitive primitives.Undefined) None) (give value.Undefined) (temporary s None)
       (Some at.span) returns.Explicit blocks.Block
       (literal_runs scene.world s (give value.Undefined) primitives.Undefined None (λ ways k source answers. refl))
-  statement_runs {names} (Return at e s t p by) none unused scene same ported own =
+  statement_runs {names} (Return at e s t p by) none unused scene same ported =
       subst (λ (d : Action (Unit {0})). RunsStatement scene.world d s (returned_from t (Some at.span) returns.Explicit p blocks.Block))
-      (sym (returned_meant by scene own at))
+      (sym (returned_meant by scene None at))
       (return_runs scene.world s t (eval scene e) p (Some at.span) returns.Explicit blocks.Block
       (expression_runs by (first_none (refusals names e) [] none) scene same ported))
-  statement_runs {names} (Block at statements s t by) none unused scene same ported own =
+  statement_runs {names} (Block at statements s t by) none unused scene same ported =
       statements_runs by (first_none (refusals_in names statements) [] none) (or_false (have_using statements) false unused).0 scene same
       ported
-  statement_runs {names} (IfThen at test consequent s s2 s3 p by_consequent by_test) none unused scene same ported own =
+  statement_runs {names} (IfThen at test consequent s s2 s3 p by_consequent by_test) none unused scene same ported =
       does_same scene.world s _
-      (λ ways normal source answers. sym (if_meant scene own at test consequent Absent ways normal source answers))
+      (λ ways normal source answers. sym (if_meant scene None at test consequent Absent ways normal source answers))
       (if_then_runs s s2 s3 p at.span (span_of consequent) (statement_blocks by_consequent).extends (expression_blocks by_test).extends
       scene.world (eval scene test) (exec scene None consequent)
       (statement_runs by_consequent (branches_clean names consequent Absent test none).0
-      (branches_unused test consequent Absent unused).0 scene same ported None)
+      (branches_unused test consequent Absent unused).0 scene same ported)
       (expression_runs by_test (branches_clean names consequent Absent test none).2 scene same ported))
-  statement_runs {names} (IfElse at test consequent alternate s s2 s3 s4 p by_consequent by_alternate by_test) none unused scene same ported own =
+  statement_runs {names} (IfElse at test consequent alternate s s2 s3 s4 p by_consequent by_alternate by_test) none unused scene same
+      ported =
       does_same scene.world s _
-      (λ ways normal source answers. sym (if_meant scene own at test consequent alternate ways normal source answers))
+      (λ ways normal source answers. sym (if_meant scene None at test consequent alternate ways normal source answers))
       (if_runs s s2 s3 s4 p at.span (span_of consequent) (span_of alternate)
       (statement_blocks by_consequent).extends (statement_blocks by_alternate).extends (expression_blocks by_test).extends
       scene.world (eval scene test) (exec scene None consequent) (exec scene None alternate)
       (statement_runs by_consequent (branches_clean names consequent alternate test none).0
-      (branches_unused test consequent alternate unused).0 scene same ported None)
+      (branches_unused test consequent alternate unused).0 scene same ported)
       (statement_runs by_alternate (branches_clean names consequent alternate test none).1
-      (branches_unused test consequent alternate unused).1 scene same ported None)
+      (branches_unused test consequent alternate unused).1 scene same ported)
       (expression_runs by_test (branches_clean names consequent alternate test none).2 scene same ported))
+  statement_runs (Unlabeled loop s t by) none unused scene same ported = loop_runs by none unused scene same ported
+  statement_runs {names} (LabeledLoop at label loop s t by) none unused scene same ported =
+      loop_runs by (first_none (refusals names loop) [] none) (or_false (has_using loop) false unused).0 scene same ported
+  statement_runs {names} (Labeled at label body s s2 other by) none unused scene same ported =
+      label_runs s s2 label at.span (span_of body) (statement_blocks by).extends scene.world (exec scene (Some label) body)
+      (subst (λ (d : Action (Unit {0})). RunsStatement scene.world d (label_begun s label) s2)
+      (sym (unowned_meant by other scene (Some label)))
+      (statement_runs by (first_none (refusals names body) [] none) (or_false (has_using body) false unused).0 scene same ported))
+  statement_runs (Break at label target s is) none unused scene same ported =
+      subst (λ (d : Action (Unit {0})). RunsStatement scene.world d s (next_hole s target.0 gotos.Break at.span blocks.Block))
+      (sym (break_meant scene None at label)) (break_runs scene.world s label target at.span blocks.Block is)
+  statement_runs (Continue at label target s is) none unused scene same ported =
+      subst (λ (d : Action (Unit {0})). RunsStatement scene.world d s (next_hole s target.0 gotos.Continue at.span blocks.Block))
+      (sym (continue_meant scene None at label)) (continue_runs scene.world s label target at.span blocks.Block is)
+
+  -- With the label that is its own.
+  pub loop_runs : {names : Names} {own : Label} {e : Syntax} {s t : State} → LoweredLoop names own e s t → refusals names e ≡ []
+      → has_using e ≡ false → (scene : Scene) → scene.names ≡ names → scene.ported ≡ true
+      → RunsStatement scene.world (labeled_by own (exec scene own e)) s t
+  loop_runs {names} {own} (While at test body s s2 s3 p by by_test) none unused scene same ported =
+      let clean = while_clean names test body none in
+      does_same scene.world s _ (λ ways normal source answers. sym (while_meant scene own at test body ways normal source answers))
+      (while_runs s s2 s3 own p at.span (span_of body) (statement_blocks by).extends (expression_blocks by_test).extends scene.world
+      (eval scene test) (exec scene None body)
+      (statement_runs by clean.0 (or_false (has_using body) false (or_false (has_using test) _ unused).1).0 scene same ported)
+      (expression_runs by_test clean.1 scene same ported))
+  loop_runs {names} {own} (DoWhile at test body s s2 s3 p by by_test) none unused scene same ported =
+      let clean = do_while_clean names test body none in
+      does_same scene.world s _ (λ ways normal source answers. sym (do_while_meant scene own at test body ways normal source answers))
+      (do_while_runs s s2 s3 own p at.span (span_of body) (statement_blocks by).extends (expression_blocks by_test).extends scene.world
+      (eval scene test) (exec scene None body)
+      (statement_runs by clean.0 (or_false (has_using body) _ unused).0 scene same ported)
+      (expression_runs by_test clean.1 scene same ported))
+  loop_runs {names} {own} (ForUpdated at init test update body s s2 s3 s4 s5 u p by_init by_update by by_test) none unused scene same
+      ported =
+      let clean = for_clean names at.span init test update body none in
+      let bare = head_unused init test update body unused in
+      does_same scene.world s _
+      (λ ways normal source answers. sym (for_meant scene own at init test update body
+      (head_means by_init by_test clean.init_said clean.test_said) ways normal source answers))
+      (for_runs s s2 s3 s4 s5 own p at.span (part_span at.span init) (span_of update) (span_of body) (init_blocks by_init).extends
+      (expression_blocks by_update).extends (statement_blocks by).extends (test_blocks by_test).extends scene.world
+      (exec scene None init) (eval scene test) (eval_optional scene update) (exec scene None body)
+      (init_runs by_init clean.init_said clean.init bare.0 scene same ported) (update_runs by_update clean.update scene same ported)
+      (statement_runs by clean.body bare.1 scene same ported) (test_runs by_test clean.test_said clean.test scene same ported))
+  loop_runs {names} {own} (ForPlain at init test body s s2 s3 s4 p by_init by by_test) none unused scene same ported =
+      let clean = for_clean names at.span init test Absent body none in
+      let bare = head_unused init test Absent body unused in
+      does_same scene.world s _
+      (λ ways normal source answers. sym (for_meant scene own at init test Absent body
+      (head_means by_init by_test clean.init_said clean.test_said) ways normal source answers))
+      (for_runs_plain s s2 s3 s4 own p at.span (part_span at.span init) (span_of body) (init_blocks by_init).extends
+      (statement_blocks by).extends (test_blocks by_test).extends scene.world (exec scene None init) (eval scene test)
+      (exec scene None body) (init_runs by_init clean.init_said clean.init bare.0 scene same ported)
+      (statement_runs by clean.body bare.1 scene same ported) (test_runs by_test clean.test_said clean.test scene same ported))
 
   pub statements_runs : {names : Names} {es : Pieces} {s t : State} → LoweredStatements names es s t → refusals_in names es ≡ []
       → have_using es ≡ false → (scene : Scene) → scene.names ≡ names → scene.ported ≡ true → RunsStatement scene.world (exec_all scene es) s t
@@ -198,7 +340,7 @@ mutual
   statements_runs {names} (NextStatement e es s t u by all) none unused scene same ported =
       order_runs scene.world s t u (exec scene None e) (exec_all scene es) (statement_blocks by).extends (statements_blocks all).extends
       (statement_runs by (first_none (refusals names e) (refusals_in names es) none) (or_false (has_using e) (have_using es) unused).0 scene
-      same ported None)
+      same ported)
       (statements_runs all (second_none (refusals names e) (refusals_in names es) none) (or_false (has_using e) (have_using es) unused).1
       scene same ported)
 

@@ -26,16 +26,19 @@ use Rattle.rl_hir.specs.declared.instruction.InstructionValue.{InstructionValue}
 use Rattle.rl_hir.specs.declared.instruction.InstructionValue.TheVariants as values
 use Rattle.rl_hir.specs.declared.instruction.Place.{Place}
 use Rattle.rl_hir.specs.declared.instruction.PrimitiveValue.TheVariants as primitives
-use Rattle.rl_lowered.proofs.Clean.{branches_clean, cast_clean, computed_row_clean, constant_update_never, first_none, form_clean}
+use Rattle.rl_lowered.proofs.Clean.{branches_clean, cast_clean, computed_row_clean, constant_update_never, do_while_clean, first_none}
+use Rattle.rl_lowered.proofs.Clean.{for_clean, form_clean, never, while_clean}
 use Rattle.rl_lowered.proofs.Clean.{fraction_row_never, method_clean, outer_never, private_clean, private_never, property_row_clean}
 use Rattle.rl_lowered.proofs.Clean.{refused_never, refusing_never, row_clean, second_none, spread_row_clean, unknown_row_never}
 use Rattle.rl_lowered.proofs.Clean.{updated_member_clean, wrapper_clean}
 use Rattle.rl_lowered.proofs.HeldParts.{HeldBy, IsHeldAs, Unheld, cast_held, declarator_held, form_held, form_word, is_held, literal_held}
 use Rattle.rl_lowered.proofs.HeldParts.{method_held, property_held, updated_held, wrapper_held}
 use Rattle.rl_lowered.proofs.Meant.{private_member_never}
-use Rattle.rl_lowered.proofs.Plain.{lowered_plain}
+use Rattle.rl_lowered.proofs.Plain.{init_said, lowered_plain}
 use Rattle.rl_lowered.specs.Forms.{MemberKey, Computed, Fixed, load_of, store_of, typed}
 use Rattle.rl_lowered.specs.Lowered.{Asked, Block, Cast, Conditional, Debugger, EarlierPart, Empty, Expression, Global, IfElse, IfThen, LastPart}
+use Rattle.rl_lowered.specs.Lowered.{Break, Continue, DeclaredInit, DoWhile, ForPlain, ForUpdated, Labeled, LabeledLoop, LoweredInit}
+use Rattle.rl_lowered.specs.Lowered.{LoweredLoop, LoweredTest, NoInit, NoTest, RefusedInit, Tested, Unlabeled, While, label_part}
 use Rattle.rl_lowered.specs.Lowered.{Literal, Logical, Lowered, LoweredBody, LoweredDeclarators, LoweredLast, LoweredParts, LoweredStatement}
 use Rattle.rl_lowered.specs.Lowered.{LoweredStatements, Method, NextComputed, NextDeclared, NextFraction, NextHole, NextInitialized, NextPart}
 use Rattle.rl_lowered.specs.Lowered.{NextProperty, NextSpread, NextStatement, NextUnknown, NoDeclarator, NoPart, NoStatement, Object, Private}
@@ -44,11 +47,12 @@ use Rattle.rl_lowered.specs.Lowered.{UpdatedConstant, UpdatedMember, UpdatedVari
 use Rattle.rl_lowered.specs.Lowered.{declaring, member_loaded, member_one, member_stored, member_updated, update_of, value_span}
 use Rattle.rl_lowered.specs.Named.{found}
 use Rattle.rl_model.specs.Counted.{Counted}
+use Rattle.rl_model.specs.Actions.{Label}
 use Rattle.rl_names.specs.Names.{Names}
 use Rattle.rl_promises.proofs.Unheld.{unheld_untallied}
 use Rattle.rl_promises.specs.Held.{is_of, is_span, times}
 use Rattle.rl_promises.specs.Live.{Held, held_among, held_as, held_in}
-use Rattle.rl_promises.specs.Rows.{refusals, refusals_in}
+use Rattle.rl_promises.specs.Rows.{refusals, refusals_in, said_of_init, said_of_test}
 use Rattle.rl_promises.specs.Tallies.{Awaits, Calls, Constructions, IsHeldKind, held_word, is_among, tallied, tallied_among}
 use Rattle.rl_runs.specs.Moves.{stored_in}
 use Rattle.rl_syntax.specs.declared.word.Word.TheVariants as word
@@ -108,6 +112,26 @@ added_branch a b c test consequent p q = omega (arith, p, q)
 added_branches : (a b c d test consequent alternate : ℕ) → b ≡ a + consequent → c ≡ b + alternate → d ≡ c + test
     → d ≡ a + (0 + (test + (consequent + (alternate + 0))))
 added_branches a b c d test consequent alternate p q r = omega (arith, p, q, r)
+
+added_loop : (a b c first second : ℕ) → b ≡ a + first → c ≡ b + second → c ≡ a + (0 + (second + (first + 0)))
+added_loop a b c first second p q = omega (arith, p, q)
+
+added_do : (a b c first second : ℕ) → b ≡ a + first → c ≡ b + second → c ≡ a + (0 + (first + (second + 0)))
+added_do a b c first second p q = omega (arith, p, q)
+
+added_for : (a b c d e init test update body : ℕ) → b ≡ a + init → c ≡ b + update → d ≡ c + body → e ≡ d + test
+    → e ≡ a + (0 + (init + (test + (update + (body + 0)))))
+added_for a b c d e init test update body p q r s = omega (arith, p, q, r, s)
+
+added_plain_for : (a b c d init test body : ℕ) → b ≡ a + init → c ≡ b + body → d ≡ c + test
+    → d ≡ a + (0 + (init + (test + (0 + (body + 0)))))
+added_plain_for a b c d init test body p q r = omega (arith, p, q, r)
+
+added_jump : (a n : ℕ) → n ≡ 0 → a ≡ a + (0 + (n + 0))
+added_jump a n none = omega (arith, none)
+
+added_labeled : (a b body : ℕ) → b ≡ a + body → b ≡ a + (0 + (0 + (body + 0)))
+added_labeled a b body is = omega (arith, is)
 
 added_body : (a b directives statements : ℕ) → directives ≡ 0 → b ≡ a + statements → b ≡ a + (0 + (directives + (statements + 0)))
 added_body a b directives statements none is = omega (arith, none, is)
@@ -389,6 +413,15 @@ module _ (key : Counted) (held : IsHeldKind key.kinds) where
       (unheld_tallies (found names t symbol bind.span) _ (Some at) refl)
       (declarators_tallies ds clean.1)
 
+  test_tallies : {names : Names} {at : Span} {e : Syntax} {s t : State} {p : Place} → LoweredTest names at e s t p
+      → said_of_test at e ≡ [] → refusals names e ≡ [] → times key t.table ≡ times key s.table + tallied key e
+  test_tallies (NoTest s) unsaid none = absurd (never unsaid)
+  test_tallies (Tested e s t p d) unsaid none = expression_tallies d none
+
+  jump_tallied : (label : Label) → tallied key (label_part label) ≡ 0
+  jump_tallied None = refl
+  jump_tallied (Some label) = refl
+
   mutual
     pub statement_tallies : {names : Names} {e : Syntax} {s t : State} → LoweredStatement names e s t → refusals names e ≡ []
         → times key t.table ≡ times key s.table + tallied key e
@@ -412,6 +445,37 @@ module _ (key : Counted) (held : IsHeldKind key.kinds) where
     statement_tallies {names} (IfElse at test consequent alternate s s2 s3 s4 p dc da dt) none =
         let clean = branches_clean names consequent alternate test none in
         added_branches _ _ _ _ _ _ _ (statement_tallies dc clean.0) (statement_tallies da clean.1) (expression_tallies dt clean.2)
+    statement_tallies (Unlabeled loop s t d) none = loop_tallies d none
+    statement_tallies {names} (LabeledLoop at label loop s t d) none =
+        added_labeled _ _ _ (loop_tallies d (first_none (refusals names loop) [] none))
+    statement_tallies {names} (Labeled at label body s s2 other d) none =
+        added_labeled _ _ _ (statement_tallies d (first_none (refusals names body) [] none))
+    statement_tallies (Break at label target s is) none = added_jump _ _ (jump_tallied label)
+    statement_tallies (Continue at label target s is) none = added_jump _ _ (jump_tallied label)
+
+    pub loop_tallies : {names : Names} {own : Label} {e : Syntax} {s t : State} → LoweredLoop names own e s t → refusals names e ≡ []
+        → times key t.table ≡ times key s.table + tallied key e
+    loop_tallies {names} (While at test body s s2 s3 p d dt) none =
+        let clean = while_clean names test body none in
+        added_loop _ _ _ _ _ (statement_tallies d clean.0) (expression_tallies dt clean.1)
+    loop_tallies {names} (DoWhile at test body s s2 s3 p d dt) none =
+        let clean = do_while_clean names test body none in
+        added_do _ _ _ _ _ (statement_tallies d clean.0) (expression_tallies dt clean.1)
+    loop_tallies {names} (ForUpdated at init test update body s s2 s3 s4 s5 u p di du d dt) none =
+        let clean = for_clean names at.span init test update body none in
+        added_for _ _ _ _ _ _ _ _ _ (init_tallies di clean.init_said clean.init) (expression_tallies du clean.update)
+        (statement_tallies d clean.body) (test_tallies dt clean.test_said clean.test)
+    loop_tallies {names} (ForPlain at init test body s s2 s3 s4 p di d dt) none =
+        let clean = for_clean names at.span init test Absent body none in
+        added_plain_for _ _ _ _ _ _ _ (init_tallies di clean.init_said clean.init) (statement_tallies d clean.body)
+        (test_tallies dt clean.test_said clean.test)
+
+    init_tallies : {names : Names} {at : Span} {e : Syntax} {s t : State} → LoweredInit names at e s t → said_of_init at e ≡ []
+        → refusals names e ≡ [] → times key t.table ≡ times key s.table + tallied key e
+    init_tallies {at} (NoInit s) unsaid none = unheld_tallies s (values.Primitive primitives.Undefined) (Some at) refl
+    init_tallies (DeclaredInit there fields s t d) unsaid none = statement_tallies d none
+    init_tallies {at} (RefusedInit e s t p d) unsaid none =
+        absurd (never (sym (init_said e (lowered_plain d).node at) ∙ unsaid))
 
     pub statements_tallies : {names : Names} {es : Pieces} {s t : State} → LoweredStatements names es s t → refusals_in names es ≡ []
         → times key t.table ≡ times key s.table + tallied_among key es

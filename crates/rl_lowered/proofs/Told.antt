@@ -1,12 +1,17 @@
 -- Promises of the lowering of a part, from its derivation.
 use Rattle.std.proofs.Common.{List}
+use Rattle.rl_base.specs.declared.span.Span.{Span}
 use Rattle.rl_builder.specs.Builder.{State}
 use Rattle.rl_hir.specs.Pieces.{Piece}
 use Rattle.rl_hir.specs.declared.instruction.Place.{Place}
-use Rattle.rl_lowered.proofs.Names.{all_names, expression_names, last_names, statement_names, statements_names}
-use Rattle.rl_lowered.proofs.Sizes.{all_size, expression_size, last_size, statement_size, statements_size}
-use Rattle.rl_lowered.specs.Lowered.{Lowered, LoweredAll, LoweredLast, LoweredProperties, LoweredStatement, LoweredStatements}
-use Rattle.rl_lowered.specs.Promised.{LowersAll, LowersExpression, LowersLast, LowersProperties, LowersStatement, LowersStatements}
+use Rattle.rl_lowered.proofs.Names.{all_names, expression_names, init_names, last_names, loop_names, statement_names, statements_names}
+use Rattle.rl_lowered.proofs.Names.{test_names}
+use Rattle.rl_lowered.proofs.Sizes.{all_size, expression_size, init_size, last_size, loop_size, statement_size, statements_size, test_size}
+use Rattle.rl_lowered.specs.Lowered.{Lowered, LoweredAll, LoweredInit, LoweredLast, LoweredLoop, LoweredProperties, LoweredStatement}
+use Rattle.rl_lowered.specs.Lowered.{LoweredStatements, LoweredTest}
+use Rattle.rl_lowered.specs.Promised.{LowersAll, LowersExpression, LowersInit, LowersLast, LowersLoop, LowersProperties, LowersStatement}
+use Rattle.rl_lowered.specs.Promised.{LowersStatements, LowersTest}
+use Rattle.rl_model.specs.Actions.{Label}
 use Rattle.rl_names.specs.Names.{Names}
 use Rattle.rl_syntax.specs.Syntax.{Syntax, Pieces}
 
@@ -27,6 +32,16 @@ told_last l = record { by = l; named = (last_names l).named; size = last_size l 
 
 pub told_statement : {names : Names} {e : Syntax} {s t : State} → LoweredStatement names e s t → LowersStatement names e s t
 told_statement l = record { by = l; named = (statement_names l).named; size = statement_size l }
+
+pub told_loop : {names : Names} {own : Label} {e : Syntax} {s t : State} → LoweredLoop names own e s t → LowersLoop names own e s t
+told_loop l = record { by = l; named = (loop_names l).named; size = loop_size l }
+
+pub told_init : {names : Names} {at : Span} {e : Syntax} {s t : State} → LoweredInit names at e s t → LowersInit names at e s t
+told_init l = record { by = l; named = (init_names l).named; size = init_size l }
+
+pub told_test : {names : Names} {at : Span} {e : Syntax} {s t : State} {p : Place} → LoweredTest names at e s t p
+    → LowersTest names at e s t p
+told_test l = record { by = l; named = (test_names l).named; size = test_size l }
 
 pub told_statements : {names : Names} {es : Pieces} {s t : State} → LoweredStatements names es s t → LowersStatements names es s t
 told_statements l = record { by = l; named = (statements_names l).named; size = statements_size l }

@@ -1,3 +1,4 @@
+pub mod Arounds
 pub mod Forms
 pub mod Listing
 pub mod Lowered

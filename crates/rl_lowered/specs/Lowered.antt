@@ -1,9 +1,10 @@
 -- The lowering as a relation: a derivation says by which moves the builder came from one state to another for a part of the source.
-use Rattle.std.specs.Prelude.{◌≡◌, ℕ, Bool, true, false, List, [], ◌∷◌, Some, None, codes, unwrap_or}
+use Rattle.std.specs.Prelude.{◌≡◌, ℕ, Bool, true, false, List, [], ◌∷◌, Some, None, Ok, codes, unwrap_or}
 use Rattle.rl_base.specs.Diagnostics.{diagnostic_at}
 use Rattle.rl_base.specs.Operators.{logical_text, update_text}
 use Rattle.rl_base.specs.TypeKinds.{type_text}
 use Rattle.rl_base.specs.VariableKinds.{variable_text}
+use Rattle.rl_base.specs.declared.ids.BlockId.{BlockId}
 use Rattle.rl_base.specs.declared.ids.SymbolId.{SymbolId}
 use Rattle.rl_base.specs.declared.operator.BinaryOperator.{BinaryOperator}
 use Rattle.rl_base.specs.declared.operator.BinaryOperator.TheVariants as binaries
@@ -17,12 +18,16 @@ use Rattle.rl_base.specs.declared.type_kind.TypeKind.{TypeKind}
 use Rattle.rl_base.specs.declared.variable_kind.VariableKind.{VariableKind}
 use Rattle.rl_base.specs.declared.variable_kind.VariableKind.TheVariants as variables
 use Rattle.rl_builder.specs.Builder.{State, completed_by, new_block, recorded, reserved}
+use Rattle.rl_builder.specs.Jumps.{lookup_break, lookup_continue}
 use Rattle.rl_builder.specs.Temporaries.{temporary, with_value}
 use Rattle.rl_frames.specs.Frames.{if_alternate, if_after_consequent, if_at, if_consequent, if_ended, if_shut}
+use Rattle.rl_frames.specs.Frames.{do_while_bodied, label_at, label_ended, while_after, while_at, while_bodied, while_ended}
+use Rattle.rl_frames.specs.Frames.{for_after, for_after_init, for_after_update, for_at, for_bodied, for_ended, for_inited, for_updated}
 use Rattle.rl_frames.specs.Frames.{logical_after, logical_at, logical_ended, logical_righted}
 use Rattle.rl_frames.specs.Frames.{sequence_at, sequence_ended}
 use Rattle.rl_frames.specs.Frames.{ternary_after, ternary_alternated, ternary_at, ternary_consequent, ternary_ended, ternary_parted}
-use Rattle.rl_frames.specs.Parts.{if_begun, logical_begun, logical_place, sequence_begun, sequence_place, ternary_begun, ternary_place}
+use Rattle.rl_frames.specs.Parts.{for_begun, if_begun, label_begun, logical_begun, logical_place, sequence_begun, sequence_place}
+use Rattle.rl_frames.specs.Parts.{ternary_begun, ternary_place, while_begun}
 use Rattle.rl_grammar.specs.Grammar.{every}
 use Rattle.rl_grammar.specs.declared.kind.Kind.TheVariants as sort
 use Rattle.rl_hir.specs.Pieces.{Piece, Gives, Names as Named, Says, Spreads, argument_pieces, gathered, property_pieces}
@@ -37,16 +42,19 @@ use Rattle.rl_hir.specs.declared.instruction.Place.{Place}
 use Rattle.rl_hir.specs.declared.instruction.PlaceOrSpread.{PlaceOrSpread}
 use Rattle.rl_hir.specs.declared.instruction.PrimitiveValue.{PrimitiveValue}
 use Rattle.rl_hir.specs.declared.instruction.PrimitiveValue.TheVariants as primitives
+use Rattle.rl_hir.specs.declared.terminal.GotoVariant.TheVariants as gotos
 use Rattle.rl_hir.specs.declared.terminal.ReturnVariant.TheVariants as returns
 use Rattle.rl_lowered.specs.Forms.{IsAnnotation, IsCast, IsForm, IsLiteral, IsMember, IsPrivate, IsRefused, IsRefusing, IsWrapper}
 use Rattle.rl_lowered.specs.Forms.{MemberKey, load_of, store_of, type_of, typed}
 use Rattle.rl_lowered.specs.Named.{IsFound, found}
+use Rattle.rl_model.specs.Actions.{Label}
 use Rattle.rl_model.specs.Shapes.{is_computed, key_text, said}
 use Rattle.rl_names.specs.Names.{Names}
 use Rattle.rl_names.specs.declared.names.Meaning.TheVariants.{Local, Outer}
+use Rattle.rl_promises.specs.Jumps.{is_loop}
 use Rattle.rl_promises.specs.Outs.{is_known_key}
 use Rattle.rl_promises.specs.Rows.{is_eval, refusal}
-use Rattle.rl_runs.specs.Moves.{return_of, returned_from}
+use Rattle.rl_runs.specs.Moves.{next_hole, return_of, returned_from}
 use Rattle.rl_syntax.specs.declared.numbered.At.{At}
 use Rattle.rl_syntax.specs.declared.word.Word.{Word}
 use Rattle.rl_syntax.specs.declared.word.Word.TheVariants as word
@@ -271,6 +279,24 @@ pub data LoweredDeclarators (names : Names) (at : Span) (k : InstructionKind) : 
       → LoweredDeclarators names at k
       (Then (Node there word.Declarator (Then (Node bind word.Bind (Then (Said name) (Then type End))) (Then init End))) more) s u
 
+-- The label of a jump as a part of its node.
+abbrev pub label_part : Label → Syntax
+label_part None = Absent
+label_part (Some label) = Said label
+
+-- The span of a part of a loop, or that of the loop where the part is absent.
+abbrev pub part_span : (loop : Span) → Syntax → Span
+part_span loop Absent = loop
+part_span loop part = span_of part
+
+-- The test of a `for` loop with the span `at` was lowered: an absent one is refused (row F32), and true stands for it.
+pub data LoweredTest (names : Names) (at : Span) : Syntax → (old new : State) → Place → Type 0 where
+  NoTest : (s : State)
+      → LoweredTest names at Absent s
+      (with_value (recorded s (refusal row.F32 at)) (values.Primitive (primitives.Boolean true)) (Some at))
+      (temporary (recorded s (refusal row.F32 at)) (Some at))
+  Tested : (e : Syntax) (s t : State) (p : Place) → Lowered names e s t p → LoweredTest names at e s t p
+
 mutual
   -- A statement was lowered between two states.
   pub data LoweredStatement (names : Names) : Syntax → (old new : State) → Type 0 where
@@ -302,6 +328,56 @@ mutual
         (if_alternate (if_after_consequent (if_at s at.span true) s2) s3 (span_of alternate)) s4 p
         → LoweredStatement names (Node at word.If (Then test (Then consequent (Then alternate End)))) s
         (if_ended (if_shut (if_after_consequent (if_at s at.span true) s2)) s4 p)
+    -- A loop without a label, and one that has the label right in front of it.
+    Unlabeled : (loop : Syntax) (s t : State) → LoweredLoop names None loop s t → LoweredStatement names loop s t
+    LabeledLoop : (at : At) (label : List ℕ) (loop : Syntax) (s t : State) → LoweredLoop names (Some label) loop s t
+        → LoweredStatement names (Node at word.Labeled (Then (Said label) (Then loop End))) s t
+    -- Another statement under a label.
+    Labeled : (at : At) (label : List ℕ) (body : Syntax) (s s2 : State) → is_loop body ≡ false
+        → LoweredStatement names body (label_begun s label) s2
+        → LoweredStatement names (Node at word.Labeled (Then (Said label) (Then body End))) s
+        (label_ended (label_at s at.span) s2 (span_of body))
+    -- A jump goes to its target, and what follows stands in a fresh block, which is unreachable.
+    Break : (at : At) (label : Label) (target : BlockId) (s : State) → lookup_break s.scopes label ≡ Ok target
+        → LoweredStatement names (Node at word.Break (Then (label_part label) End)) s
+        (next_hole s target.0 gotos.Break at.span blocks.Block)
+    Continue : (at : At) (label : Label) (target : BlockId) (s : State) → lookup_continue s.scopes label ≡ Ok target
+        → LoweredStatement names (Node at word.Continue (Then (label_part label) End)) s
+        (next_hole s target.0 gotos.Continue at.span blocks.Block)
+
+  -- A loop was lowered, with a label of its own or none: its body before its test.
+  pub data LoweredLoop (names : Names) : (own : Label) → Syntax → (old new : State) → Type 0 where
+    While : {own : Label} (at : At) (test body : Syntax) (s s2 s3 : State) (p : Place)
+        → LoweredStatement names body (while_begun s own) s2
+        → Lowered names test (while_bodied (while_at s at.span) s2 (span_of body)) s3 p
+        → LoweredLoop names own (Node at word.While (Then test (Then body End))) s (while_ended (while_after (while_at s at.span)) s3 p)
+    DoWhile : {own : Label} (at : At) (test body : Syntax) (s s2 s3 : State) (p : Place)
+        → LoweredStatement names body (while_begun s own) s2
+        → Lowered names test (do_while_bodied (while_at s at.span) s2 (span_of body)) s3 p
+        → LoweredLoop names own (Node at word.Dowhile (Then body (Then test End))) s (while_ended (while_after (while_at s at.span)) s3 p)
+    ForUpdated : {own : Label} (at : At) (init test update body : Syntax) (s s2 s3 s4 s5 : State) (u p : Place)
+        → LoweredInit names at.span init (for_begun s) s2
+        → Lowered names update (for_inited (for_at s at.span own true) s2 (part_span at.span init)) s3 u
+        → LoweredStatement names body (for_updated (for_after_init (for_at s at.span own true) s2) s3 (span_of update)) s4
+        → LoweredTest names at.span test
+        (for_bodied (for_after_update (for_after_init (for_at s at.span own true) s2) s3) s4 (span_of body)) s5 p
+        → LoweredLoop names own (Node at word.For (Then init (Then test (Then update (Then body End))))) s
+        (for_ended (for_after (for_after_update (for_after_init (for_at s at.span own true) s2) s3)) s5 p)
+    -- Without an update.
+    ForPlain : {own : Label} (at : At) (init test body : Syntax) (s s2 s3 s4 : State) (p : Place)
+        → LoweredInit names at.span init (for_begun s) s2
+        → LoweredStatement names body (for_inited (for_at s at.span own false) s2 (part_span at.span init)) s3
+        → LoweredTest names at.span test (for_bodied (for_after_init (for_at s at.span own false) s2) s3 (span_of body)) s4 p
+        → LoweredLoop names own (Node at word.For (Then init (Then test (Then Absent (Then body End))))) s
+        (for_ended (for_after (for_after_init (for_at s at.span own false) s2)) s4 p)
+
+  -- The init of a `for` loop with the span `at` was lowered: undefined stands for an absent one, and an expression is refused (row F31).
+  pub data LoweredInit (names : Names) : (at : Span) → Syntax → (old new : State) → Type 0 where
+    NoInit : {at : Span} (s : State) → LoweredInit names at Absent s (with_value s (values.Primitive primitives.Undefined) (Some at))
+    DeclaredInit : {at : Span} (there : At) (fields : Pieces) (s t : State) → LoweredStatement names (Node there word.Var fields) s t
+        → LoweredInit names at (Node there word.Var fields) s t
+    RefusedInit : {at : Span} (e : Syntax) (s t : State) (p : Place) → Lowered names e (recorded s (refusal row.F31 at)) t p
+        → LoweredInit names at e s t
 
   -- Statements were lowered in order.
   pub data LoweredStatements (names : Names) : Pieces → (old new : State) → Type 0 where

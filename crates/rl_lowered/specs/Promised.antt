@@ -1,15 +1,17 @@
 -- Promises of the lowering of a part.
 use Rattle.std.specs.Prelude.{◌≡◌, ℕ, ◌+◌, ◌*◌, ◌<◌, ◌≤◌, ◌^◌, Bool, true, false, List, [], Option, option_map}
+use Rattle.rl_base.specs.declared.span.Span.{Span}
 use Rattle.rl_builder.specs.Builder.{State}
 use Rattle.rl_hir.specs.Pieces.{Piece}
 use Rattle.rl_hir.specs.declared.instruction.Instruction.{Instruction}
 use Rattle.rl_hir.specs.declared.instruction.Place.{Place}
 use Rattle.rl_hir.specs.declared.terminal.ReturnVariant.TheVariants as returns
 use Rattle.rl_lowered.specs.Listing.{ListsSince}
-use Rattle.rl_lowered.specs.Lowered.{Lowered, LoweredAll, LoweredBody, LoweredLast, LoweredProperties, LoweredStatement, LoweredStatements}
+use Rattle.rl_lowered.specs.Lowered.{Lowered, LoweredAll, LoweredBody, LoweredInit, LoweredLast, LoweredLoop, LoweredProperties}
+use Rattle.rl_lowered.specs.Lowered.{LoweredStatement, LoweredStatements, LoweredTest}
 use Rattle.rl_lowered.specs.Named.{IsNamed, KeepsNames}
 use Rattle.rl_lowered.specs.Sound.{IsSmallTree, StaysSound}
-use Rattle.rl_model.specs.Actions.{Action, ◌>>=◌, return_with}
+use Rattle.rl_model.specs.Actions.{Action, Label, ◌>>=◌, return_with}
 use Rattle.rl_model.specs.Counted.{Counted}
 use Rattle.rl_model.specs.Expressions.{eval}
 use Rattle.rl_model.specs.Scene.{Scene}
@@ -23,6 +25,7 @@ use Rattle.rl_promises.specs.Rows.{Records, refusals}
 use Rattle.rl_promises.specs.Stops.{has_using}
 use Rattle.rl_promises.specs.Tallies.{IsHeldKind, tallied}
 use Rattle.rl_runs.specs.Blocks.{Lives, PreservesBlocks, size_of}
+use Rattle.rl_runs.specs.ReadNotes.{KeepsUnread}
 use Rattle.rl_runs.specs.Simulation.{RunsStatement}
 use Rattle.rl_syntax.specs.declared.word.Word.TheVariants as word
 use Rattle.rl_syntax.specs.Syntax.{Syntax, Node, Listed, Pieces, End, Then, nodes, nodes_of}
@@ -65,6 +68,24 @@ pub record LowersStatement (names : Names) (e : Syntax) (old new : State) : Type
   pub named : IsNamed names old → IsNamed names new
   pub size : size_of new ≤ size_of old + share (nodes e)
 
+-- As `LowersStatement`, for a loop, with a label of its own or none.
+pub record LowersLoop (names : Names) (own : Label) (e : Syntax) (old new : State) : Type 0 where
+  pub by : LoweredLoop names own e old new
+  pub named : IsNamed names old → IsNamed names new
+  pub size : size_of new ≤ size_of old + share (nodes e)
+
+-- As `LowersStatement`, for what stands in front in a `for` loop with the span `at`.
+pub record LowersInit (names : Names) (at : Span) (e : Syntax) (old new : State) : Type 0 where
+  pub by : LoweredInit names at e old new
+  pub named : IsNamed names old → IsNamed names new
+  pub size : size_of new ≤ size_of old + share (nodes e) + 4
+
+-- As `LowersExpression`, for the test of a `for` loop with the span `at`.
+pub record LowersTest (names : Names) (at : Span) (e : Syntax) (old new : State) (place : Place) : Type 0 where
+  pub by : LoweredTest names at e old new place
+  pub named : IsNamed names old → IsNamed names new
+  pub size : size_of new ≤ size_of old + share (nodes e) + 4
+
 -- As `LowersStatement`, for statements in order.
 pub record LowersStatements (names : Names) (es : Pieces) (old new : State) : Type 0 where
   pub by : LoweredStatements names es old new
@@ -95,6 +116,7 @@ pub record LowersBody (names : Names) (b : Syntax) (old new : State) : Type 0 wh
   pub size : size_of new ≤ size_of old + share (nodes b + 1)
   pub blocks : PreservesBlocks old new
   pub lists : ListsSince old new
+  pub unread : KeepsUnread old new
   pub refused : Records (refusals names b) old.env.diagnostics new.env.diagnostics
   pub tallies : refusals names b ≡ [] → (key : Counted) → IsHeldKind key.kinds → times key new.table ≡ times key old.table + tallied key b
   pub lives : refusals names b ≡ [] → Lives held_by (live_in_body b) (body_falls b) old new

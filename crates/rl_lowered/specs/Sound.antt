@@ -9,6 +9,8 @@ use Rattle.rl_hir.specs.declared.function.Identifier.{Identifier}
 use Rattle.rl_hir.specs.declared.function.Pair.{Pair}
 use Rattle.rl_hir.specs.declared.instruction.Place.{Place}
 use Rattle.rl_builder.specs.Builder.{State}
+use Rattle.rl_builder.specs.declared.jumps.JumpScope.{JumpScope}
+use Rattle.rl_builder.specs.declared.jumps.JumpScope.TheVariants as scope
 use Rattle.rl_model.specs.WellFormed.{AreKnown, instruction_places, terminal_places}
 use Rattle.rl_names.specs.declared.parameters.Parameter.{Parameter}
 use Rattle.rl_promises.specs.Locals.{IsSmallSpan}
@@ -63,14 +65,21 @@ pub record HasKnownParts (s : State) : Type 0 where
   pub table : All (λ i. AreKnown (length s.env.identifiers) (instruction_places i)) s.table
   pub terminals : All (λ b. AreKnown (length s.env.identifiers) (terminal_places b.1.terminal)) s.completed
 
+-- The notation has the ids of the blocks to which jumps out of the scope go.
+abbrev pub HasSmallTargets : JumpScope → Type 0
+HasSmallTargets (scope.Loop label again behind) = (again.0 ≤ largest) × (behind.0 ≤ largest)
+HasSmallTargets (scope.Label label behind) = behind.0 ≤ largest
+HasSmallTargets (scope.Switch label behind) = behind.0 ≤ largest
+
 -- The notation has the listings of instructions and completed blocks, the id and the indices of the current block, and the ids of the
--- blocks to which instructions throw.
+-- blocks to which instructions throw and jumps go.
 pub record HasWritableParts (s : State) : Type 0 where
   pub table : All (λ i. IsWritable (listing.instruction i)) s.table
   pub completed : All (λ b. IsWritable (listing.block b)) s.completed
   pub current : s.current.id.0 ≤ largest
   pub listed : All (λ id. id.0 ≤ largest) s.current.instructions
   pub handlers : All (λ id. id.0 ≤ largest) s.handlers
+  pub scopes : All HasSmallTargets s.scopes
 
 -- The notation has the listings of the identifiers.
 abbrev pub AreWritableIdentifiers : List Identifier → Type 0

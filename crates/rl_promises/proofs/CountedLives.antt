@@ -1,11 +1,12 @@
 -- Each counted node of a covered function is one that a run may reach, or a node of a dead part.
-use Rattle.std.proofs.Common.{◌≡◌, ◌⊎◌, inl, inr, ℕ, Bool, true, false, true≢false, if◌then◌else◌, Option, Some, None, List, [], ◌++◌, All, Contains, refl, sym, ap, ◌∙◌, subst, arith, append-nil}
+use Rattle.std.proofs.Common.{◌≡◌, ◌⊎◌, inl, inr, ℕ, Bool, true, false, true≢false, not, if◌then◌else◌, Option, Some, None, List, [], ◌++◌, All, Contains, refl, sym, ap, ◌∙◌, subst, arith, append-nil, append_assoc}
 use Rattle.std.specs.List.{AllByRecursion}
 use Rattle.std.proofs.lemmas.List.Elements.{All-contains_itself, All-from_recursion, Contains-append_left, Contains-append_right, recursion_from_All}
 use Rattle.rl_ast.specs.FunctionTrees.{is_function as fits_function}
+use Rattle.rl_model.specs.Actions.{Label}
 use Rattle.rl_model.specs.Code.{code, code_among, code_of, flat, is_function, is_instantiate, is_no_code, name_code}
 use Rattle.rl_model.specs.Counted.{Counted, counted_at, counted_in, method_at}
-use Rattle.rl_model.specs.Dead.{dead_among, dead_in, dead_parts, lives}
+use Rattle.rl_model.specs.Dead.{dead_among, dead_in, dead_parts, goes_on, lives, parts_if}
 use Rattle.rl_names.specs.Functions.{body_in, params_in}
 use Rattle.rl_promises.proofs.CountedCode.{HasTexts, IsOwn, IsParted, by_tests, each_append, each_both, each_weaker, flat_append, own_counted, parted}
 use Rattle.rl_promises.proofs.CoveredWorlds.{body_covered, plain_word}
@@ -106,31 +107,73 @@ module _ (methods : List ℕ) where
     held_either : (s : Syntax) → IsCovered s → AreEither (held_in s) (code s)
     held_either s covered = each_weaker (LivesOn (held_in s)) (IsEither D (held_in s)) (λ key l. inr l) (keys_of (code s)) (all_held s covered)
 
-    -- A test, and the two statements that it chooses from.
-    if_lives : (condition consequent alternate : Syntax) → AreEither (held_in condition) (code condition)
-        → AreEither (live_in consequent) (code consequent) → AreEither (live_in alternate) (code alternate)
-        → AreEither (held_in condition ++ live_in consequent ++ live_in alternate)
-        (code condition ++ (code consequent ++ (code alternate ++ [])))
-    if_lives condition consequent alternate test one other =
-        let first : List Held = held_in condition ++ live_in consequent in
-        keys_in_row _ (code condition) (code consequent ++ (code alternate ++ []))
-        (each_weaker _ _ (λ key h. either_left D first (live_in alternate) key (either_left D (held_in condition) (live_in consequent) key h))
-        (keys_of (code condition)) test)
-        (keys_in_row _ (code consequent) (code alternate ++ [])
-        (each_weaker _ _ (λ key h. either_left D first (live_in alternate) key (either_right D (held_in condition) (live_in consequent) key h))
-        (keys_of (code consequent)) one)
-        (subst (AreEither (first ++ live_in alternate)) (sym (append-nil (code alternate)))
-        (each_weaker _ _ (either_right D first (live_in alternate)) (keys_of (code alternate)) other)))
+    -- Nodes and code in two parts, and code at the end of a node's parts.
+
+    in_two : (xs ys : List Held) (a b : List Syntax) → AreEither xs a → AreEither ys b → AreEither (xs ++ ys) (a ++ b)
+    in_two xs ys a b first second =
+        keys_in_row (IsEither D (xs ++ ys)) a b (each_weaker _ _ (either_left D xs ys) (keys_of a) first)
+        (each_weaker _ _ (either_right D xs ys) (keys_of b) second)
+
+    at_end : (xs : List Held) (a : List Syntax) → AreEither xs a → AreEither xs (a ++ [])
+    at_end xs a each = subst (AreEither xs) (sym (append-nil a)) each
+
+    -- A part that is dead unless the test holds.
+    where_live : (live : Bool) (part : Syntax) → IsCovered part → AreDead (parts_if (not live) part)
+        → AreEither (if live then held_in part else []) (code part)
+    where_live true part covered dead = held_either part covered
+    where_live false part covered dead =
+        each_weaker D (IsEither D []) (λ key d. inl d) (keys_of (code part))
+        (subst (λ (l : List Syntax). AllByRecursion D (keys_of l)) (append-nil (code part)) dead)
+
+    -- As `in_two`, in three parts, which are all.
+    in_three : (xs ys zs : List Held) (a b c : List Syntax) → AreEither xs a → AreEither ys b → AreEither zs c
+        → AreEither (xs ++ ys ++ zs) (a ++ (b ++ (c ++ [])))
+    in_three xs ys zs a b c first second third =
+        subst (AreEither (xs ++ ys ++ zs)) (append_assoc a b (c ++ []))
+        (in_two (xs ++ ys) zs (a ++ b) (c ++ []) (in_two xs ys a b first second) (at_end zs c third))
+
+    -- The parts of a `for` loop.
+    for_lives : (init condition update body : Syntax) (more : List Held) → AreEither (held_in init) (code init)
+        → AreEither (held_in condition) (code condition) → AreEither more (code update) → AreEither (live_in None body) (code body)
+        → AreEither (held_in init ++ held_in condition ++ more ++ live_in None body)
+        (code init ++ (code condition ++ (code update ++ (code body ++ []))))
+    for_lives init condition update body more begun test updated turn =
+        let head : List Held = held_in init ++ held_in condition in
+        subst (AreEither (head ++ more ++ live_in None body))
+        (append_assoc (code init ++ code condition) (code update) (code body ++ [])
+        ∙ append_assoc (code init) (code condition) (code update ++ (code body ++ [])))
+        (in_two (head ++ more) (live_in None body) (code init ++ code condition ++ code update) (code body ++ [])
+        (in_two head more (code init ++ code condition) (code update)
+        (in_two (held_in init) (held_in condition) (code init) (code condition) begun test) updated)
+        (at_end (live_in None body) (code body) turn))
 
     mutual
-      statement_lives : (s : Syntax) → IsCovered s → AreDead (dead_in None s) → AreEither (live_in s) (code s)
-      statement_lives (Node at word.Block (Then (Listed statements) End)) covered dead =
-          subst (AreEither (live_all statements)) (sym (append-nil (code_among statements))) (statements_live statements covered.1.0 dead)
-      statement_lives (Node at word.If (Then condition (Then consequent (Then alternate End)))) covered dead =
+      statement_lives : (own : Label) (s : Syntax) → IsCovered s → AreDead (dead_in own s) → AreEither (live_in own s) (code s)
+      statement_lives own (Node at word.Block (Then (Listed statements) End)) covered dead =
+          at_end (live_all statements) (code_among statements) (statements_live statements covered.1.0 dead)
+      statement_lives own (Node at word.If (Then condition (Then consequent (Then alternate End)))) covered dead =
           let apart = dead_apart (dead_in None consequent) (dead_in None alternate) dead in
-          if_lives condition consequent alternate (held_either condition covered.1.0)
-          (statement_lives consequent covered.1.1.0 apart.0) (statement_lives alternate covered.1.1.1.0 apart.1)
-      statement_lives s covered dead = held_either s covered
+          in_three (held_in condition) (live_in None consequent) (live_in None alternate) (code condition) (code consequent) (code alternate)
+          (held_either condition covered.1.0) (statement_lives None consequent covered.1.1.0 apart.0)
+          (statement_lives None alternate covered.1.1.1.0 apart.1)
+      statement_lives own (Node at word.While (Then condition (Then body End))) covered dead =
+          in_two (held_in condition) (live_in None body) (code condition) (code body ++ []) (held_either condition covered.1.0)
+          (at_end (live_in None body) (code body) (statement_lives None body covered.1.1.0 dead))
+      statement_lives own (Node at word.Dowhile (Then body (Then condition End))) covered dead =
+          let tested : Bool = goes_on own (lives None body).outs in
+          let apart = dead_apart (dead_in None body) (parts_if (not tested) condition) dead in
+          let test : List Held = if tested then held_in condition else [] in
+          in_two (live_in None body) test (code body) (code condition ++ []) (statement_lives None body covered.1.0 apart.0)
+          (at_end test (code condition) (where_live tested condition covered.1.1.0 apart.1))
+      statement_lives own (Node at word.For (Then init (Then condition (Then update (Then body End))))) covered dead =
+          let again : Bool = goes_on own (lives None body).outs in
+          let apart = dead_apart (parts_if (not again) update) (dead_in None body) dead in
+          for_lives init condition update body (if again then held_in update else []) (held_either init covered.1.0)
+          (held_either condition covered.1.1.0) (where_live again update covered.1.1.1.0 apart.0)
+          (statement_lives None body covered.1.1.1.1.0 apart.1)
+      statement_lives own (Node at word.Labeled (Then (Said label) (Then body End))) covered dead =
+          at_end (live_in (Some label) body) (code body) (statement_lives (Some label) body covered.1.1.0 dead)
+      statement_lives own s covered dead = held_either s covered
 
       statements_live : (statements : Pieces) → AreCovered statements → AreDead (dead_among true statements)
           → AreEither (live_all statements) (code_among statements)
@@ -138,9 +181,9 @@ module _ (methods : List ℕ) where
       statements_live (Then s statements) covered dead =
           let apart = dead_apart (dead_in None s) (dead_among (lives None s).outs.falls statements) dead in
           keys_in_row (IsEither D (live_all (Then s statements))) (code s) (code_among statements)
-          (each_weaker _ _ (either_left D (live_in s) (if (lives None s).outs.falls then live_all statements else [])) (keys_of (code s))
-          (statement_lives s covered.0 apart.0))
-          (each_weaker _ _ (either_right D (live_in s) (if (lives None s).outs.falls then live_all statements else []))
+          (each_weaker _ _ (either_left D (live_in None s) (if (lives None s).outs.falls then live_all statements else [])) (keys_of (code s))
+          (statement_lives None s covered.0 apart.0))
+          (each_weaker _ _ (either_right D (live_in None s) (if (lives None s).outs.falls then live_all statements else []))
           (keys_of (code_among statements))
           (by_end (statements_live statements covered.1) (lives None s).outs.falls apart.1))
         where

@@ -1,4 +1,6 @@
 pub mod Alike
+pub mod AlikeExpressions
+pub mod BodyStopping
 pub mod CountedCode
 pub mod CountedLives
 pub mod CountedOnce
@@ -16,6 +18,7 @@ pub mod InnerScopes
 pub mod Least
 pub mod LeavingOut
 pub mod LocalVariables
+mod LoopExamples
 pub mod LowerableTrees
 pub mod OrderlyCalls
 pub mod PlainNames

@@ -1,5 +1,5 @@
 -- Covered trees without a stop: the lowering goes through them.
-use Rattle.std.proofs.Common.{◌≡◌, ℕ, Bool, true, false, not, if◌then◌else◌, Option, Some, None, ap, sym, refl, ◌∙◌}
+use Rattle.std.proofs.Common.{◌≡◌, ℕ, Bool, true, false, not, if◌then◌else◌, Option, Some, None, List, [], ◌∷◌, ap, sym, refl, ◌∙◌}
 use Rattle.std.specs.Option.{option_or}
 use Rattle.rl_base.specs.Reserved.{is_reserved}
 use Rattle.rl_base.specs.Diagnostics.{diagnostic_at}
@@ -7,15 +7,17 @@ use Rattle.rl_base.specs.declared.diagnostic.Diagnostic.{Diagnostic}
 use Rattle.rl_base.specs.declared.ids.SymbolId.{SymbolId}
 use Rattle.rl_base.specs.declared.row.Row.TheVariants as row
 use Rattle.rl_base.specs.declared.span.Span.{Span}
+use Rattle.rl_model.specs.Actions.{Label}
 use Rattle.rl_model.specs.Shapes.{are_raw}
 use Rattle.rl_names.specs.Functions.{body_in, params_in}
 use Rattle.rl_names.specs.Names.{Names, local_of}
 use Rattle.rl_promises.specs.Covered.{AreCovered, IsCovered, IsCoveredFunction}
 use Rattle.rl_promises.proofs.CoveredWorlds.{body_covered, params_covered}
+use Rattle.rl_promises.specs.Jumps.{Around, InLoop, own_label, within_label}
 use Rattle.rl_promises.specs.Locals.{DeclareIn, DeclaresIn, DeclaresVariable, HasLocals}
-use Rattle.rl_promises.specs.Lowerable.{AreLowerable, DeclaresFree, IsFree, IsLowerable, Where}
+use Rattle.rl_promises.specs.Lowerable.{AreLowerable, AreLowerableIn, DeclaresFree, IsFree, IsLowerable, IsLowerableBody, IsLowerableIn, Where}
 use Rattle.rl_promises.specs.Outs.{is_known_key, is_lost_delete, is_wrapped}
-use Rattle.rl_promises.specs.Stops.{first_among, first_stop, stop_of, stop_of_local}
+use Rattle.rl_promises.specs.Stops.{first_among, first_stop, stop_among, stop_in, stop_in_body, stop_of, stop_of_local}
 use Rattle.rl_syntax.specs.Syntax.{Syntax, Node, Listed, Said, Count, Flag, Absent, Pieces, End, Then}
 use Rattle.rl_syntax.specs.declared.word.Word.TheVariants as word
 
@@ -63,18 +65,6 @@ mutual
   lowerable names (Node at word.Bind (Then (Said name) type)) covered declares none =
       free_declared names at.id.0 at.span declares.0 none
   lowerable names (Node at word.Bind parts) covered declares none = (covered.0, all_lowerable names parts covered.1 declares.1 none)
-  lowerable names (Node at word.If (Then condition (Then consequent (Then alternate End)))) covered declares none =
-      let first = none_both (first_stop names consequent) (option_or (first_stop names alternate) (first_stop names condition)) none in
-      let others = none_both (first_stop names alternate) (first_stop names condition) first.1 in (
-        covered.0,
-        (
-          lowerable names condition covered.1.0 declares.0 others.1,
-          (
-            lowerable names consequent covered.1.1.0 declares.1.0 first.0,
-            (lowerable names alternate covered.1.1.1.0 declares.1.1.0 others.0, tt),
-          ),
-        ),
-      )
   lowerable names (Node at word.Cond (Then condition (Then consequent (Then alternate End)))) covered declares none =
       let first = none_both (first_stop names consequent) (option_or (first_stop names alternate) (first_stop names condition)) none in
       let others = none_both (first_stop names alternate) (first_stop names condition) first.1 in (
@@ -137,12 +127,68 @@ mutual
       let both = none_both (first_stop names p) (first_among names ps) none in
       (lowerable names p covered.0 declares.0 both.0, all_lowerable names ps covered.1 declares.1 both.1)
 
+mutual
+  -- As `lowerable`, for a statement inside others, with the label that is its own.
+  pub lowerable_in : (names : Names) (around : List Around) (own : Label) (s : Syntax) → IsCovered s → DeclaresIn names s
+      → stop_in names around own s ≡ None → IsLowerableIn names around own s
+  lowerable_in names around own (Node at word.Break (Then Absent End)) covered declares none = none
+  lowerable_in names around own (Node at word.Break (Then (Said label) End)) covered declares none = none
+  lowerable_in names around own (Node at word.Continue (Then Absent End)) covered declares none = none
+  lowerable_in names around own (Node at word.Continue (Then (Said label) End)) covered declares none = none
+  lowerable_in names around own (Node at word.Block (Then (Listed statements) End)) covered declares none =
+      all_lowerable_in names around statements covered.1.0 declares.0 none
+  lowerable_in names around own (Node at word.If (Then condition (Then consequent (Then alternate End)))) covered declares none =
+      let first = none_both (stop_in names around None consequent)
+      (option_or (stop_in names around None alternate) (first_stop names condition)) none in
+      let others = none_both (stop_in names around None alternate) (first_stop names condition) first.1 in (
+        lowerable names condition covered.1.0 declares.0 others.1,
+        lowerable_in names around None consequent covered.1.1.0 declares.1.0 first.0,
+        lowerable_in names around None alternate covered.1.1.1.0 declares.1.1.0 others.0,
+      )
+  lowerable_in names around own (Node at word.While (Then condition (Then body End))) covered declares none =
+      let both = none_both (stop_in names (InLoop own ∷ around) None body) (first_stop names condition) none in (
+        lowerable names condition covered.1.0 declares.0 both.1,
+        lowerable_in names (InLoop own ∷ around) None body covered.1.1.0 declares.1.0 both.0,
+      )
+  lowerable_in names around own (Node at word.Dowhile (Then body (Then condition End))) covered declares none =
+      let both = none_both (stop_in names (InLoop own ∷ around) None body) (first_stop names condition) none in (
+        lowerable_in names (InLoop own ∷ around) None body covered.1.0 declares.0 both.0,
+        lowerable names condition covered.1.1.0 declares.1.0 both.1,
+      )
+  lowerable_in names around own (Node at word.For (Then init (Then condition (Then update (Then body End))))) covered declares none =
+      let within : Option Diagnostic = option_or (stop_in names (InLoop own ∷ around) None body) (first_stop names condition) in
+      let first = none_both (first_stop names init) (option_or (first_stop names update) within) none in
+      let second = none_both (first_stop names update) within first.1 in
+      let both = none_both (stop_in names (InLoop own ∷ around) None body) (first_stop names condition) second.1 in (
+        lowerable names init covered.1.0 declares.0 first.0,
+        lowerable names condition covered.1.1.0 declares.1.0 both.1,
+        lowerable names update covered.1.1.1.0 declares.1.1.0 second.0,
+        lowerable_in names (InLoop own ∷ around) None body covered.1.1.1.1.0 declares.1.1.1.0 both.0,
+      )
+  lowerable_in names around own (Node at word.Labeled (Then (Said label) (Then body End))) covered declares none =
+      lowerable_in names (within_label label body around) (own_label label body) body covered.1.1.0 declares.1.0 none
+  lowerable_in names around own s covered declares none = lowerable names s covered declares none
+
+  -- As `lowerable_in`, for statements in a row.
+  pub all_lowerable_in : (names : Names) (around : List Around) (ss : Pieces) → AreCovered ss → DeclareIn names ss
+      → stop_among names around ss ≡ None → AreLowerableIn names around ss
+  all_lowerable_in names around End covered declares none = tt
+  all_lowerable_in names around (Then s ss) covered declares none =
+      let both = none_both (stop_in names around None s) (stop_among names around ss) none in
+      (lowerable_in names around None s covered.0 declares.0 both.0, all_lowerable_in names around ss covered.1 declares.1 both.1)
+
+-- As `lowerable`, for a body.
+lowerable_body : (names : Names) (b : Syntax) → IsCovered b → DeclaresIn names b → stop_in_body names b ≡ None → IsLowerableBody names b
+lowerable_body names (Node at word.Body (Then directives (Then (Listed statements) End))) covered declares none =
+    all_lowerable_in names [] statements covered.1.1.0 declares.1.0 none
+lowerable_body names b covered declares none = lowerable names b covered declares none
+
 -- Of a function without a stop neither the parameters nor the body has one.
 pub no_stops : (names : Names) (f : Syntax) → stop_of names f ≡ None
-    → (first_stop names (params_in f) ≡ None) × (first_stop names (body_in f) ≡ None)
+    → (first_stop names (params_in f) ≡ None) × (stop_in_body names (body_in f) ≡ None)
 no_stops names f none =
-    let inside = option_or (first_stop names (params_in f)) (first_stop names (body_in f)) in
-    none_both (first_stop names (params_in f)) (first_stop names (body_in f)) (none_both _ inside none).1
+    let inside = option_or (first_stop names (params_in f)) (stop_in_body names (body_in f)) in
+    none_both (first_stop names (params_in f)) (stop_in_body names (body_in f)) (none_both _ inside none).1
 
 -- The parameters of a covered function without a stop are lowerable, and so is its body.
 pub params_lowerable : (names : Names) (f : Syntax) → IsCoveredFunction f → HasLocals names f → stop_of names f ≡ None
@@ -151,6 +197,6 @@ params_lowerable names f covered locals none =
     lowerable names (params_in f) (params_covered f covered) locals.params (no_stops names f none).0
 
 pub body_lowerable : (names : Names) (f : Syntax) → IsCoveredFunction f → HasLocals names f → stop_of names f ≡ None
-    → IsLowerable names (body_in f)
+    → IsLowerableBody names (body_in f)
 body_lowerable names f covered locals none =
-    lowerable names (body_in f) (body_covered f covered) locals.body (no_stops names f none).1
+    lowerable_body names (body_in f) (body_covered f covered) locals.body (no_stops names f none).1

@@ -1,7 +1,7 @@
 -- Parts that do not have the form wanted.
 use Rattle.std.proofs.Common.{◌≡◌, false, None, refl}
-use Rattle.rl_promises.specs.PartForms.{is_flag_and_trees, is_text_ahead, is_text_alone, is_text_and_tree, two_lists}
-use Rattle.rl_syntax.specs.Shapes.{is_flag, is_list, is_text, is_three, is_two}
+use Rattle.rl_promises.specs.PartForms.{is_flag_and_trees, is_text_ahead, is_text_alone, is_text_and_tree, jump_label, list_alone, second_list, two_lists}
+use Rattle.rl_syntax.specs.Shapes.{is_flag, is_list, is_one, is_text, is_three, is_two}
 use Rattle.rl_syntax.specs.Syntax.{Syntax, Listed, Said, Flag, Pieces, End, Then}
 
 pub no_text_ahead : (ps rest : Pieces) (t : Syntax) → ps ≡ Then t rest → is_text t ≡ false → is_text_ahead ps ≡ false
@@ -41,3 +41,29 @@ no_second_list (Then (Listed items) (Then (Listed others) End)) a b is none = ab
 no_second_list _ a b is none = refl
 
 pub ruleset lists = (not_two, no_list, no_second_list)
+
+pub not_one : (ps : Pieces) → is_one ps ≡ false → None ≡ list_alone ps
+not_one (Then (Listed items) End) none = absurd (cc)
+not_one _ none = refl
+
+pub no_list_alone : (ps : Pieces) (a : Syntax) → ps ≡ Then a End → is_list a ≡ false → None ≡ list_alone ps
+no_list_alone (Then (Listed items) End) a is none = absurd (cc)
+no_list_alone _ a is none = refl
+
+pub ruleset alone = (not_one, no_list_alone)
+
+pub not_a_label : (ps : Pieces) → is_one ps ≡ false → None ≡ jump_label ps
+not_a_label (Then label End) none = absurd (cc)
+not_a_label _ none = refl
+
+pub ruleset labels = (not_a_label)
+
+pub not_two_parts : (ps : Pieces) → is_two ps ≡ false → None ≡ second_list ps
+not_two_parts (Then first (Then (Listed items) End)) none = absurd (cc)
+not_two_parts _ none = refl
+
+pub no_list_behind : (ps : Pieces) (a b : Syntax) → ps ≡ Then a (Then b End) → is_list b ≡ false → None ≡ second_list ps
+no_list_behind (Then first (Then (Listed items) End)) a b is none = absurd (cc)
+no_list_behind _ a b is none = refl
+
+pub ruleset seconds = (not_two_parts, no_list_behind)

@@ -41,15 +41,6 @@ bind_parts n at _ r other e = e
 pub ruleset names = (id_stop, id_parts, bind_stop, bind_parts)
 
 -- Nodes whose parts are lowered in another order.
-pub if_stop : (n : Names) (at : At) (ps : Pieces) (a b c : Syntax) (r : Option Diagnostic) → ps ≡ Then a (Then b (Then c End))
-    → r ≡ option_or (first_stop n b) (option_or (first_stop n c) (first_stop n a)) → r ≡ first_stop n (Node at word.If ps)
-if_stop n at ps a b c r is e = e ∙ ap (λ q. first_stop n (Node at word.If q)) (sym is)
-
-pub if_parts : (n : Names) (at : At) (ps : Pieces) (r : Option Diagnostic) → is_three ps ≡ false → r ≡ first_among n ps
-    → r ≡ first_stop n (Node at word.If ps)
-if_parts n at (Then a (Then b (Then c End))) r other e = absurd (cc)
-if_parts n at _ r other e = e
-
 pub cond_stop : (n : Names) (at : At) (ps : Pieces) (a b c : Syntax) (r : Option Diagnostic) → ps ≡ Then a (Then b (Then c End))
     → r ≡ option_or (first_stop n b) (option_or (first_stop n c) (first_stop n a)) → r ≡ first_stop n (Node at word.Cond ps)
 cond_stop n at ps a b c r is e = e ∙ ap (λ q. first_stop n (Node at word.Cond q)) (sym is)
@@ -84,7 +75,7 @@ pub declarator_parts : (n : Names) (at : At) (ps : Pieces) (r : Option Diagnosti
 declarator_parts n at (Then a (Then b End)) r other e = absurd (cc)
 declarator_parts n at _ r other e = e
 
-pub ruleset reordered = (if_stop, if_parts, cond_stop, cond_parts, logical_stop, logical_other, logical_parts, declarator_stop, declarator_parts)
+pub ruleset reordered = (cond_stop, cond_parts, logical_stop, logical_other, logical_parts, declarator_stop, declarator_parts)
 
 -- Nodes of which parts are left out.
 pub instantiate_stop : (n : Names) (at : At) (ps rest : Pieces) (a : Syntax) (r : Option Diagnostic) → ps ≡ Then a rest

@@ -18,7 +18,7 @@ use Rattle.rl_hir.specs.declared.function.Pair.{Pair}
 use Rattle.rl_hir.specs.declared.function.Param.{Param}
 use Rattle.rl_hir.specs.declared.function.Param.TheVariants as params
 use Rattle.rl_hir.specs.declared.function.ReactFunctionType.TheVariants as types
-use Rattle.rl_names.specs.Candidates.{candidate}
+use Rattle.rl_used_names.specs.Candidates.{candidate}
 use Rattle.rl_names.specs.Functions.{async_in, body_in, generator_in, name_in, parameters_of}
 use Rattle.rl_names.specs.Names.{Names}
 use Rattle.rl_names.specs.declared.parameters.Parameter.{Parameter}

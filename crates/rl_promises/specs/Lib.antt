@@ -5,6 +5,7 @@ pub mod Fields
 pub mod Headline
 pub mod Held
 pub mod HeldNodes
+pub mod Jumps
 pub mod Live
 pub mod Locals
 pub mod Lowerable

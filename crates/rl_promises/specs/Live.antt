@@ -1,8 +1,9 @@
 -- The nodes of a function whose instructions are counted and that a run may reach.
 use Rattle.std.specs.Prelude.{◌≡◌, ℕ, true, if◌then◌else◌, Option, Some, None, List, [], ◌∷◌, ◌++◌, Contains}
 use Rattle.rl_base.specs.declared.span.Span.{Span}
+use Rattle.rl_model.specs.Actions.{Label}
 use Rattle.rl_model.specs.Counted.{Counted}
-use Rattle.rl_model.specs.Dead.{lives}
+use Rattle.rl_model.specs.Dead.{goes_on, lives}
 use Rattle.rl_promises.specs.Tallies.{held_word, is_among}
 use Rattle.rl_syntax.specs.Syntax.{Syntax, Node, Listed, Said, Count, Flag, Absent, Pieces, End, Then}
 use Rattle.rl_syntax.specs.declared.numbered.At.{At}
@@ -39,17 +40,23 @@ abbrev mutual
   held_among (Then part parts) = held_in part ++ held_among parts
 
 abbrev mutual
-  -- As `held_in`, for a statement that is reached, without the nodes of its dead parts.
-  pub live_in : Syntax → List Held
-  live_in (Node at word.Block (Then (Listed statements) End)) = live_all statements
-  live_in (Node at word.If (Then condition (Then consequent (Then alternate End)))) =
-      held_in condition ++ live_in consequent ++ live_in alternate
-  live_in statement = held_in statement
+  -- As `held_in`, for a statement that is reached, with the label right in front of it, without the nodes of its dead parts.
+  pub live_in : (own : Label) → Syntax → List Held
+  live_in own (Node at word.Block (Then (Listed statements) End)) = live_all statements
+  live_in own (Node at word.If (Then condition (Then consequent (Then alternate End)))) =
+      held_in condition ++ live_in None consequent ++ live_in None alternate
+  live_in own (Node at word.While (Then condition (Then body End))) = held_in condition ++ live_in None body
+  live_in own (Node at word.Dowhile (Then body (Then condition End))) =
+      live_in None body ++ (if goes_on own (lives None body).outs then held_in condition else [])
+  live_in own (Node at word.For (Then init (Then condition (Then update (Then body End))))) =
+      held_in init ++ held_in condition ++ (if goes_on own (lives None body).outs then held_in update else []) ++ live_in None body
+  live_in own (Node at word.Labeled (Then (Said label) (Then body End))) = live_in (Some label) body
+  live_in own statement = held_in statement
 
   -- As `live_in`, for statements in a row: those behind one that cannot complete normally are dead.
   pub live_all : Pieces → List Held
   live_all End = []
-  live_all (Then statement statements) = live_in statement ++ (if (lives None statement).outs.falls then live_all statements else [])
+  live_all (Then statement statements) = live_in None statement ++ (if (lives None statement).outs.falls then live_all statements else [])
 
 -- As `live_in`, for a body.
 abbrev pub live_in_body : Syntax → List Held

@@ -1,10 +1,12 @@
 -- Trees that the lowering goes through without a stop.
-use Rattle.std.specs.Prelude.{◌≡◌, Bool, true, false, not, Option, Some, None}
+use Rattle.std.specs.Prelude.{◌≡◌, Bool, true, false, not, Option, Some, None, List, [], ◌∷◌}
 use Rattle.rl_base.specs.Reserved.{is_reserved}
 use Rattle.rl_base.specs.declared.ids.SymbolId.{SymbolId}
+use Rattle.rl_model.specs.Actions.{Label}
 use Rattle.rl_model.specs.Shapes.{are_raw}
 use Rattle.rl_names.specs.Names.{Names, local_of}
 use Rattle.rl_promises.specs.CoveredWords.{covers}
+use Rattle.rl_promises.specs.Jumps.{Around, InLoop, own_label, stop_of_break, stop_of_continue, within_label}
 use Rattle.rl_promises.specs.Locals.{IsVariable}
 use Rattle.rl_promises.specs.Outs.{is_known_key, is_lost_delete, is_wrapped}
 use Rattle.rl_syntax.specs.Syntax.{Syntax, Node, Listed, Said, Count, Flag, Absent, Pieces, End, Then}
@@ -55,3 +57,34 @@ abbrev mutual
   pub AreLowerable : Names → Pieces → Type 0
   AreLowerable names End = Unit {0}
   AreLowerable names (Then piece pieces) = IsLowerable names piece × AreLowerable names pieces
+
+abbrev mutual
+  -- As `IsLowerable`, for a statement inside others, with the label that is its own: each jump in it has a target.
+  pub IsLowerableIn : Names → List Around → (own : Label) → Syntax → Type 0
+  IsLowerableIn names around own (Node at word.Break (Then Absent End)) = stop_of_break None at.span around ≡ None
+  IsLowerableIn names around own (Node at word.Break (Then (Said label) End)) = stop_of_break (Some label) at.span around ≡ None
+  IsLowerableIn names around own (Node at word.Continue (Then Absent End)) = stop_of_continue None at.span around ≡ None
+  IsLowerableIn names around own (Node at word.Continue (Then (Said label) End)) = stop_of_continue (Some label) at.span around ≡ None
+  IsLowerableIn names around own (Node at word.Block (Then (Listed statements) End)) = AreLowerableIn names around statements
+  IsLowerableIn names around own (Node at word.If (Then condition (Then consequent (Then alternate End)))) =
+      IsLowerable names condition × IsLowerableIn names around None consequent × IsLowerableIn names around None alternate
+  IsLowerableIn names around own (Node at word.While (Then condition (Then body End))) =
+      IsLowerable names condition × IsLowerableIn names (InLoop own ∷ around) None body
+  IsLowerableIn names around own (Node at word.Dowhile (Then body (Then condition End))) =
+      IsLowerableIn names (InLoop own ∷ around) None body × IsLowerable names condition
+  IsLowerableIn names around own (Node at word.For (Then init (Then condition (Then update (Then body End))))) =
+      IsLowerable names init × IsLowerable names condition × IsLowerable names update × IsLowerableIn names (InLoop own ∷ around) None body
+  IsLowerableIn names around own (Node at word.Labeled (Then (Said label) (Then body End))) =
+      IsLowerableIn names (within_label label body around) (own_label label body) body
+  IsLowerableIn names around own statement = IsLowerable names statement
+
+  -- As `IsLowerableIn`, for statements in a row.
+  pub AreLowerableIn : Names → List Around → Pieces → Type 0
+  AreLowerableIn names around End = Unit {0}
+  AreLowerableIn names around (Then statement statements) =
+      IsLowerableIn names around None statement × AreLowerableIn names around statements
+
+-- As `IsLowerable`, for a body.
+abbrev pub IsLowerableBody : Names → Syntax → Type 0
+IsLowerableBody names (Node at word.Body (Then directives (Then (Listed statements) End))) = AreLowerableIn names [] statements
+IsLowerableBody names body = IsLowerable names body

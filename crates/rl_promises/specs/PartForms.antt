@@ -1,8 +1,9 @@
 -- Forms of parts that the walks for stops and skips ask for.
 use Rattle.std.specs.Prelude.{ℕ, Bool, true, false, Option, Some, None, List}
+use Rattle.rl_model.specs.Actions.{Label}
 use Rattle.rl_model.specs.Applied.{deletes}
 use Rattle.rl_model.specs.Statements.{is_using}
-use Rattle.rl_syntax.specs.Syntax.{Syntax, Node, Listed, Said, Flag, Pieces, End, Then}
+use Rattle.rl_syntax.specs.Syntax.{Syntax, Node, Listed, Said, Flag, Absent, Pieces, End, Then}
 use Rattle.rl_syntax.specs.declared.word.Word.{Word}
 use Rattle.rl_syntax.specs.declared.word.Word.TheVariants as word
 
@@ -40,6 +41,46 @@ template_parts _ parts = None
 abbrev pub template_lists : Syntax → Option (Pieces × Pieces)
 template_lists (Node at w parts) = template_parts w parts
 template_lists _ = None
+
+-- The list that is the only part.
+abbrev pub list_alone : Pieces → Option Pieces
+list_alone (Then (Listed items) End) = Some items
+list_alone _ = None
+
+-- The label that a jump says in its part, which is a text or absent.
+abbrev pub label_in : Syntax → Option Label
+label_in (Said label) = Some (Some label)
+label_in Absent = Some None
+label_in _ = None
+
+-- The label of a jump by its parts.
+abbrev pub jump_label : Pieces → Option Label
+jump_label (Then label End) = label_in label
+jump_label _ = None
+
+-- The list that is the second of two parts.
+abbrev pub second_list : Pieces → Option Pieces
+second_list (Then first (Then (Listed items) End)) = Some items
+second_list _ = None
+
+-- The statements of a body, by its word and parts.
+abbrev pub body_parts : Word → Pieces → Option Pieces
+body_parts word.Body parts = second_list parts
+body_parts _ parts = None
+
+-- As `body_parts`, of a tree.
+abbrev pub body_statements : Syntax → Option Pieces
+body_statements (Node at w parts) = body_parts w parts
+body_statements _ = None
+
+-- True of the word of a loop.
+abbrev pub loops : Word → Bool
+loops word.While = true
+loops word.Dowhile = true
+loops word.For = true
+loops word.Forin = true
+loops word.Forof = true
+loops _ = false
 
 -- As `deletes` of rl_model, of a node by its word.
 abbrev pub node_deletes : Word → Pieces → Bool

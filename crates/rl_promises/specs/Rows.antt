@@ -1,5 +1,5 @@
 -- The rows of refusals by node: the nodes of a tree that are refused, and their diagnostics.
-use Rattle.std.specs.Prelude.{◌≡◌, ℕ, Bool, false, if◌then◌else◌, Option, Some, None, unwrap_or, List, [], ◌∷◌, ◌++◌, codes}
+use Rattle.std.specs.Prelude.{◌≡◌, ℕ, Bool, false, if◌then◌else◌, None, unwrap_or, List, [], ◌∷◌, ◌++◌, codes}
 use Rattle.std.specs.Str.{bytes_eq}
 use Rattle.rl_base.specs.Diagnostics.{diagnostic_at}
 use Rattle.rl_base.specs.declared.diagnostic.Diagnostic.{Diagnostic}
@@ -9,7 +9,7 @@ use Rattle.rl_base.specs.declared.ids.SymbolId.{SymbolId}
 use Rattle.rl_base.specs.declared.span.Span.{Span}
 use Rattle.rl_text.specs.Numeral.{is_numeral}
 use Rattle.rl_syntax.specs.declared.word.Word.TheVariants as word
-use Rattle.rl_syntax.specs.Syntax.{Syntax, Node, Listed, Said, Flag, Pieces, End, Then, span_of}
+use Rattle.rl_syntax.specs.Syntax.{Syntax, Node, Listed, Said, Flag, Absent, Pieces, End, Then, span_of}
 use Rattle.rl_hir.specs.declared.instruction.NonLocalBinding.{NonLocalBinding}
 use Rattle.rl_hir.specs.declared.instruction.NonLocalBinding.TheVariants as binding
 use Rattle.rl_names.specs.Functions.{body_in, params_in}
@@ -86,16 +86,31 @@ said_of names (Node at word.This parts) = refusal row.F18 at.span ∷ []
 said_of names (Node at word.Bigint parts) = refusal row.F42 at.span ∷ []
 said_of names _ = []
 
+-- The diagnostics of a `for` loop at `at` by its head: F31 where an expression stands in front, F32 where the test is absent.
+
+abbrev pub said_of_init : (at : Span) → (init : Syntax) → List Diagnostic
+said_of_init at Absent = []
+said_of_init at (Node there word.Var parts) = []
+said_of_init at init = refusal row.F31 at ∷ []
+
+abbrev pub said_of_test : (at : Span) → (condition : Syntax) → List Diagnostic
+said_of_test at Absent = refusal row.F32 at ∷ []
+said_of_test at condition = []
+
 abbrev mutual
   -- The diagnostics of a tree, in the order in which the lowering meets the nodes: a node by itself, and then its parts from left to
-  -- right. Blocks of branches are lowered before the test that leads to them, a variable is declared behind its initializer, and a
-  -- private name is met behind its object. Types, the argument of a `yield`, and what a row leaves out are not lowered.
+  -- right. Blocks of branches and bodies of loops are lowered before the test that leads to them, a variable is declared behind its
+  -- initializer, and a private name is met behind its object. Types, the argument of a `yield`, and what a row leaves out are not lowered.
   pub refusals : Names → Syntax → List Diagnostic
   refusals names (Node at word.If (Then condition (Then consequent (Then alternate End)))) =
       refusals names consequent ++ refusals names alternate ++ refusals names condition
   refusals names (Node at word.Cond (Then condition (Then consequent (Then alternate End)))) =
       refusals names consequent ++ refusals names alternate ++ refusals names condition
   refusals names (Node at word.Logical (Then operator (Then left (Then right End)))) = refusals names right ++ refusals names left
+  refusals names (Node at word.While (Then condition (Then body End))) = refusals names body ++ refusals names condition
+  refusals names (Node at word.For (Then init (Then condition (Then update (Then body End))))) =
+      said_of_init at.span init ++ refusals names init ++ refusals names update ++ refusals names body
+      ++ said_of_test at.span condition ++ refusals names condition
   refusals names (Node at word.Var (Then (Said kind) (Then declarators End))) =
       (if bytes_eq kind (codes "var") then refusal row.F39 at.span ∷ [] else []) ++ refusals names declarators
   refusals names (Node at word.Declarator (Then pattern (Then init End))) = refusals names init ++ refusals names pattern

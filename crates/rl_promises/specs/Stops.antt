@@ -9,13 +9,15 @@ use Rattle.rl_base.specs.declared.ids.SymbolId.{SymbolId}
 use Rattle.rl_base.specs.declared.row.Row.{Row}
 use Rattle.rl_base.specs.declared.row.Row.TheVariants as row
 use Rattle.rl_base.specs.declared.span.Span.{Span}
+use Rattle.rl_model.specs.Actions.{Label}
 use Rattle.rl_model.specs.Shapes.{are_raw}
 use Rattle.rl_model.specs.Statements.{is_using}
 use Rattle.rl_names.specs.Functions.{body_in, params_in, parameters_of}
 use Rattle.rl_names.specs.Names.{Names, local_of}
 use Rattle.rl_names.specs.declared.parameters.Parameter.{Parameter}
+use Rattle.rl_promises.specs.Jumps.{Around, InLoop, own_label, stop_of_break, stop_of_continue, within_label}
 use Rattle.rl_promises.specs.Outs.{is_known_key, is_lost_delete, is_wrapped}
-use Rattle.rl_syntax.specs.Syntax.{Syntax, Node, Listed, Said, Flag, Pieces, End, Then}
+use Rattle.rl_syntax.specs.Syntax.{Syntax, Node, Listed, Said, Flag, Absent, Pieces, End, Then}
 use Rattle.rl_syntax.specs.declared.word.Word.TheVariants as word
 
 -- The stop at a node of a local variable, whose span is the label: S1 of a reserved name.
@@ -25,13 +27,11 @@ stop_of_local names (Some symbol) label =
     if is_reserved (names.name symbol.0) then Some (diagnostic_at row.S1 (names.name symbol.0) label) else None
 
 abbrev mutual
-  -- The first stop in a tree, in the order in which the lowering meets the nodes. What it does not lower has none.
+  -- The first stop in a tree without statements in it, in the order in which the lowering meets the nodes. What it does not lower has none.
   pub first_stop : Names → Syntax → Option Diagnostic
   first_stop names (Node at word.Id (Then (Said name) End)) =
       stop_of_local names (local_of (names.meaning at.reference.0 name)) at.span
   first_stop names (Node at word.Bind (Then (Said name) type)) = stop_of_local names (names.declared at.id.0) at.span
-  first_stop names (Node at word.If (Then condition (Then consequent (Then alternate End)))) =
-      option_or (first_stop names consequent) (option_or (first_stop names alternate) (first_stop names condition))
   first_stop names (Node at word.Cond (Then condition (Then consequent (Then alternate End)))) =
       option_or (first_stop names consequent) (option_or (first_stop names alternate) (first_stop names condition))
   first_stop names (Node at word.Logical (Then (Said operator) (Then left (Then right End)))) =
@@ -59,6 +59,37 @@ abbrev mutual
   first_among names End = None
   first_among names (Then piece pieces) = option_or (first_stop names piece) (first_among names pieces)
 
+abbrev mutual
+  -- As `first_stop`, for a statement inside others, with the label that is its own: a jump without a target is one (rows S6 and S7).
+  pub stop_in : Names → List Around → (own : Label) → Syntax → Option Diagnostic
+  stop_in names around own (Node at word.Break (Then Absent End)) = stop_of_break None at.span around
+  stop_in names around own (Node at word.Break (Then (Said label) End)) = stop_of_break (Some label) at.span around
+  stop_in names around own (Node at word.Continue (Then Absent End)) = stop_of_continue None at.span around
+  stop_in names around own (Node at word.Continue (Then (Said label) End)) = stop_of_continue (Some label) at.span around
+  stop_in names around own (Node at word.Block (Then (Listed statements) End)) = stop_among names around statements
+  stop_in names around own (Node at word.If (Then condition (Then consequent (Then alternate End)))) =
+      option_or (stop_in names around None consequent) (option_or (stop_in names around None alternate) (first_stop names condition))
+  stop_in names around own (Node at word.While (Then condition (Then body End))) =
+      option_or (stop_in names (InLoop own ∷ around) None body) (first_stop names condition)
+  stop_in names around own (Node at word.Dowhile (Then body (Then condition End))) =
+      option_or (stop_in names (InLoop own ∷ around) None body) (first_stop names condition)
+  stop_in names around own (Node at word.For (Then init (Then condition (Then update (Then body End))))) =
+      option_or (first_stop names init) (option_or (first_stop names update)
+      (option_or (stop_in names (InLoop own ∷ around) None body) (first_stop names condition)))
+  stop_in names around own (Node at word.Labeled (Then (Said label) (Then body End))) =
+      stop_in names (within_label label body around) (own_label label body) body
+  stop_in names around own statement = first_stop names statement
+
+  -- As `stop_in`, for statements in a row.
+  pub stop_among : Names → List Around → Pieces → Option Diagnostic
+  stop_among names around End = None
+  stop_among names around (Then statement statements) = option_or (stop_in names around None statement) (stop_among names around statements)
+
+-- As `first_stop`, for a body.
+abbrev pub stop_in_body : Names → Syntax → Option Diagnostic
+stop_in_body names (Node at word.Body (Then directives (Then (Listed statements) End))) = stop_among names [] statements
+stop_in_body names body = first_stop names body
+
 -- The first parameter whose name passes a test.
 abbrev pub first_named : (List ℕ → Bool) → List Parameter → Option Parameter
 first_named test [] = None
@@ -69,11 +100,11 @@ abbrev pub stop_at : Row → Option Parameter → Option Diagnostic
 stop_at r None = None
 stop_at r (Some p) = Some (diagnostic_at r p.name p.declaration)
 
--- The stop of a function: S2 at a parameter `this`, else the first S1 in the parameters and the body.
+-- The stop of a function: S2 at a parameter `this`, else the first S1 in the parameters, and the first S1, S6 or S7 in the body.
 abbrev pub stop_of : Names → (function : Syntax) → Option Diagnostic
 stop_of names function =
     option_or (stop_at row.S2 (first_named (λ name. bytes_eq name (codes "this")) (parameters_of names function)))
-    (option_or (first_stop names (params_in function)) (first_stop names (body_in function)))
+    (option_or (first_stop names (params_in function)) (stop_in_body names (body_in function)))
 
 abbrev mutual
   -- True of a tree with a declaration by `using` or `await using` (skips K2 and K3).

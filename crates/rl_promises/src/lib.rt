@@ -1,9 +1,12 @@
 //! The nodes that the lowering covers, and the promises of a result. The promises stand in specs/.
 #![tactic(auto)]
 
+mod around;
+pub mod body_stops;
 mod conditions;
 pub mod covered;
 mod covered_words;
+pub mod found_stop;
 pub mod outs;
 mod part_forms;
 pub mod skips;

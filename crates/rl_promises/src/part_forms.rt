@@ -2,7 +2,7 @@
 
 ghost use Rattle.std.specs.Prelude.{◌≡◌, false, map, option_map, MatchOption};
 ghost use Rattle.rl_promises.specs.PartForms as spec;
-ghost use Rattle.rl_syntax.specs.Shapes.{is_flag, is_text, is_three, is_two};
+ghost use Rattle.rl_syntax.specs.Shapes.{is_flag, is_four, is_one, is_text, is_three, is_two};
 ghost use Rattle.rl_syntax.specs.Syntax.{Said, Flag, End, Then, pieces_of, syntax};
 
 use rl_base::text::Text;
@@ -40,6 +40,17 @@ fn as_text(tree: &Numbered) -> Option<&Text>
     }
 }
 
+/// The only part. `None` where there are more or none.
+fn one(parts: &[Numbered]) -> Option<&Numbered>
+    ensures { MatchOption result (is_one (pieces_of (map syntax parts.now)) ≡ false) (λ p. pieces_of (map syntax parts.now) ≡ Then (syntax p.now) End) }
+{
+    let (first, parts) = split_first(parts)?;
+    match split_first(parts) {
+        Some(_) => None,
+        None => Some(first),
+    }
+}
+
 /// The two parts. `None` where there are more or fewer.
 pub(crate) fn two(parts: &[Numbered]) -> Option<(&Numbered, &Numbered)>
     ensures { MatchOption result (is_two (pieces_of (map syntax parts.now)) ≡ false) (λ p. pieces_of (map syntax parts.now) ≡ Then (syntax p.0.now) (Then (syntax p.1.now) End)) }
@@ -63,6 +74,15 @@ pub(crate) fn three(parts: &[Numbered]) -> Option<(&Numbered, &Numbered, &Number
         Some(_) => None,
         None => Some((first, second, third)),
     }
+}
+
+/// The four parts. `None` where there are more or fewer.
+pub(crate) fn four(parts: &[Numbered]) -> Option<(&Numbered, &Numbered, &Numbered, &Numbered)>
+    ensures { MatchOption result (is_four (pieces_of (map syntax parts.now)) ≡ false) (λ p. pieces_of (map syntax parts.now) ≡ Then (syntax p.0.now) (Then (syntax p.1.now) (Then (syntax p.2.now) (Then (syntax p.3.now) End)))) }
+{
+    let (first, parts) = split_first(parts)?;
+    let (second, third, fourth) = three(parts)?;
+    Some((first, second, third, fourth))
 }
 
 /// The first part, a text, and the parts behind it. `None` of parts of another form.
@@ -150,6 +170,85 @@ pub(crate) fn template_lists(tree: &Numbered) -> Option<(&[Numbered], &[Numbered
 {
     match tree {
         Numbered::Node(_, word, parts) => template_parts(*word, parts.as_slice()),
+        Numbered::List(_) => None,
+        Numbered::Text(_) => None,
+        Numbered::Number(_) => None,
+        Numbered::Flag(_) => None,
+        Numbered::Absent => None,
+    }
+}
+
+/// The only part, a list. `None` of parts of another form.
+#[tactic(auto, using(crate::proofs::Shaping::alone))]
+pub(crate) fn list_alone(parts: &[Numbered]) -> Option<&[Numbered]>
+    ensures { option_map (λ items. pieces_of (map syntax items.now)) result ≡ spec.list_alone (pieces_of (map syntax parts.now)) }
+{
+    match one(parts) {
+        Some(list) => match as_items(list) {
+            Some(items) => Some(items),
+            None => None,
+        },
+        None => None,
+    }
+}
+
+/// The label that a jump says in its part, which is a text or absent. `None` at any other tree.
+#[tactic(auto, using(rl_syntax::proofs::Layers::by_layer))]
+fn label_in(tree: &Numbered) -> Option<Option<&Text>>
+    ensures { option_map (option_map (λ l. l.now)) result ≡ spec.label_in (syntax tree.now) }
+{
+    match tree {
+        Numbered::Text(label) => Some(Some(label)),
+        Numbered::Absent => Some(None),
+        Numbered::Node(_, _, _) => None,
+        Numbered::List(_) => None,
+        Numbered::Number(_) => None,
+        Numbered::Flag(_) => None,
+    }
+}
+
+/// The label of a jump by its parts. `None` of parts of another form.
+#[tactic(auto, using(crate::proofs::Shaping::labels))]
+pub(crate) fn jump_label(parts: &[Numbered]) -> Option<Option<&Text>>
+    ensures { option_map (option_map (λ l. l.now)) result ≡ spec.jump_label (pieces_of (map syntax parts.now)) }
+{
+    match one(parts) {
+        Some(label) => label_in(label),
+        None => None,
+    }
+}
+
+/// The second of two parts, a list. `None` of parts of another form.
+#[tactic(auto, using(crate::proofs::Shaping::seconds))]
+fn second_list(parts: &[Numbered]) -> Option<&[Numbered]>
+    ensures { option_map (λ items. pieces_of (map syntax items.now)) result ≡ spec.second_list (pieces_of (map syntax parts.now)) }
+{
+    match two(parts) {
+        Some((_first, list)) => match as_items(list) {
+            Some(items) => Some(items),
+            None => None,
+        },
+        None => None,
+    }
+}
+
+/// The statements of a body, by its word and parts. `None` of any other node.
+fn body_parts(word: Word, parts: &[Numbered]) -> Option<&[Numbered]>
+    ensures { option_map (λ items. pieces_of (map syntax items.now)) result ≡ spec.body_parts word (pieces_of (map syntax parts.now)) }
+{
+    match word {
+        Word::Body => second_list(parts),
+        _ => None,
+    }
+}
+
+/// The statements of a body. `None` of any other tree.
+#[tactic(auto, using(rl_syntax::proofs::Layers::by_layer))]
+pub(crate) fn body_statements(tree: &Numbered) -> Option<&[Numbered]>
+    ensures { option_map (λ items. pieces_of (map syntax items.now)) result ≡ spec.body_statements (syntax tree.now) }
+{
+    match tree {
+        Numbered::Node(_, word, parts) => body_parts(*word, parts.as_slice()),
         Numbered::List(_) => None,
         Numbered::Text(_) => None,
         Numbered::Number(_) => None,

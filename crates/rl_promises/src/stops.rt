@@ -1,59 +1,34 @@
-//! The first stop in a part of a function: a local variable with a reserved name.
+//! The first stop in a part of a function that has no statements in it: a local variable with a reserved name.
 
-ghost use Rattle.std.specs.Prelude.{◌≡◌, map, option_map, IfOk};
+ghost use Rattle.std.specs.Prelude.{◌≡◌, map, option_map};
 ghost use Rattle.std.specs.Option.{option_or};
 ghost use Rattle.rl_names.specs.Seen.{seen};
 ghost use Rattle.rl_promises.specs.SeenStops.{seen_stop};
 ghost use Rattle.rl_promises.specs.Stops as spec;
 ghost use Rattle.rl_syntax.specs.Syntax.{Node, pieces_of, syntax};
 
+use crate::found_stop::FoundStop;
 use crate::outs::{are_raw, is_known_key, is_lost_delete, is_wrapped};
 use crate::part_forms::{
     flag_and_trees, template_lists, text_ahead, text_alone, text_and_tree, three, two,
 };
 use rl_ast::binding::{BindingIdentifier, IdentifierReference};
-use rl_base::diagnostic::Diagnostic;
-use rl_base::error::OutOfMemory;
 use rl_base::ids::SymbolId;
-use rl_base::row::Row;
 use rl_base::span::Span;
 use rl_names::names::FunctionNames;
 use rl_syntax::numbered::{At, Numbered};
 use rl_syntax::parts::split_first;
 use rl_syntax::word::Word;
 use rl_used_names::reserved::is_always_reserved_word;
-use std::alloc::Global;
-
-/// A node of a local variable with a reserved name: a stop, of row S1.
-#[derive(Clone, Copy)]
-pub struct ReservedName {
-    /// The local variable.
-    pub symbol: SymbolId,
-    /// The span of the node.
-    pub label: Span,
-}
-
-impl ReservedName {
-    /// The diagnostic of the stop. On `OutOfMemory`, an allocation failed.
-    pub fn diagnostic(
-        &self,
-        alloc: Global,
-        names: &FunctionNames<'_>,
-    ) -> Result<Diagnostic, OutOfMemory>
-        ensures { IfOk result (λ d. d ≡ seen_stop (seen names.now) self.now) }
-    {
-        Diagnostic::at(alloc, Row::S1, names.name(self.symbol), self.label)
-    }
-}
 
 /// The stop at a node of a local variable. `None` if its name is not reserved, and where it is no local variable.
-fn stop_at(names: &FunctionNames<'_>, local: Option<SymbolId>, label: Span) -> Option<ReservedName>
-    ensures { option_map (seen_stop (seen names.now)) result ≡ spec.stop_of_local (seen names.now) local label }
+fn stop_at(names: &FunctionNames<'_>, local: Option<SymbolId>, span: Span) -> Option<FoundStop>
+    ensures { option_map (seen_stop (seen names.now)) result ≡ spec.stop_of_local (seen names.now) local span }
 {
     match local {
         Some(symbol) => {
             if is_always_reserved_word(names.name(symbol)) {
-                Some(ReservedName { symbol, label })
+                Some(FoundStop::ReservedName { symbol, span })
             } else {
                 None
             }
@@ -62,10 +37,10 @@ fn stop_at(names: &FunctionNames<'_>, local: Option<SymbolId>, label: Span) -> O
     }
 }
 
-/// The first stop in a tree, in the order in which the lowering meets the nodes.
+/// The first stop in a tree without statements in it, in the order in which the lowering meets the nodes.
 #[cycle(stopping)]
 #[tactic(auto, using(rl_syntax::proofs::Layers::by_layer))]
-pub fn first_stop(names: &FunctionNames<'_>, tree: &Numbered) -> Option<ReservedName>
+pub fn first_stop(names: &FunctionNames<'_>, tree: &Numbered) -> Option<FoundStop>
     ensures { option_map (seen_stop (seen names.now)) result ≡ spec.first_stop (seen names.now) (syntax tree.now) }
 {
     match tree {
@@ -81,12 +56,12 @@ pub fn first_stop(names: &FunctionNames<'_>, tree: &Numbered) -> Option<Reserved
 /// As `first_stop`, of a node.
 #[cycle(stopping)]
 #[tactic(auto, using(crate::proofs::Stopping::names, crate::proofs::Stopping::reordered, crate::proofs::Stopping::unaries, crate::proofs::Stopping::tags, crate::proofs::Stopping::props, crate::proofs::Stopping::smaller))]
-fn stop_in_node(
+pub(crate) fn stop_in_node(
     names: &FunctionNames<'_>,
     at: At,
     word: Word,
     parts: &[Numbered],
-) -> Option<ReservedName>
+) -> Option<FoundStop>
     ensures { option_map (seen_stop (seen names.now)) result ≡ spec.first_stop (seen names.now) (Node at word (pieces_of (map syntax parts.now))) }
 {
     match word {
@@ -106,12 +81,6 @@ fn stop_in_node(
                     annotation: None,
                 };
                 stop_at(names, names.declared(&identifier), at.span)
-            }
-            None => first_among(names, parts),
-        },
-        Word::If => match three(parts) {
-            Some((condition, consequent, alternate)) => {
-                first_of_three(names, consequent, alternate, condition)
             }
             None => first_among(names, parts),
         },
@@ -188,11 +157,7 @@ fn stop_in_node(
 /// As `first_stop`, for two trees.
 #[cycle(stopping)]
 #[tactic(auto, using(crate::proofs::Stopping::in_order))]
-fn first_of_two(
-    names: &FunctionNames<'_>,
-    first: &Numbered,
-    second: &Numbered,
-) -> Option<ReservedName>
+fn first_of_two(names: &FunctionNames<'_>, first: &Numbered, second: &Numbered) -> Option<FoundStop>
     ensures { option_map (seen_stop (seen names.now)) result ≡ option_or (spec.first_stop (seen names.now) (syntax first.now)) (spec.first_stop (seen names.now) (syntax second.now)) }
 {
     match first_stop(names, first) {
@@ -209,7 +174,7 @@ fn first_of_three(
     first: &Numbered,
     second: &Numbered,
     third: &Numbered,
-) -> Option<ReservedName>
+) -> Option<FoundStop>
     ensures { option_map (seen_stop (seen names.now)) result ≡ option_or (spec.first_stop (seen names.now) (syntax first.now)) (option_or (spec.first_stop (seen names.now) (syntax second.now)) (spec.first_stop (seen names.now) (syntax third.now))) }
 {
     match first_stop(names, first) {
@@ -225,7 +190,7 @@ fn first_of_tagged(
     names: &FunctionNames<'_>,
     tag: &Numbered,
     expressions: &[Numbered],
-) -> Option<ReservedName>
+) -> Option<FoundStop>
     ensures { option_map (seen_stop (seen names.now)) result ≡ option_or (spec.first_stop (seen names.now) (syntax tag.now)) (spec.first_among (seen names.now) (pieces_of (map syntax expressions.now))) }
 {
     match first_stop(names, tag) {
@@ -237,7 +202,7 @@ fn first_of_tagged(
 /// As `first_stop`, for trees in a row.
 #[cycle(stopping)]
 #[tactic(auto, using(crate::proofs::Stopping::in_order))]
-fn first_among(names: &FunctionNames<'_>, trees: &[Numbered]) -> Option<ReservedName>
+pub(crate) fn first_among(names: &FunctionNames<'_>, trees: &[Numbered]) -> Option<FoundStop>
     ensures { option_map (seen_stop (seen names.now)) result ≡ spec.first_among (seen names.now) (pieces_of (map syntax trees.now)) }
 {
     'trees: for tree in trees {

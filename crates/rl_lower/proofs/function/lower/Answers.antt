@@ -6,7 +6,7 @@ use Rattle.rl_base.specs.declared.span.Span.{Span}
 use Rattle.rl_base.specs.Reserved.{is_reserved}
 use Rattle.rl_base.specs.declared.diagnostic.Diagnostic.{Diagnostic}
 use Rattle.rl_promises.proofs.LowerableTrees.{body_lowerable, params_lowerable}
-use Rattle.rl_promises.specs.Lowerable.{IsLowerable}
+use Rattle.rl_promises.specs.Lowerable.{IsLowerableBody}
 use Rattle.rl_promises.specs.Rows.{Records, refusals_of}
 use Rattle.rl_promises.specs.Stops.{has_using, stop_of}
 use Rattle.rl_hir.specs.declared.environment.Environment.{Environment}
@@ -78,7 +78,7 @@ lower_graph-requires-clause-free c =
 
 pub lower_graph-requires-clause-may : goal.lower_graph-requires-clause-may
 lower_graph-requires-clause-may c =
-    subst (IsLowerable (seen c.args.names.now)) (sym c.parts_of-parts.ensures.body)
+    subst (IsLowerableBody (seen c.args.names.now)) (sym c.parts_of-parts.ensures.body)
     (body_lowerable (seen c.args.names.now) (seen_function_node c.args.function) c.requires.covered c.requires.locals c.in_ok-look_for_stops.ensures.goes_on)
 
 pub lower_graph-requires-clause-room : goal.lower_graph-requires-clause-room

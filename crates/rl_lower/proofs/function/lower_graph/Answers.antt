@@ -31,6 +31,11 @@ lower_body-requires-clause-names g c =
     subst (λ (s : State). IsNamed (seen c.args.names.now) s) (sym begun)
     (parameters_named (begun_by c.args.env.now (function_tables c.args.names.now c.args.scope (g.U.ReadsUnit.tables c.args.unit).sites)) (seen c.args.names.now) c.args.parameters.now c.requires.knows (λ symbol. refl) c.requires.locals)
 
+pub lower_body-requires-clause-outermost : goal.lower_body-requires-clause-outermost
+lower_body-requires-clause-outermost g c =
+    let begun = begun_call _ _ _ _ _ c.requires.apart (begun_from _ (function_tables c.args.names.now c.args.scope (g.U.ReadsUnit.tables c.args.unit).sites) _ _ _ c.in_ok-builder.ensures.state c.requires.tables (nil_from_length _ c.new.ensures.len)) c.in_ok-params.ensures.state in
+    (subst IsFresh (sym begun) (begun_fresh c.args.env.now _ c.args.parameters.now)).scopes
+
 pub lower_body-requires-clause-room : goal.lower_body-requires-clause-room
 lower_body-requires-clause-room g c =
     let begun = begun_call _ _ _ _ _ c.requires.apart (begun_from _ (function_tables c.args.names.now c.args.scope (g.U.ReadsUnit.tables c.args.unit).sites) _ _ _ c.in_ok-builder.ensures.state c.requires.tables (nil_from_length _ c.new.ensures.len)) c.in_ok-params.ensures.state in

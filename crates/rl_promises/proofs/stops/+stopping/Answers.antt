@@ -1,6 +1,6 @@
 use Rattle.std.proofs.Common.{map, sym, ◌∙◌}
 use Rattle.rl_names.specs.Seen.{seen}
-use Rattle.rl_promises.proofs.Stopping.{bind_parts, cond_parts, cond_stop, declarator_parts, declarator_stop, id_parts, if_parts, if_stop, instantiate_none, instantiate_stop, logical_other}
+use Rattle.rl_promises.proofs.Stopping.{bind_parts, cond_parts, cond_stop, declarator_parts, declarator_stop, id_parts, instantiate_none, instantiate_stop, logical_other}
 use Rattle.rl_promises.proofs.Stopping.{logical_parts, logical_stop, prop_parts, prop_stop, tagged_other, tagged_parts, tagged_stop, unary_parts, unary_stop, update_parts, update_stop, worded}
 use Rattle.rl_syntax.specs.Syntax.{pieces_of, syntax}
 use Rattle.rl_promises.proofs.stops.+stopping.Goals as goal
@@ -20,26 +20,14 @@ stop_in_node-returns-in-None-text_ahead t c =
 pub stop_in_node-returns-in-Some-three : goal.stop_in_node-returns-in-Some-three
 stop_in_node-returns-in-Some-three t c =
     let ps = pieces_of (map syntax c.args.parts.now) in
-    worded (seen c.args.names.now) c.args.at ps _ _ _ c.in-If.is
-    (if_stop (seen c.args.names.now) c.args.at ps _ _ _ _ c.in-Some-three.ensures c.first_of_three.ensures)
+    worded (seen c.args.names.now) c.args.at ps _ _ _ c.in-Cond.is
+    (cond_stop (seen c.args.names.now) c.args.at ps _ _ _ _ c.in-Some-three.ensures c.first_of_three.ensures)
 
 pub stop_in_node-returns-in-None-three : goal.stop_in_node-returns-in-None-three
 stop_in_node-returns-in-None-three t c =
     let ps = pieces_of (map syntax c.args.parts.now) in
-    worded (seen c.args.names.now) c.args.at ps _ _ _ c.in-If.is
-    (if_parts (seen c.args.names.now) c.args.at ps _ c.in-None-three.ensures c.first_among-in-None-three.ensures)
-
-pub stop_in_node-returns-in-Some-three-2 : goal.stop_in_node-returns-in-Some-three-2
-stop_in_node-returns-in-Some-three-2 t c =
-    let ps = pieces_of (map syntax c.args.parts.now) in
     worded (seen c.args.names.now) c.args.at ps _ _ _ c.in-Cond.is
-    (cond_stop (seen c.args.names.now) c.args.at ps _ _ _ _ c.in-Some-three-2.ensures c.first_of_three-in-Some-three-2.ensures)
-
-pub stop_in_node-returns-in-None-three-2 : goal.stop_in_node-returns-in-None-three-2
-stop_in_node-returns-in-None-three-2 t c =
-    let ps = pieces_of (map syntax c.args.parts.now) in
-    worded (seen c.args.names.now) c.args.at ps _ _ _ c.in-Cond.is
-    (cond_parts (seen c.args.names.now) c.args.at ps _ c.in-None-three-2.ensures c.first_among-in-None-three-2.ensures)
+    (cond_parts (seen c.args.names.now) c.args.at ps _ c.in-None-three.ensures c.first_among-in-None-three.ensures)
 
 pub stop_in_node-returns-in-Some-two : goal.stop_in_node-returns-in-Some-two
 stop_in_node-returns-in-Some-two t c =
@@ -99,13 +87,13 @@ pub stop_in_node-returns-else-is_wrapped : goal.stop_in_node-returns-else-is_wra
 stop_in_node-returns-else-is_wrapped t c =
     let ps = pieces_of (map syntax c.args.parts.now) in
     worded (seen c.args.names.now) c.args.at ps _ _ _ c.in-Update.is
-    (update_stop (seen c.args.names.now) c.args.at ps _ _ _ _ c.in-Some-three-3.ensures (sym c.is_wrapped.ensures ∙ c.if-is_wrapped.false) c.first_stop-else-is_wrapped.ensures)
+    (update_stop (seen c.args.names.now) c.args.at ps _ _ _ _ c.in-Some-three-2.ensures (sym c.is_wrapped.ensures ∙ c.if-is_wrapped.false) c.first_stop-else-is_wrapped.ensures)
 
-pub stop_in_node-returns-in-None-three-3 : goal.stop_in_node-returns-in-None-three-3
-stop_in_node-returns-in-None-three-3 t c =
+pub stop_in_node-returns-in-None-three-2 : goal.stop_in_node-returns-in-None-three-2
+stop_in_node-returns-in-None-three-2 t c =
     let ps = pieces_of (map syntax c.args.parts.now) in
     worded (seen c.args.names.now) c.args.at ps _ _ _ c.in-Update.is
-    (update_parts (seen c.args.names.now) c.args.at ps _ c.in-None-three-3.ensures c.first_among-in-None-three-3.ensures)
+    (update_parts (seen c.args.names.now) c.args.at ps _ c.in-None-three-2.ensures c.first_among-in-None-three-2.ensures)
 
 pub stop_in_node-returns-then-are_raw : goal.stop_in_node-returns-then-are_raw
 stop_in_node-returns-then-are_raw t c =

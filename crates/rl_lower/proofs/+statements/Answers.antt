@@ -1,0 +1,731 @@
+use Rattle.std.proofs.Common.{rules, ◌≡◌, ℕ, ◌+◌, true, false, List, ◌∷◌, map, option_map, refl, ap, sym, ◌∙◌, subst, arith}
+use Rattle.rl_builder.specs.Builder.{State, state_of}
+use Rattle.rl_frames.specs.Frames.{ForParts, WhileParts, do_while_bodied, do_while_of, for_bodied, for_inited, for_of, for_updated, if_of}
+use Rattle.rl_frames.specs.Frames.{while_bodied, while_of}
+use Rattle.rl_frames.specs.Parts.{for_begun, for_scope, label_begun, label_scope, while_begun, while_scope}
+use Rattle.rl_grammar.specs.Fields.{maybe}
+use Rattle.rl_lowered.proofs.Arounds.{expression_arounds, statement_arounds}
+use Rattle.rl_lowered.proofs.Names.{names_same}
+use Rattle.rl_lowered.proofs.Told.{told_statements}
+use Rattle.rl_lowered.specs.Arounds.{arounds}
+use Rattle.rl_lowered.specs.Promised.{HasRoom, share}
+use Rattle.rl_model.specs.Actions.{Label}
+use Rattle.rl_names.specs.Seen.{seen}
+use Rattle.rl_promises.specs.Jumps.{Around, InLoop}
+use Rattle.rl_promises.specs.Lowerable.{AreLowerableIn}
+use Rattle.rl_runs.specs.Moves.{block_id}
+use Rattle.rl_syntax.specs.Syntax.{Syntax, Pieces, Then, nodes, nodes_of, pieces_of, syntax}
+use Rattle.rl_lower.proofs.Derivations.{room_after}
+use Rattle.rl_lower.proofs.LoopDerivations.{break_may, continue_may, do_while_bodied_size, do_while_told, for_begun_arounds, for_begun_size}
+use Rattle.rl_lower.proofs.LoopDerivations.{for_bodied_size, for_inited_arounds, for_inited_names, for_inited_size, for_plain_arounds}
+use Rattle.rl_lower.proofs.LoopDerivations.{for_plain_told, for_updated_arounds, for_updated_size, for_updated_told, if_consequent_arounds}
+use Rattle.rl_lower.proofs.LoopDerivations.{init_arounds, inside, inside_label, inside_loop, jump_ok, label_begun_size, labeled_loop_may}
+use Rattle.rl_lower.proofs.LoopDerivations.{labeled_loop_ok, labeled_may, labeled_told, moved_named, moved_room, opened_plain, opened_updated}
+use Rattle.rl_lower.proofs.LoopDerivations.{scope_kept, unlabeled_loop_ok, while_begun_arounds, while_begun_size, while_bodied_size, while_told}
+use Rattle.rl_lower.proofs.StatementDerivations.{block_ok, debugger_told, empty_told, expression_told}
+use Rattle.rl_lower.proofs.StatementDerivations.{if_alternate_named, if_alternate_room, if_begun_named, if_begun_room}
+use Rattle.rl_lower.proofs.StatementDerivations.{if_consequent_named, if_consequent_room, if_else_told}
+use Rattle.rl_lower.proofs.StatementDerivations.{if_second_room, if_then_told, if_third_room, statements_done, statements_next}
+use Rattle.rl_lower.proofs.+statements.Goals as goal
+
+pub statement::lower_statement-returns-in-Empty-clause-lowered : goal.statement::lower_statement-returns-in-Empty-clause-lowered
+statement::lower_statement-returns-in-Empty-clause-lowered g t c = empty_told c.in-Empty.ensures
+
+pub statement::lower_statement-returns-in_ok-lower_value_to_temporary-in-Debugger-clause-lowered :
+    goal.statement::lower_statement-returns-in_ok-lower_value_to_temporary-in-Debugger-clause-lowered
+statement::lower_statement-returns-in_ok-lower_value_to_temporary-in-Debugger-clause-lowered g t c =
+    debugger_told _ c.in-Debugger.ensures c.in_ok-lower_value_to_temporary-in-Debugger.ensures.state
+
+pub statement::lower_statement-returns-in_ok-lower_expression-in-Expression-clause-lowered :
+    goal.statement::lower_statement-returns-in_ok-lower_expression-in-Expression-clause-lowered
+statement::lower_statement-returns-in_ok-lower_expression-in-Expression-clause-lowered g t c =
+    expression_told c.in-Expression.ensures c.in_ok-lower_expression-in-Expression.ensures.lowered
+
+pub statement::lower_statement-returns-in-Block-clause-lowered : goal.statement::lower_statement-returns-in-Block-clause-lowered
+statement::lower_statement-returns-in-Block-clause-lowered g t c =
+    block_ok (seen c.args.names.now) _ _ c.lower_statements.result (c.block_statement_view-block.ensures ∙ c.in-Block.ensures)
+    c.lower_statements.ensures.lowered
+
+pub statement::lower_statement-lower_break-requires-clause-may : goal.statement::lower_statement-lower_break-requires-clause-may
+statement::lower_statement-lower_break-requires-clause-may g t c = break_may (seen c.args.names.now) (arounds (state_of g.U.ReadsUnit.tables c.args.builder.now)) c.in-Break.at c.in-Break.label c.in-Break.ensures c.requires.may
+
+pub statement::lower_statement-lower_continue-requires-clause-may : goal.statement::lower_statement-lower_continue-requires-clause-may
+statement::lower_statement-lower_continue-requires-clause-may g t c =
+    continue_may (seen c.args.names.now) (arounds (state_of g.U.ReadsUnit.tables c.args.builder.now)) c.in-Continue.at c.in-Continue.label c.in-Continue.ensures c.requires.may
+
+pub statement::lower_statement-returns-in-Break-clause-lowered : goal.statement::lower_statement-returns-in-Break-clause-lowered
+statement::lower_statement-returns-in-Break-clause-lowered g t c =
+    jump_ok (seen c.args.names.now) _ _ c.lower_break.result c.in-Break.ensures c.lower_break.ensures.lowered
+
+pub statement::lower_statement-returns-in-Continue-clause-lowered : goal.statement::lower_statement-returns-in-Continue-clause-lowered
+statement::lower_statement-returns-in-Continue-clause-lowered g t c =
+    jump_ok (seen c.args.names.now) _ _ c.lower_continue.result c.in-Continue.ensures c.lower_continue.ensures.lowered
+
+pub statement::lower_statement-returns-in-While-clause-lowered : goal.statement::lower_statement-returns-in-While-clause-lowered
+statement::lower_statement-returns-in-While-clause-lowered g t c = unlabeled_loop_ok (seen c.args.names.now) _ _ _ c.lower_loop.result c.lower_loop.ensures.lowered
+
+pub statement::lower_statement-returns-in-DoWhile-clause-lowered : goal.statement::lower_statement-returns-in-DoWhile-clause-lowered
+statement::lower_statement-returns-in-DoWhile-clause-lowered g t c =
+    unlabeled_loop_ok (seen c.args.names.now) _ _ _ c.lower_loop-in-DoWhile.result c.lower_loop-in-DoWhile.ensures.lowered
+
+pub statement::lower_statement-returns-in-For-clause-lowered : goal.statement::lower_statement-returns-in-For-clause-lowered
+statement::lower_statement-returns-in-For-clause-lowered g t c =
+    unlabeled_loop_ok (seen c.args.names.now) _ _ _ c.lower_loop-in-For.result c.lower_loop-in-For.ensures.lowered
+
+-- Statements in order.
+
+pub statement::lower_statements-statements-preserved : goal.statement::lower_statements-statements-preserved
+statement::lower_statements-statements-preserved g t c =
+    let loop = c.statements.invariant in
+    let now : State = state_of g.U.ReadsUnit.tables c.statements.builder in
+    let later : State = state_of g.U.ReadsUnit.tables c.lower_statement.new.builder in
+    let lowered = c.in_ok-lower_statement.ensures.lowered in
+    let left : Pieces = pieces_of (map syntax c.statements.left.trees.now) in
+    let rest : Pieces = pieces_of (map syntax c.in-Some.rest.trees.now) in
+    let first : Syntax = syntax c.in-Some.statement.tree.now in
+    let split : left ≡ Then first rest = c.in-Some.ensures in
+    let counted : nodes_of left ≡ nodes first + nodes_of rest = ap nodes_of split in
+    record {
+      same_reference = c.in_ok-lower_statement.ensures.same_reference ∙ loop.same_reference;
+      names = lowered.named loop.names;
+      may = subst (λ (a : List Around). AreLowerableIn (seen c.args.names.now) a rest) (sym (statement_arounds lowered.by))
+          (subst (AreLowerableIn (seen c.args.names.now) (arounds now)) split loop.may).1;
+      room = room_after now later (share (nodes first)) (share (nodes_of rest)) (share (nodes_of left)) lowered.size
+          (omega (arith, counted)) loop.room;
+      fewer = omega (arith, counted, loop.fewer);
+      lowers = λ new more. loop.lowers new (statements_next split lowered more);
+    }
+
+pub statement::lower_statements-returns-clause-lowered : goal.statement::lower_statements-returns-clause-lowered
+statement::lower_statements-returns-clause-lowered g t c = told_statements (c.statements.invariant.lowers _ (statements_done c.in_default.ensures))
+
+-- Frames.
+
+pub statement::lower_if_then-lower_statement-requires : goal.statement::lower_if_then-lower_statement-requires
+statement::lower_if_then-lower_statement-requires g t c =
+    let consequent : ℕ = nodes (syntax c.args.consequent.tree.now) in
+    let s : State = state_of g.U.ReadsUnit.tables c.args.builder.now in
+    let b : State = state_of g.U.ReadsUnit.tables c.begin.new.b in
+    λ lifetimes outlives. (
+      search rules,
+      (
+        search rules,
+        (
+          if_begun_named s b c.in_ok-frame.ensures.state c.requires.names,
+          (
+            inside (seen c.args.names.now) (syntax c.args.consequent.tree.now) s b (ap arounds c.in_ok-frame.ensures.state) c.requires.may.1,
+            if_begun_room s b (share consequent)
+                (share ((nodes (syntax c.args.test.tree.now)) + (consequent + (0 + 0)) + 1)) c.in_ok-frame.ensures.state (omega arith)
+                c.requires.room,
+          ),
+        ),
+      ),
+    )
+
+pub statement::lower_if_then-lower_expression-requires-clause-names : goal.statement::lower_if_then-lower_expression-requires-clause-names
+statement::lower_if_then-lower_expression-requires-clause-names g t c =
+    let s : State = state_of g.U.ReadsUnit.tables c.args.builder.now in
+    let b : State = state_of g.U.ReadsUnit.tables c.begin.new.b in
+    let s2 : State = state_of g.U.ReadsUnit.tables c.lower_statement.new.builder in
+    let b2 : State = state_of g.U.ReadsUnit.tables c.consequent.new.b in
+    if_consequent_named c.args.at.span false (if_of c.in_ok-frame.frame) s s2 b2 c.span_of.result c.in_ok-frame.ensures.frame
+    c.in_ok-consequent.ensures.state
+    (c.in_ok-lower_statement.ensures.lowered.named (if_begun_named s b c.in_ok-frame.ensures.state c.requires.names))
+
+pub statement::lower_if_then-lower_expression-requires-clause-room : goal.statement::lower_if_then-lower_expression-requires-clause-room
+statement::lower_if_then-lower_expression-requires-clause-room g t c =
+    let test : ℕ = nodes (syntax c.args.test.tree.now) in
+    let s : State = state_of g.U.ReadsUnit.tables c.args.builder.now in
+    let b : State = state_of g.U.ReadsUnit.tables c.begin.new.b in
+    let s2 : State = state_of g.U.ReadsUnit.tables c.lower_statement.new.builder in
+    let b2 : State = state_of g.U.ReadsUnit.tables c.consequent.new.b in
+    let second : HasRoom s2 (share (0 + 0) + (share test + 62)) =
+    if_second_room test (nodes (syntax c.args.consequent.tree.now)) (0 + 0) s b s2 c.in_ok-frame.ensures.state
+    c.in_ok-lower_statement.ensures.lowered.size c.requires.room in
+    if_consequent_room (if_of c.in_ok-frame.frame) s2 b2 c.span_of.result (share test) (share (0 + 0) + (share test + 62))
+    c.in_ok-consequent.ensures.state (omega arith) second
+
+pub statement::lower_if_then-returns-clause-lowered : goal.statement::lower_if_then-returns-clause-lowered
+statement::lower_if_then-returns-clause-lowered g t c =
+    if_then_told (if_of c.consequent.new.self) _ c.span_of.ensures c.in_ok-frame.ensures.frame c.in_ok-frame.ensures.state
+    c.in_ok-lower_statement.ensures.lowered c.in_ok-consequent.ensures.state c.in_ok-consequent.ensures.frame
+    c.in_ok-test.ensures.lowered c.in_ok-finish.ensures.state
+
+pub statement::lower_if_else-lower_statement-requires : goal.statement::lower_if_else-lower_statement-requires
+statement::lower_if_else-lower_statement-requires g t c =
+    let consequent : ℕ = nodes (syntax c.args.consequent.tree.now) in
+    let s : State = state_of g.U.ReadsUnit.tables c.args.builder.now in
+    let b : State = state_of g.U.ReadsUnit.tables c.begin.new.b in
+    λ lifetimes outlives. (
+      search rules,
+      (
+        search rules,
+        (
+          if_begun_named s b c.in_ok-frame.ensures.state c.requires.names,
+          (
+            inside (seen c.args.names.now) (syntax c.args.consequent.tree.now) s b (ap arounds c.in_ok-frame.ensures.state) c.requires.may.1,
+            if_begun_room s b (share consequent)
+                (share ((nodes (syntax c.args.test.tree.now)) + (consequent + ((nodes (syntax c.args.alternate.tree.now)) + 0)) + 1))
+                c.in_ok-frame.ensures.state (omega arith) c.requires.room,
+          ),
+        ),
+      ),
+    )
+
+pub statement::lower_if_else-lower_statement-requires-2 : goal.statement::lower_if_else-lower_statement-requires-2
+statement::lower_if_else-lower_statement-requires-2 g t c =
+    let test : ℕ = nodes (syntax c.args.test.tree.now) in
+    let alternate : ℕ = nodes (syntax c.args.alternate.tree.now) in
+    let s : State = state_of g.U.ReadsUnit.tables c.args.builder.now in
+    let b : State = state_of g.U.ReadsUnit.tables c.begin.new.b in
+    let s2 : State = state_of g.U.ReadsUnit.tables c.lower_statement.new.builder in
+    let b2 : State = state_of g.U.ReadsUnit.tables c.consequent.new.b in
+    let second : HasRoom s2 (share (alternate + 0) + (share test + 62)) =
+    if_second_room test (nodes (syntax c.args.consequent.tree.now)) (alternate + 0) s b s2 c.in_ok-frame.ensures.state
+    c.in_ok-lower_statement.ensures.lowered.size c.requires.room in
+    λ lifetimes outlives. (
+      search rules,
+      (
+        search rules,
+        (
+          if_consequent_named c.args.at.span true (if_of c.in_ok-frame.frame) s s2 b2 c.span_of.result c.in_ok-frame.ensures.frame
+              c.in_ok-consequent.ensures.state
+              (c.in_ok-lower_statement.ensures.lowered.named (if_begun_named s b c.in_ok-frame.ensures.state c.requires.names)),
+          (
+            inside (seen c.args.names.now) (syntax c.args.alternate.tree.now) s b2
+                (if_consequent_arounds c.span_of.result s s2 b2 c.in_ok-frame.ensures.frame c.in_ok-consequent.ensures.state
+                ∙ statement_arounds c.in_ok-lower_statement.ensures.lowered.by ∙ ap arounds c.in_ok-frame.ensures.state)
+                c.requires.may.2,
+            if_consequent_room (if_of c.in_ok-frame.frame) s2 b2 c.span_of.result (share alternate)
+                (share (alternate + 0) + (share test + 62)) c.in_ok-consequent.ensures.state (omega arith) second,
+          ),
+        ),
+      ),
+    )
+
+pub statement::lower_if_else-lower_expression-requires-clause-names : goal.statement::lower_if_else-lower_expression-requires-clause-names
+statement::lower_if_else-lower_expression-requires-clause-names g t c =
+    let s : State = state_of g.U.ReadsUnit.tables c.args.builder.now in
+    let b : State = state_of g.U.ReadsUnit.tables c.begin.new.b in
+    let s2 : State = state_of g.U.ReadsUnit.tables c.lower_statement.new.builder in
+    let b2 : State = state_of g.U.ReadsUnit.tables c.consequent.new.b in
+    let s3 : State = state_of g.U.ReadsUnit.tables c.lower_statement-2.new.builder in
+    let b3 : State = state_of g.U.ReadsUnit.tables c.alternate.new.b in
+    if_alternate_named (if_of c.consequent.new.self) s3 b3 c.span_of-2.result c.in_ok-alternate.ensures.state
+    (c.in_ok-lower_statement-2.ensures.lowered.named (if_consequent_named c.args.at.span true (if_of c.in_ok-frame.frame) s s2 b2
+    c.span_of.result c.in_ok-frame.ensures.frame c.in_ok-consequent.ensures.state
+    (c.in_ok-lower_statement.ensures.lowered.named (if_begun_named s b c.in_ok-frame.ensures.state c.requires.names))))
+
+pub statement::lower_if_else-lower_expression-requires-clause-room : goal.statement::lower_if_else-lower_expression-requires-clause-room
+statement::lower_if_else-lower_expression-requires-clause-room g t c =
+    let test : ℕ = nodes (syntax c.args.test.tree.now) in
+    let alternate : ℕ = nodes (syntax c.args.alternate.tree.now) in
+    let s : State = state_of g.U.ReadsUnit.tables c.args.builder.now in
+    let b : State = state_of g.U.ReadsUnit.tables c.begin.new.b in
+    let s2 : State = state_of g.U.ReadsUnit.tables c.lower_statement.new.builder in
+    let b2 : State = state_of g.U.ReadsUnit.tables c.consequent.new.b in
+    let s3 : State = state_of g.U.ReadsUnit.tables c.lower_statement-2.new.builder in
+    let b3 : State = state_of g.U.ReadsUnit.tables c.alternate.new.b in
+    let second : HasRoom s2 (share (alternate + 0) + (share test + 62)) =
+    if_second_room test (nodes (syntax c.args.consequent.tree.now)) (alternate + 0) s b s2 c.in_ok-frame.ensures.state
+    c.in_ok-lower_statement.ensures.lowered.size c.requires.room in
+    if_alternate_room (if_of c.consequent.new.self) s3 b3 c.span_of-2.result (share test) (share test + 61) c.in_ok-alternate.ensures.state
+    (omega arith)
+    (if_third_room test alternate (if_of c.in_ok-frame.frame) s2 b2 s3 c.span_of.result c.in_ok-consequent.ensures.state
+    c.in_ok-lower_statement-2.ensures.lowered.size second)
+
+pub statement::lower_if_else-returns-clause-lowered : goal.statement::lower_if_else-returns-clause-lowered
+statement::lower_if_else-returns-clause-lowered g t c =
+    if_else_told (if_of c.alternate.new.self) _ c.span_of.ensures c.span_of-2.ensures c.in_ok-frame.ensures.frame
+    c.in_ok-frame.ensures.state
+    c.in_ok-lower_statement.ensures.lowered c.in_ok-consequent.ensures.state c.in_ok-consequent.ensures.frame
+    c.in_ok-lower_statement-2.ensures.lowered c.in_ok-alternate.ensures.state c.in_ok-alternate.ensures.frame
+    c.in_ok-test.ensures.lowered c.in_ok-finish.ensures.state
+
+-- Loops, and statements with a label.
+
+pub loops::lower_while-lower_statement-requires : goal.loops::lower_while-lower_statement-requires
+loops::lower_while-lower_statement-requires g t c =
+    let test : ℕ = nodes (syntax c.args.test.tree.now) in
+    let body : ℕ = nodes (syntax c.args.body.tree.now) in
+    let s : State = state_of g.U.ReadsUnit.tables c.args.builder.now in
+    let b : State = state_of g.U.ReadsUnit.tables c.begin.new.b in
+    let own : Label = c.in_ok-label.label in
+    λ lifetimes outlives. (
+      search rules,
+      (
+        search rules,
+        (
+          moved_named s (while_begun s own) b c.in_ok-frame.ensures.state (names_same s (while_begun s own) refl) c.requires.names,
+          (
+            inside_loop (seen c.args.names.now) (syntax c.args.body.tree.now) s b (while_begun_arounds s b c.in_ok-label.ensures c.in_ok-frame.ensures.state) c.requires.may.1,
+            moved_room s (while_begun s own) b 3 (share body) (share (test + (body + 0) + 1)) c.in_ok-frame.ensures.state (while_begun_size s own) (omega arith) c.requires.room,
+          ),
+        ),
+      ),
+    )
+
+pub loops::lower_while-body-requires-clause-scope : goal.loops::lower_while-body-requires-clause-scope
+loops::lower_while-body-requires-clause-scope g t c =
+    let s : State = state_of g.U.ReadsUnit.tables c.args.builder.now in
+    let b : State = state_of g.U.ReadsUnit.tables c.begin.new.b in
+    let s2 : State = state_of g.U.ReadsUnit.tables c.lower_statement.new.builder in
+    let own : Label = c.in_ok-label.label in
+    scope_kept s b s2 (while_scope s own) (ap (λ (o : State). o.scopes) c.in_ok-frame.ensures.state) c.in_ok-lower_statement.ensures.lowered
+
+pub loops::lower_while-lower_expression-requires-clause-names : goal.loops::lower_while-lower_expression-requires-clause-names
+loops::lower_while-lower_expression-requires-clause-names g t c =
+    let s : State = state_of g.U.ReadsUnit.tables c.args.builder.now in
+    let b : State = state_of g.U.ReadsUnit.tables c.begin.new.b in
+    let own : Label = c.in_ok-label.label in
+    let s2 : State = state_of g.U.ReadsUnit.tables c.lower_statement.new.builder in
+    let b2 : State = state_of g.U.ReadsUnit.tables c.body.new.b in
+    let f : WhileParts = while_of c.in_ok-frame.frame in
+    moved_named s2 (while_bodied f s2 c.span_of.result) b2 c.in_ok-body.ensures.state (names_same s2 (while_bodied f s2 c.span_of.result) refl)
+    (c.in_ok-lower_statement.ensures.lowered.named (moved_named s (while_begun s own) b c.in_ok-frame.ensures.state (names_same s (while_begun s own) refl) c.requires.names))
+
+pub loops::lower_while-lower_expression-requires-clause-room : goal.loops::lower_while-lower_expression-requires-clause-room
+loops::lower_while-lower_expression-requires-clause-room g t c =
+    let test : ℕ = nodes (syntax c.args.test.tree.now) in
+    let body : ℕ = nodes (syntax c.args.body.tree.now) in
+    let s : State = state_of g.U.ReadsUnit.tables c.args.builder.now in
+    let b : State = state_of g.U.ReadsUnit.tables c.begin.new.b in
+    let own : Label = c.in_ok-label.label in
+    let s2 : State = state_of g.U.ReadsUnit.tables c.lower_statement.new.builder in
+    let b2 : State = state_of g.U.ReadsUnit.tables c.body.new.b in
+    let f : WhileParts = while_of c.in_ok-frame.frame in
+    let room : HasRoom b (share body + (share test + 61)) =
+    moved_room s (while_begun s own) b 3 (share body + (share test + 61)) (share (test + (body + 0) + 1)) c.in_ok-frame.ensures.state (while_begun_size s own) (omega arith) c.requires.room in
+    moved_room s2 (while_bodied f s2 c.span_of.result) b2 0 (share test) (share test + 61) c.in_ok-body.ensures.state (while_bodied_size f s2 c.span_of.result) (omega arith)
+    (room_after b s2 (share body) (share test + 61) (share body + (share test + 61)) c.in_ok-lower_statement.ensures.lowered.size (omega arith) room)
+
+pub loops::lower_while-returns-clause-lowered : goal.loops::lower_while-returns-clause-lowered
+loops::lower_while-returns-clause-lowered g t c =
+    while_told (while_of c.body.new.self) _ c.in_ok-label.ensures c.span_of.ensures c.in_ok-frame.ensures.frame c.in_ok-frame.ensures.state
+    c.in_ok-lower_statement.ensures.lowered c.in_ok-body.ensures.state c.in_ok-body.ensures.frame c.in_ok-test.ensures.lowered c.in_ok-finish.ensures.state
+
+pub loops::lower_do_while-lower_statement-requires : goal.loops::lower_do_while-lower_statement-requires
+loops::lower_do_while-lower_statement-requires g t c =
+    let test : ℕ = nodes (syntax c.args.test.tree.now) in
+    let body : ℕ = nodes (syntax c.args.body.tree.now) in
+    let s : State = state_of g.U.ReadsUnit.tables c.args.builder.now in
+    let b : State = state_of g.U.ReadsUnit.tables c.begin.new.b in
+    let own : Label = c.in_ok-label.label in
+    λ lifetimes outlives. (
+      search rules,
+      (
+        search rules,
+        (
+          moved_named s (while_begun s own) b c.in_ok-frame.ensures.state (names_same s (while_begun s own) refl) c.requires.names,
+          (
+            inside_loop (seen c.args.names.now) (syntax c.args.body.tree.now) s b (while_begun_arounds s b c.in_ok-label.ensures c.in_ok-frame.ensures.state) c.requires.may.0,
+            moved_room s (while_begun s own) b 3 (share body) (share (body + (test + 0) + 1)) c.in_ok-frame.ensures.state (while_begun_size s own) (omega arith) c.requires.room,
+          ),
+        ),
+      ),
+    )
+
+pub loops::lower_do_while-body-requires-clause-scope : goal.loops::lower_do_while-body-requires-clause-scope
+loops::lower_do_while-body-requires-clause-scope g t c =
+    let s : State = state_of g.U.ReadsUnit.tables c.args.builder.now in
+    let b : State = state_of g.U.ReadsUnit.tables c.begin.new.b in
+    let s2 : State = state_of g.U.ReadsUnit.tables c.lower_statement.new.builder in
+    let own : Label = c.in_ok-label.label in
+    scope_kept s b s2 (while_scope s own) (ap (λ (o : State). o.scopes) c.in_ok-frame.ensures.state) c.in_ok-lower_statement.ensures.lowered
+
+pub loops::lower_do_while-lower_expression-requires-clause-names : goal.loops::lower_do_while-lower_expression-requires-clause-names
+loops::lower_do_while-lower_expression-requires-clause-names g t c =
+    let s : State = state_of g.U.ReadsUnit.tables c.args.builder.now in
+    let b : State = state_of g.U.ReadsUnit.tables c.begin.new.b in
+    let own : Label = c.in_ok-label.label in
+    let s2 : State = state_of g.U.ReadsUnit.tables c.lower_statement.new.builder in
+    let b2 : State = state_of g.U.ReadsUnit.tables c.body.new.b in
+    let f : WhileParts = do_while_of c.in_ok-frame.frame in
+    moved_named s2 (do_while_bodied f s2 c.span_of.result) b2 c.in_ok-body.ensures.state (names_same s2 (do_while_bodied f s2 c.span_of.result) refl)
+    (c.in_ok-lower_statement.ensures.lowered.named (moved_named s (while_begun s own) b c.in_ok-frame.ensures.state (names_same s (while_begun s own) refl) c.requires.names))
+
+pub loops::lower_do_while-lower_expression-requires-clause-room : goal.loops::lower_do_while-lower_expression-requires-clause-room
+loops::lower_do_while-lower_expression-requires-clause-room g t c =
+    let test : ℕ = nodes (syntax c.args.test.tree.now) in
+    let body : ℕ = nodes (syntax c.args.body.tree.now) in
+    let s : State = state_of g.U.ReadsUnit.tables c.args.builder.now in
+    let b : State = state_of g.U.ReadsUnit.tables c.begin.new.b in
+    let own : Label = c.in_ok-label.label in
+    let s2 : State = state_of g.U.ReadsUnit.tables c.lower_statement.new.builder in
+    let b2 : State = state_of g.U.ReadsUnit.tables c.body.new.b in
+    let f : WhileParts = do_while_of c.in_ok-frame.frame in
+    let room : HasRoom b (share body + (share test + 61)) =
+    moved_room s (while_begun s own) b 3 (share body + (share test + 61)) (share (body + (test + 0) + 1)) c.in_ok-frame.ensures.state (while_begun_size s own) (omega arith) c.requires.room in
+    moved_room s2 (do_while_bodied f s2 c.span_of.result) b2 0 (share test) (share test + 61) c.in_ok-body.ensures.state (do_while_bodied_size f s2 c.span_of.result) (omega arith)
+    (room_after b s2 (share body) (share test + 61) (share body + (share test + 61)) c.in_ok-lower_statement.ensures.lowered.size (omega arith) room)
+
+pub loops::lower_do_while-returns-clause-lowered : goal.loops::lower_do_while-returns-clause-lowered
+loops::lower_do_while-returns-clause-lowered g t c =
+    do_while_told (do_while_of c.body.new.self) _ c.in_ok-label.ensures c.span_of.ensures c.in_ok-frame.ensures.frame c.in_ok-frame.ensures.state
+    c.in_ok-lower_statement.ensures.lowered c.in_ok-body.ensures.state c.in_ok-body.ensures.frame c.in_ok-test.ensures.lowered c.in_ok-finish.ensures.state
+
+pub loops::lower_labeled-lower_loop-requires : goal.loops::lower_labeled-lower_loop-requires
+loops::lower_labeled-lower_loop-requires g t c =
+    let s : State = state_of g.U.ReadsUnit.tables c.args.builder.now in
+    λ lifetimes outlives. (
+      search rules,
+      (
+        search rules,
+        (
+          search rules,
+          (
+            sym c.if-is_loop.ensures,
+            (
+              labeled_loop_may (seen c.args.names.now) (arounds s) c.args.label.now (syntax c.args.body.tree.now) (sym c.if-is_loop.ensures) c.requires.may,
+              omega (arith, c.requires.room),
+            ),
+          ),
+        ),
+      ),
+    )
+
+pub loops::lower_labeled-returns-then-is_loop-clause-lowered : goal.loops::lower_labeled-returns-then-is_loop-clause-lowered
+loops::lower_labeled-returns-then-is_loop-clause-lowered g t c =
+    labeled_loop_ok (seen c.args.names.now) _ _ _ _ _ c.lower_loop.result c.lower_loop.ensures.lowered
+
+pub loops::lower_labeled-lower_statement-requires : goal.loops::lower_labeled-lower_statement-requires
+loops::lower_labeled-lower_statement-requires g t c =
+    let body : ℕ = nodes (syntax c.args.body.tree.now) in
+    let s : State = state_of g.U.ReadsUnit.tables c.args.builder.now in
+    let b : State = state_of g.U.ReadsUnit.tables c.begin.new.b in
+    let own : List ℕ = c.in_ok-label.label in
+    λ lifetimes outlives. (
+      search rules,
+      (
+        search rules,
+        (
+          moved_named s (label_begun s own) b c.in_ok-frame.ensures.state (names_same s (label_begun s own) refl) c.requires.names,
+          (
+            inside_label (seen c.args.names.now) (syntax c.args.body.tree.now) s b c.in_ok-label.ensures c.in_ok-frame.ensures.state (labeled_may (seen c.args.names.now) (arounds s) c.args.label.now (syntax c.args.body.tree.now) (sym c.if-is_loop.ensures) c.requires.may),
+            moved_room s (label_begun s own) b 2 (share body) (share (0 + (body + 0) + 1)) c.in_ok-frame.ensures.state (label_begun_size s own) (omega arith) c.requires.room,
+          ),
+        ),
+      ),
+    )
+
+pub loops::lower_labeled-finish-requires : goal.loops::lower_labeled-finish-requires
+loops::lower_labeled-finish-requires g t c =
+    let s : State = state_of g.U.ReadsUnit.tables c.args.builder.now in
+    let b : State = state_of g.U.ReadsUnit.tables c.begin.new.b in
+    let s2 : State = state_of g.U.ReadsUnit.tables c.lower_statement.new.builder in
+    let own : List ℕ = c.in_ok-label.label in
+    record { scope = scope_kept s b s2 (label_scope s own) (ap (λ (o : State). o.scopes) c.in_ok-frame.ensures.state) c.in_ok-lower_statement.ensures.lowered }
+
+pub loops::lower_labeled-returns-clause-lowered : goal.loops::lower_labeled-returns-clause-lowered
+loops::lower_labeled-returns-clause-lowered g t c =
+    labeled_told _ c.in_ok-label.ensures c.span_of.ensures (sym c.if-is_loop.ensures) c.in_ok-frame.ensures.frame c.in_ok-frame.ensures.state
+    c.in_ok-lower_statement.ensures.lowered c.in_ok-finish.ensures.state
+
+pub loops::lower_for_updated-lower_init-requires-clause-names : goal.loops::lower_for_updated-lower_init-requires-clause-names
+loops::lower_for_updated-lower_init-requires-clause-names g t c =
+    let s : State = state_of g.U.ReadsUnit.tables c.args.builder.now in
+    let b : State = state_of g.U.ReadsUnit.tables c.begin.new.b in
+    moved_named s (for_begun s) b c.in_ok-frame.ensures.state (names_same s (for_begun s) refl) c.requires.names
+
+pub loops::lower_for_updated-lower_init-requires-clause-room : goal.loops::lower_for_updated-lower_init-requires-clause-room
+loops::lower_for_updated-lower_init-requires-clause-room g t c =
+    let init : ℕ = nodes (maybe c.args.init (λ t. syntax t.tree.now)) in
+    let test : ℕ = nodes (maybe c.args.test (λ t. syntax t.tree.now)) in
+    let update : ℕ = nodes (syntax c.args.update.tree.now) in
+    let body : ℕ = nodes (syntax c.args.body.tree.now) in
+    let s : State = state_of g.U.ReadsUnit.tables c.args.builder.now in
+    let b : State = state_of g.U.ReadsUnit.tables c.begin.new.b in
+    let room : HasRoom b (share init + 4 + (share update + (share body + (share test + 50)))) =
+    moved_room s (for_begun s) b 3 (share init + 4 + (share update + (share body + (share test + 50)))) (share (init + (test + (update + (body + 0))) + 1)) c.in_ok-frame.ensures.state (for_begun_size s) (omega arith) c.requires.room in
+    omega (arith, room)
+
+pub loops::lower_for_updated-init-requires : goal.loops::lower_for_updated-init-requires
+loops::lower_for_updated-init-requires g t c =
+    let init : ℕ = nodes (maybe c.args.init (λ t. syntax t.tree.now)) in
+    let test : ℕ = nodes (maybe c.args.test (λ t. syntax t.tree.now)) in
+    let update : ℕ = nodes (syntax c.args.update.tree.now) in
+    let body : ℕ = nodes (syntax c.args.body.tree.now) in
+    let s : State = state_of g.U.ReadsUnit.tables c.args.builder.now in
+    let b : State = state_of g.U.ReadsUnit.tables c.begin.new.b in
+    let s2 : State = state_of g.U.ReadsUnit.tables c.lower_init.new.builder in
+    let room : HasRoom b (share init + 4 + (share update + (share body + (share test + 50)))) =
+    moved_room s (for_begun s) b 3 (share init + 4 + (share update + (share body + (share test + 50)))) (share (init + (test + (update + (body + 0))) + 1)) c.in_ok-frame.ensures.state (for_begun_size s) (omega arith) c.requires.room in
+    let room2 : HasRoom s2 (share update + (share body + (share test + 50))) =
+    room_after b s2 (share init + 4) (share update + (share body + (share test + 50))) (share init + 4 + (share update + (share body + (share test + 50)))) (omega (arith, c.in_ok-part.ensures.lowered.size)) (omega arith) room in
+    omega (arith, room2)
+
+pub loops::lower_for_updated-lower_expression-requires-clause-names : goal.loops::lower_for_updated-lower_expression-requires-clause-names
+loops::lower_for_updated-lower_expression-requires-clause-names g t c =
+    let s : State = state_of g.U.ReadsUnit.tables c.args.builder.now in
+    let b : State = state_of g.U.ReadsUnit.tables c.begin.new.b in
+    let s2 : State = state_of g.U.ReadsUnit.tables c.lower_init.new.builder in
+    let b2 : State = state_of g.U.ReadsUnit.tables c.init.new.b in
+    let f : ForParts = for_of c.in_ok-frame.frame in
+    moved_named s2 (for_inited f s2 c.in_ok-part.part) b2 c.in_ok-init.ensures.state (for_inited_names f s2 c.in_ok-part.part)
+    (c.in_ok-part.ensures.lowered.named (moved_named s (for_begun s) b c.in_ok-frame.ensures.state (names_same s (for_begun s) refl) c.requires.names))
+
+pub loops::lower_for_updated-lower_expression-requires-clause-room : goal.loops::lower_for_updated-lower_expression-requires-clause-room
+loops::lower_for_updated-lower_expression-requires-clause-room g t c =
+    let init : ℕ = nodes (maybe c.args.init (λ t. syntax t.tree.now)) in
+    let test : ℕ = nodes (maybe c.args.test (λ t. syntax t.tree.now)) in
+    let update : ℕ = nodes (syntax c.args.update.tree.now) in
+    let body : ℕ = nodes (syntax c.args.body.tree.now) in
+    let s : State = state_of g.U.ReadsUnit.tables c.args.builder.now in
+    let b : State = state_of g.U.ReadsUnit.tables c.begin.new.b in
+    let s2 : State = state_of g.U.ReadsUnit.tables c.lower_init.new.builder in
+    let b2 : State = state_of g.U.ReadsUnit.tables c.init.new.b in
+    let f : ForParts = for_of c.in_ok-frame.frame in
+    let room : HasRoom b (share init + 4 + (share update + (share body + (share test + 50)))) =
+    moved_room s (for_begun s) b 3 (share init + 4 + (share update + (share body + (share test + 50)))) (share (init + (test + (update + (body + 0))) + 1)) c.in_ok-frame.ensures.state (for_begun_size s) (omega arith) c.requires.room in
+    let room2 : HasRoom s2 (share update + (share body + (share test + 50))) =
+    room_after b s2 (share init + 4) (share update + (share body + (share test + 50))) (share init + 4 + (share update + (share body + (share test + 50)))) (omega (arith, c.in_ok-part.ensures.lowered.size)) (omega arith) room in
+    let room3 : HasRoom b2 (share update + (share body + (share test + 49))) =
+    moved_room s2 (for_inited f s2 c.in_ok-part.part) b2 1 (share update + (share body + (share test + 49))) (share update + (share body + (share test + 50))) c.in_ok-init.ensures.state (for_inited_size f s2 c.in_ok-part.part) (omega arith) room2 in
+    omega (arith, room3)
+
+pub loops::lower_for_updated-update-requires : goal.loops::lower_for_updated-update-requires
+loops::lower_for_updated-update-requires g t c =
+    let init : ℕ = nodes (maybe c.args.init (λ t. syntax t.tree.now)) in
+    let test : ℕ = nodes (maybe c.args.test (λ t. syntax t.tree.now)) in
+    let update : ℕ = nodes (syntax c.args.update.tree.now) in
+    let body : ℕ = nodes (syntax c.args.body.tree.now) in
+    let s : State = state_of g.U.ReadsUnit.tables c.args.builder.now in
+    let b : State = state_of g.U.ReadsUnit.tables c.begin.new.b in
+    let s2 : State = state_of g.U.ReadsUnit.tables c.lower_init.new.builder in
+    let b2 : State = state_of g.U.ReadsUnit.tables c.init.new.b in
+    let f : ForParts = for_of c.in_ok-frame.frame in
+    let s3 : State = state_of g.U.ReadsUnit.tables c.lower_expression.new.builder in
+    let room : HasRoom b (share init + 4 + (share update + (share body + (share test + 50)))) =
+    moved_room s (for_begun s) b 3 (share init + 4 + (share update + (share body + (share test + 50)))) (share (init + (test + (update + (body + 0))) + 1)) c.in_ok-frame.ensures.state (for_begun_size s) (omega arith) c.requires.room in
+    let room2 : HasRoom s2 (share update + (share body + (share test + 50))) =
+    room_after b s2 (share init + 4) (share update + (share body + (share test + 50))) (share init + 4 + (share update + (share body + (share test + 50)))) (omega (arith, c.in_ok-part.ensures.lowered.size)) (omega arith) room in
+    let room3 : HasRoom b2 (share update + (share body + (share test + 49))) =
+    moved_room s2 (for_inited f s2 c.in_ok-part.part) b2 1 (share update + (share body + (share test + 49))) (share update + (share body + (share test + 50))) c.in_ok-init.ensures.state (for_inited_size f s2 c.in_ok-part.part) (omega arith) room2 in
+    let room4 : HasRoom s3 (share body + (share test + 49)) =
+    room_after b2 s3 (share update) (share body + (share test + 49)) (share update + (share body + (share test + 49))) c.in_ok-lower_expression.ensures.lowered.size (omega arith) room3 in
+    omega (arith, room4)
+
+pub loops::lower_for_updated-lower_statement-requires : goal.loops::lower_for_updated-lower_statement-requires
+loops::lower_for_updated-lower_statement-requires g t c =
+    let init : ℕ = nodes (maybe c.args.init (λ t. syntax t.tree.now)) in
+    let test : ℕ = nodes (maybe c.args.test (λ t. syntax t.tree.now)) in
+    let update : ℕ = nodes (syntax c.args.update.tree.now) in
+    let body : ℕ = nodes (syntax c.args.body.tree.now) in
+    let s : State = state_of g.U.ReadsUnit.tables c.args.builder.now in
+    let b : State = state_of g.U.ReadsUnit.tables c.begin.new.b in
+    let s2 : State = state_of g.U.ReadsUnit.tables c.lower_init.new.builder in
+    let b2 : State = state_of g.U.ReadsUnit.tables c.init.new.b in
+    let f : ForParts = for_of c.in_ok-frame.frame in
+    let s3 : State = state_of g.U.ReadsUnit.tables c.lower_expression.new.builder in
+    let b3 : State = state_of g.U.ReadsUnit.tables c.update.new.b in
+    let f2 : ForParts = for_of c.init.new.self in
+    let room : HasRoom b (share init + 4 + (share update + (share body + (share test + 50)))) =
+    moved_room s (for_begun s) b 3 (share init + 4 + (share update + (share body + (share test + 50)))) (share (init + (test + (update + (body + 0))) + 1)) c.in_ok-frame.ensures.state (for_begun_size s) (omega arith) c.requires.room in
+    let room2 : HasRoom s2 (share update + (share body + (share test + 50))) =
+    room_after b s2 (share init + 4) (share update + (share body + (share test + 50))) (share init + 4 + (share update + (share body + (share test + 50)))) (omega (arith, c.in_ok-part.ensures.lowered.size)) (omega arith) room in
+    let room3 : HasRoom b2 (share update + (share body + (share test + 49))) =
+    moved_room s2 (for_inited f s2 c.in_ok-part.part) b2 1 (share update + (share body + (share test + 49))) (share update + (share body + (share test + 50))) c.in_ok-init.ensures.state (for_inited_size f s2 c.in_ok-part.part) (omega arith) room2 in
+    let room4 : HasRoom s3 (share body + (share test + 49)) =
+    room_after b2 s3 (share update) (share body + (share test + 49)) (share update + (share body + (share test + 49))) c.in_ok-lower_expression.ensures.lowered.size (omega arith) room3 in
+    let room5 : HasRoom b3 (share body + (share test + 48)) =
+    moved_room s3 (for_updated f2 s3 c.span_of.result) b3 1 (share body + (share test + 48)) (share body + (share test + 49)) c.in_ok-update.ensures.state (for_updated_size f2 s3 c.span_of.result) (omega arith) room4 in
+    λ lifetimes outlives. (
+      search rules,
+      (
+        search rules,
+        (
+          moved_named s3 (for_updated f2 s3 c.span_of.result) b3 c.in_ok-update.ensures.state (names_same s3 (for_updated f2 s3 c.span_of.result) refl)
+              (c.in_ok-lower_expression.ensures.lowered.named (moved_named s2 (for_inited f s2 c.in_ok-part.part) b2 c.in_ok-init.ensures.state (for_inited_names f s2 c.in_ok-part.part)
+              (c.in_ok-part.ensures.lowered.named (moved_named s (for_begun s) b c.in_ok-frame.ensures.state (names_same s (for_begun s) refl) c.requires.names)))),
+          (
+            inside_loop (seen c.args.names.now) (syntax c.args.body.tree.now) s b3
+                (for_updated_arounds c.span_of.result s s2 s3 b3 c.in_ok-label.ensures c.in_ok-frame.ensures.frame c.in_ok-init.ensures.frame c.in_ok-update.ensures.state
+                ∙ ap (λ (a : List Around). InLoop (option_map (λ l. l.now) c.args.label) ∷ a)
+                (expression_arounds c.in_ok-lower_expression.ensures.lowered.by ∙ for_inited_arounds c.in_ok-part.part s s2 b2 c.in_ok-frame.ensures.frame c.in_ok-init.ensures.state
+                ∙ init_arounds c.in_ok-part.ensures.lowered ∙ for_begun_arounds s b c.in_ok-frame.ensures.state)) c.requires.may.3,
+            omega (arith, room5),
+          ),
+        ),
+      ),
+    )
+
+pub loops::lower_for_updated-body-requires-clause-scope : goal.loops::lower_for_updated-body-requires-clause-scope
+loops::lower_for_updated-body-requires-clause-scope g t c =
+    let s : State = state_of g.U.ReadsUnit.tables c.args.builder.now in
+    let s2 : State = state_of g.U.ReadsUnit.tables c.lower_init.new.builder in
+    let own : Label = c.in_ok-label.label in
+    let s3 : State = state_of g.U.ReadsUnit.tables c.lower_expression.new.builder in
+    let b3 : State = state_of g.U.ReadsUnit.tables c.update.new.b in
+    let s4 : State = state_of g.U.ReadsUnit.tables c.lower_statement.new.builder in
+    scope_kept s3 b3 s4 (for_scope s.env.next_block own (block_id s2.env.next_block))
+    (opened_updated c.span_of.result s s2 s3 b3 c.in_ok-frame.ensures.frame c.in_ok-init.ensures.frame c.in_ok-update.ensures.state) c.in_ok-lower_statement.ensures.lowered
+
+pub loops::lower_for_updated-lower_test-requires-clause-names : goal.loops::lower_for_updated-lower_test-requires-clause-names
+loops::lower_for_updated-lower_test-requires-clause-names g t c =
+    let s : State = state_of g.U.ReadsUnit.tables c.args.builder.now in
+    let b : State = state_of g.U.ReadsUnit.tables c.begin.new.b in
+    let s2 : State = state_of g.U.ReadsUnit.tables c.lower_init.new.builder in
+    let b2 : State = state_of g.U.ReadsUnit.tables c.init.new.b in
+    let f : ForParts = for_of c.in_ok-frame.frame in
+    let s3 : State = state_of g.U.ReadsUnit.tables c.lower_expression.new.builder in
+    let b3 : State = state_of g.U.ReadsUnit.tables c.update.new.b in
+    let f2 : ForParts = for_of c.init.new.self in
+    let s4 : State = state_of g.U.ReadsUnit.tables c.lower_statement.new.builder in
+    let b4 : State = state_of g.U.ReadsUnit.tables c.body.new.b in
+    let f3 : ForParts = for_of c.update.new.self in
+    moved_named s4 (for_bodied f3 s4 c.span_of-2.result) b4 c.in_ok-body.ensures.state (names_same s4 (for_bodied f3 s4 c.span_of-2.result) refl)
+    (c.in_ok-lower_statement.ensures.lowered.named (moved_named s3 (for_updated f2 s3 c.span_of.result) b3 c.in_ok-update.ensures.state (names_same s3 (for_updated f2 s3 c.span_of.result) refl)
+    (c.in_ok-lower_expression.ensures.lowered.named (moved_named s2 (for_inited f s2 c.in_ok-part.part) b2 c.in_ok-init.ensures.state (for_inited_names f s2 c.in_ok-part.part)
+    (c.in_ok-part.ensures.lowered.named (moved_named s (for_begun s) b c.in_ok-frame.ensures.state (names_same s (for_begun s) refl) c.requires.names))))))
+
+pub loops::lower_for_updated-lower_test-requires-clause-room : goal.loops::lower_for_updated-lower_test-requires-clause-room
+loops::lower_for_updated-lower_test-requires-clause-room g t c =
+    let init : ℕ = nodes (maybe c.args.init (λ t. syntax t.tree.now)) in
+    let test : ℕ = nodes (maybe c.args.test (λ t. syntax t.tree.now)) in
+    let update : ℕ = nodes (syntax c.args.update.tree.now) in
+    let body : ℕ = nodes (syntax c.args.body.tree.now) in
+    let s : State = state_of g.U.ReadsUnit.tables c.args.builder.now in
+    let b : State = state_of g.U.ReadsUnit.tables c.begin.new.b in
+    let s2 : State = state_of g.U.ReadsUnit.tables c.lower_init.new.builder in
+    let b2 : State = state_of g.U.ReadsUnit.tables c.init.new.b in
+    let f : ForParts = for_of c.in_ok-frame.frame in
+    let s3 : State = state_of g.U.ReadsUnit.tables c.lower_expression.new.builder in
+    let b3 : State = state_of g.U.ReadsUnit.tables c.update.new.b in
+    let f2 : ForParts = for_of c.init.new.self in
+    let s4 : State = state_of g.U.ReadsUnit.tables c.lower_statement.new.builder in
+    let b4 : State = state_of g.U.ReadsUnit.tables c.body.new.b in
+    let f3 : ForParts = for_of c.update.new.self in
+    let room : HasRoom b (share init + 4 + (share update + (share body + (share test + 50)))) =
+    moved_room s (for_begun s) b 3 (share init + 4 + (share update + (share body + (share test + 50)))) (share (init + (test + (update + (body + 0))) + 1)) c.in_ok-frame.ensures.state (for_begun_size s) (omega arith) c.requires.room in
+    let room2 : HasRoom s2 (share update + (share body + (share test + 50))) =
+    room_after b s2 (share init + 4) (share update + (share body + (share test + 50))) (share init + 4 + (share update + (share body + (share test + 50)))) (omega (arith, c.in_ok-part.ensures.lowered.size)) (omega arith) room in
+    let room3 : HasRoom b2 (share update + (share body + (share test + 49))) =
+    moved_room s2 (for_inited f s2 c.in_ok-part.part) b2 1 (share update + (share body + (share test + 49))) (share update + (share body + (share test + 50))) c.in_ok-init.ensures.state (for_inited_size f s2 c.in_ok-part.part) (omega arith) room2 in
+    let room4 : HasRoom s3 (share body + (share test + 49)) =
+    room_after b2 s3 (share update) (share body + (share test + 49)) (share update + (share body + (share test + 49))) c.in_ok-lower_expression.ensures.lowered.size (omega arith) room3 in
+    let room5 : HasRoom b3 (share body + (share test + 48)) =
+    moved_room s3 (for_updated f2 s3 c.span_of.result) b3 1 (share body + (share test + 48)) (share body + (share test + 49)) c.in_ok-update.ensures.state (for_updated_size f2 s3 c.span_of.result) (omega arith) room4 in
+    moved_room s4 (for_bodied f3 s4 c.span_of-2.result) b4 0 (share test + 4) (share test + 48) c.in_ok-body.ensures.state (for_bodied_size f3 s4 c.span_of-2.result) (omega arith)
+    (room_after b3 s4 (share body) (share test + 48) (share body + (share test + 48)) c.in_ok-lower_statement.ensures.lowered.size (omega arith) room5)
+
+pub loops::lower_for_updated-returns-clause-lowered : goal.loops::lower_for_updated-returns-clause-lowered
+loops::lower_for_updated-returns-clause-lowered g t c =
+    for_updated_told (for_of c.body.new.self) _ c.in_ok-label.ensures c.in_ok-part.ensures.span c.span_of.ensures c.span_of-2.ensures c.in_ok-frame.ensures.frame c.in_ok-frame.ensures.state
+    c.in_ok-part.ensures.lowered c.in_ok-init.ensures.state c.in_ok-init.ensures.frame c.in_ok-lower_expression.ensures.lowered c.in_ok-update.ensures.state c.in_ok-update.ensures.frame
+    c.in_ok-lower_statement.ensures.lowered c.in_ok-body.ensures.state c.in_ok-body.ensures.frame c.in_ok-test.ensures.lowered c.in_ok-finish.ensures.state
+
+pub loops::lower_for_plain-lower_init-requires-clause-names : goal.loops::lower_for_plain-lower_init-requires-clause-names
+loops::lower_for_plain-lower_init-requires-clause-names g t c =
+    let s : State = state_of g.U.ReadsUnit.tables c.args.builder.now in
+    let b : State = state_of g.U.ReadsUnit.tables c.begin.new.b in
+    moved_named s (for_begun s) b c.in_ok-frame.ensures.state (names_same s (for_begun s) refl) c.requires.names
+
+pub loops::lower_for_plain-lower_init-requires-clause-room : goal.loops::lower_for_plain-lower_init-requires-clause-room
+loops::lower_for_plain-lower_init-requires-clause-room g t c =
+    let init : ℕ = nodes (maybe c.args.init (λ t. syntax t.tree.now)) in
+    let test : ℕ = nodes (maybe c.args.test (λ t. syntax t.tree.now)) in
+    let body : ℕ = nodes (syntax c.args.body.tree.now) in
+    let s : State = state_of g.U.ReadsUnit.tables c.args.builder.now in
+    let b : State = state_of g.U.ReadsUnit.tables c.begin.new.b in
+    let room : HasRoom b (share init + 4 + (share body + (share test + 50))) =
+    moved_room s (for_begun s) b 3 (share init + 4 + (share body + (share test + 50))) (share (init + (test + (0 + (body + 0))) + 1)) c.in_ok-frame.ensures.state (for_begun_size s) (omega arith) c.requires.room in
+    omega (arith, room)
+
+pub loops::lower_for_plain-init-requires : goal.loops::lower_for_plain-init-requires
+loops::lower_for_plain-init-requires g t c =
+    let init : ℕ = nodes (maybe c.args.init (λ t. syntax t.tree.now)) in
+    let test : ℕ = nodes (maybe c.args.test (λ t. syntax t.tree.now)) in
+    let body : ℕ = nodes (syntax c.args.body.tree.now) in
+    let s : State = state_of g.U.ReadsUnit.tables c.args.builder.now in
+    let b : State = state_of g.U.ReadsUnit.tables c.begin.new.b in
+    let s2 : State = state_of g.U.ReadsUnit.tables c.lower_init.new.builder in
+    let room : HasRoom b (share init + 4 + (share body + (share test + 50))) =
+    moved_room s (for_begun s) b 3 (share init + 4 + (share body + (share test + 50))) (share (init + (test + (0 + (body + 0))) + 1)) c.in_ok-frame.ensures.state (for_begun_size s) (omega arith) c.requires.room in
+    let room2 : HasRoom s2 (share body + (share test + 50)) =
+    room_after b s2 (share init + 4) (share body + (share test + 50)) (share init + 4 + (share body + (share test + 50))) (omega (arith, c.in_ok-part.ensures.lowered.size)) (omega arith) room in
+    omega (arith, room2)
+
+pub loops::lower_for_plain-lower_statement-requires : goal.loops::lower_for_plain-lower_statement-requires
+loops::lower_for_plain-lower_statement-requires g t c =
+    let init : ℕ = nodes (maybe c.args.init (λ t. syntax t.tree.now)) in
+    let test : ℕ = nodes (maybe c.args.test (λ t. syntax t.tree.now)) in
+    let body : ℕ = nodes (syntax c.args.body.tree.now) in
+    let s : State = state_of g.U.ReadsUnit.tables c.args.builder.now in
+    let b : State = state_of g.U.ReadsUnit.tables c.begin.new.b in
+    let s2 : State = state_of g.U.ReadsUnit.tables c.lower_init.new.builder in
+    let b2 : State = state_of g.U.ReadsUnit.tables c.init.new.b in
+    let f : ForParts = for_of c.in_ok-frame.frame in
+    let room : HasRoom b (share init + 4 + (share body + (share test + 50))) =
+    moved_room s (for_begun s) b 3 (share init + 4 + (share body + (share test + 50))) (share (init + (test + (0 + (body + 0))) + 1)) c.in_ok-frame.ensures.state (for_begun_size s) (omega arith) c.requires.room in
+    let room2 : HasRoom s2 (share body + (share test + 50)) =
+    room_after b s2 (share init + 4) (share body + (share test + 50)) (share init + 4 + (share body + (share test + 50))) (omega (arith, c.in_ok-part.ensures.lowered.size)) (omega arith) room in
+    let room5 : HasRoom b2 (share body + (share test + 48)) =
+    moved_room s2 (for_inited f s2 c.in_ok-part.part) b2 1 (share body + (share test + 48)) (share body + (share test + 50)) c.in_ok-init.ensures.state (for_inited_size f s2 c.in_ok-part.part) (omega arith) room2 in
+    λ lifetimes outlives. (
+      search rules,
+      (
+        search rules,
+        (
+          moved_named s2 (for_inited f s2 c.in_ok-part.part) b2 c.in_ok-init.ensures.state (for_inited_names f s2 c.in_ok-part.part)
+              (c.in_ok-part.ensures.lowered.named (moved_named s (for_begun s) b c.in_ok-frame.ensures.state (names_same s (for_begun s) refl) c.requires.names)),
+          (
+            inside_loop (seen c.args.names.now) (syntax c.args.body.tree.now) s b2
+                (for_plain_arounds c.in_ok-part.part s s2 b2 c.in_ok-label.ensures c.in_ok-frame.ensures.frame c.in_ok-init.ensures.state
+                ∙ ap (λ (a : List Around). InLoop (option_map (λ l. l.now) c.args.label) ∷ a) (init_arounds c.in_ok-part.ensures.lowered ∙ for_begun_arounds s b c.in_ok-frame.ensures.state)) c.requires.may.3,
+            omega (arith, room5),
+          ),
+        ),
+      ),
+    )
+
+pub loops::lower_for_plain-body-requires-clause-scope : goal.loops::lower_for_plain-body-requires-clause-scope
+loops::lower_for_plain-body-requires-clause-scope g t c =
+    let s : State = state_of g.U.ReadsUnit.tables c.args.builder.now in
+    let s2 : State = state_of g.U.ReadsUnit.tables c.lower_init.new.builder in
+    let b2 : State = state_of g.U.ReadsUnit.tables c.init.new.b in
+    let own : Label = c.in_ok-label.label in
+    let s4 : State = state_of g.U.ReadsUnit.tables c.lower_statement.new.builder in
+    scope_kept s2 b2 s4 (for_scope s.env.next_block own (block_id s.env.next_block))
+    (opened_plain c.in_ok-part.part s s2 b2 c.in_ok-frame.ensures.frame c.in_ok-init.ensures.state) c.in_ok-lower_statement.ensures.lowered
+
+pub loops::lower_for_plain-lower_test-requires-clause-names : goal.loops::lower_for_plain-lower_test-requires-clause-names
+loops::lower_for_plain-lower_test-requires-clause-names g t c =
+    let s : State = state_of g.U.ReadsUnit.tables c.args.builder.now in
+    let b : State = state_of g.U.ReadsUnit.tables c.begin.new.b in
+    let s2 : State = state_of g.U.ReadsUnit.tables c.lower_init.new.builder in
+    let b2 : State = state_of g.U.ReadsUnit.tables c.init.new.b in
+    let f : ForParts = for_of c.in_ok-frame.frame in
+    let s4 : State = state_of g.U.ReadsUnit.tables c.lower_statement.new.builder in
+    let b4 : State = state_of g.U.ReadsUnit.tables c.body.new.b in
+    let f3 : ForParts = for_of c.init.new.self in
+    moved_named s4 (for_bodied f3 s4 c.span_of.result) b4 c.in_ok-body.ensures.state (names_same s4 (for_bodied f3 s4 c.span_of.result) refl)
+    (c.in_ok-lower_statement.ensures.lowered.named (moved_named s2 (for_inited f s2 c.in_ok-part.part) b2 c.in_ok-init.ensures.state (for_inited_names f s2 c.in_ok-part.part)
+    (c.in_ok-part.ensures.lowered.named (moved_named s (for_begun s) b c.in_ok-frame.ensures.state (names_same s (for_begun s) refl) c.requires.names))))
+
+pub loops::lower_for_plain-lower_test-requires-clause-room : goal.loops::lower_for_plain-lower_test-requires-clause-room
+loops::lower_for_plain-lower_test-requires-clause-room g t c =
+    let init : ℕ = nodes (maybe c.args.init (λ t. syntax t.tree.now)) in
+    let test : ℕ = nodes (maybe c.args.test (λ t. syntax t.tree.now)) in
+    let body : ℕ = nodes (syntax c.args.body.tree.now) in
+    let s : State = state_of g.U.ReadsUnit.tables c.args.builder.now in
+    let b : State = state_of g.U.ReadsUnit.tables c.begin.new.b in
+    let s2 : State = state_of g.U.ReadsUnit.tables c.lower_init.new.builder in
+    let b2 : State = state_of g.U.ReadsUnit.tables c.init.new.b in
+    let f : ForParts = for_of c.in_ok-frame.frame in
+    let s4 : State = state_of g.U.ReadsUnit.tables c.lower_statement.new.builder in
+    let b4 : State = state_of g.U.ReadsUnit.tables c.body.new.b in
+    let f3 : ForParts = for_of c.init.new.self in
+    let room : HasRoom b (share init + 4 + (share body + (share test + 50))) =
+    moved_room s (for_begun s) b 3 (share init + 4 + (share body + (share test + 50))) (share (init + (test + (0 + (body + 0))) + 1)) c.in_ok-frame.ensures.state (for_begun_size s) (omega arith) c.requires.room in
+    let room2 : HasRoom s2 (share body + (share test + 50)) =
+    room_after b s2 (share init + 4) (share body + (share test + 50)) (share init + 4 + (share body + (share test + 50))) (omega (arith, c.in_ok-part.ensures.lowered.size)) (omega arith) room in
+    let room5 : HasRoom b2 (share body + (share test + 48)) =
+    moved_room s2 (for_inited f s2 c.in_ok-part.part) b2 1 (share body + (share test + 48)) (share body + (share test + 50)) c.in_ok-init.ensures.state (for_inited_size f s2 c.in_ok-part.part) (omega arith) room2 in
+    moved_room s4 (for_bodied f3 s4 c.span_of.result) b4 0 (share test + 4) (share test + 48) c.in_ok-body.ensures.state (for_bodied_size f3 s4 c.span_of.result) (omega arith)
+    (room_after b2 s4 (share body) (share test + 48) (share body + (share test + 48)) c.in_ok-lower_statement.ensures.lowered.size (omega arith) room5)
+
+pub loops::lower_for_plain-returns-clause-lowered : goal.loops::lower_for_plain-returns-clause-lowered
+loops::lower_for_plain-returns-clause-lowered g t c =
+    for_plain_told (for_of c.body.new.self) _ c.in_ok-label.ensures c.in_ok-part.ensures.span c.span_of.ensures c.in_ok-frame.ensures.frame c.in_ok-frame.ensures.state
+    c.in_ok-part.ensures.lowered c.in_ok-init.ensures.state c.in_ok-init.ensures.frame
+    c.in_ok-lower_statement.ensures.lowered c.in_ok-body.ensures.state c.in_ok-body.ensures.frame c.in_ok-test.ensures.lowered c.in_ok-finish.ensures.state

@@ -1,0 +1,491 @@
+-- Lowering a part keeps that no run reads the note behind a construct whose terminal `build` may replace.
+use Rattle.std.proofs.Common.{◌≡◌, ℕ, ◌+◌, ◌<◌, ◌≤◌, inl, inr, Bool, true, false, List, [], ◌∷◌, Option, Some, None, refl, ◌∙◌}
+use Rattle.std.proofs.Common.{subst, arith}
+use Rattle.rl_base.specs.Diagnostics.{diagnostic_at}
+use Rattle.rl_base.specs.declared.ids.BlockId.{BlockId}
+use Rattle.rl_base.specs.declared.diagnostic.Diagnostic.{Diagnostic}
+use Rattle.rl_base.specs.declared.ids.SymbolId.{SymbolId}
+use Rattle.rl_base.specs.declared.operator.UpdateOperator.{UpdateOperator}
+use Rattle.rl_base.specs.declared.row.Row.TheVariants as row
+use Rattle.rl_base.specs.declared.span.Span.{Span}
+use Rattle.rl_base.specs.declared.type_kind.TypeKind.{TypeKind}
+use Rattle.rl_base.specs.declared.type_kind.TypeKind.TheVariants as types
+use Rattle.rl_base.specs.declared.variable_kind.VariableKind.{VariableKind}
+use Rattle.rl_base.specs.declared.variable_kind.VariableKind.TheVariants as declared
+use Rattle.rl_builder.specs.Builder.{State, completed_by, new_block, pushed, recorded, reserved, with_temporary, with_type}
+use Rattle.rl_builder.specs.declared.blocks.WipBlock.{WipBlock}
+use Rattle.rl_builder.specs.Temporaries.{temporary, unordered, with_value}
+use Rattle.rl_frames.proofs.LoopNotes.{do_while_unread, while_unread}
+use Rattle.rl_frames.specs.Frames.{ForParts, for_after_init, for_after_update, for_again, for_aside, for_at, for_bodied}
+use Rattle.rl_frames.specs.Frames.{for_inited, for_opened, for_updated}
+use Rattle.rl_frames.specs.Frames.{IfParts, if_after_consequent, if_alternate, if_at, if_consequent}
+use Rattle.rl_frames.specs.Frames.{LabelParts, label_at}
+use Rattle.rl_frames.specs.Frames.{LogicalParts, aside_of, logical_at, logical_righted}
+use Rattle.rl_frames.specs.Frames.{SequenceParts, sequence_at}
+use Rattle.rl_frames.specs.Frames.{TernaryParts, ternary_alternated, ternary_aside, ternary_at, ternary_consequent}
+use Rattle.rl_frames.specs.Frames.{ternary_parted}
+use Rattle.rl_frames.specs.Parts.{for_begun, for_end, if_begun, if_end, label_begun, label_end, loads, logical_begun, logical_entered}
+use Rattle.rl_frames.specs.Parts.{logical_left, logical_place, sequence_begun, ternary_begun}
+use Rattle.rl_hir.specs.Blocks.{Pair as BlockPair}
+use Rattle.rl_hir.specs.Pieces.{Piece}
+use Rattle.rl_hir.specs.declared.function.BlockKind.{BlockKind}
+use Rattle.rl_hir.specs.declared.function.BlockKind.TheVariants as blocks
+use Rattle.rl_hir.specs.declared.instruction.Instruction.{Instruction}
+use Rattle.rl_hir.specs.declared.instruction.InstructionKind.{InstructionKind}
+use Rattle.rl_hir.specs.declared.instruction.InstructionKind.TheVariants as variables
+use Rattle.rl_hir.specs.declared.instruction.InstructionValue.{InstructionValue}
+use Rattle.rl_hir.specs.declared.instruction.InstructionValue.TheVariants as values
+use Rattle.rl_hir.specs.declared.instruction.Place.{Place}
+use Rattle.rl_hir.specs.declared.instruction.PrimitiveValue.TheVariants as primitives
+use Rattle.rl_hir.specs.declared.terminal.GotoVariant.{GotoVariant}
+use Rattle.rl_hir.specs.declared.terminal.GotoVariant.TheVariants as gotos
+use Rattle.rl_hir.specs.declared.terminal.ReturnVariant.TheVariants as returns
+use Rattle.rl_hir.specs.declared.terminal.Terminal.{Terminal}
+use Rattle.rl_hir.specs.declared.terminal.TerminalKind.{TerminalKind}
+use Rattle.rl_hir.specs.declared.terminal.TerminalKind.TheVariants as kinds
+use Rattle.rl_lowered.proofs.Blocks.{expression_blocks, statement_blocks}
+use Rattle.rl_lowered.specs.Forms.{MemberKey, load_of, store_of, typed}
+use Rattle.rl_lowered.specs.Lowered.{Lowered, LoweredBody, LoweredDeclarators, LoweredInit, LoweredLast, LoweredLoop, LoweredParts}
+use Rattle.rl_lowered.specs.Lowered.{LoweredStatement, LoweredStatements, LoweredTest, declaring, member_loaded, member_one, member_stored}
+use Rattle.rl_lowered.specs.Lowered.{member_updated, part_span, value_span}
+use Rattle.rl_lowered.specs.Lowered as lowered
+use Rattle.rl_lowered.specs.Named.{found}
+use Rattle.rl_model.specs.Actions.{Label}
+use Rattle.rl_names.specs.Names.{Names}
+use Rattle.rl_promises.specs.Rows.{refusal}
+use Rattle.rl_runs.proofs.Moves.{extends_pushed}
+use Rattle.rl_runs.proofs.Naming.{named_first, named_none}
+use Rattle.rl_runs.proofs.ReadNotes.{marked_ended, unread_ended, unread_pushed, unread_then}
+use Rattle.rl_runs.specs.Blocks.{IsTarget}
+use Rattle.rl_runs.specs.Moves.{block_id, branch, ends_by, goto, last_hole, next_hole, return_of, returned_from, stored_in, without_scope}
+use Rattle.rl_runs.specs.ReadNotes.{HasId, IsHandler, KeepsUnread, KnowsReads, MarkedAt, ReadsSince, ReplacesSince, Unread, reads_of}
+use Rattle.rl_runs.specs.ReadNotes.{replaced_of}
+use Rattle.rl_syntax.specs.Syntax.{Syntax, Pieces, span_of}
+
+-- Moves one after the other: no handler opens or closes, and the counter of blocks does not fall.
+pub record Unreads (old new : State) : Type 0 where
+  pub grows : old.env.next_block ≤ new.env.next_block
+  pub handlers : new.handlers ≡ old.handlers
+  pub keeps : KeepsUnread old new
+
+pub unreads_then : (a b c : State) → Unreads a b → Unreads b c → Unreads a c
+unreads_then a b c j k = record {
+  grows = omega (arith, j.grows, k.grows);
+  handlers = k.handlers ∙ j.handlers;
+  keeps = unread_then a b c j.grows k.grows j.handlers j.keeps k.keeps;
+}
+
+-- A move that completes no block.
+pub unreads_same : (s t : State) → t.completed ≡ s.completed → t.handlers ≡ s.handlers → s.env.next_block ≤ t.env.next_block → Unreads s t
+unreads_same s t completed handlers grows = record {
+  grows = grows;
+  handlers = handlers;
+  keeps = record {
+    replaces = λ id m. inl (before replaced_of id m);
+    reads = λ id m. inl (before reads_of id m);
+    unread = λ k u id m n. u id (before replaced_of id m) (before reads_of id n);
+  };
+}
+  where
+    before : (of : TerminalKind → List BlockId) (id : ℕ) → MarkedAt of t.completed id → MarkedAt of s.completed id
+    before of id m = subst (λ (l : List BlockPair). MarkedAt of l id) completed m
+
+pub unreads_refl : (s : State) → Unreads s s
+unreads_refl s = unreads_same s s refl refl (omega arith)
+
+-- A terminal that marks no block.
+pub unreads_ended : (s : State) (t : Terminal) (next : WipBlock) → replaced_of t.kind ≡ [] → reads_of t.kind ≡ []
+    → Unreads s (completed_by s t next)
+unreads_ended s t next replaced reads =
+    record { grows = omega arith; handlers = refl; keeps = unread_ended s t next replaced reads }
+
+-- Holes
+
+unreads_next : (s : State) (behind : ℕ) (variant : GotoVariant) (part : Span) (kind : BlockKind)
+    → Unreads s (next_hole s behind variant part kind)
+unreads_next s behind variant part kind =
+    unreads_then s (reserved s) _ (unreads_same s (reserved s) refl refl (omega arith))
+    (unreads_ended (reserved s) (goto behind variant part) (new_block s.env.next_block kind) refl refl)
+
+unreads_last : (s : State) (behind : ℕ) (variant : GotoVariant) (part : Span) (outer : WipBlock)
+    → Unreads s (last_hole s behind variant part outer)
+unreads_last s behind variant part outer = unreads_ended s (goto behind variant part) outer refl refl
+
+-- Instructions
+
+unreads_pushed : (s : State) (i : Instruction) → Unreads s (pushed s i)
+unreads_pushed s i =
+    let g = extends_pushed s i in record { grows = g.blocks; handlers = g.handlers; keeps = unread_pushed s i }
+
+pub unreads_value : (s : State) (v : InstructionValue) (span : Option Span) → Unreads s (with_value s v span)
+unreads_value s v span =
+    unreads_then s (with_temporary s span) _ (unreads_same s (with_temporary s span) refl refl (omega arith))
+    (unreads_pushed (with_temporary s span) (unordered (temporary s span) v span))
+
+unreads_stored : (s : State) (place value : Place) (part : Span) → Unreads s (stored_in s place value part)
+unreads_stored s place value part = unreads_value s (values.StoreLocal variables.Const place value) (Some part)
+
+unreads_noted : (s : State) (d : Diagnostic) → Unreads s (recorded s d)
+unreads_noted s d = unreads_same s (recorded s d) refl refl (omega arith)
+
+unreads_noted_value : (s : State) (d : Diagnostic) (v : InstructionValue) (span : Option Span)
+    → Unreads s (with_value (recorded s d) v span)
+unreads_noted_value s d v span = unreads_then s (recorded s d) _ (unreads_noted s d) (unreads_value (recorded s d) v span)
+
+unreads_undefined : (s : State) (d : Diagnostic) (at : Span)
+    → Unreads s (with_value (recorded s d) (values.Primitive primitives.Undefined) (Some at))
+unreads_undefined s d at = unreads_noted_value s d (values.Primitive primitives.Undefined) (Some at)
+
+unreads_found : (names : Names) (s : State) (symbol : SymbolId) (at : Span) → Unreads s (found names s symbol at)
+unreads_found names s symbol at = unreads_same s (found names s symbol at) refl refl (omega arith)
+
+unreads_found_value : (names : Names) (s : State) (symbol : SymbolId) (at : Span) (v : InstructionValue) (span : Option Span)
+    → Unreads s (with_value (found names s symbol at) v span)
+unreads_found_value names s symbol at v span =
+    unreads_then s (found names s symbol at) _ (unreads_found names s symbol at) (unreads_value (found names s symbol at) v span)
+
+unreads_typed : (s : State) (k : TypeKind) → Unreads s (typed s k)
+unreads_typed s types.Array = unreads_refl s
+unreads_typed s types.Primitive = unreads_refl s
+unreads_typed s types.Other = unreads_same s (with_type s) refl refl (omega arith)
+
+unreads_declaring : (s : State) (k : VariableKind) (at : Span) → Unreads s (declaring s k at)
+unreads_declaring s declared.Var at = unreads_noted s (refusal row.F39 at)
+unreads_declaring s _ at = unreads_refl s
+
+unreads_member : (t : State) (object : Place) (key : MemberKey) (operator : UpdateOperator) (there : Span)
+    → Unreads t (member_stored t object key operator there)
+unreads_member t object key operator there =
+    let loaded : State = member_loaded t object key there in
+    let one : State = member_one t object key there in
+    let updated : State = member_updated t object key operator there in
+    unreads_then t loaded _ (unreads_value t (load_of object key) (Some there))
+    (unreads_then loaded one _ (unreads_value loaded (values.Primitive (primitives.Number 1)) None)
+    (unreads_then one updated _ (unreads_value one _ (Some there))
+    (unreads_value updated (store_of object key (temporary one (Some there))) (Some there))))
+
+-- Constructs whose last terminal reads the note of a block of their own, one that was numbered before the first hole opened in `begun`.
+module _ (s begun x : State) (t : Terminal) (next : WipBlock) (completed : begun.completed ≡ s.completed)
+    (handlers : begun.handlers ≡ s.handlers) (grows : s.env.next_block ≤ begun.env.next_block) (unreplaced : replaced_of t.kind ≡ [])
+    (own : (id : ℕ) → HasId (reads_of t.kind) id → (s.env.next_block ≤ id) × (id < begun.env.next_block)) (hole : Unreads begun x) where
+  abbrev last : State
+  last = completed_by x t next
+
+  before : (of : TerminalKind → List BlockId) (id : ℕ) → MarkedAt of begun.completed id → MarkedAt of s.completed id
+  before of id m = subst (λ (l : List BlockPair). MarkedAt of l id) completed m
+
+  handled : (id : ℕ) → IsHandler begun id → IsHandler s id
+  handled id h = subst (λ (l : List BlockId). IsTarget l [] id) handlers h
+
+  never_replaced : (id : ℕ) → HasId (replaced_of t.kind) id → ⊥
+  never_replaced id has = named_none id (subst (λ (l : List BlockId). HasId l id) unreplaced has)
+
+  replaces : ReplacesSince s last
+  replaces id m = elim (marked_ended replaced_of x t next id m) [
+    | inl m1 ↦ elim (hole.keeps.replaces id m1) [
+      | inl old ↦ inl (before replaced_of id old)
+      | inr o ↦ inr (omega (arith, o.0, grows), o.1)
+    ]
+    | inr never ↦ absurd (never_replaced id never)
+  ]
+
+  reads : ReadsSince s last
+  reads id m = elim (marked_ended reads_of x t next id m) [
+    | inl m1 ↦ elim (hole.keeps.reads id m1) [
+      | inl old ↦ inl (before reads_of id old)
+      | inr new ↦ elim new [ inl o ↦ inr (inl (omega (arith, o.0, grows), o.1)) | inr h ↦ inr (inr (handled id h)) ]
+    ]
+    | inr mine ↦ (let o = own id mine in inr (inl (o.0, omega (arith, o.1, hole.grows))))
+  ]
+
+  knows_begun : KnowsReads s → KnowsReads begun
+  knows_begun k = record {
+    replaced = λ id m. (let small : id < s.env.next_block = k.replaced id (before replaced_of id m) in omega (arith, small, grows));
+    read = λ id m. (let small : id < s.env.next_block = k.read id (before reads_of id m) in omega (arith, small, grows));
+    handlers = λ id h. (let small : id < s.env.next_block = k.handlers id (handled id h) in omega (arith, small, grows));
+    apart = λ id h m. k.apart id (handled id h) (before replaced_of id m);
+  }
+
+  unread : KnowsReads s → Unread s → Unread last
+  unread k u id m n = elim (marked_ended replaced_of x t next id m) [
+    | inl m1 ↦ elim (marked_ended reads_of x t next id n) [
+      | inl n1 ↦ hole.keeps.unread (knows_begun k) (λ id1 m2 n2. u id1 (before replaced_of id1 m2) (before reads_of id1 n2)) id m1 n1
+      | inr mine ↦ apart m1 (own id mine)
+    ]
+    | inr never ↦ never_replaced id never
+  ]
+    where
+      apart : MarkedAt replaced_of x.completed id → (s.env.next_block ≤ id) × (id < begun.env.next_block) → ⊥
+      apart m1 o = elim (hole.keeps.replaces id m1) [
+        | inl old ↦ (let small : id < s.env.next_block = k.replaced id (before replaced_of id old) in omega (arith, small, o.0))
+        | inr new ↦ omega (arith, new.0, o.1)
+      ]
+
+  unreads_frame : Unreads s last
+  unreads_frame = record {
+    grows = omega (arith, grows, hole.grows);
+    handlers = hole.handlers ∙ handlers;
+    keeps = record { replaces = replaces; reads = reads; unread = unread };
+  }
+
+-- The note that the last terminal reads is that of one of the numbered blocks.
+own_note : (note first end : ℕ) → first ≤ note → note < end → (id : ℕ) → HasId (block_id note ∷ []) id → (first ≤ id) × (id < end)
+own_note note first end low high id has = elim (named_first id (block_id note) [] has) [
+  | inl e ↦ (omega (arith, e, low), omega (arith, e, high))
+  | inr never ↦ absurd (named_none id never)
+]
+
+-- A block in a scope ends, and the block that was set aside by a terminal that marks none.
+unreads_scope_ended : (s : State) (behind : ℕ) (variant : GotoVariant) (part : Span) (outer : WipBlock) (end : Terminal) (next : WipBlock)
+    → replaced_of end.kind ≡ [] → reads_of end.kind ≡ []
+    → Unreads s (completed_by (last_hole (without_scope s) behind variant part outer) end next)
+unreads_scope_ended s behind variant part outer end next replaced reads =
+    let left : State = without_scope s in
+    let gone : State = last_hole left behind variant part outer in
+    unreads_then s left _ (unreads_same s left refl refl (omega arith))
+    (unreads_then left gone _ (unreads_last left behind variant part outer) (unreads_ended gone end next replaced reads))
+
+unreads_for_opened : (f : ForParts) (s : State) (part : Span) → Unreads s (for_opened f s part)
+unreads_for_opened f s part =
+    let next : State = next_hole s f.test gotos.Break part blocks.Block in
+    unreads_then s next _ (unreads_next s f.test gotos.Break part blocks.Block)
+    (unreads_same next (for_opened f s part) refl refl (omega arith))
+
+mutual
+  pub expression_unread : {names : Names} {e : Syntax} {s t : State} {p : Place} → Lowered names e s t p → Unreads s t
+  expression_unread (lowered.Literal at w fields p s is) = unreads_value s (values.Primitive p) (Some at.span)
+  expression_unread (lowered.Refused at w fields r s is) = unreads_undefined s (refusal r at.span) at.span
+  expression_unread (lowered.RefusedBefore at w fields parts r pieces s t is l) =
+      let noted : State = recorded s (refusal r at.span) in
+      unreads_then s noted _ (unreads_noted s (refusal r at.span))
+      (unreads_then noted t _ (all_unread l) (unreads_value t (values.Primitive primitives.Undefined) (Some at.span)))
+  expression_unread (lowered.RefusedBehind at object name s t p l) =
+      unreads_then s t _ (expression_unread l) (unreads_undefined t (refusal row.F3 at.span) at.span)
+  expression_unread (lowered.Private at w fields e s t p is l) = expression_unread l
+  expression_unread {names} (lowered.Variable at name symbol identifier s is f) =
+      unreads_found_value names s symbol at.span _ (Some at.span)
+  expression_unread {names} (lowered.UpdatedVariable at there name symbol identifier operator prefix s is mutable f g) =
+      let first : State = found names s symbol there.span in
+      unreads_then s first _ (unreads_found names s symbol there.span)
+      (unreads_found_value names first symbol there.span _ (Some at.span))
+  expression_unread {names} (lowered.UpdatedConstant at there name symbol identifier operator prefix s is constant f) =
+      let first : State = found names s symbol there.span in
+      unreads_then s first _ (unreads_found names s symbol there.span)
+      (unreads_undefined first (diagnostic_at row.F6 (names.name symbol.0) there.span) at.span)
+  expression_unread (lowered.UpdatedMember at there w fields parts pieces object key operator prefix s t is l) =
+      unreads_then s t _ (all_unread l) (unreads_member t object key operator there.span)
+  expression_unread (lowered.Method at there w fields parts es pieces given_pieces object key given s t u is l given_are m) =
+      let loaded : State = with_value t (load_of object key) (Some there.span) in
+      unreads_then s t _ (all_unread l)
+      (unreads_then t loaded _ (unreads_value t (load_of object key) (Some there.span))
+      (unreads_then loaded u _ (all_unread given_are) (unreads_value u _ (Some at.span))))
+  expression_unread (lowered.Cast at there w fields e type k s t p is annotated l) =
+      unreads_then s t _ (expression_unread l)
+      (unreads_then t (typed t k) _ (unreads_typed t k) (unreads_value (typed t k) _ (Some at.span)))
+  expression_unread (lowered.Global at name binding s is plain) = unreads_value s (values.LoadGlobal binding) (Some at.span)
+  expression_unread (lowered.RefusedGlobal at name binding s is refused) =
+      unreads_noted_value s (refusal row.F2 at.span) (values.LoadGlobal binding) (Some at.span)
+  expression_unread (lowered.Same at w fields e s t p is l) = expression_unread l
+  expression_unread (lowered.Asked at w fields parts pieces v s t is l) =
+      unreads_then s t _ (all_unread l) (unreads_value t v (Some at.span))
+  expression_unread (lowered.Object at es pieces properties s t is l) =
+      unreads_then s t _ (all_unread l) (unreads_value t (values.ObjectExpression properties) (Some at.span))
+  expression_unread (lowered.Logical at operator left right s s2 s3 l r second first) =
+      let f : LogicalParts = logical_at s at.span operator (span_of left) in
+      let entry : State = logical_entered s at.span (span_of left) in
+      let stored : State = stored_in entry (logical_place s at.span) (logical_left s (span_of left)) (span_of left) in
+      let begun : State = logical_begun s at.span (span_of left) in
+      let valued : State = stored_in s2 f.place r (value_span r right) in
+      let gone : State = last_hole valued f.behind.id.0 gotos.Break (value_span r right) (aside_of f).0 in
+      let righted : State = logical_righted f s2 r (value_span r right) in
+      let moved : State = pushed s3 (loads f.left l f.span) in
+      unreads_frame s entry moved (branch f.left f.consequent f.alternate f.behind.id.0 f.span) f.behind refl refl (omega arith) refl
+      (own_note s.env.next_block s.env.next_block entry.env.next_block (omega arith) (omega arith))
+      (unreads_then entry stored _
+      (unreads_stored entry (logical_place s at.span) (logical_left s (span_of left)) (span_of left))
+      (unreads_then stored begun _ (unreads_next stored s.env.next_block gotos.Break (span_of left) blocks.Value)
+      (unreads_then begun s2 _ (expression_unread second)
+      (unreads_then s2 valued _ (unreads_stored s2 f.place r (value_span r right))
+      (unreads_then valued gone _ (unreads_last valued f.behind.id.0 gotos.Break (value_span r right) (aside_of f).0)
+      (unreads_then gone righted _
+      (unreads_ended gone (ends_by (kinds.Logical f.operator (aside_of f).1.id f.behind.id) (Some f.span)) (aside_of f).1 refl refl)
+      (unreads_then righted s3 _ (expression_unread first) (unreads_pushed s3 (loads f.left l f.span)))))))))
+  expression_unread (lowered.Conditional at test consequent alternate s s2 s3 s4 c a p second third first) =
+      let f : TernaryParts = ternary_at s at.span in
+      let g : TernaryParts = ternary_parted f s2 c (span_of consequent) in
+      let begun : State = ternary_begun s at.span in
+      let valued : State = stored_in s2 f.place c f.span in
+      let between : State = ternary_consequent f s2 c (span_of consequent) in
+      let other : State = stored_in s3 g.place a g.span in
+      let gone : State = last_hole other g.behind.id.0 gotos.Break (span_of alternate) (ternary_aside g).0 in
+      let behind : State = ternary_alternated g s3 a (span_of alternate) in
+      unreads_frame s begun s4 (branch p g.consequent g.alternate g.behind.id.0 g.span) g.behind refl refl (omega arith) refl
+      (own_note s.env.next_block s.env.next_block begun.env.next_block (omega arith) (omega arith))
+      (unreads_then begun s2 _ (expression_unread second)
+      (unreads_then s2 valued _ (unreads_stored s2 f.place c f.span)
+      (unreads_then valued between _ (unreads_next valued f.behind.id.0 gotos.Break (span_of consequent) blocks.Value)
+      (unreads_then between s3 _ (expression_unread third)
+      (unreads_then s3 other _ (unreads_stored s3 g.place a g.span)
+      (unreads_then other gone _ (unreads_last other g.behind.id.0 gotos.Break (span_of alternate) (ternary_aside g).0)
+      (unreads_then gone behind _
+      (unreads_ended gone (ends_by (kinds.Ternary (ternary_aside g).1.id g.behind.id) (Some g.span)) (ternary_aside g).1 refl refl)
+      (expression_unread first))))))))
+  expression_unread (lowered.Sequence at e es s s2 p l) =
+      let f : SequenceParts = sequence_at s at.span in
+      let begun : State = sequence_begun s at.span in
+      let stored : State = stored_in s2 f.place p at.span in
+      let gone : State = last_hole stored f.behind.id.0 gotos.Break at.span f.outer in
+      unreads_then s begun _ (unreads_same s begun refl refl (omega arith))
+      (unreads_then begun s2 _ (last_unread l)
+      (unreads_then s2 stored _ (unreads_stored s2 f.place p at.span)
+      (unreads_then stored gone _ (unreads_last stored f.behind.id.0 gotos.Break at.span f.outer)
+      (unreads_ended gone (ends_by (kinds.Sequence (record { 0 = f.block }) f.behind.id) (Some f.span)) f.behind refl refl))))
+
+  pub all_unread : {names : Names} {of_object : Bool} {es : Pieces} {s t : State} {pieces : List Piece}
+      → LoweredParts names of_object es s t pieces → Unreads s t
+  all_unread (lowered.NoPart s) = unreads_refl s
+  all_unread (lowered.NextPart e es s t u p pieces l more) = unreads_then s t u (expression_unread l) (all_unread more)
+  all_unread (lowered.NextSpread at e es s t u p pieces l more) = unreads_then s t u (expression_unread l) (all_unread more)
+  all_unread (lowered.NextHole at es s u pieces more) = all_unread more
+  all_unread (lowered.NextProperty at computed key e text es s t u p pieces is l more) =
+      unreads_then s t u (expression_unread l) (all_unread more)
+  all_unread (lowered.NextComputed at key e es s r t u p q pieces is k l more) =
+      unreads_then s r u (expression_unread k) (unreads_then r t u (expression_unread l) (all_unread more))
+  all_unread (lowered.NextFraction at there e text es s t u p pieces is l more) =
+      let noted : State = recorded s (refusal row.F43 there.span) in
+      unreads_then s noted u (unreads_noted s (refusal row.F43 there.span)) (unreads_then noted t u (expression_unread l) (all_unread more))
+  all_unread (lowered.NextUnknown at computed key e es s u pieces is more) =
+      unreads_then s (recorded s (refusal row.F9 (span_of key))) u (unreads_noted s (refusal row.F9 (span_of key))) (all_unread more)
+
+  pub last_unread : {names : Names} {es : Pieces} {s t : State} {p : Place} → LoweredLast names es s t p → Unreads s t
+  last_unread (lowered.LastPart e s t p l) = expression_unread l
+  last_unread (lowered.EarlierPart e next es s t u p q l more) = unreads_then s t u (expression_unread l) (last_unread more)
+
+declarators_unread : {names : Names} {at : Span} {k : InstructionKind} {es : Pieces} {s t : State}
+    → LoweredDeclarators names at k es s t → Unreads s t
+declarators_unread (lowered.NoDeclarator s) = unreads_refl s
+declarators_unread {names} (lowered.NextDeclared there bind name type more symbol identifier s u annotated is f l) =
+    unreads_then s _ u (unreads_found_value names s symbol bind.span _ (Some bind.span)) (declarators_unread l)
+declarators_unread {names} {at} (lowered.NextInitialized there bind name type init more symbol identifier s t u p annotated is l f ls) =
+    unreads_then s t u (expression_unread l)
+    (unreads_then t _ u (unreads_found_value names t symbol bind.span _ (Some at)) (declarators_unread ls))
+
+unreads_returned : (s : State) (span : Option Span) (place : Place)
+    → Unreads s (returned_from s span returns.Explicit place blocks.Block)
+unreads_returned s span place =
+    unreads_then s (reserved s) _ (unreads_same s (reserved s) refl refl (omega arith))
+    (unreads_ended (reserved s) (return_of span returns.Explicit place) (new_block s.env.next_block blocks.Block) refl refl)
+
+test_unread : {names : Names} {at : Span} {e : Syntax} {s t : State} {p : Place} → LoweredTest names at e s t p → Unreads s t
+test_unread {at} (lowered.NoTest s) =
+    unreads_noted_value s (refusal row.F32 at) (values.Primitive (primitives.Boolean true)) (Some at)
+test_unread (lowered.Tested e s t p l) = expression_unread l
+
+mutual
+  pub statement_unread : {names : Names} {e : Syntax} {s t : State} → LoweredStatement names e s t → Unreads s t
+  statement_unread (lowered.Empty at s) = unreads_refl s
+  statement_unread (lowered.Expression at e s t p l) = expression_unread l
+  statement_unread (lowered.Debugger at s) = unreads_value s values.Debugger (Some at.span)
+  statement_unread (lowered.Variables at k declarators s t l) =
+      unreads_then s (declaring s k at.span) t (unreads_declaring s k at.span) (declarators_unread l)
+  statement_unread (lowered.ReturnNothing at s) =
+      let valued : State = with_value s (values.Primitive primitives.Undefined) None in
+      unreads_then s valued _ (unreads_value s (values.Primitive primitives.Undefined) None)
+      (unreads_returned valued (Some at.span) (temporary s None))
+  statement_unread (lowered.Return at e s t p l) = unreads_then s t _ (expression_unread l) (unreads_returned t (Some at.span) p)
+  statement_unread (lowered.Block at statements s t l) = statements_unread l
+  statement_unread (lowered.IfThen at test consequent s s2 s3 p second first) =
+      let f : IfParts = if_after_consequent (if_at s at.span false) s2 in
+      let behind : State = if_consequent (if_at s at.span false) s2 (span_of consequent) in
+      unreads_then s (if_begun s) _ (unreads_same s (if_begun s) refl refl (omega arith))
+      (unreads_then (if_begun s) s2 _ (statement_unread second)
+      (unreads_then s2 behind _ (unreads_last s2 s.env.next_block gotos.Break (span_of consequent) s.current)
+      (unreads_then behind s3 _ (expression_unread first)
+      (unreads_ended s3 (if_end f.behind.id.0 f.consequent f.alternate p f.span) f.behind refl refl))))
+  statement_unread (lowered.IfElse at test consequent alternate s s2 s3 s4 p second third first) =
+      let f : IfParts = if_after_consequent (if_at s at.span true) s2 in
+      let between : State = if_consequent (if_at s at.span true) s2 (span_of consequent) in
+      let behind : State = if_alternate f s3 (span_of alternate) in
+      unreads_then s (if_begun s) _ (unreads_same s (if_begun s) refl refl (omega arith))
+      (unreads_then (if_begun s) s2 _ (statement_unread second)
+      (unreads_then s2 between _ (unreads_next s2 s.env.next_block gotos.Break (span_of consequent) blocks.Block)
+      (unreads_then between s3 _ (statement_unread third)
+      (unreads_then s3 behind _ (unreads_last s3 s.env.next_block gotos.Break (span_of alternate) s.current)
+      (unreads_then behind s4 _ (expression_unread first)
+      (unreads_ended s4 (if_end f.behind.id.0 f.consequent f.alternate p f.span) f.behind refl refl))))))
+  statement_unread (lowered.Unlabeled loop s t l) = loop_unread l
+  statement_unread (lowered.LabeledLoop at label loop s t l) = loop_unread l
+  statement_unread (lowered.Labeled at label body s s2 other l) =
+      let f : LabelParts = label_at s at.span in
+      unreads_then s (label_begun s label) _ (unreads_same s (label_begun s label) refl refl (omega arith))
+      (unreads_then (label_begun s label) s2 _ (statement_unread l)
+      (unreads_scope_ended s2 f.behind.id.0 gotos.Break (span_of body) s.current (label_end s.env.next_block at.span) f.behind refl refl))
+  statement_unread (lowered.Break at label target s is) = unreads_next s target.0 gotos.Break at.span blocks.Block
+  statement_unread (lowered.Continue at label target s is) = unreads_next s target.0 gotos.Continue at.span blocks.Block
+
+  pub loop_unread : {names : Names} {own : Label} {e : Syntax} {s t : State} → LoweredLoop names own e s t → Unreads s t
+  loop_unread {own} (lowered.While at test body s s2 s3 p second first) =
+      let b = statement_unread second in
+      let l = expression_unread first in record {
+        grows = omega (arith, b.grows, l.grows);
+        handlers = l.handlers ∙ b.handlers;
+        keeps = while_unread s s2 s3 own p at.span (span_of body) (statement_blocks second).extends (expression_blocks first).extends
+            b.keeps l.keeps;
+      }
+  loop_unread {own} (lowered.DoWhile at test body s s2 s3 p first second) =
+      let b = statement_unread first in
+      let l = expression_unread second in record {
+        grows = omega (arith, b.grows, l.grows);
+        handlers = l.handlers ∙ b.handlers;
+        keeps = do_while_unread s s2 s3 own p at.span (span_of body) (statement_blocks first).extends (expression_blocks second).extends
+            b.keeps l.keeps;
+      }
+  loop_unread {own} (lowered.ForUpdated at init test update body s s2 s3 s4 s5 u p first third fourth second) =
+      let f : ForParts = for_at s at.span own true in
+      let g : ForParts = for_after_init f s2 in
+      let h : ForParts = for_after_update g s3 in
+      let updating : State = for_inited f s2 (part_span at.span init) in
+      let opened : State = for_updated g s3 (span_of update) in
+      let testing : State = for_bodied h s4 (span_of body) in
+      unreads_frame s (for_begun s) s5 (branch p h.body h.behind.id.0 h.behind.id.0 h.span) h.behind refl refl (omega arith) refl
+      (own_note (s.env.next_block + 1) s.env.next_block (for_begun s).env.next_block (omega arith) (omega arith))
+      (unreads_then (for_begun s) s2 _ (init_unread first)
+      (unreads_then s2 updating _ (unreads_next s2 f.test gotos.Break (part_span at.span init) blocks.Loop)
+      (unreads_then updating s3 _ (expression_unread third)
+      (unreads_then s3 opened _ (unreads_for_opened g s3 (span_of update))
+      (unreads_then opened s4 _ (statement_unread fourth)
+      (unreads_then s4 testing _
+      (unreads_scope_ended s4 (for_again h).0 gotos.Continue (span_of body) s.current (for_end f.test h.update h.body at.span)
+      (for_aside h).1 refl refl)
+      (test_unread second)))))))
+  loop_unread {own} (lowered.ForPlain at init test body s s2 s3 s4 p first third second) =
+      let f : ForParts = for_at s at.span own false in
+      let g : ForParts = for_after_init f s2 in
+      let opened : State = for_inited f s2 (part_span at.span init) in
+      let testing : State = for_bodied g s3 (span_of body) in
+      unreads_frame s (for_begun s) s4 (branch p g.body g.behind.id.0 g.behind.id.0 g.span) g.behind refl refl (omega arith) refl
+      (own_note (s.env.next_block + 1) s.env.next_block (for_begun s).env.next_block (omega arith) (omega arith))
+      (unreads_then (for_begun s) s2 _ (init_unread first)
+      (unreads_then s2 opened _ (unreads_for_opened f s2 (part_span at.span init))
+      (unreads_then opened s3 _ (statement_unread third)
+      (unreads_then s3 testing _
+      (unreads_scope_ended s3 (for_again g).0 gotos.Continue (span_of body) s.current (for_end f.test g.update g.body at.span)
+      (for_aside g).1 refl refl)
+      (test_unread second)))))
+
+  init_unread : {names : Names} {at : Span} {e : Syntax} {s t : State} → LoweredInit names at e s t → Unreads s t
+  init_unread {at} (lowered.NoInit s) = unreads_value s (values.Primitive primitives.Undefined) (Some at)
+  init_unread (lowered.DeclaredInit there fields s t l) = statement_unread l
+  init_unread {at} (lowered.RefusedInit e s t p l) =
+      unreads_then s (recorded s (refusal row.F31 at)) t (unreads_noted s (refusal row.F31 at)) (expression_unread l)
+
+  pub statements_unread : {names : Names} {es : Pieces} {s t : State} → LoweredStatements names es s t → Unreads s t
+  statements_unread (lowered.NoStatement s) = unreads_refl s
+  statements_unread (lowered.NextStatement e es s t u l more) = unreads_then s t u (statement_unread l) (statements_unread more)
+
+pub body_unread : {names : Names} {b : Syntax} {s t : State} → LoweredBody names b s t → KeepsUnread s t
+body_unread (lowered.Statements at directives statements s t texts l) = (statements_unread l).keeps
+body_unread (lowered.Value e s t p l) =
+    (unreads_then s (reserved s) _ (unreads_same s (reserved s) refl refl (omega arith))
+    (unreads_then (reserved s) t _ (expression_unread l)
+    (unreads_ended t (return_of None returns.Implicit p) (new_block s.env.next_block blocks.Block) refl refl))).keeps

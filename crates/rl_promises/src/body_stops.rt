@@ -1,0 +1,242 @@
+//! The first stop in the statements of a function: as in an expression, or a jump without a target.
+
+ghost use Rattle.std.specs.Prelude.{◌≡◌, ◌∷◌, None, map, option_map};
+ghost use Rattle.std.specs.Option.{option_or};
+ghost use Rattle.rl_names.specs.Seen.{seen};
+ghost use Rattle.rl_promises.specs.Jumps as jumps;
+ghost use Rattle.rl_promises.specs.PartForms as forms;
+ghost use Rattle.rl_promises.specs.SeenStops.{seen_around, seen_stop};
+ghost use Rattle.rl_promises.specs.Stops as spec;
+ghost use Rattle.rl_syntax.specs.Syntax.{Node, pieces_of, syntax};
+
+use crate::around::{Around, stop_of_break, stop_of_continue};
+use crate::found_stop::FoundStop;
+use crate::part_forms::{body_statements, four, jump_label, list_alone, text_and_tree, three, two};
+use crate::stops::{first_among, first_stop, stop_in_node};
+use rl_base::text::Text;
+use rl_names::names::FunctionNames;
+use rl_syntax::numbered::{At, Numbered};
+use rl_syntax::word::Word;
+
+/// True of the word of a loop.
+fn loops(word: Word) -> bool
+    ensures { result ≡ forms.loops word }
+{
+    match word {
+        Word::While => true,
+        Word::Dowhile => true,
+        Word::For => true,
+        Word::Forin => true,
+        Word::Forof => true,
+        _ => false,
+    }
+}
+
+/// True of a loop.
+#[tactic(auto, using(crate::proofs::BodyStopping::looping, rl_syntax::proofs::Layers::by_layer))]
+fn is_loop(statement: &Numbered) -> bool
+    ensures { result ≡ jumps.is_loop (syntax statement.now) }
+{
+    match statement {
+        Numbered::Node(_, word, _) => loops(*word),
+        Numbered::List(_) => false,
+        Numbered::Text(_) => false,
+        Numbered::Number(_) => false,
+        Numbered::Flag(_) => false,
+        Numbered::Absent => false,
+    }
+}
+
+/// The first stop in a statement inside others, with the label that is its own, in the order in which the lowering meets the nodes.
+#[cycle(stopping_in)]
+#[tactic(auto, using(rl_syntax::proofs::Layers::by_layer))]
+fn stop_in(
+    names: &FunctionNames<'_>,
+    around: &Around<'_>,
+    own: Option<&Text>,
+    statement: &Numbered,
+) -> Option<FoundStop>
+    ensures { option_map (seen_stop (seen names.now)) result ≡ spec.stop_in (seen names.now) (seen_around around.now) (option_map (λ l. l.now) own.entry) (syntax statement.now) }
+{
+    match statement {
+        Numbered::Node(at, word, parts) => {
+            stop_in_statement(names, around, own, *at, *word, parts.as_slice())
+        }
+        Numbered::List(parts) => first_among(names, parts.as_slice()),
+        Numbered::Text(_) => None,
+        Numbered::Number(_) => None,
+        Numbered::Flag(_) => None,
+        Numbered::Absent => None,
+    }
+}
+
+/// As `stop_in`, of a node.
+#[cycle(stopping_in)]
+#[tactic(auto, using(crate::proofs::BodyStopping::statements, crate::proofs::BodyStopping::smaller))]
+fn stop_in_statement(
+    names: &FunctionNames<'_>,
+    around: &Around<'_>,
+    own: Option<&Text>,
+    at: At,
+    word: Word,
+    parts: &[Numbered],
+) -> Option<FoundStop>
+    ensures { option_map (seen_stop (seen names.now)) result ≡ spec.stop_in (seen names.now) (seen_around around.now) (option_map (λ l. l.now) own.entry) (Node at word (pieces_of (map syntax parts.now))) }
+{
+    match word {
+        Word::Break => match jump_label(parts) {
+            Some(jump) => stop_of_break(jump, at.span, around),
+            None => stop_in_node(names, at, word, parts),
+        },
+        Word::Continue => match jump_label(parts) {
+            Some(jump) => stop_of_continue(jump, at.span, around),
+            None => stop_in_node(names, at, word, parts),
+        },
+        Word::Block => match list_alone(parts) {
+            Some(statements) => stop_among(names, around, statements),
+            None => stop_in_node(names, at, word, parts),
+        },
+        Word::If => match three(parts) {
+            Some((condition, consequent, alternate)) => {
+                stop_in_branches(names, around, condition, consequent, alternate)
+            }
+            None => stop_in_node(names, at, word, parts),
+        },
+        Word::While => match two(parts) {
+            Some((condition, body)) => stop_in_loop(names, around, own, body, condition),
+            None => stop_in_node(names, at, word, parts),
+        },
+        Word::Dowhile => match two(parts) {
+            Some((body, condition)) => stop_in_loop(names, around, own, body, condition),
+            None => stop_in_node(names, at, word, parts),
+        },
+        Word::For => match four(parts) {
+            Some((init, condition, update, body)) => {
+                stop_in_for(names, around, own, init, condition, update, body)
+            }
+            None => stop_in_node(names, at, word, parts),
+        },
+        Word::Labeled => match text_and_tree(parts) {
+            Some((label, body)) => stop_in_labeled(names, around, label, body),
+            None => stop_in_node(names, at, word, parts),
+        },
+        _ => stop_in_node(names, at, word, parts),
+    }
+}
+
+/// As `stop_in`, of the branches of an `if` and of its test.
+#[cycle(stopping_in)]
+#[tactic(auto, using(crate::proofs::Stopping::in_order))]
+fn stop_in_branches(
+    names: &FunctionNames<'_>,
+    around: &Around<'_>,
+    condition: &Numbered,
+    consequent: &Numbered,
+    alternate: &Numbered,
+) -> Option<FoundStop>
+    ensures { option_map (seen_stop (seen names.now)) result ≡ option_or (spec.stop_in (seen names.now) (seen_around around.now) None (syntax consequent.now)) (option_or (spec.stop_in (seen names.now) (seen_around around.now) None (syntax alternate.now)) (spec.first_stop (seen names.now) (syntax condition.now))) }
+{
+    match stop_in(names, around, None, consequent) {
+        Some(found) => Some(found),
+        None => match stop_in(names, around, None, alternate) {
+            Some(found) => Some(found),
+            None => first_stop(names, condition),
+        },
+    }
+}
+
+/// As `stop_in`, of the body of a loop and of its test.
+#[cycle(stopping_in)]
+#[tactic(auto, using(crate::proofs::Stopping::in_order))]
+fn stop_in_loop(
+    names: &FunctionNames<'_>,
+    around: &Around<'_>,
+    own: Option<&Text>,
+    body: &Numbered,
+    condition: &Numbered,
+) -> Option<FoundStop>
+    ensures { option_map (seen_stop (seen names.now)) result ≡ option_or (spec.stop_in (seen names.now) (jumps.InLoop (option_map (λ l. l.now) own.entry) ∷ seen_around around.now) None (syntax body.now)) (spec.first_stop (seen names.now) (syntax condition.now)) }
+{
+    let inside = Around::Loop {
+        label: own,
+        outer: &*around,
+    };
+    match stop_in(names, &inside, None, body) {
+        Some(found) => Some(found),
+        None => first_stop(names, condition),
+    }
+}
+
+/// As `stop_in`, of the parts of a `for` loop.
+#[cycle(stopping_in)]
+#[tactic(auto, using(crate::proofs::Stopping::in_order))]
+fn stop_in_for(
+    names: &FunctionNames<'_>,
+    around: &Around<'_>,
+    own: Option<&Text>,
+    init: &Numbered,
+    condition: &Numbered,
+    update: &Numbered,
+    body: &Numbered,
+) -> Option<FoundStop>
+    ensures { option_map (seen_stop (seen names.now)) result ≡ option_or (spec.first_stop (seen names.now) (syntax init.now)) (option_or (spec.first_stop (seen names.now) (syntax update.now)) (option_or (spec.stop_in (seen names.now) (jumps.InLoop (option_map (λ l. l.now) own.entry) ∷ seen_around around.now) None (syntax body.now)) (spec.first_stop (seen names.now) (syntax condition.now)))) }
+{
+    match first_stop(names, init) {
+        Some(found) => Some(found),
+        None => match first_stop(names, update) {
+            Some(found) => Some(found),
+            None => stop_in_loop(names, around, own, body, condition),
+        },
+    }
+}
+
+/// As `stop_in`, of a statement behind a label.
+#[cycle(stopping_in)]
+fn stop_in_labeled(
+    names: &FunctionNames<'_>,
+    around: &Around<'_>,
+    label: &Text,
+    body: &Numbered,
+) -> Option<FoundStop>
+    ensures { option_map (seen_stop (seen names.now)) result ≡ spec.stop_in (seen names.now) (jumps.within_label label.now (syntax body.now) (seen_around around.now)) (jumps.own_label label.now (syntax body.now)) (syntax body.now) }
+{
+    if is_loop(body) {
+        stop_in(names, around, Some(&*label), body)
+    } else {
+        let inside = Around::Labeled {
+            label: &*label,
+            outer: &*around,
+        };
+        stop_in(names, &inside, None, body)
+    }
+}
+
+/// As `stop_in`, for statements in a row.
+#[cycle(stopping_in)]
+#[tactic(auto, using(crate::proofs::BodyStopping::in_row))]
+fn stop_among(
+    names: &FunctionNames<'_>,
+    around: &Around<'_>,
+    statements: &[Numbered],
+) -> Option<FoundStop>
+    ensures { option_map (seen_stop (seen names.now)) result ≡ spec.stop_among (seen names.now) (seen_around around.now) (pieces_of (map syntax statements.now)) }
+{
+    'statements: for statement in statements {
+        if let Some(found) = stop_in(names, around, None, statement) {
+            return Some(found);
+        }
+    }
+    None
+}
+
+/// The first stop in the body of a function, in the order in which the lowering meets the nodes: a reserved name, or a jump without a
+/// target. `None` if there is none.
+#[tactic(auto, using(crate::proofs::BodyStopping::bodies))]
+pub fn stop_in_body(names: &FunctionNames<'_>, body: &Numbered) -> Option<FoundStop>
+    ensures { option_map (seen_stop (seen names.now)) result ≡ spec.stop_in_body (seen names.now) (syntax body.now) }
+{
+    match body_statements(body) {
+        Some(statements) => stop_among(names, &Around::Nothing, statements),
+        None => first_stop(names, body),
+    }
+}
