@@ -1,9 +1,13 @@
 //! Lowers the marked function of a unit to its graph, or runs a function of it by its source and by its graph.
 #![tactic(auto)]
 
+mod lint;
+mod run;
+mod trace;
+
 use rl_base::streams::{StdIn, StdOut};
-use rl_commands::run::run;
 use rl_unit::run::arguments;
+use run::run;
 use std::process::ExitCode;
 
 fn main(rt: HostRuntime) -> ExitCode {

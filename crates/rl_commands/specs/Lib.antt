@@ -1,3 +1,2 @@
 pub mod Known
-pub mod Traced
-pub mod SourceTraced
+pub mod Lines

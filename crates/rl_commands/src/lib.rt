@@ -1,8 +1,5 @@
-//! The commands `trace` and `source_trace` over any source and sink, and the program `react_lower` with all its commands.
+//! Reading of units and lines of traces, which the commands that run functions share.
 #![tactic(auto)]
 
 pub mod lines;
 pub mod read;
-pub mod run;
-pub mod source_trace;
-pub mod trace;

@@ -1,4 +1,3 @@
-pub mod Candidates
 pub mod Functions
 pub mod Locals
 pub mod Names

@@ -1,4 +1,5 @@
 pub mod Apart
+pub mod Candidates
 pub mod Choosing
 pub mod IdentifierNames
 pub mod Merged

@@ -5,7 +5,7 @@ use Rattle.rl_base.specs.declared.ids.IdentifierId.{IdentifierId}
 use Rattle.rl_base.specs.declared.ids.SymbolId.{SymbolId}
 use Rattle.rl_hir.specs.declared.function.Pair.{Pair}
 use Rattle.rl_used_names.specs.declared.names.NameUser.{NameUser}
-pub use Rattle.rl_names.specs.Candidates.{candidate}
+pub use Rattle.rl_used_names.specs.Candidates.{candidate}
 
 -- A name, and the id of the symbol that has it.
 pub record UsedName : Type 0 where

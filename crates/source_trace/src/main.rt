@@ -1,9 +1,11 @@
 //! Runs a function of a unit by its source, and tells its trace, whether it is orderly, and whether the unit is supported.
 #![tactic(auto)]
 
+mod run;
+
 use rl_base::streams::{StdIn, StdOut};
-use rl_commands::source_trace::source_trace;
 use rl_unit::run::arguments;
+use run::source_trace;
 use std::process::ExitCode;
 
 fn main(rt: HostRuntime) -> ExitCode {

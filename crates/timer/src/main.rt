@@ -1,6 +1,6 @@
 //! Times parts of the front end. The first argument is a part, of which two take the unit that stands on standard input:
-//! - `scopes CALLS` writes the number of nodes, and of the shortest call of `read_tree` and of `Semantic::of` the nanoseconds. With 0
-//!   calls it writes the numbers of nodes, scopes, symbols and references.
+//! - `scopes CALLS` writes the number of nodes, and of the shortest call of `read_tree`, of `Semantic::of` and of `lint` the nanoseconds.
+//!   With 0 calls it writes the numbers of nodes, scopes, symbols and references.
 //! - `names CALLS` names all symbols so many times, each time in a fresh builder of the marked function, and writes the number of
 //!   symbols and the nanoseconds of the shortest time. With 0 calls it writes the numbers of symbols and of renamed references.
 //! - `order TABLE SHAPE BLOCKS CALLS` makes a graph of about so many blocks in a table, `map` or `dense`, and as many calls of the ordering

@@ -1,8 +1,0 @@
-use Rattle.rl_commands.proofs.Known.{refused_known}
-use Rattle.rl_syntax.specs.Syntax.{syntax}
-use Rattle.rl_commands.proofs.trace.answer.Goals as goal
-
-pub returns-clause-status : goal.returns-clause-status
-returns-clause-status g c =
-    refused_known (g.S.Source.left c.args.source.now) (syntax c.in-Ok.unit.tree) c.in-Err-unit_output.status c.in-Ok.ensures.known
-    c.in-Err-unit_output.ensures.status
