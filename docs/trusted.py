@@ -10,8 +10,8 @@ PROVED, README = TOP / "docs/PROVED.md", TOP / "README.md"
 STATEMENTS = {
     "crates/rl_unit/src/run.rt": ("run", "run_steady"),
     "crates/rl_unit/src/unit.rt": ("lower_unit",),
-    "crates/rl_commands/src/run.rt": ("run",),
-    "crates/rl_commands/src/source_trace.rt": ("source_trace",),
+    "crates/react_lower/src/run.rt": ("run",),
+    "crates/source_trace/src/run.rt": ("source_trace",),
 }
 USE = re.compile(r"^\s*(?:ghost |pub )?use Rattle\.(\w+)\.specs\.([\w.]+?)(?:\.\{([^}]*)\})?(?: as (\w+))?;?$", re.M)
 ROW = re.compile(r"^\| `(\w+)` \| ([A-Z]\w*(?:, [A-Z]\w*)*) \|$", re.M)
