@@ -2,8 +2,8 @@
 use Rattle.std.proofs.Common.{◌≡◌, ◌≢◌, inl, inr, ℕ, true, List, [], Option, Some, None, refl, ap, sym, subst, ◌∙◌}
 use Rattle.std.proofs.lemmas.Option.{none-some, same_Some}
 use Rattle.std.specs.Option.{option_map}
-use Rattle.rl_commands.proofs.Known.{FitsRefusals}
-use Rattle.rl_commands.specs.Known.{RefusesUnit}
+use Rattle.rl_unit.proofs.Known.{FitsRefusals}
+use Rattle.rl_unit.specs.Known.{RefusesUnit}
 use Rattle.react_lower.specs.Traced.{IsTraceAnswer, IsTraceOutput, id_of, node_of}
 use Rattle.rl_hir.specs.declared.function.Lowered.{Lowered}
 use Rattle.rl_machine.specs.declared.trace.Answer.{Answer}

@@ -2,7 +2,7 @@
 use Rattle.std.proofs.Common.{◌≡◌, ℕ, List, ◌++◌, codes, inl, sym, ◌∙◌}
 use Rattle.std.proofs.lemmas.List.{append_cancel_right}
 use Rattle.react_lower.specs.Traced.{IsCompared}
-use Rattle.rl_commands.specs.Lines.{trace_line}
+use Rattle.rl_unit.specs.Lines.{trace_line}
 use Rattle.rl_machine.specs.declared.trace.Trace.{Trace}
 use Rattle.rl_text.specs.Notation.{spelling}
 use Rattle.rl_trace_text.proofs.ReadBack.{only_trace}

@@ -1,6 +1,6 @@
 -- The output of `lint` for a unit, and its answers.
 use Rattle.std.proofs.Common.{◌≡◌, ℕ, None, List, subst}
-use Rattle.rl_commands.proofs.Known.{FitsRefusals}
+use Rattle.rl_unit.proofs.Known.{FitsRefusals}
 use Rattle.react_lower.specs.Linted.{IsLinted, IsLintAnswer, IsLintOutput, text_of}
 use Rattle.rl_lint.specs.Findings.{Lists}
 use Rattle.rl_lint.specs.Rules.{findings, findings_in}

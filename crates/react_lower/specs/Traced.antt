@@ -2,7 +2,7 @@
 use Rattle.std.specs.Prelude.{◌≡◌, ◌≢◌, ◌⊎◌, ℕ, true, List, [], ◌∷◌, ◌++◌, Option, Some, None, slice_get, codes}
 use Rattle.std.specs.Option.{option_map}
 use Rattle.rl_base.specs.declared.ids.FunctionId.{FunctionId}
-use Rattle.rl_commands.specs.Lines.{no_function, trace_line}
+use Rattle.rl_unit.specs.Lines.{no_function, trace_line}
 use Rattle.rl_hir.specs.declared.function.InnerFunction.{InnerFunction}
 use Rattle.rl_hir.specs.declared.function.Lowered.{Lowered}
 use Rattle.rl_machine.specs.declared.trace.Trace.{Trace}

@@ -3,7 +3,7 @@
 ghost use Rattle.std.specs.Prelude.{◌≡◌, ◌≢◌, ◌++◌, IfErr, IfOk, IsErrOf, MatchResult, OnOk};
 ghost use Rattle.rl_base.specs.Faults.{Rose};
 ghost use Rattle.rl_base.specs.declared.span.Span.{Span as Range};
-ghost use Rattle.rl_commands.specs.Known.{ExplainsBy, IsCompleteBy, RefusesUnit, WritesBy};
+ghost use Rattle.rl_unit.specs.Known.{ExplainsBy, IsCompleteBy, RefusesUnit, WritesBy};
 ghost use Rattle.react_lower.specs.Linted as spec;
 ghost use Rattle.rl_syntax.specs.Syntax.{syntax};
 ghost use Rattle.rl_unit.specs.Answers.{HasRead, ReadsWhole, RefusesKnown};
@@ -14,11 +14,11 @@ use rl_base::decimal::write_decimal;
 use rl_base::error::OutOfMemory;
 use rl_base::io::{Sink, Source, write_all};
 use rl_base::span::Span;
-use rl_commands::read::read_unit;
 use rl_lint::finding::{Finding, LintRule};
 use rl_lint::lint::lint;
 use rl_semantic::semantic::{RuleError, Semantic};
 use rl_text::quoted::write_quoted;
+use rl_unit::read::read_unit;
 use rl_unit::run::{Output, Status};
 use std::alloc::Global;
 

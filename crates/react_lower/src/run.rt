@@ -5,7 +5,7 @@ ghost use Rattle.std.specs.Io.KnownBytes.{Keeps};
 ghost use Rattle.react_lower.specs.Linted.{IsLintAnswer, IsLintOutput};
 ghost use Rattle.react_lower.specs.Traced.{AreWords, IsCommand, IsTraceAnswer, IsTraceOutput};
 ghost use Rattle.rl_base.specs.Faults.{Rose};
-ghost use Rattle.rl_commands.specs.Known.{ExplainsBy, IsCompleteBy};
+ghost use Rattle.rl_unit.specs.Known.{ExplainsBy, IsCompleteBy};
 ghost use Rattle.rl_trace_text.specs.declared.words.Arguments.{Arguments as Args};
 ghost use Rattle.rl_unit.specs.Answers.{Explains, HasRead, IsComplete, ReadsWhole};
 

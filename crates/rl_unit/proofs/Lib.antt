@@ -1,5 +1,6 @@
 pub mod Marked
 pub mod Answering
+pub mod Known
 pub mod Outcomes
 pub mod Room
 pub mod Small

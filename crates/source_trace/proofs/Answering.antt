@@ -2,7 +2,7 @@
 use Rattle.std.proofs.Common.{◌≡◌, ◌≢◌, ℕ, List, Option, Some, None, sym}
 use Rattle.std.proofs.lemmas.Option.{none-some}
 use Rattle.std.specs.Option.{option_map}
-use Rattle.rl_commands.proofs.Known.{FitsRefusals}
+use Rattle.rl_unit.proofs.Known.{FitsRefusals}
 use Rattle.rl_machine.specs.declared.trace.Trace.{Trace}
 use Rattle.rl_model.specs.Source.{function_at}
 use Rattle.rl_syntax.specs.Syntax.{Syntax}

@@ -1,6 +1,6 @@
 -- The command `source_trace`: its words, its lines, and its statuses.
 use Rattle.std.specs.Prelude.{◌≡◌, ◌≢◌, ℕ, Bool, true, false, List, [], ◌∷◌, ◌++◌, Option, Some, None, codes}
-use Rattle.rl_commands.specs.Lines.{no_function, trace_line}
+use Rattle.rl_unit.specs.Lines.{no_function, trace_line}
 use Rattle.rl_machine.specs.declared.trace.Trace.{Trace}
 use Rattle.rl_model.specs.Source.{function_at, is_orderly, is_supported, source_trace_of}
 use Rattle.rl_semantic.specs.Rules.{least_broken}

@@ -1,4 +1,4 @@
-use Rattle.rl_commands.proofs.Known.{refused_known}
+use Rattle.rl_unit.proofs.Known.{refused_known}
 use Rattle.rl_syntax.specs.Syntax.{syntax}
 use Rattle.react_lower.proofs.lint.answer.Goals as goal
 

@@ -1,4 +1,4 @@
-use Rattle.rl_commands.proofs.Known.{complete_by, refusal_by}
+use Rattle.rl_unit.proofs.Known.{complete_by, refusal_by}
 use Rattle.react_lower.proofs.Linting.{lint_answers, lint_fits}
 use Rattle.react_lower.specs.Linted.{IsLintAnswer, IsLintOutput}
 use Rattle.react_lower.proofs.lint.lint_unit.Goals as goal

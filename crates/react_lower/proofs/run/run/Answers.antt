@@ -1,6 +1,6 @@
 use Rattle.std.proofs.Common.{map, string_bytes, subst, sym}
 use Rattle.react_lower.proofs.Words.{only_some}
-use Rattle.rl_commands.specs.Known.{ExplainsBy, IsCompleteBy}
+use Rattle.rl_unit.specs.Known.{ExplainsBy, IsCompleteBy}
 use Rattle.react_lower.specs.Traced.{AreWords, IsTraceAnswer, IsTraceOutput}
 use Rattle.rl_trace_text.specs.declared.words.Arguments.{Arguments}
 use Rattle.react_lower.proofs.run.run.Goals as goal

@@ -1,5 +1,5 @@
 use Rattle.react_lower.proofs.Answering.{trace_answers, trace_fits}
-use Rattle.rl_commands.proofs.Known.{complete_by, refusal_by}
+use Rattle.rl_unit.proofs.Known.{complete_by, refusal_by}
 use Rattle.react_lower.specs.Traced.{IsTraceAnswer, IsTraceOutput}
 use Rattle.react_lower.proofs.trace.trace.Goals as goal
 

@@ -1,4 +1,4 @@
-use Rattle.rl_commands.proofs.Known.{refused_known}
+use Rattle.rl_unit.proofs.Known.{refused_known}
 use Rattle.rl_syntax.specs.Syntax.{syntax}
 use Rattle.source_trace.proofs.run.answer.Goals as goal
 

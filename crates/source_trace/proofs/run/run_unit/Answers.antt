@@ -1,5 +1,5 @@
 use Rattle.source_trace.proofs.Answering.{source_answers, source_fits}
-use Rattle.rl_commands.proofs.Known.{complete_by, refusal_by}
+use Rattle.rl_unit.proofs.Known.{complete_by, refusal_by}
 use Rattle.source_trace.specs.SourceTraced.{IsSourceAnswer, IsSourceOutput}
 use Rattle.source_trace.proofs.run.run_unit.Goals as goal
 

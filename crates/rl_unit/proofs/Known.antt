@@ -2,7 +2,7 @@
 use Rattle.std.proofs.Common.{◌≡◌, ◌≢◌, inl, inr, ℕ, List, Option, Some, None, IfSome, sym, subst, take}
 use Rattle.rl_ast.proofs.Units.{one_unit}
 use Rattle.rl_ast.specs.Units.{Spells}
-use Rattle.rl_commands.specs.Known.{IsCompleteBy, IsKnown, RefusesUnit, WritesBy}
+use Rattle.rl_unit.specs.Known.{IsCompleteBy, IsKnown, RefusesUnit, WritesBy}
 use Rattle.rl_semantic.specs.Rules.{least_broken}
 use Rattle.rl_syntax.specs.Limits.{IsTooLarge, most_read}
 use Rattle.rl_syntax.specs.Syntax.{Syntax}

@@ -1,10 +1,10 @@
 use Rattle.std.proofs.Common.{ℕ, List, Some, subst}
-use Rattle.rl_commands.proofs.Known.{known_left}
-use Rattle.rl_commands.specs.Known.{IsKnown}
+use Rattle.rl_unit.proofs.Known.{known_left}
+use Rattle.rl_unit.specs.Known.{IsKnown}
 use Rattle.rl_syntax.specs.Syntax.{syntax}
 use Rattle.rl_unit.proofs.Answering.{reads_whole, refuses_left}
 use Rattle.rl_unit.specs.Answers.{RefusesKnown}
-use Rattle.rl_commands.proofs.read.read_unit.Goals as goal
+use Rattle.rl_unit.proofs.read.read_unit.Goals as goal
 
 pub returns-in-Ok-unit_of-clause-known : goal.returns-in-Ok-unit_of-clause-known
 returns-in-Ok-unit_of-clause-known g c =

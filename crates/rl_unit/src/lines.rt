@@ -1,7 +1,7 @@
 //! Lines of traces.
 
 ghost use Rattle.std.specs.Prelude.{◌≡◌, IfOk};
-ghost use Rattle.rl_commands.specs.Lines.{no_function, trace_line};
+ghost use Rattle.rl_unit.specs.Lines.{no_function, trace_line};
 
 use rl_base::error::OutOfMemory;
 use rl_machine::trace::Trace;

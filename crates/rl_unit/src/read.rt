@@ -2,15 +2,15 @@
 
 ghost use Rattle.std.specs.Prelude.{IfErr, IfOk, IsErrOf, MatchResult, Some};
 ghost use Rattle.rl_base.specs.Faults.{Rose};
-ghost use Rattle.rl_commands.specs.Known.{IsKnown};
+ghost use Rattle.rl_unit.specs.Known.{IsKnown};
 ghost use Rattle.rl_syntax.specs.Syntax.{syntax};
 ghost use Rattle.rl_unit.specs.Answers.{HasRead, ReadsWhole, RefusesKnown};
 ghost use Rattle.rl_unit.specs.Functions.{IsRead};
 
+use crate::run::Status;
 use rl_ast::read::{LARGEST_INPUT, TreeError, read_tree};
 use rl_ast::unit::Unit;
 use rl_base::io::{ReadError, Source, read_up_to};
-use rl_unit::run::Status;
 use std::alloc::Global;
 
 /// The unit that bytes spell. An error is the status of a program that has nothing to write: `Malformed`, `TooLarge` or `OutOfMemory`.
