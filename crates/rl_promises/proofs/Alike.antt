@@ -19,11 +19,12 @@ use Rattle.rl_promises.proofs.CoveredForms.{ParamNode, list_of, params_form, par
 use Rattle.rl_promises.proofs.CoveredMeanings.{second_round}
 use Rattle.rl_promises.proofs.CoveredWorlds.{SharesNothing, params_covered, source_alone}
 use Rattle.rl_promises.proofs.OrderlyCalls.{LendAlike, LendsAlike, body_lends}
-use Rattle.rl_model.specs.Actions.{Action, ◌>>=◌, ◌>>◌, body_of_loop, breakable, done, labeled, loop, no_meaning, return_with, test}
+use Rattle.rl_model.specs.Actions.{Action, ◌>>=◌, ◌>>◌, ask, body_of_loop, breakable, done, labeled, loop, next, no_meaning, return_with, test}
 use Rattle.rl_model.specs.Code.{world_of}
 use Rattle.rl_promises.specs.Headline.{SameRuns}
 use Rattle.rl_promises.specs.Covered.{IsCoveredFunction}
-use Rattle.rl_model.specs.Expressions.{eval, first_piece, later_pieces}
+use Rattle.rl_model.specs.Events.{fixed_key, get_iterator, next_key, next_of}
+use Rattle.rl_model.specs.Expressions.{assign_to, eval, first_piece, key_in, later_pieces, write, write_property}
 use Rattle.rl_model.specs.Functions.{is_plain, outside, run_body, run_function, set_all, take_arguments, take_params}
 use Rattle.rl_model.specs.Marked.{marked}
 use Rattle.rl_model.specs.Patterns.{bind, declare}
@@ -33,10 +34,12 @@ use Rattle.rl_model.specs.Scenes.{written_scene}
 use Rattle.rl_model.specs.Shapes as shapes
 use Rattle.rl_model.specs.Shapes.{is_link, lends}
 use Rattle.rl_model.specs.Source.{is_orderly}
-use Rattle.rl_model.specs.Statements.{declare_all, declare_one, eval_optional, exec, exec_all, has_meaning, holds, is_using, turn_while}
+use Rattle.rl_model.specs.Statements.{declare_all, declare_one, eval_optional, exec, exec_all, has_meaning, holds, is_using, take_head, turn_while, turn_with}
 use Rattle.rl_model.specs.Units.{names_of}
 use Rattle.rl_model.specs.Worlds.{Function}
 use Rattle.rl_names.specs.Functions.{body_in, params_in}
+use Rattle.rl_names.specs.declared.names.Meaning.{Meaning}
+use Rattle.rl_names.specs.declared.names.Meaning.TheVariants.{Local, Outer}
 use Rattle.rl_syntax.specs.Shapes.{is_four, is_six}
 use Rattle.rl_syntax.specs.Syntax.{Syntax, Node, Listed, Said, Count, Flag, Absent, Pieces, End, Then}
 use Rattle.rl_syntax.specs.declared.numbered.At.{At}
@@ -125,6 +128,53 @@ module _ (t : Scene) (stored : ℕ → Option SymbolId) (early : Bool → ℕ �
       if is_using kind then no_meaning else declare_alike declarators covered.1.0 i
   var_alike own at _ covered = refl
 
+  -- What the head of a loop takes.
+
+  write_alike : (meaning : Meaning) (name : List ℕ) (v : Value) → write s meaning name v ≡ write t meaning name v
+  write_alike (Local symbol) name v = refl
+  write_alike (Outer binding) name v = refl
+
+  id_assigned : (at : At) (parts : Pieces) (v : Value) → assign_to s (Node at word.Id parts) v ≡ assign_to t (Node at word.Id parts) v
+  id_assigned at (Then (Said name) End) v = λ i. (do
+    write_alike (t.names.meaning at.reference.0 name) name v i
+    done)
+  id_assigned at _ v = refl
+
+  member_assigned : (at : At) (parts : Pieces) (v : Value) → LendAlike parts
+      → assign_to s (Node at word.Member parts) v ≡ assign_to t (Node at word.Member parts) v
+  member_assigned at (Then optional (Then object (Then (Said name) End))) v covered = λ i. (do
+    o ← eval_alike t stored early object covered.1.0 i
+    write_property t o (fixed_key (value.Text name)) v
+    done)
+  member_assigned at _ v covered = refl
+
+  index_assigned : (at : At) (parts : Pieces) (v : Value) → LendAlike parts
+      → assign_to s (Node at word.Index parts) v ≡ assign_to t (Node at word.Index parts) v
+  index_assigned at (Then optional (Then object (Then property End))) v covered = λ i. (do
+    o ← eval_alike t stored early object covered.1.0 i
+    key ← key_in property (eval_alike t stored early property covered.1.1.0 i)
+    write_property t o key v
+    done)
+  index_assigned at _ v covered = refl
+
+  target_alike : (target : Syntax) (v : Value) → LendsAlike target → assign_to s target v ≡ assign_to t target v
+  target_alike (Node at word.Id parts) v covered = id_assigned at parts v
+  target_alike (Node at word.Member parts) v covered = member_assigned at parts v covered.2
+  target_alike (Node at word.Index parts) v covered = index_assigned at parts v covered.2
+  target_alike (Node at word.Default parts) v covered = absurd (true≢false (sym covered.0))
+  target_alike (Node at word.Short parts) v covered = absurd (true≢false (sym covered.0))
+  target_alike (Node at word.Keyed parts) v covered = absurd (true≢false (sym covered.0))
+  target_alike (Node at word.Rest parts) v covered = absurd (true≢false (sym covered.0))
+  target_alike (Node at word.Arraytarget parts) v covered = absurd (true≢false (sym covered.0))
+  target_alike (Node at word.Objecttarget parts) v covered = absurd (true≢false (sym covered.0))
+  target_alike _ v covered = refl
+
+  head_alike : (head : Syntax) (v : Value) → LendsAlike head → take_head s head v ≡ take_head t head v
+  head_alike (Node at word.Var (Then (Said kind) (Then (Listed (Then (Node there word.Declarator (Then pattern parts)) End)) End))) v covered =
+      λ i. if is_using kind then no_meaning else bind_alike true pattern v covered.2.1.0.0.2.0 i
+  head_alike (Node at word.Var parts) v covered = refl
+  head_alike head v covered = target_alike head v covered
+
   -- The test of an `if` or of a loop.
   holds_alike : (condition : Syntax) → LendsAlike condition → holds s condition ≡ holds t condition
   holds_alike condition covered = λ i. (do
@@ -158,6 +208,8 @@ module _ (t : Scene) (stored : ℕ → Option SymbolId) (early : Bool → ℕ �
     exec_alike own (Node at word.While parts) covered = while_alike own at parts covered.2
     exec_alike own (Node at word.Dowhile parts) covered = dowhile_alike own at parts covered.2
     exec_alike own (Node at word.For parts) covered = for_alike own at parts covered.2
+    exec_alike own (Node at word.Forin parts) covered = forin_alike own at parts covered.2
+    exec_alike own (Node at word.Forof parts) covered = forof_alike own at parts covered.2
     exec_alike own (Node at word.Labeled parts) covered = labeled_alike own at parts covered.2
     exec_alike own (Node at word.Break parts) covered = break_alike own at parts
     exec_alike own (Node at word.Continue parts) covered = continue_alike own at parts
@@ -253,6 +305,29 @@ module _ (t : Scene) (stored : ℕ → Option SymbolId) (early : Bool → ℕ �
             optional_alike update covered.1.1.0 i))))
         else no_meaning
     for_alike own at _ covered = refl
+
+    forin_alike : (own : Option (List ℕ)) (at : At) (parts : Pieces) → LendAlike parts
+        → exec s own (Node at word.Forin parts) ≡ exec t own (Node at word.Forin parts)
+    forin_alike own at (Then head (Then right (Then body End))) covered = λ i. (do
+      collection ← eval_alike t stored early right covered.1.0 i
+      breakable (loop (do
+        v ← next t (next_key collection)
+        turn_with v (λ key. do
+          head_alike head key covered.0 i
+          body_of_loop own (exec_alike None body covered.1.1.0 i)))))
+    forin_alike own at _ covered = refl
+
+    forof_alike : (own : Option (List ℕ)) (at : At) (parts : Pieces) → LendAlike parts
+        → exec s own (Node at word.Forof parts) ≡ exec t own (Node at word.Forof parts)
+    forof_alike own at (Then (Flag false) (Then head (Then right (Then body End)))) covered = λ i. (do
+      collection ← eval_alike t stored early right covered.1.1.0 i
+      iterator ← ask t (get_iterator collection)
+      breakable (loop (do
+        v ← next t (next_of iterator collection)
+        turn_with v (λ item. do
+          head_alike head item covered.1.0 i
+          body_of_loop own (exec_alike None body covered.1.1.1.0 i)))))
+    forof_alike own at _ covered = refl
 
     labeled_alike : (own : Option (List ℕ)) (at : At) (parts : Pieces) → LendAlike parts
         → exec s own (Node at word.Labeled parts) ≡ exec t own (Node at word.Labeled parts)

@@ -167,6 +167,8 @@ module _ (t : Scene) (stored : ℕ → Option SymbolId) (early : Bool → ℕ �
     eval_alike (Node at word.Return parts) covered = refl
     eval_alike (Node at word.If parts) covered = refl
     eval_alike (Node at word.For parts) covered = refl
+    eval_alike (Node at word.Forin parts) covered = refl
+    eval_alike (Node at word.Forof parts) covered = refl
     eval_alike (Node at word.While parts) covered = refl
     eval_alike (Node at word.Dowhile parts) covered = refl
     eval_alike (Node at word.Break parts) covered = refl

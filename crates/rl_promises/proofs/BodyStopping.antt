@@ -1,5 +1,5 @@
 -- The first stop of a statement, by its word and the form of its parts.
-use Rattle.std.proofs.Common.{◌≡◌, ◌<◌, ◌+◌, ℕ, Bool, false, if◌then◌else◌, Option, Some, None, List, [], ◌∷◌, map, codes, ap, sym, refl, ◌∙◌, arith}
+use Rattle.std.proofs.Common.{◌≡◌, ◌<◌, ◌+◌, ℕ, Bool, true, false, if◌then◌else◌, Option, Some, None, List, [], ◌∷◌, map, codes, ap, sym, refl, ◌∙◌, arith}
 use Rattle.std.specs.Option.{option_or}
 use Rattle.rl_base.specs.Diagnostics.{diagnostic_at}
 use Rattle.rl_base.specs.declared.diagnostic.Diagnostic.{Diagnostic}
@@ -8,12 +8,12 @@ use Rattle.rl_base.specs.declared.span.Span.{Span}
 use Rattle.rl_model.specs.Actions.{Label}
 use Rattle.rl_names.specs.Names.{Names}
 use Rattle.rl_promises.specs.Jumps.{Around, InLoop, breaks_out, continues_in, is_in_loop, is_loop, own_label, stop_of_break, stop_of_continue, within_label}
-use Rattle.rl_promises.specs.PartForms.{body_parts, body_statements, is_text_and_tree, jump_label, label_in, list_alone, loops}
-use Rattle.rl_promises.specs.Stops.{first_stop, stop_among, stop_in, stop_in_body}
+use Rattle.rl_promises.specs.PartForms.{body_parts, body_statements, is_flag_and_three, is_text_and_tree, jump_label, label_in, list_alone, loops}
+use Rattle.rl_promises.specs.Stops.{first_stop, stop_among, stop_at_head, stop_in, stop_in_body}
 use Rattle.rl_syntax.proofs.Layers.{syntax_node}
 use Rattle.rl_syntax.specs.Shapes.{is_four, is_three, is_two}
 use Rattle.rl_syntax.specs.Sizes.{size, size_of}
-use Rattle.rl_syntax.specs.Syntax.{Syntax, Node, Listed, Said, Absent, Pieces, End, Then, pieces_of, syntax}
+use Rattle.rl_syntax.specs.Syntax.{Syntax, Node, Listed, Said, Flag, Absent, Pieces, End, Then, pieces_of, syntax}
 use Rattle.rl_syntax.specs.declared.numbered.At.{At}
 use Rattle.rl_syntax.specs.declared.numbered.Numbered.{Numbered}
 use Rattle.rl_syntax.specs.declared.numbered.Numbered.TheVariants as numbered
@@ -143,6 +143,34 @@ pub for_other : (n : Names) (around : List Around) (own : Label) (at : At) (ps :
 for_other n around own at (Then a (Then b (Then c (Then d End)))) r other e = absurd (cc)
 for_other n around own at _ r other e = e
 
+pub forin_stop : (n : Names) (around : List Around) (own : Label) (at : At) (ps : Pieces) (a b c : Syntax) (r : Option Diagnostic)
+    → ps ≡ Then a (Then b (Then c End))
+    → r ≡ option_or (stop_in n (InLoop own ∷ around) None c) (option_or (first_stop n b) (stop_at_head n a))
+    → r ≡ stop_in n around own (Node at word.Forin ps)
+forin_stop n around own at ps a b c r is e = e ∙ ap (λ q. stop_in n around own (Node at word.Forin q)) (sym is)
+
+pub forin_other : (n : Names) (around : List Around) (own : Label) (at : At) (ps : Pieces) (r : Option Diagnostic) → is_three ps ≡ false
+    → r ≡ first_stop n (Node at word.Forin ps) → r ≡ stop_in n around own (Node at word.Forin ps)
+forin_other n around own at (Then a (Then b (Then c End))) r other e = absurd (cc)
+forin_other n around own at _ r other e = e
+
+pub forof_stop : (n : Names) (around : List Around) (own : Label) (at : At) (ps : Pieces) (is_await : Bool) (a b c : Syntax)
+    (r : Option Diagnostic) → ps ≡ Then (Flag is_await) (Then a (Then b (Then c End))) → is_await ≡ false
+    → r ≡ option_or (stop_in n (InLoop own ∷ around) None c) (option_or (first_stop n b) (stop_at_head n a))
+    → r ≡ stop_in n around own (Node at word.Forof ps)
+forof_stop n around own at ps is_await a b c r is plain e =
+    e ∙ ap (λ q. stop_in n around own (Node at word.Forof q)) (sym (is ∙ ap (λ (f : Bool). Then (Flag f) (Then a (Then b (Then c End)))) plain))
+
+pub forof_await : (n : Names) (around : List Around) (own : Label) (at : At) (ps : Pieces) (is_await : Bool) (a b c : Syntax)
+    → ps ≡ Then (Flag is_await) (Then a (Then b (Then c End))) → is_await ≡ true → None ≡ stop_in n around own (Node at word.Forof ps)
+forof_await n around own at ps is_await a b c is waits =
+    ap (λ q. stop_in n around own (Node at word.Forof q)) (sym (is ∙ ap (λ (f : Bool). Then (Flag f) (Then a (Then b (Then c End)))) waits))
+
+pub forof_other : (n : Names) (around : List Around) (own : Label) (at : At) (ps : Pieces) (r : Option Diagnostic)
+    → is_flag_and_three ps ≡ false → r ≡ first_stop n (Node at word.Forof ps) → r ≡ stop_in n around own (Node at word.Forof ps)
+forof_other n around own at (Then (Flag is_await) (Then a (Then b (Then c End)))) r other e = absurd (cc)
+forof_other n around own at _ r other e = e
+
 -- Statements behind a label.
 
 pub labeled_stop : (n : Names) (around : List Around) (own : Label) (at : At) (ps : Pieces) (label : List ℕ) (body : Syntax)
@@ -171,6 +199,11 @@ pub ruleset statements = (
   dowhile_other,
   for_stop,
   for_other,
+  forin_stop,
+  forin_other,
+  forof_stop,
+  forof_await,
+  forof_other,
   labeled_stop,
   labeled_other,
 )
@@ -189,7 +222,11 @@ pub list_smaller : (ps items : Pieces) → Some items ≡ list_alone ps → size
 list_smaller (Then (Listed parts) End) items is = (let same : items ≡ parts = cc in omega (arith, ap size_of same))
 list_smaller _ items is = absurd (cc)
 
-pub ruleset smaller = (four_smaller, list_smaller)
+pub flagged_smaller : (ps : Pieces) (flag : Bool) (a b c : Syntax) → ps ≡ Then (Flag flag) (Then a (Then b (Then c End)))
+    → size a + size b + size c < size_of ps
+flagged_smaller ps flag a b c is = omega (arith, ap size_of is)
+
+pub ruleset smaller = (four_smaller, list_smaller, flagged_smaller)
 
 -- Statements in a row.
 pub among_found : (n : Names) (around : List Around) (s : Syntax) (ss : Pieces) (d : Diagnostic) → Some d ≡ stop_in n around None s

@@ -171,6 +171,12 @@ module _ (methods : List ℕ) where
           for_lives init condition update body (if again then held_in update else []) (held_either init covered.1.0)
           (held_either condition covered.1.1.0) (where_live again update covered.1.1.1.0 apart.0)
           (statement_lives None body covered.1.1.1.1.0 apart.1)
+      statement_lives own (Node at word.Forin (Then head (Then right (Then body End)))) covered dead =
+          in_three (held_in head) (held_in right) (live_in None body) (code head) (code right) (code body) (held_either head covered.1.0)
+          (held_either right covered.1.1.0) (statement_lives None body covered.1.1.1.0 dead)
+      statement_lives own (Node at word.Forof (Then (Flag false) (Then head (Then right (Then body End))))) covered dead =
+          in_three (held_in head) (held_in right) (live_in None body) (code head) (code right) (code body) (held_either head covered.1.1.0)
+          (held_either right covered.1.1.1.0) (statement_lives None body covered.1.1.1.1.0 dead)
       statement_lives own (Node at word.Labeled (Then (Said label) (Then body End))) covered dead =
           at_end (live_in (Some label) body) (code body) (statement_lives (Some label) body covered.1.1.0 dead)
       statement_lives own s covered dead = held_either s covered

@@ -5,7 +5,7 @@ use Rattle.rl_syntax.specs.Syntax.{Syntax, Node, Listed, Said, Count, Flag, Abse
 use Rattle.rl_syntax.specs.declared.word.Word.{Word}
 use Rattle.rl_syntax.specs.declared.word.Word.TheVariants as word
 use Rattle.rl_grammar.specs.Grammar.{fits, each, every}
-use Rattle.rl_grammar.specs.Rules.{rule, argument_rule, array_element_rule, arrow_body_rule, assignment_target_rule, binding_identifier_rule, binding_pattern_rule, binding_rest_element_rule, expression_rule, for_init_rule, formal_parameter_rule, formal_parameters_rule, function_body_rule, identifier_reference_rule, object_property_rule, property_key_rule, statement_rule, template_element_rule, template_literal_rule, type_annotation_rule, variable_declarator_rule}
+use Rattle.rl_grammar.specs.Rules.{rule, argument_rule, array_element_rule, arrow_body_rule, assignment_target_rule, binding_identifier_rule, binding_pattern_rule, binding_rest_element_rule, expression_rule, for_head_rule, for_init_rule, formal_parameter_rule, formal_parameters_rule, function_body_rule, identifier_reference_rule, object_property_rule, property_key_rule, statement_rule, template_element_rule, template_literal_rule, type_annotation_rule, variable_declarator_rule}
 use Rattle.rl_grammar.specs.declared.kind.Field.{Field}
 use Rattle.rl_grammar.specs.declared.kind.Field.TheVariants as field
 use Rattle.rl_grammar.specs.declared.kind.Kind.{Kind}
@@ -24,6 +24,7 @@ is_inner named kind.BindingIdentifier = named
 is_inner named kind.Statement = true
 is_inner named kind.Expression = true
 is_inner named kind.ForInit = true
+is_inner named kind.ForHead = true
 is_inner named kind.Argument = true
 is_inner named kind.ArrowBody = true
 is_inner named kind.FunctionBody = true
@@ -82,8 +83,6 @@ module _ (named : Bool) where
 
   statement_inner : (w : Word) (ps : Pieces) → covers w ps ≡ true → each (statement_rule w) ps ≡ true → IsInner named w (statement_rule w)
   statement_inner word.Bind ps covered h = absurd (none_fits ps h)
-  statement_inner word.Forin ps covered h = never covered
-  statement_inner word.Forof ps covered h = never covered
   statement_inner word.Switch ps covered h = never covered
   statement_inner word.Try ps covered h = never covered
   statement_inner word.Fundecl ps covered h = never covered
@@ -106,6 +105,10 @@ module _ (named : Bool) where
   target_inner word.Arraytarget ps covered h = never covered
   target_inner word.Objecttarget ps covered h = never covered
   target_inner _ ps covered h = record { stands = refl; fields = refl }
+
+  head_inner : (w : Word) (ps : Pieces) → covers w ps ≡ true → each (for_head_rule w) ps ≡ true → IsInner named w (for_head_rule w)
+  head_inner word.Var ps covered h = record { stands = refl; fields = refl }
+  head_inner w ps covered h = target_inner w ps covered h
 
   property_inner : (w : Word) (ps : Pieces) → covers w ps ≡ true → each (object_property_rule w) ps ≡ true
       → IsInner named w (object_property_rule w)
@@ -198,6 +201,7 @@ node_inner false kind.BindingIdentifier w ps inner covered h = never inner
 node_inner named kind.Statement w ps inner covered h = statement_inner named w ps covered h
 node_inner named kind.Expression w ps inner covered h = expression_inner named w ps covered h
 node_inner named kind.ForInit w ps inner covered h = init_inner named w ps covered h
+node_inner named kind.ForHead w ps inner covered h = head_inner named w ps covered h
 node_inner named kind.Argument w ps inner covered h = argument_inner named w ps covered h
 node_inner named kind.ArrowBody w ps inner covered h = arrow_body_inner named w ps covered h
 node_inner named kind.FunctionBody w ps inner covered h = body_inner named w ps h

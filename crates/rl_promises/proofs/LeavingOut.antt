@@ -3,8 +3,8 @@ use Rattle.std.proofs.Common.{◌≡◌, ◌<◌, ℕ, Bool, true, false, ◌&&�
 use Rattle.std.proofs.lemmas.Option.{some_pair_parts}
 use Rattle.rl_model.specs.Applied.{deletes}
 use Rattle.rl_model.specs.Shapes.{are_raw, is_same_text}
-use Rattle.rl_promises.specs.Outs.{is_known_key, is_wrapped}
-use Rattle.rl_promises.specs.PartForms.{fits_brackets, is_text_and_tree, names_key, node_deletes, quasi_in, quasi_parts, wraps}
+use Rattle.rl_promises.specs.Outs.{is_known_key, is_lost_head, is_wrapped}
+use Rattle.rl_promises.specs.PartForms.{fits_brackets, is_text_and_tree, loses_head, names_key, node_deletes, quasi_in, quasi_parts, wraps}
 use Rattle.rl_syntax.specs.Sizes.{size, size_of}
 use Rattle.rl_syntax.specs.Syntax.{Syntax, Node, Said, Pieces, End, Then, pieces_of, syntax}
 use Rattle.rl_syntax.specs.declared.numbered.At.{At}
@@ -24,7 +24,19 @@ wrapped_node at _ parts = refl
 pub wrapped_form : (at : At) (w : Word) (parts : List Numbered) (r : Bool) → r ≡ wraps w → r ≡ is_wrapped (syntax (numbered.Node at w parts))
 wrapped_form at w parts r e = e ∙ wrapped_node at w (pieces_of (map syntax parts)) ∙ ap is_wrapped (sym (syntax_node at w parts))
 
-pub ruleset wrapped = (wrapped_form)
+lost_node : (at : At) (w : Word) (parts : Pieces) → loses_head w ≡ is_lost_head (Node at w parts)
+lost_node at word.Privatemember parts = refl
+lost_node at word.As parts = refl
+lost_node at word.Satisfies parts = refl
+lost_node at word.Assert parts = refl
+lost_node at word.Nonnull parts = refl
+lost_node at _ parts = refl
+
+pub lost_form : (at : At) (w : Word) (parts : List Numbered) (r : Bool) → r ≡ loses_head w
+    → r ≡ is_lost_head (syntax (numbered.Node at w parts))
+lost_form at w parts r e = e ∙ lost_node at w (pieces_of (map syntax parts)) ∙ ap is_lost_head (sym (syntax_node at w parts))
+
+pub ruleset wrapped = (wrapped_form, lost_form)
 
 key_node : (at : At) (w : Word) (parts : Pieces) → names_key w ≡ is_known_key false (Node at w parts)
 key_node at word.Name parts = refl

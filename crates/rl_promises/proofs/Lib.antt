@@ -13,12 +13,14 @@ mod Examples
 pub mod DeclarationSpans
 pub mod FirstDeclarations
 pub mod FunctionParts
+mod HeadExamples
 pub mod HeldOnce
 pub mod InnerScopes
 pub mod Least
 pub mod LeavingOut
 pub mod LocalVariables
 mod LoopExamples
+pub mod LoopHeads
 pub mod LowerableTrees
 pub mod OrderlyCalls
 pub mod PlainNames

@@ -11,13 +11,15 @@ use Rattle.rl_model.specs.Actions.{Label}
 use Rattle.rl_model.specs.Shapes.{are_raw}
 use Rattle.rl_names.specs.Functions.{body_in, params_in}
 use Rattle.rl_names.specs.Names.{Names, local_of}
+use Rattle.rl_promises.proofs.LoopHeads.{plain_in_front}
+use Rattle.rl_promises.specs.Conditions.{is_plain_head}
 use Rattle.rl_promises.specs.Covered.{AreCovered, IsCovered, IsCoveredFunction}
 use Rattle.rl_promises.proofs.CoveredWorlds.{body_covered, params_covered}
 use Rattle.rl_promises.specs.Jumps.{Around, InLoop, own_label, within_label}
 use Rattle.rl_promises.specs.Locals.{DeclareIn, DeclaresIn, DeclaresVariable, HasLocals}
-use Rattle.rl_promises.specs.Lowerable.{AreLowerable, AreLowerableIn, DeclaresFree, IsFree, IsLowerable, IsLowerableBody, IsLowerableIn, Where}
-use Rattle.rl_promises.specs.Outs.{is_known_key, is_lost_delete, is_wrapped}
-use Rattle.rl_promises.specs.Stops.{first_among, first_stop, stop_among, stop_in, stop_in_body, stop_of, stop_of_local}
+use Rattle.rl_promises.specs.Lowerable.{AreLowerable, AreLowerableIn, DeclaresFree, IsFree, IsLowerable, IsLowerableBody, IsLowerableHead, IsLowerableIn, Where}
+use Rattle.rl_promises.specs.Outs.{is_known_key, is_lost_delete, is_lost_head, is_wrapped}
+use Rattle.rl_promises.specs.Stops.{first_among, first_stop, stop_among, stop_at_head, stop_in, stop_in_body, stop_of, stop_of_local}
 use Rattle.rl_syntax.specs.Syntax.{Syntax, Node, Listed, Said, Count, Flag, Absent, Pieces, End, Then}
 use Rattle.rl_syntax.specs.declared.word.Word.TheVariants as word
 
@@ -127,6 +129,15 @@ mutual
       let both = none_both (first_stop names p) (first_among names ps) none in
       (lowerable names p covered.0 declares.0 both.0, all_lowerable names ps covered.1 declares.1 both.1)
 
+-- As `lowerable`, for the head of a `for`-`in` or `for`-`of` loop.
+head_lowerable : (names : Names) (head : Syntax) → is_plain_head head ≡ true → IsCovered head → DeclaresIn names head
+    → stop_at_head names head ≡ None → IsLowerableHead names head
+head_lowerable names head plain covered declares none = record {
+  plain = plain;
+  lowerable =
+      where_not (is_lost_head head) (first_stop names head) (IsLowerable names head) none (λ n. lowerable names head covered declares n);
+}
+
 mutual
   -- As `lowerable`, for a statement inside others, with the label that is its own.
   pub lowerable_in : (names : Names) (around : List Around) (own : Label) (s : Syntax) → IsCovered s → DeclaresIn names s
@@ -165,6 +176,25 @@ mutual
         lowerable names update covered.1.1.1.0 declares.1.1.0 second.0,
         lowerable_in names (InLoop own ∷ around) None body covered.1.1.1.1.0 declares.1.1.1.0 both.0,
       )
+  lowerable_in names around own (Node at word.Forin (Then head (Then right (Then body End)))) covered declares none =
+      let inside = InLoop own ∷ around in
+      let first = none_both (stop_in names inside None body) (option_or (first_stop names right) (stop_at_head names head)) none in
+      let others = none_both (first_stop names right) (stop_at_head names head) first.1 in (
+        lowerable_in names inside None body covered.1.1.1.0 declares.1.1.0 first.0,
+        lowerable names right covered.1.1.0 declares.1.0 others.0,
+        head_lowerable names head (plain_in_front head (Then right (Then body End)) covered.0) covered.1.0 declares.0 others.1,
+      )
+  lowerable_in names around own (Node at word.Forof (Then (Flag is_await) (Then head (Then right (Then body End))))) covered declares none =
+      let inside : List Around = InLoop own ∷ around in
+      let stop : Option Diagnostic =
+      option_or (stop_in names inside None body) (option_or (first_stop names right) (stop_at_head names head)) in
+      where_not is_await stop (IsLowerableIn names inside None body × IsLowerable names right × IsLowerableHead names head) none (λ n.
+      let first = none_both (stop_in names inside None body) (option_or (first_stop names right) (stop_at_head names head)) n in
+      let others = none_both (first_stop names right) (stop_at_head names head) first.1 in (
+        lowerable_in names inside None body covered.1.1.1.1.0 declares.1.1.1.0 first.0,
+        lowerable names right covered.1.1.1.0 declares.1.1.0 others.0,
+        head_lowerable names head covered.0 covered.1.1.0 declares.1.0 others.1,
+      ))
   lowerable_in names around own (Node at word.Labeled (Then (Said label) (Then body End))) covered declares none =
       lowerable_in names (within_label label body around) (own_label label body) body covered.1.1.0 declares.1.0 none
   lowerable_in names around own s covered declares none = lowerable names s covered declares none

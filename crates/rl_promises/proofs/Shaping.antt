@@ -1,7 +1,7 @@
 -- Parts that do not have the form wanted.
 use Rattle.std.proofs.Common.{◌≡◌, false, None, refl}
-use Rattle.rl_promises.specs.PartForms.{is_flag_and_trees, is_text_ahead, is_text_alone, is_text_and_tree, jump_label, list_alone, second_list, two_lists}
-use Rattle.rl_syntax.specs.Shapes.{is_flag, is_list, is_one, is_text, is_three, is_two}
+use Rattle.rl_promises.specs.PartForms.{is_flag_and_three, is_flag_and_trees, is_text_ahead, is_text_alone, is_text_and_tree, jump_label, list_alone, second_list, two_lists}
+use Rattle.rl_syntax.specs.Shapes.{is_flag, is_four, is_list, is_one, is_text, is_three, is_two}
 use Rattle.rl_syntax.specs.Syntax.{Syntax, Listed, Said, Flag, Pieces, End, Then}
 
 pub no_text_ahead : (ps rest : Pieces) (t : Syntax) → ps ≡ Then t rest → is_text t ≡ false → is_text_ahead ps ≡ false
@@ -26,7 +26,16 @@ pub no_flag : (ps : Pieces) (a b c : Syntax) → ps ≡ Then a (Then b (Then c E
 no_flag (Then (Flag flag) (Then tree (Then another End))) a b c is none = absurd (cc)
 no_flag _ a b c is none = refl
 
-pub ruleset flags = (not_three, no_flag)
+pub not_four : (ps : Pieces) → is_four ps ≡ false → is_flag_and_three ps ≡ false
+not_four (Then (Flag flag) (Then a (Then b (Then c End)))) none = absurd (cc)
+not_four _ none = refl
+
+pub no_flag_of_four : (ps : Pieces) (a b c d : Syntax) → ps ≡ Then a (Then b (Then c (Then d End))) → is_flag a ≡ false
+    → is_flag_and_three ps ≡ false
+no_flag_of_four (Then (Flag flag) (Then x (Then y (Then z End)))) a b c d is none = absurd (cc)
+no_flag_of_four _ a b c d is none = refl
+
+pub ruleset flags = (not_three, no_flag, not_four, no_flag_of_four)
 
 pub not_two : (ps : Pieces) → is_two ps ≡ false → None ≡ two_lists ps
 not_two (Then (Listed items) (Then (Listed others) End)) none = absurd (cc)

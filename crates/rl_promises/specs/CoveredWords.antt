@@ -1,6 +1,6 @@
 -- The nodes that the lowering covers, by their words. Written by tools/syntax.py from tools/grammar.txt.
 use Rattle.std.specs.Prelude.{Bool, true, false}
-use Rattle.rl_promises.specs.Conditions.{no_default, not_empty, not_optional}
+use Rattle.rl_promises.specs.Conditions.{no_default, not_empty, not_optional, plain_head}
 use Rattle.rl_syntax.specs.Syntax.{Pieces}
 use Rattle.rl_syntax.specs.declared.word.Word.{Word}
 use Rattle.rl_syntax.specs.declared.word.Word.TheVariants as word
@@ -15,6 +15,8 @@ covers word.If parts = true
 covers word.For parts = true
 covers word.While parts = true
 covers word.Dowhile parts = true
+covers word.Forin parts = plain_head parts
+covers word.Forof parts = plain_head parts
 covers word.Break parts = true
 covers word.Continue parts = true
 covers word.Labeled parts = true

@@ -22,6 +22,7 @@ use Rattle.rl_used_names.specs.Candidates.{candidate}
 use Rattle.rl_names.specs.Functions.{async_in, body_in, generator_in, name_in, parameters_of}
 use Rattle.rl_names.specs.Names.{Names}
 use Rattle.rl_names.specs.declared.parameters.Parameter.{Parameter}
+use Rattle.rl_promises.specs.Rebound.{respanned}
 
 -- The texts at the head of a list.
 abbrev pub texts_in : Pieces → List (List ℕ)
@@ -84,10 +85,10 @@ pub record HasFieldsOf (names : Names) (function : Syntax) (f : HirFunction (Lis
   pub params : f.params ≡ places_from 0 (parameters_of names function)
   pub context : f.context ≡ []
 
--- The pairs are those of variables and their identifiers, each parameter with the identifier of its place. The last identifier is
--- the one that is returned, whose place has no span.
+-- The pairs are those of variables and their identifiers, each parameter with the identifier of its place, which has the span of its
+-- name where it was declared last. The last identifier is the one that is returned, whose place has no span.
 pub record HasIdentifiersOf (names : Names) (function : Syntax) (l : Lowered) : Type 0 where
   pub pairs : ArePairs names l.identifiers l.pairs
-  pub parameters : AreGiven l.identifiers l.pairs 0 0 (parameters_of names function)
+  pub parameters : AreGiven l.identifiers l.pairs 0 0 (respanned names function)
   pub returns_at : l.function.returns.span ≡ None
   pub returns_last : l.function.returns.identifier.0 + 1 ≡ length l.identifiers

@@ -11,6 +11,7 @@ pub mod Locals
 pub mod Lowerable
 pub mod Outs
 pub mod PartForms
+pub mod Rebound
 pub mod Rows
 pub mod SeenStops
 pub mod Size

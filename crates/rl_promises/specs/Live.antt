@@ -1,5 +1,5 @@
 -- The nodes of a function whose instructions are counted and that a run may reach.
-use Rattle.std.specs.Prelude.{◌≡◌, ℕ, true, if◌then◌else◌, Option, Some, None, List, [], ◌∷◌, ◌++◌, Contains}
+use Rattle.std.specs.Prelude.{◌≡◌, ℕ, true, false, if◌then◌else◌, Option, Some, None, List, [], ◌∷◌, ◌++◌, Contains}
 use Rattle.rl_base.specs.declared.span.Span.{Span}
 use Rattle.rl_model.specs.Actions.{Label}
 use Rattle.rl_model.specs.Counted.{Counted}
@@ -50,6 +50,9 @@ abbrev mutual
       live_in None body ++ (if goes_on own (lives None body).outs then held_in condition else [])
   live_in own (Node at word.For (Then init (Then condition (Then update (Then body End))))) =
       held_in init ++ held_in condition ++ (if goes_on own (lives None body).outs then held_in update else []) ++ live_in None body
+  live_in own (Node at word.Forin (Then head (Then right (Then body End)))) = held_in head ++ held_in right ++ live_in None body
+  live_in own (Node at word.Forof (Then (Flag false) (Then head (Then right (Then body End))))) =
+      held_in head ++ held_in right ++ live_in None body
   live_in own (Node at word.Labeled (Then (Said label) (Then body End))) = live_in (Some label) body
   live_in own statement = held_in statement
 

@@ -5,10 +5,11 @@ use Rattle.rl_base.specs.declared.ids.SymbolId.{SymbolId}
 use Rattle.rl_model.specs.Actions.{Label}
 use Rattle.rl_model.specs.Shapes.{are_raw}
 use Rattle.rl_names.specs.Names.{Names, local_of}
+use Rattle.rl_promises.specs.Conditions.{is_plain_head}
 use Rattle.rl_promises.specs.CoveredWords.{covers}
 use Rattle.rl_promises.specs.Jumps.{Around, InLoop, own_label, stop_of_break, stop_of_continue, within_label}
 use Rattle.rl_promises.specs.Locals.{IsVariable}
-use Rattle.rl_promises.specs.Outs.{is_known_key, is_lost_delete, is_wrapped}
+use Rattle.rl_promises.specs.Outs.{is_known_key, is_lost_delete, is_lost_head, is_wrapped}
 use Rattle.rl_syntax.specs.Syntax.{Syntax, Node, Listed, Said, Count, Flag, Absent, Pieces, End, Then}
 use Rattle.rl_syntax.specs.declared.word.Word.TheVariants as word
 
@@ -58,6 +59,12 @@ abbrev mutual
   AreLowerable names End = Unit {0}
   AreLowerable names (Then piece pieces) = IsLowerable names piece × AreLowerable names pieces
 
+-- As `IsLowerable`, for the head of a `for`-`in` or `for`-`of` loop: one variable is declared, without an initializer, or a target takes
+-- the values.
+pub record IsLowerableHead (names : Names) (head : Syntax) : Type 0 where
+  pub plain : is_plain_head head ≡ true
+  pub lowerable : Where (not (is_lost_head head)) (IsLowerable names head)
+
 abbrev mutual
   -- As `IsLowerable`, for a statement inside others, with the label that is its own: each jump in it has a target.
   pub IsLowerableIn : Names → List Around → (own : Label) → Syntax → Type 0
@@ -74,6 +81,10 @@ abbrev mutual
       IsLowerableIn names (InLoop own ∷ around) None body × IsLowerable names condition
   IsLowerableIn names around own (Node at word.For (Then init (Then condition (Then update (Then body End))))) =
       IsLowerable names init × IsLowerable names condition × IsLowerable names update × IsLowerableIn names (InLoop own ∷ around) None body
+  IsLowerableIn names around own (Node at word.Forin (Then head (Then right (Then body End)))) =
+      IsLowerableIn names (InLoop own ∷ around) None body × IsLowerable names right × IsLowerableHead names head
+  IsLowerableIn names around own (Node at word.Forof (Then (Flag is_await) (Then head (Then right (Then body End))))) =
+      Where (not is_await) (IsLowerableIn names (InLoop own ∷ around) None body × IsLowerable names right × IsLowerableHead names head)
   IsLowerableIn names around own (Node at word.Labeled (Then (Said label) (Then body End))) =
       IsLowerableIn names (within_label label body around) (own_label label body) body
   IsLowerableIn names around own statement = IsLowerable names statement

@@ -13,6 +13,12 @@ is_wrapped (Node at word.Assert parts) = true
 is_wrapped (Node at word.Nonnull parts) = true
 is_wrapped _ = false
 
+-- True of a target that is left out in the head of a `for`-`in` or `for`-`of` loop: a private property, or one under a wrapper (rows F11
+-- and F45).
+abbrev pub is_lost_head : Syntax → Bool
+is_lost_head (Node at word.Privatemember parts) = true
+is_lost_head head = is_wrapped head
+
 -- True of a key of an object literal that is an expression in brackets, or is a name, a text or a number without them. Any other has
 -- row F9.
 abbrev pub is_known_key : (computed : Bool) → Syntax → Bool

@@ -27,6 +27,11 @@ abbrev pub is_flag_and_trees : Pieces → Bool
 is_flag_and_trees (Then (Flag flag) (Then tree (Then another End))) = true
 is_flag_and_trees _ = false
 
+-- True of four parts of which the first is a flag.
+abbrev pub is_flag_and_three : Pieces → Bool
+is_flag_and_three (Then (Flag flag) (Then tree (Then another (Then third End)))) = true
+is_flag_and_three _ = false
+
 -- The two lists that are the parts.
 abbrev pub two_lists : Pieces → Option (Pieces × Pieces)
 two_lists (Then (Listed items) (Then (Listed others) End)) = Some (items, others)
@@ -97,6 +102,11 @@ wraps word.Satisfies = true
 wraps word.Assert = true
 wraps word.Nonnull = true
 wraps _ = false
+
+-- True of the word of a target that is left out in the head of a loop.
+abbrev pub loses_head : Word → Bool
+loses_head word.Privatemember = true
+loses_head w = wraps w
 
 -- True of the word of a name, a text or a number.
 abbrev pub names_key : Word → Bool

@@ -8,13 +8,14 @@ use Rattle.rl_base.specs.declared.row.Row.TheVariants as row
 use Rattle.rl_base.specs.declared.ids.SymbolId.{SymbolId}
 use Rattle.rl_base.specs.declared.span.Span.{Span}
 use Rattle.rl_text.specs.Numeral.{is_numeral}
+use Rattle.rl_syntax.specs.declared.word.Word.{Word}
 use Rattle.rl_syntax.specs.declared.word.Word.TheVariants as word
 use Rattle.rl_syntax.specs.Syntax.{Syntax, Node, Listed, Said, Flag, Absent, Pieces, End, Then, span_of}
 use Rattle.rl_hir.specs.declared.instruction.NonLocalBinding.{NonLocalBinding}
 use Rattle.rl_hir.specs.declared.instruction.NonLocalBinding.TheVariants as binding
 use Rattle.rl_names.specs.Functions.{body_in, params_in}
 use Rattle.rl_names.specs.Names.{Names}
-use Rattle.rl_promises.specs.Outs.{is_known_key, is_lost_delete, is_wrapped}
+use Rattle.rl_promises.specs.Outs.{is_known_key, is_lost_delete, is_lost_head, is_wrapped}
 use Rattle.rl_promises.specs.Stops.{has_using, stop_of}
 use Rattle.rl_names.specs.declared.names.Meaning.{Meaning}
 use Rattle.rl_names.specs.declared.names.Meaning.TheVariants.{Local, Outer}
@@ -86,6 +87,19 @@ said_of names (Node at word.This parts) = refusal row.F18 at.span ∷ []
 said_of names (Node at word.Bigint parts) = refusal row.F42 at.span ∷ []
 said_of names _ = []
 
+-- The diagnostics of a name at `at` that the head of a loop assigns: a local is resolved, and none that is constant (row F6). Any other
+-- is stored as a global.
+abbrev pub said_of_stored : Names → (at : Span) → Meaning → List Diagnostic
+said_of_stored names at (Local symbol) =
+    said_of_local (names.name symbol.0) (label_of names symbol at)
+    ++ (if names.is_const symbol.0 then diagnostic_at row.F6 (names.name symbol.0) at ∷ [] else [])
+said_of_stored names at (Outer b) = []
+
+-- The row of a target that is left out in the head of a loop: F11 of a private property, F45 of a target under a wrapper.
+abbrev pub row_of_head : Word → Row
+row_of_head word.Privatemember = row.F11
+row_of_head w = row.F45
+
 -- The diagnostics of a `for` loop at `at` by its head: F31 where an expression stands in front, F32 where the test is absent.
 
 abbrev pub said_of_init : (at : Span) → (init : Syntax) → List Diagnostic
@@ -111,6 +125,10 @@ abbrev mutual
   refusals names (Node at word.For (Then init (Then condition (Then update (Then body End))))) =
       said_of_init at.span init ++ refusals names init ++ refusals names update ++ refusals names body
       ++ said_of_test at.span condition ++ refusals names condition
+  refusals names (Node at word.Forin (Then head (Then right (Then body End)))) =
+      refusals names body ++ refusals names right ++ refusals_at_head names head
+  refusals names (Node at word.Forof (Then (Flag is_await) (Then head (Then right (Then body End))))) =
+      if is_await then refusal row.F33 at.span ∷ [] else refusals names body ++ refusals names right ++ refusals_at_head names head
   refusals names (Node at word.Var (Then (Said kind) (Then declarators End))) =
       (if bytes_eq kind (codes "var") then refusal row.F39 at.span ∷ [] else []) ++ refusals names declarators
   refusals names (Node at word.Declarator (Then pattern (Then init End))) = refusals names init ++ refusals names pattern
@@ -130,6 +148,13 @@ abbrev mutual
   refusals names (Node at word parts) = said_of names (Node at word parts) ++ refusals_in names parts
   refusals names (Listed parts) = refusals_in names parts
   refusals names _ = []
+
+  -- As `refusals`, for the head of a `for`-`in` or `for`-`of` loop, which may declare by `var`.
+  pub refusals_at_head : Names → Syntax → List Diagnostic
+  refusals_at_head names (Node at word.Id (Then (Said name) End)) = said_of_stored names at.span (names.meaning at.reference.0 name)
+  refusals_at_head names (Node at w parts) =
+      if is_lost_head (Node at w parts) then refusal (row_of_head w) at.span ∷ [] else refusals_in names parts
+  refusals_at_head names _ = []
 
   -- As `refusals`, for parts in a row.
   pub refusals_in : Names → Pieces → List Diagnostic

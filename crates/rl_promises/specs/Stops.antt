@@ -16,7 +16,7 @@ use Rattle.rl_names.specs.Functions.{body_in, params_in, parameters_of}
 use Rattle.rl_names.specs.Names.{Names, local_of}
 use Rattle.rl_names.specs.declared.parameters.Parameter.{Parameter}
 use Rattle.rl_promises.specs.Jumps.{Around, InLoop, own_label, stop_of_break, stop_of_continue, within_label}
-use Rattle.rl_promises.specs.Outs.{is_known_key, is_lost_delete, is_wrapped}
+use Rattle.rl_promises.specs.Outs.{is_known_key, is_lost_delete, is_lost_head, is_wrapped}
 use Rattle.rl_syntax.specs.Syntax.{Syntax, Node, Listed, Said, Flag, Absent, Pieces, End, Then}
 use Rattle.rl_syntax.specs.declared.word.Word.TheVariants as word
 
@@ -59,6 +59,10 @@ abbrev mutual
   first_among names End = None
   first_among names (Then piece pieces) = option_or (first_stop names piece) (first_among names pieces)
 
+-- As `first_stop`, for the head of a `for`-`in` or `for`-`of` loop.
+abbrev pub stop_at_head : Names → Syntax → Option Diagnostic
+stop_at_head names head = if is_lost_head head then None else first_stop names head
+
 abbrev mutual
   -- As `first_stop`, for a statement inside others, with the label that is its own: a jump without a target is one (rows S6 and S7).
   pub stop_in : Names → List Around → (own : Label) → Syntax → Option Diagnostic
@@ -76,6 +80,11 @@ abbrev mutual
   stop_in names around own (Node at word.For (Then init (Then condition (Then update (Then body End))))) =
       option_or (first_stop names init) (option_or (first_stop names update)
       (option_or (stop_in names (InLoop own ∷ around) None body) (first_stop names condition)))
+  stop_in names around own (Node at word.Forin (Then head (Then right (Then body End)))) =
+      option_or (stop_in names (InLoop own ∷ around) None body) (option_or (first_stop names right) (stop_at_head names head))
+  stop_in names around own (Node at word.Forof (Then (Flag is_await) (Then head (Then right (Then body End))))) =
+      if is_await then None
+      else option_or (stop_in names (InLoop own ∷ around) None body) (option_or (first_stop names right) (stop_at_head names head))
   stop_in names around own (Node at word.Labeled (Then (Said label) (Then body End))) =
       stop_in names (within_label label body around) (own_label label body) body
   stop_in names around own statement = first_stop names statement

@@ -11,7 +11,10 @@ ghost use Rattle.rl_syntax.specs.Syntax.{Node, pieces_of, syntax};
 
 use crate::around::{Around, stop_of_break, stop_of_continue};
 use crate::found_stop::FoundStop;
-use crate::part_forms::{body_statements, four, jump_label, list_alone, text_and_tree, three, two};
+use crate::outs::is_lost_head;
+use crate::part_forms::{
+    body_statements, flag_and_three, four, jump_label, list_alone, text_and_tree, three, two,
+};
 use crate::stops::{first_among, first_stop, stop_in_node};
 use rl_base::text::Text;
 use rl_names::names::FunctionNames;
@@ -116,6 +119,20 @@ fn stop_in_statement(
             }
             None => stop_in_node(names, at, word, parts),
         },
+        Word::Forin => match three(parts) {
+            Some((head, right, body)) => stop_in_values(names, around, own, head, right, body),
+            None => stop_in_node(names, at, word, parts),
+        },
+        Word::Forof => match flag_and_three(parts) {
+            Some((is_await, head, right, body)) => {
+                if is_await {
+                    None
+                } else {
+                    stop_in_values(names, around, own, head, right, body)
+                }
+            }
+            None => stop_in_node(names, at, word, parts),
+        },
         Word::Labeled => match text_and_tree(parts) {
             Some((label, body)) => stop_in_labeled(names, around, label, body),
             None => stop_in_node(names, at, word, parts),
@@ -186,6 +203,43 @@ fn stop_in_for(
         None => match first_stop(names, update) {
             Some(found) => Some(found),
             None => stop_in_loop(names, around, own, body, condition),
+        },
+    }
+}
+
+/// The first stop in the head of a `for`-`in` or `for`-`of` loop.
+fn stop_at_head(names: &FunctionNames<'_>, head: &Numbered) -> Option<FoundStop>
+    ensures { option_map (seen_stop (seen names.now)) result ≡ spec.stop_at_head (seen names.now) (syntax head.now) }
+{
+    if is_lost_head(head) {
+        None
+    } else {
+        first_stop(names, head)
+    }
+}
+
+/// As `stop_in`, of the parts of a `for`-`in` or `for`-`of` loop.
+#[cycle(stopping_in)]
+#[tactic(auto, using(crate::proofs::Stopping::in_order))]
+fn stop_in_values(
+    names: &FunctionNames<'_>,
+    around: &Around<'_>,
+    own: Option<&Text>,
+    head: &Numbered,
+    right: &Numbered,
+    body: &Numbered,
+) -> Option<FoundStop>
+    ensures { option_map (seen_stop (seen names.now)) result ≡ option_or (spec.stop_in (seen names.now) (jumps.InLoop (option_map (λ l. l.now) own.entry) ∷ seen_around around.now) None (syntax body.now)) (option_or (spec.first_stop (seen names.now) (syntax right.now)) (spec.stop_at_head (seen names.now) (syntax head.now))) }
+{
+    let inside = Around::Loop {
+        label: own,
+        outer: &*around,
+    };
+    match stop_in(names, &inside, None, body) {
+        Some(found) => Some(found),
+        None => match first_stop(names, right) {
+            Some(found) => Some(found),
+            None => stop_at_head(names, head),
         },
     }
 }

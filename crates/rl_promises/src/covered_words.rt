@@ -4,7 +4,7 @@ ghost use Rattle.std.specs.Prelude.{◌≡◌, map};
 ghost use Rattle.rl_promises.specs.CoveredWords as spec;
 ghost use Rattle.rl_syntax.specs.Syntax.{pieces_of, syntax};
 
-use crate::conditions::{no_default, not_empty, not_optional};
+use crate::conditions::{no_default, not_empty, not_optional, plain_head};
 use rl_syntax::numbered::Numbered;
 use rl_syntax::word::Word;
 
@@ -25,8 +25,8 @@ pub(crate) fn covers(word: Word, parts: &[Numbered]) -> bool
         Word::For => true,
         Word::While => true,
         Word::Dowhile => true,
-        Word::Forin => false,
-        Word::Forof => false,
+        Word::Forin => plain_head(parts),
+        Word::Forof => plain_head(parts),
         Word::Switch => false,
         Word::Try => false,
         Word::Break => true,

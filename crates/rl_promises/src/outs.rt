@@ -27,6 +27,16 @@ fn wraps(word: Word) -> bool
     }
 }
 
+/// True of the word of a target that is left out in the head of a loop.
+fn loses_head(word: Word) -> bool
+    ensures { result ≡ forms.loses_head word }
+{
+    match word {
+        Word::Privatemember => true,
+        _ => wraps(word),
+    }
+}
+
 /// True of a target under a wrapper.
 #[tactic(auto, using(crate::proofs::LeavingOut::wrapped, rl_syntax::proofs::Layers::by_layer))]
 pub(crate) fn is_wrapped(tree: &Numbered) -> bool
@@ -34,6 +44,21 @@ pub(crate) fn is_wrapped(tree: &Numbered) -> bool
 {
     match tree {
         Numbered::Node(_, word, _) => wraps(*word),
+        Numbered::List(_) => false,
+        Numbered::Text(_) => false,
+        Numbered::Number(_) => false,
+        Numbered::Flag(_) => false,
+        Numbered::Absent => false,
+    }
+}
+
+/// True of a target that is left out in the head of a `for`-`in` or `for`-`of` loop: a private property, or one under a wrapper.
+#[tactic(auto, using(crate::proofs::LeavingOut::wrapped, rl_syntax::proofs::Layers::by_layer))]
+pub fn is_lost_head(head: &Numbered) -> bool
+    ensures { result ≡ spec.is_lost_head (syntax head.now) }
+{
+    match head {
+        Numbered::Node(_, word, _) => loses_head(*word),
         Numbered::List(_) => false,
         Numbered::Text(_) => false,
         Numbered::Number(_) => false,

@@ -41,7 +41,7 @@ fn as_text(tree: &Numbered) -> Option<&Text>
 }
 
 /// The only part. `None` where there are more or none.
-fn one(parts: &[Numbered]) -> Option<&Numbered>
+pub(crate) fn one(parts: &[Numbered]) -> Option<&Numbered>
     ensures { MatchOption result (is_one (pieces_of (map syntax parts.now)) ≡ false) (λ p. pieces_of (map syntax parts.now) ≡ Then (syntax p.now) End) }
 {
     let (first, parts) = split_first(parts)?;
@@ -136,6 +136,20 @@ pub(crate) fn flag_and_trees(parts: &[Numbered]) -> Option<(bool, &Numbered, &Nu
     }
 }
 
+/// The four parts, if the first is a flag. `None` of parts of another form.
+#[tactic(auto, using(crate::proofs::Shaping::flags))]
+pub(crate) fn flag_and_three(parts: &[Numbered]) -> Option<(bool, &Numbered, &Numbered, &Numbered)>
+    ensures { MatchOption result (spec.is_flag_and_three (pieces_of (map syntax parts.now)) ≡ false) (λ p. pieces_of (map syntax parts.now) ≡ Then (Flag p.0) (Then (syntax p.1.now) (Then (syntax p.2.now) (Then (syntax p.3.now) End)))) }
+{
+    match four(parts) {
+        Some((flag, tree, another, third)) => match as_flag(flag) {
+            Some(flag) => Some((flag, tree, another, third)),
+            None => None,
+        },
+        None => None,
+    }
+}
+
 /// The two parts, lists. `None` of parts of another form.
 #[tactic(auto, using(crate::proofs::Shaping::lists))]
 fn two_lists(parts: &[Numbered]) -> Option<(&[Numbered], &[Numbered])>
@@ -220,7 +234,7 @@ pub(crate) fn jump_label(parts: &[Numbered]) -> Option<Option<&Text>>
 
 /// The second of two parts, a list. `None` of parts of another form.
 #[tactic(auto, using(crate::proofs::Shaping::seconds))]
-fn second_list(parts: &[Numbered]) -> Option<&[Numbered]>
+pub(crate) fn second_list(parts: &[Numbered]) -> Option<&[Numbered]>
     ensures { option_map (λ items. pieces_of (map syntax items.now)) result ≡ spec.second_list (pieces_of (map syntax parts.now)) }
 {
     match two(parts) {

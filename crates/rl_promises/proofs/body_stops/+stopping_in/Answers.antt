@@ -1,6 +1,6 @@
 use Rattle.std.proofs.Common.{map, option_map}
 use Rattle.rl_names.specs.Seen.{seen}
-use Rattle.rl_promises.proofs.BodyStopping.{break_stop, continue_stop, dowhile_stop, for_stop, if_stop, labeled_stop, while_stop, worded_in}
+use Rattle.rl_promises.proofs.BodyStopping.{break_stop, continue_stop, dowhile_stop, for_stop, forin_stop, forof_await, forof_stop, if_stop, labeled_stop, while_stop, worded_in}
 use Rattle.rl_promises.specs.SeenStops.{seen_around}
 use Rattle.rl_syntax.specs.Syntax.{pieces_of, syntax}
 use Rattle.rl_promises.proofs.body_stops.+stopping_in.Goals as goal
@@ -67,3 +67,30 @@ stop_in_statement-returns-in-Some-text_and_tree t c =
     let ps = pieces_of (map syntax c.args.parts.now) in
     worded_in n around own c.args.at ps _ _ _ c.in-Labeled.is
     (labeled_stop n around own c.args.at ps _ _ _ c.in-Some-text_and_tree.ensures c.stop_in_labeled.ensures)
+
+pub stop_in_statement-returns-in-Some-three-2 : goal.stop_in_statement-returns-in-Some-three-2
+stop_in_statement-returns-in-Some-three-2 t c =
+    let n = seen c.args.names.now in
+    let around = seen_around c.args.around.now in
+    let own = option_map (λ l. l.now) c.args.own in
+    let ps = pieces_of (map syntax c.args.parts.now) in
+    worded_in n around own c.args.at ps _ _ _ c.in-Forin.is
+    (forin_stop n around own c.args.at ps _ _ _ _ c.in-Some-three-2.ensures c.stop_in_values.ensures)
+
+pub stop_in_statement-returns-then-is_await : goal.stop_in_statement-returns-then-is_await
+stop_in_statement-returns-then-is_await t c =
+    let n = seen c.args.names.now in
+    let around = seen_around c.args.around.now in
+    let own = option_map (λ l. l.now) c.args.own in
+    let ps = pieces_of (map syntax c.args.parts.now) in
+    worded_in n around own c.args.at ps _ _ _ c.in-Forof.is
+    (forof_await n around own c.args.at ps _ _ _ _ c.in-Some-flag_and_three.ensures c.if-is_await.true)
+
+pub stop_in_statement-returns-else-is_await : goal.stop_in_statement-returns-else-is_await
+stop_in_statement-returns-else-is_await t c =
+    let n = seen c.args.names.now in
+    let around = seen_around c.args.around.now in
+    let own = option_map (λ l. l.now) c.args.own in
+    let ps = pieces_of (map syntax c.args.parts.now) in
+    worded_in n around own c.args.at ps _ _ _ c.in-Forof.is
+    (forof_stop n around own c.args.at ps _ _ _ _ _ c.in-Some-flag_and_three.ensures c.if-is_await.false c.stop_in_values-else-is_await.ensures)

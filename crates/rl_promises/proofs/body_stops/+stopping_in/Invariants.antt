@@ -21,6 +21,9 @@ decreases-stop_in_loop l = 3 * size (syntax l.body.now) + 1
 abbrev pub decreases-stop_in_for : goal.decreases-stop_in_for
 decreases-stop_in_for l = 3 * size (syntax l.body.now) + 2
 
+abbrev pub decreases-stop_in_values : goal.decreases-stop_in_values
+decreases-stop_in_values l = 3 * size (syntax l.body.now) + 1
+
 abbrev pub decreases-stop_in_labeled : goal.decreases-stop_in_labeled
 decreases-stop_in_labeled l = 3 * size (syntax l.body.now) + 1
 

@@ -1,0 +1,57 @@
+-- The spans of identifiers of variables: the head of a loop that declares by `var` gives the variable's identifier the span of its name
+-- there, also where the variable is declared already.
+use Rattle.std.specs.Prelude.{ℕ, nat_eq, Bool, false, if◌then◌else◌, Option, List, map}
+use Rattle.std.specs.Option.{option_map_or}
+use Rattle.rl_base.specs.declared.ids.SymbolId.{SymbolId}
+use Rattle.rl_base.specs.declared.span.Span.{Span}
+use Rattle.rl_names.specs.Functions.{body_in, parameters_of}
+use Rattle.rl_names.specs.Names.{Names}
+use Rattle.rl_names.specs.declared.parameters.Parameter.{Parameter}
+use Rattle.rl_syntax.specs.Syntax.{Syntax, Node, Listed, Said, Flag, Pieces, End, Then}
+use Rattle.rl_syntax.specs.declared.word.Word.TheVariants as word
+
+abbrev pub is_symbol : (symbol : ℕ) → Option SymbolId → Bool
+is_symbol symbol declared = option_map_or (λ s. nat_eq s.0 symbol) declared false
+
+-- The span of the variable's identifier behind the head of a loop, which is `before` in front of it.
+abbrev pub span_at_head : Names → (symbol : ℕ) → (head : Syntax) → (before : Span) → Span
+span_at_head names symbol
+    (Node at word.Var (Then kind (Then (Listed (Then (Node there word.Declarator (Then (Node here word.Bind parts) rest)) End)) End)))
+    before =
+    if is_symbol symbol (names.declared here.id.0) then here.span else before
+span_at_head names symbol head before = before
+
+abbrev mutual
+  -- As `span_at_head`, for a statement, in the order in which the lowering meets the heads in it.
+  pub span_behind : Names → (symbol : ℕ) → (statement : Syntax) → (before : Span) → Span
+  span_behind names symbol (Node at word.Block (Then (Listed statements) End)) before = span_behind_all names symbol statements before
+  span_behind names symbol (Node at word.If (Then condition (Then consequent (Then alternate End)))) before =
+      span_behind names symbol alternate (span_behind names symbol consequent before)
+  span_behind names symbol (Node at word.While (Then condition (Then body End))) before = span_behind names symbol body before
+  span_behind names symbol (Node at word.Dowhile (Then body (Then condition End))) before = span_behind names symbol body before
+  span_behind names symbol (Node at word.For (Then init (Then condition (Then update (Then body End))))) before =
+      span_behind names symbol body before
+  span_behind names symbol (Node at word.Forin (Then head (Then right (Then body End)))) before =
+      span_at_head names symbol head (span_behind names symbol body before)
+  span_behind names symbol (Node at word.Forof (Then (Flag is_await) (Then head (Then right (Then body End))))) before =
+      if is_await then before else span_at_head names symbol head (span_behind names symbol body before)
+  span_behind names symbol (Node at word.Labeled (Then (Said label) (Then body End))) before = span_behind names symbol body before
+  span_behind names symbol statement before = before
+
+  -- As `span_behind`, for statements in a row.
+  pub span_behind_all : Names → (symbol : ℕ) → (statements : Pieces) → (before : Span) → Span
+  span_behind_all names symbol End before = before
+  span_behind_all names symbol (Then statement statements) before =
+      span_behind_all names symbol statements (span_behind names symbol statement before)
+
+-- As `span_behind`, for a body.
+abbrev pub span_behind_body : Names → (symbol : ℕ) → (body : Syntax) → (before : Span) → Span
+span_behind_body names symbol (Node at word.Body (Then directives (Then (Listed statements) End))) before =
+    span_behind_all names symbol statements before
+span_behind_body names symbol body before = before
+
+-- The parameters of a function, each with the span that its identifier has in the end.
+abbrev pub respanned : Names → (function : Syntax) → List Parameter
+respanned names function =
+    map (λ (p : Parameter). record p { declaration = span_behind_body names p.symbol.0 (body_in function) p.declaration })
+    (parameters_of names function)
