@@ -1,5 +1,6 @@
 -- Jumps have targets where nothing stops them, and the statements around a place by the scopes there.
-use Rattle.std.proofs.Common.{◌≡◌, ℕ, ◌++◌, Bool, true, false, if◌then◌else◌, Option, List, [], ◌∷◌, Some, None, Ok, map, reverse, codes}
+use Rattle.std.proofs.Common.{◌≡◌, ℕ, ◌+◌, ◌++◌, Bool, true, false, if◌then◌else◌, Option, List, [], ◌∷◌, Some, None, Ok}
+use Rattle.std.proofs.Common.{map, reverse, codes}
 use Rattle.std.proofs.Common.{refl, sym, ap, ◌∙◌}
 use Rattle.std.proofs.lemmas.List.{reverse-append}
 use Rattle.rl_base.specs.Diagnostics.{diagnostic_at}
@@ -12,7 +13,7 @@ use Rattle.rl_builder.specs.declared.jumps.JumpScope.{JumpScope}
 use Rattle.rl_builder.specs.declared.jumps.JumpScope.TheVariants as scopes
 use Rattle.rl_builder.specs.Jumps.{break_block_of, break_target, continue_block_of, continue_target, lookup_break, lookup_continue}
 use Rattle.rl_builder.specs.Jumps.{takes_break, takes_continue}
-use Rattle.rl_frames.specs.Parts.{label_begun, label_scope, while_begun, while_scope}
+use Rattle.rl_frames.specs.Parts.{forin_begun, forof_begun, label_begun, label_scope, while_begun, while_scope}
 use Rattle.rl_lowered.proofs.Blocks.{expression_blocks, statement_blocks, statements_blocks}
 use Rattle.rl_lowered.specs.Arounds.{around_of, arounds}
 use Rattle.rl_lowered.specs.Lowered.{Lowered, LoweredStatement, LoweredStatements}
@@ -21,6 +22,7 @@ use Rattle.rl_model.specs.Actions.{Label}
 use Rattle.rl_names.specs.Names.{Names}
 use Rattle.rl_promises.specs.Jumps.{InLabeled, InLoop, breaks_out, continues_in, is_in_loop, stop_of_break, stop_of_continue}
 use Rattle.rl_runs.specs.Blocks.{PreservesBlocks}
+use Rattle.rl_runs.specs.Moves.{block_id}
 use Rattle.rl_syntax.specs.Syntax.{Syntax, Pieces}
 
 -- A scope takes a jump as the statement does that it stands for.
@@ -113,6 +115,14 @@ arounds_kept s t b = arounds_same s t b.extends.scopes
 
 pub arounds_in_loop : (s : State) (own : Label) → arounds (while_begun s own) ≡ InLoop own ∷ arounds s
 arounds_in_loop s own = arounds_in s (while_begun s own) (while_scope s own) refl
+
+pub arounds_in_forin : (s : State) (own : Label) → arounds (forin_begun s own) ≡ InLoop own ∷ arounds s
+arounds_in_forin s own =
+    arounds_in s (forin_begun s own) (scopes.Loop own (block_id (s.env.next_block + 1)) (block_id s.env.next_block)) refl
+
+pub arounds_in_forof : (s : State) (own : Label) → arounds (forof_begun s own) ≡ InLoop own ∷ arounds s
+arounds_in_forof s own =
+    arounds_in s (forof_begun s own) (scopes.Loop own (block_id (s.env.next_block + 1)) (block_id s.env.next_block)) refl
 
 pub arounds_in_label : (s : State) (label : List ℕ) → arounds (label_begun s label) ≡ InLabeled label ∷ arounds s
 arounds_in_label s label = arounds_in s (label_begun s label) (label_scope s label) refl

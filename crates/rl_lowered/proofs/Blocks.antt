@@ -13,8 +13,10 @@ use Rattle.rl_base.specs.declared.variable_kind.VariableKind.{VariableKind}
 use Rattle.rl_base.specs.declared.variable_kind.VariableKind.TheVariants as kinds
 use Rattle.rl_builder.specs.Builder.{State, completed_by, ended_by, new_block, recorded, reserved, with_temporary}
 use Rattle.rl_builder.specs.Temporaries.{temporary, unordered, with_value}
+use Rattle.rl_frames.proofs.EnumerationBlocks.{forin_blocks}
 use Rattle.rl_frames.proofs.ForBlocks.{for_blocks, for_blocks_plain}
 use Rattle.rl_frames.proofs.IfThenBlocks.{if_then_blocks}
+use Rattle.rl_frames.proofs.IterationBlocks.{forof_blocks}
 use Rattle.rl_frames.proofs.LabelFrames.{label_blocks}
 use Rattle.rl_frames.proofs.Sequences.{sequence_blocks}
 use Rattle.rl_frames.proofs.ValueFrames.{logical_blocks, ternary_blocks}
@@ -24,6 +26,7 @@ use Rattle.rl_hir.specs.declared.function.BlockKind.{BlockKind}
 use Rattle.rl_hir.specs.declared.function.BlockKind.TheVariants as blocks
 use Rattle.rl_hir.specs.declared.instruction.Instruction.{Instruction}
 use Rattle.rl_hir.specs.declared.instruction.InstructionKind.{InstructionKind}
+use Rattle.rl_hir.specs.declared.instruction.InstructionKind.TheVariants as variables
 use Rattle.rl_hir.specs.declared.instruction.InstructionValue.{InstructionValue}
 use Rattle.rl_hir.specs.declared.instruction.InstructionValue.TheVariants as values
 use Rattle.rl_hir.specs.declared.instruction.Place.{Place}
@@ -33,16 +36,18 @@ use Rattle.rl_hir.specs.declared.terminal.ReturnVariant.{ReturnVariant}
 use Rattle.rl_hir.specs.declared.terminal.ReturnVariant.TheVariants as returns
 use Rattle.rl_hir.specs.declared.terminal.Terminal.{Terminal}
 use Rattle.rl_lowered.proofs.LiveFrames.{logical_lives, sequence_lives, ternary_lives}
+use Rattle.rl_lowered.proofs.Names.{found_within}
+use Rattle.rl_lowered.proofs.Redeclared.{blocks_redeclared}
 use Rattle.rl_lowered.specs.Forms.{MemberKey, load_of, store_of, type_of, typed}
-use Rattle.rl_lowered.specs.Lowered.{Lowered, LoweredBody, LoweredDeclarators, LoweredInit, LoweredLast, LoweredLoop, LoweredParts}
-use Rattle.rl_lowered.specs.Lowered.{LoweredStatement, LoweredStatements, LoweredTest, declaring, kind_of, member_loaded, member_one}
-use Rattle.rl_lowered.specs.Lowered.{member_stored, member_updated, part_span, update_of, value_span}
+use Rattle.rl_lowered.specs.Lowered.{Lowered, LoweredBody, LoweredDeclarators, LoweredHead, LoweredInit, LoweredLast, LoweredLoop}
+use Rattle.rl_lowered.specs.Lowered.{LoweredParts, LoweredStatement, LoweredStatements, LoweredTest, declaring, found_again, kind_of}
+use Rattle.rl_lowered.specs.Lowered.{member_loaded, member_one, member_stored, member_updated, part_span, update_of, value_span}
 use Rattle.rl_lowered.specs.Lowered as lowered
 use Rattle.rl_lowered.specs.Named.{IsFound, found}
 use Rattle.rl_model.specs.Actions.{Label}
 use Rattle.rl_names.specs.Names.{Names}
 use Rattle.rl_promises.specs.Jumps.{is_loop}
-use Rattle.rl_promises.specs.Rows.{refusal}
+use Rattle.rl_promises.specs.Rows.{refusal, row_of_head}
 use Rattle.rl_runs.proofs.Living.{lives_none}
 use Rattle.rl_runs.proofs.BlockIds.{free_fresh, free_then, ids_counted, ids_ended, ids_then}
 use Rattle.rl_runs.proofs.Moves.{contained_before, extends_completed, extends_reserved, extends_then, extends_value}
@@ -223,6 +228,30 @@ declarators_blocks {names} {at} (lowered.NextInitialized there bind name type in
     blocks_then s t u (expression_blocks d)
     (blocks_then t _ u (blocks_found_value names t symbol bind.span identifier _ (Some at) f) (declarators_blocks ds))
 
+-- The head of a loop over keys or values.
+
+pub blocks_found_again : (names : Names) (s : State) (symbol : SymbolId) (at : Span) (identifier : ℕ)
+    → IsFound names s symbol at identifier → PreservesBlocks s (found_again names s symbol identifier at)
+blocks_found_again names s symbol at identifier f =
+    blocks_then s (found names s symbol at) _ (blocks_found names s symbol at identifier f)
+    (blocks_redeclared (found names s symbol at) identifier at (found_within s symbol at identifier f))
+
+pub head_blocks : {names : Names} {value : Place} {e : Syntax} {s t : State} {p : Place} → LoweredHead names value e s t p
+    → PreservesBlocks s t
+head_blocks {names} (lowered.Declared at there bind kind name type symbol identifier s annotated is f) =
+    let again : State = found_again names s symbol identifier bind.span in
+    blocks_then s again _ (blocks_found_again names s symbol bind.span identifier f) (blocks_value again _ (Some at.span))
+head_blocks {names} (lowered.Reassigned at name symbol identifier s is mutable f) =
+    blocks_found_value names s symbol at.span identifier _ (Some at.span) f
+head_blocks {names} (lowered.ReassignedConstant at name symbol identifier s is constant f) =
+    let first : State = found names s symbol at.span in
+    blocks_then s first _ (blocks_found names s symbol at.span identifier f)
+    (blocks_recorded first (diagnostic_at row.F6 (names.name symbol.0) at.span))
+head_blocks {value} (lowered.StoredGlobal at name binding s is) = blocks_value s (values.StoreGlobal name value) (Some at.span)
+head_blocks {value} (lowered.StoredMember at w fields parts pieces object key s t is l) =
+    blocks_then s t _ (all_blocks l) (blocks_value t (store_of object key value) (Some at.span))
+head_blocks (lowered.Lost at w fields s is) = blocks_recorded s (refusal (row_of_head w) at.span)
+
 -- Expressions and declarations complete: the block behind is reached where that in front is.
 
 abbrev unkeyed : Instruction → Option (Unit {0})
@@ -338,6 +367,20 @@ declarators_passes {names} {at} {k} (lowered.NextInitialized there bind name typ
     (values.StoreLocal k (record { identifier = record { 0 = identifier }; span = Some at }) p) (Some at)))
     (declarators_passes ds)
 
+pub head_passes : {names : Names} {value : Place} {e : Syntax} {s t : State} {p : Place} → LoweredHead names value e s t p → Passes s t
+head_passes {names} {value} (lowered.Declared at there bind kind name type symbol identifier s annotated is f) =
+    value_passes (found_again names s symbol identifier bind.span)
+    (values.StoreLocal variables.Let (record { identifier = record { 0 = identifier }; span = Some at.span }) value) (Some at.span)
+head_passes {names} {value} (lowered.Reassigned at name symbol identifier s is mutable f) =
+    value_passes (found names s symbol at.span)
+    (values.StoreLocal variables.Reassign (record { identifier = record { 0 = identifier }; span = Some at.span }) value) (Some at.span)
+head_passes {names} (lowered.ReassignedConstant at name symbol identifier s is constant f) =
+    passes_refl (recorded (found names s symbol at.span) (diagnostic_at row.F6 (names.name symbol.0) at.span))
+head_passes {value} (lowered.StoredGlobal at name binding s is) = value_passes s (values.StoreGlobal name value) (Some at.span)
+head_passes {value} (lowered.StoredMember at w fields parts pieces object key s t is l) =
+    passes_value s t (store_of object key value) (Some at.span) (all_passes l)
+head_passes (lowered.Lost at w fields s is) = passes_refl (recorded s (refusal (row_of_head w) at.span))
+
 -- A declaration of variables, from its statement.
 pub record Declares (names : Names) (at : At) (fields : Pieces) (s t : State) : Type 0 where
   pub kind : VariableKind
@@ -350,6 +393,9 @@ loop_is (lowered.While at test body s s2 s3 p d dt) = refl
 loop_is (lowered.DoWhile at test body s s2 s3 p d dt) = refl
 loop_is (lowered.ForUpdated at init test update body s s2 s3 s4 s5 u p di du d dt) = refl
 loop_is (lowered.ForPlain at init test body s s2 s3 s4 p di d dt) = refl
+loop_is (lowered.ForIn at head right body s s2 s3 s4 collection p d dr dp) = refl
+loop_is (lowered.ForOf at head right body s s2 s3 s4 collection p d dr dp) = refl
+loop_is (lowered.AwaitRefused at head right body s) = refl
 
 pub declares_of : {names : Names} {at : At} {fields : Pieces} {s t : State} → LoweredStatement names (Node at word.Var fields) s t
     → Declares names at fields s t
@@ -412,6 +458,13 @@ mutual
   loop_blocks {own} (lowered.ForPlain at init test body s s2 s3 s4 p di d dt) =
       for_blocks_plain s s2 s3 s4 own p at.span (part_span at.span init) (span_of body) (init_blocks di) (statement_blocks d)
       (test_blocks dt) (init_passes di) (test_passes dt)
+  loop_blocks {own} (lowered.ForIn at head right body s s2 s3 s4 collection p d dr dp) =
+      forin_blocks s s2 s3 s4 own collection p at.span (span_of head) (span_of body) (statement_blocks d) (expression_blocks dr)
+      (head_blocks dp) (head_passes dp)
+  loop_blocks {own} (lowered.ForOf at head right body s s2 s3 s4 collection p d dr dp) =
+      forof_blocks s s2 s3 s4 own collection p at.span (span_of head) (span_of body) (statement_blocks d) (expression_blocks dr)
+      (head_blocks dp) (head_passes dp)
+  loop_blocks (lowered.AwaitRefused at head right body s) = blocks_recorded s (refusal row.F33 at.span)
 
   pub init_blocks : {names : Names} {at : Span} {e : Syntax} {s t : State} → LoweredInit names at e s t → PreservesBlocks s t
   init_blocks {at} (lowered.NoInit s) = blocks_value s (values.Primitive primitives.Undefined) (Some at)

@@ -5,9 +5,11 @@ use Rattle.rl_lowered.proofs.Listing.{body_lists}
 use Rattle.rl_lowered.proofs.Living.{body_lives}
 use Rattle.rl_lowered.proofs.Names.{body_names}
 use Rattle.rl_lowered.proofs.Refused.{body_refused}
+use Rattle.rl_lowered.proofs.Respanned.{body_respans}
 use Rattle.rl_lowered.proofs.Sizes.{body_size}
 use Rattle.rl_lowered.proofs.SoundStatements.{body_sound}
 use Rattle.rl_lowered.proofs.StatementRuns.{body_runs}
+use Rattle.rl_lowered.proofs.Steps.{body_steps}
 use Rattle.rl_lowered.proofs.Tallies.{body_tallies}
 use Rattle.rl_lowered.proofs.Unread.{body_unread}
 use Rattle.rl_lowered.specs.Lowered.{LoweredBody}
@@ -21,10 +23,12 @@ pub told_body : {names : Names} {b : Syntax} {s t : State} → IsNamed names s �
 told_body named l = record {
   by = l;
   names_kept = body_names l;
+  respans = body_respans l;
   size = body_size l;
   blocks = body_blocks l;
   lists = body_lists l;
   unread = body_unread l;
+  steps = body_steps l;
   refused = body_refused l;
   tallies = λ none key held. body_tallies key held l none;
   lives = λ none. body_lives l none;

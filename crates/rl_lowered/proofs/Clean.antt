@@ -11,6 +11,7 @@ use Rattle.rl_hir.specs.declared.instruction.InstructionValue.{InstructionValue}
 use Rattle.rl_hir.specs.declared.instruction.NonLocalBinding.{NonLocalBinding}
 use Rattle.rl_hir.specs.declared.instruction.Place.{Place}
 use Rattle.rl_lowered.proofs.Refusals.{cast_refuses, computed_refuses, constant_refuses, form_refuses, fraction_refuses, member_refuses, method_refuses, outer_refuses}
+use Rattle.rl_lowered.proofs.Refusals.{lost_head_refuses, member_head_refuses, stored_head_refuses}
 use Rattle.rl_lowered.proofs.Refusals.{private_refuses, property_refuses, refused_refuses, refusing_refuses, unknown_refuses}
 use Rattle.rl_lowered.proofs.Refusals.{updated_member_refuses, wrapper_refuses}
 use Rattle.rl_lowered.specs.Forms.{IsCast, IsForm, IsMember, IsPrivate, IsRefused, IsRefusing, IsWrapper, MemberKey}
@@ -18,8 +19,8 @@ use Rattle.rl_model.specs.Shapes.{key_text}
 use Rattle.rl_names.specs.Names.{Names}
 use Rattle.rl_names.specs.declared.names.Meaning.TheVariants.{Local, Outer}
 use Rattle.rl_promises.proofs.Covering.{none_in}
-use Rattle.rl_promises.specs.Outs.{is_known_key}
-use Rattle.rl_promises.specs.Rows.{is_eval, label_of, refusals, refusals_in, said_of_init, said_of_local, said_of_test}
+use Rattle.rl_promises.specs.Outs.{is_known_key, is_lost_head}
+use Rattle.rl_promises.specs.Rows.{is_eval, label_of, refusals, refusals_at_head, refusals_in, said_of_init, said_of_local, said_of_test}
 use Rattle.rl_syntax.specs.Syntax.{Syntax, Node, Listed, Said, Flag, Pieces, End, Then}
 use Rattle.rl_syntax.specs.declared.numbered.At.{At}
 use Rattle.rl_syntax.specs.declared.word.Word.{Word}
@@ -85,6 +86,31 @@ for_clean names at init test update body none =
       test_said = four.1;
       test = five.1;
     }
+
+-- Loops over keys or values, and their heads.
+
+pub rounds_clean : (names : Names) (head right body : Syntax)
+    → refusals names body ++ refusals names right ++ refusals_at_head names head ≡ []
+    → (refusals names body ≡ []) × (refusals names right ≡ []) × (refusals_at_head names head ≡ [])
+rounds_clean names head right body none =
+    let front = none_in (refusals names body) (refusals names right) (first_none _ (refusals_at_head names head) none) in
+    (front.0, front.1, second_none (refusals names body ++ refusals names right) (refusals_at_head names head) none)
+
+pub constant_head_never : (names : Names) (at : At) (name : List ℕ) (symbol : SymbolId)
+    → names.meaning at.reference.0 name ≡ Local symbol → names.is_const symbol.0 ≡ true
+    → refusals_at_head names (Node at word.Id (Then (Said name) End)) ≡ [] → ⊥
+constant_head_never names at name symbol is constant none =
+    behind_none (said_of_local (names.name symbol.0) (label_of names symbol at.span)) (diagnostic_at row.F6 (names.name symbol.0) at.span)
+    (sym (stored_head_refuses names at name symbol true is constant) ∙ none)
+
+pub lost_head_never : (names : Names) (at : At) (w : Word) (fields : Pieces) → is_lost_head (Node at w fields) ≡ true
+    → refusals_at_head names (Node at w fields) ≡ [] → ⊥
+lost_head_never names at w fields is none = never (sym (lost_head_refuses names at w fields is) ∙ none)
+
+pub member_head_clean : {w : Word} {fields parts : Pieces} {pieces : List Piece} {object : Place} {key : MemberKey}
+    → IsMember w fields parts pieces object key → (names : Names) (at : At) → refusals_at_head names (Node at w fields) ≡ []
+    → refusals_in names parts ≡ []
+member_head_clean is names at none = sym (member_head_refuses names at is) ∙ none
 
 -- Kinds that are refused.
 

@@ -15,7 +15,7 @@ use Rattle.rl_promises.proofs.Unheld.{names_unheld, type_unheld}
 use Rattle.rl_promises.specs.Held.{is_counted}
 use Rattle.rl_promises.specs.Live.{Held, held_among, held_in}
 use Rattle.rl_promises.specs.Tallies.{held_word}
-use Rattle.rl_syntax.specs.Syntax.{Syntax, Node, Listed, Said, Flag, Pieces, End, Then}
+use Rattle.rl_syntax.specs.Syntax.{Syntax, Node, Listed, Said, Flag, Absent, Pieces, End, Then}
 use Rattle.rl_syntax.specs.declared.numbered.At.{At}
 use Rattle.rl_syntax.specs.declared.word.Word.{Word}
 use Rattle.rl_syntax.specs.declared.word.Word.TheVariants as word
@@ -153,3 +153,14 @@ pub declarator_held : (there bind : At) (name : List ℕ) (type init : Syntax) �
     → held_in (Node there word.Declarator (Then (Node bind word.Bind (Then (Said name) (Then type End))) (Then init End))) ≡ held_in init
 declarator_held there bind name type init fit =
     ap (λ (l : List Held). (l ++ []) ++ (held_in init ++ [])) (type_unheld type fit) ∙ append-nil (held_in init)
+
+-- The head of a loop that declares a variable.
+pub declared_head_held : (at there bind : At) (kind name : List ℕ) (type : Syntax) → IsAnnotation type
+    → held_in
+    (Node at word.Var
+    (Then (Said kind)
+    (Then (Listed (Then (Node there word.Declarator (Then (Node bind word.Bind (Then (Said name) (Then type End))) (Then Absent End))) End))
+    End)))
+    ≡ []
+declared_head_held at there bind kind name type fit =
+    ap (λ (l : List Held). (l ++ []) ++ []) (declarator_held there bind name type Absent fit)

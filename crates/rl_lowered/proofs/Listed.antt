@@ -8,7 +8,7 @@ use Rattle.rl_base.proofs.DistinctLists.{in_either, in_head, in_none, in_tail}
 use Rattle.rl_base.specs.Distinct.{AreDistinct}
 use Rattle.rl_builder.specs.Builder.{State}
 use Rattle.rl_hir.specs.Numbered.{listed_in}
-use Rattle.rl_lowered.proofs.Listing.{within_low}
+use Rattle.rl_lowered.proofs.Occurring.{within_low}
 use Rattle.rl_lowered.specs.Listing.{ListsSince, ListsTable, all_listed, occurrences, one_within}
 use Rattle.rl_order.proofs.NumberedOrders.{listed_below, numbers_below}
 use Rattle.rl_runs.proofs.Listed.{listed_none, numbers}

@@ -1,11 +1,7 @@
 -- The instructions that blocks list since the lowering of a part began: each that was made is listed once more.
-use Rattle.std.proofs.Common.{◌≡◌, ℕ, ◌+◌, ◌<◌, ◌≤◌, inl, inr, ◌&&◌, ◌||◌, ◌++◌, Bool, true, false, if◌then◌else◌, nat_le, nat_lt}
+use Rattle.std.proofs.Common.{◌≡◌, ℕ, ◌+◌, ◌<◌, ◌≤◌, ◌++◌, Bool, true, false}
 use Rattle.std.proofs.Common.{List, [], ◌∷◌, All, length, length-append, append-nil, Option, Some, None}
 use Rattle.std.proofs.Common.{refl, sym, ap, ◌∙◌, subst, arith}
-use Rattle.std.proofs.Common.{eq-eqb}
-use Rattle.std.proofs.lemmas.Bool.{le-leb, lt-leb, lt-ltb, le-ltb, ne_eqb}
-use Rattle.std.proofs.lemmas.Bool.Decides.{leb_tells}
-use Rattle.std.proofs.lemmas.List.{map-append}
 use Rattle.std.proofs.lemmas.List.Elements.{All-append, All-cons, All-head, All-nil, All-push, All-tail}
 use Rattle.rl_base.specs.Diagnostics.{diagnostic_at}
 use Rattle.rl_base.specs.declared.diagnostic.Diagnostic.{Diagnostic}
@@ -32,9 +28,11 @@ use Rattle.rl_frames.specs.Frames.{LogicalParts, aside_of, logical_after, logica
 use Rattle.rl_frames.specs.Frames.{SequenceParts, sequence_at, sequence_ended}
 use Rattle.rl_frames.specs.Frames.{TernaryParts, ternary_after, ternary_aside, ternary_at, ternary_ended, ternary_parted}
 use Rattle.rl_frames.specs.Frames.{ternary_alternated, ternary_consequent}
-use Rattle.rl_frames.specs.Parts.{for_begun, for_end, label_begun, while_begun}
+use Rattle.rl_frames.specs.Parts.{for_begun, for_end, forin_begun, forin_end, forof_begun, forof_end, label_begun, while_begun}
 use Rattle.rl_frames.specs.Parts.{if_begun, if_end, loads, logical_begun, logical_entered, logical_left, logical_place}
 use Rattle.rl_frames.specs.Parts.{sequence_begun, ternary_begun}
+use Rattle.rl_frames.specs.Rounds.{ForOfParts, RoundsParts, forin_at, forin_headed, forin_righted, forof_at, forof_bodied, forof_headed}
+use Rattle.rl_frames.specs.Rounds.{forof_iterator, forof_righted, forof_shut, forof_tested, rounds_bodied, rounds_shut}
 use Rattle.rl_hir.specs.Blocks.{Pair as BlockPair}
 use Rattle.rl_hir.specs.Pieces.{Piece}
 use Rattle.rl_hir.specs.declared.function.BlockKind.{BlockKind}
@@ -52,98 +50,24 @@ use Rattle.rl_hir.specs.Numbered.{listed_in}
 use Rattle.rl_hir.specs.declared.instruction.Instruction.{Instruction}
 use Rattle.rl_hir.specs.declared.instruction.InstructionValue.{InstructionValue}
 use Rattle.rl_hir.specs.declared.terminal.Terminal.{Terminal}
+use Rattle.rl_lowered.proofs.Occurring.{occurs_append, occurs_blocks, occurs_numbers, within_last, within_none, within_then}
 use Rattle.rl_lowered.specs.Forms.{IsForm, MemberKey, delete_of, load_of, store_of, typed}
 use Rattle.rl_lowered.specs.Forms as forms
-use Rattle.rl_lowered.specs.Lowered.{Lowered, LoweredBody, LoweredDeclarators, LoweredInit, LoweredLast, LoweredLoop, LoweredParts}
-use Rattle.rl_lowered.specs.Lowered.{LoweredStatement, LoweredStatements, LoweredTest, declaring, member_loaded, member_one, member_stored}
-use Rattle.rl_lowered.specs.Lowered.{member_updated, part_span, update_of, value_span}
+use Rattle.rl_lowered.specs.Lowered.{Lowered, LoweredBody, LoweredDeclarators, LoweredHead, LoweredInit, LoweredLast, LoweredLoop}
+use Rattle.rl_lowered.specs.Lowered.{LoweredParts, LoweredStatement, LoweredStatements, LoweredTest, declaring, found_again, member_loaded}
+use Rattle.rl_lowered.specs.Lowered.{member_one, member_stored, member_updated, part_span, update_of, value_span}
 use Rattle.rl_lowered.specs.Lowered as lowered
-use Rattle.rl_lowered.specs.Listing.{ListsSince, ListsTable, all_listed, is_marked, is_step, occurrences, one_within}
+use Rattle.rl_lowered.specs.Listing.{ListsSince, ListsTable, all_listed, occurrences, one_within}
 use Rattle.rl_lowered.specs.Named.{found}
 use Rattle.rl_model.specs.Actions.{Label}
 use Rattle.rl_names.specs.Names.{Names}
 use Rattle.rl_order.specs.Numbering.{orders_of}
-use Rattle.rl_promises.specs.Rows.{refusal}
+use Rattle.rl_promises.specs.Rows.{refusal, row_of_head}
 use Rattle.rl_runs.proofs.Listed.{ListsBelow, numbers, orders_append}
 use Rattle.rl_runs.specs.Listed.{AreBelow}
 use Rattle.rl_runs.specs.Moves.{branch, ends_by, goto, last_hole, next_hole, return_of, returned_from, stored_in, without_scope}
 use Rattle.rl_syntax.specs.Syntax.{Syntax, Pieces, span_of}
 use Rattle.rl_syntax.specs.declared.word.Word.{Word}
-
--- Numbers within bounds.
-
-pub within_low : (first end n : ℕ) → n < first → one_within first end n ≡ 0
-within_low first end n low = ap (λ (b : Bool). if b && nat_lt n end then 1 else 0) (lt-leb first n low)
-
-within_high : (first end n : ℕ) → end ≤ n → one_within first end n ≡ 0
-within_high first end n high = by_test (nat_le first n) refl
-  where
-    by_test : (b : Bool) → nat_le first n ≡ b → one_within first end n ≡ 0
-    by_test true e = ap (λ (b : Bool). if b && nat_lt n end then 1 else 0) e ∙ ap (λ (b : Bool). if b then 1 else 0) (le-ltb n end high)
-    by_test false e = ap (λ (b : Bool). if b && nat_lt n end then 1 else 0) e
-
-within_both : (first end n : ℕ) → first ≤ n → n < end → one_within first end n ≡ 1
-within_both first end n low high =
-    ap (λ (b : Bool). if b && nat_lt n end then 1 else 0) (le-leb first n low) ∙ ap (λ (b : Bool). if b then 1 else 0) (lt-ltb n end high)
-
--- No number is from an end on below it.
-within_none : (end n : ℕ) → one_within end end n ≡ 0
-within_none end n = elim (leb_tells end n) [ inl high ↦ within_high end end n high.1 | inr low ↦ within_low end end n low.1 ]
-
-within_then : (a b c n : ℕ) → a ≤ b → b ≤ c → one_within a b n + one_within b c n ≡ one_within a c n
-within_then a b c n first second = elim (leb_tells a n) [
-  | inr low ↦ (
-      let below : n < b = omega (arith, first, low.1) in
-      omega (arith, within_low a b n low.1, within_low b c n below, within_low a c n low.1)
-      )
-  | inl above ↦ elim (leb_tells b n) [
-    | inr low ↦ (
-        let below : n < c = omega (arith, second, low.1) in
-        omega (arith, within_both a b n above.1 low.1, within_low b c n low.1, within_both a c n above.1 below)
-        )
-    | inl high ↦ elim (leb_tells c n) [
-      | inr low ↦ omega (arith, within_high a b n high.1, within_both b c n high.1 low.1, within_both a c n above.1 low.1)
-      | inl past ↦ omega (arith, within_high a b n high.1, within_high b c n past.1, within_high a c n past.1)
-    ]
-  ]
-]
-
--- The number at the end.
-within_last : (end n : ℕ) → one_within end (end + 1) n ≡ occurrences n (end ∷ [])
-within_last end n = elim (leb_tells end n) [
-  | inr low ↦ within_low end (end + 1) n low.1 ∙ sym (other (λ e. absurd (omega (arith, e, low.1))))
-  | inl high ↦ elim (leb_tells (end + 1) n) [
-    | inl past ↦ within_high end (end + 1) n past.1 ∙ sym (other (λ e. absurd (omega (arith, e, past.1))))
-    | inr low ↦ (
-        let same : n ≡ end = omega (arith, high.1, low.1) in
-        within_both end (end + 1) n high.1 low.1 ∙ sym (ap (λ (b : Bool). (if b then 1 else 0) + 0) (eq-eqb n end same))
-        )
-  ]
-]
-  where
-    other : (n ≡ end → ⊥) → occurrences n (end ∷ []) ≡ 0
-    other ne = ap (λ (b : Bool). (if b then 1 else 0) + 0) (ne_eqb n end ne)
-
--- Numbers in lists, one behind the other.
-
-occurs_append : (n : ℕ) (xs ys : List ℕ) → occurrences n (xs ++ ys) ≡ occurrences n xs + occurrences n ys
-occurs_append n [] ys = omega arith
-occurs_append n (x ∷ xs) ys =
-    let rest : occurrences n (xs ++ ys) ≡ occurrences n xs + occurrences n ys = occurs_append n xs ys in
-    omega (arith, rest)
-
-occurs_numbers : (n : ℕ) (xs ys : List InstructionId)
-    → occurrences n (numbers (xs ++ ys)) ≡ occurrences n (numbers xs) + occurrences n (numbers ys)
-occurs_numbers n xs ys =
-    ap (occurrences n) (map-append (λ (id : InstructionId). id.0) xs ys) ∙ occurs_append n (numbers xs) (numbers ys)
-
-occurs_blocks : (n : ℕ) (xs ys : List BlockPair)
-    → occurrences n (listed_in (xs ++ ys)) ≡ occurrences n (listed_in xs) + occurrences n (listed_in ys)
-occurs_blocks n [] ys = omega arith
-occurs_blocks n (x ∷ xs) ys =
-    let rest : occurrences n (listed_in (xs ++ ys)) ≡ occurrences n (listed_in xs) + occurrences n (listed_in ys) = occurs_blocks n xs ys in
-    let whole = occurs_append n (numbers x.1.instructions) (listed_in (xs ++ ys)) in
-    omega (arith, rest, whole, occurs_append n (numbers x.1.instructions) (listed_in xs))
 
 left_all : {X : Type 0} (P : X → Type 0) (xs ys : List X) → All P (xs ++ ys) → All P xs
 left_all P [] ys all = All-nil P
@@ -166,7 +90,6 @@ lists_then a b c j k = record {
   counted = omega (arith, j.counted, k.counted);
   unordered = λ all. k.unordered (j.unordered all);
   no_functions = λ all. k.no_functions (j.no_functions all);
-  no_steps = λ all. k.no_steps (j.no_steps all);
   predecessors = λ all. k.predecessors (j.predecessors all);
 }
 
@@ -198,7 +121,6 @@ lists_same s t same = record {
       ≡ orders_of s.completed + length s.current.instructions + (length v.table + length v.completed)) same refl;
   unordered = λ all. subst (λ (v : Lists). All (λ (i : Instruction). i.order.0 ≡ 0) v.table) same all;
   no_functions = λ all. subst (λ (v : Lists). All (λ (i : Instruction). is_function_expression i.value ≡ false) v.table) same all;
-  no_steps = λ all. subst (λ (v : Lists). All (λ (i : Instruction). is_step i.value ≡ false) v.table) same all;
   predecessors = λ all. subst (λ (v : Lists). All (λ (b : BlockPair). b.1.preds ≡ []) v.completed) same all;
 }
 
@@ -236,7 +158,6 @@ lists_beside outer a b k = record {
   counted = omega (arith, k.counted, length-append outer a.current.instructions, length-append outer b.current.instructions);
   unordered = k.unordered;
   no_functions = k.no_functions;
-  no_steps = k.no_steps;
   predecessors = k.predecessors;
 }
 
@@ -262,7 +183,6 @@ lists_left s t outer = record {
       omega (arith, more, orders_append s.completed (ended ∷ []), length-append outer.instructions s.current.instructions);
   unordered = λ all. all;
   no_functions = λ all. all;
-  no_steps = λ all. all;
   predecessors = λ all. All-push (λ (b : BlockPair). b.1.preds ≡ []) s.completed ended all refl;
 }
   where
@@ -294,11 +214,7 @@ lists_entered s t completed none table = lists_same s (beside s.current.instruct
 
 -- Instructions.
 
-neither : (a b : Bool) → a || b ≡ false → (a ≡ false) × (b ≡ false)
-neither true b is = absurd (cc)
-neither false b is = (refl, is)
-
-lists_plain : (s : State) (i : Instruction) → i.order.0 ≡ 0 → is_marked i.value ≡ false
+lists_plain : (s : State) (i : Instruction) → i.order.0 ≡ 0 → is_function_expression i.value ≡ false
     → ListsSince s (plainly_pushed s i)
 lists_plain s i fresh plain = record {
   longer = omega (arith, longer);
@@ -318,14 +234,10 @@ lists_plain s i fresh plain = record {
       omega (arith, here, behind, before, occurs_numbers n s.current.instructions (next ∷ []));
   counted = omega (arith, longer, length-append s.current.instructions (next ∷ []));
   unordered = λ all. All-push (λ (j : Instruction). j.order.0 ≡ 0) s.table i all fresh;
-  no_functions = λ all. All-push (λ (j : Instruction). is_function_expression j.value ≡ false) s.table i all both.0;
-  no_steps = λ all. All-push (λ (j : Instruction). is_step j.value ≡ false) s.table i all both.1;
+  no_functions = λ all. All-push (λ (j : Instruction). is_function_expression j.value ≡ false) s.table i all plain;
   predecessors = λ all. all;
 }
   where
-    both : (is_function_expression i.value ≡ false) × (is_step i.value ≡ false)
-    both = neither (is_function_expression i.value) (is_step i.value) plain
-
     next : InstructionId
     next = record { 0 = length s.table }
 
@@ -336,7 +248,7 @@ lists_plain s i fresh plain = record {
     grows = omega (arith, longer)
 
 -- Under a handler the block ends behind it.
-lists_under : (o : Option BlockId) (s : State) (i : Instruction) → i.order.0 ≡ 0 → is_marked i.value ≡ false
+lists_under : (o : Option BlockId) (s : State) (i : Instruction) → i.order.0 ≡ 0 → is_function_expression i.value ≡ false
     → ListsSince s (pushed_under o s i)
 lists_under None s i fresh plain = lists_plain s i fresh plain
 lists_under (Some handler) s i fresh plain =
@@ -345,10 +257,10 @@ lists_under (Some handler) s i fresh plain =
     (lists_then (plainly_pushed s i) on (pushed_under (Some handler) s i) (lists_same (plainly_pushed s i) on refl)
     (lists_completed on (maybe_throw s.env.next_block handler i.span) (new_block s.env.next_block s.current.kind) refl))
 
-pub lists_pushed : (s : State) (i : Instruction) → i.order.0 ≡ 0 → is_marked i.value ≡ false → ListsSince s (pushed s i)
+pub lists_pushed : (s : State) (i : Instruction) → i.order.0 ≡ 0 → is_function_expression i.value ≡ false → ListsSince s (pushed s i)
 lists_pushed s i fresh plain = lists_under (innermost s.handlers) s i fresh plain
 
-pub lists_value : (s : State) (v : InstructionValue) (span : Option Span) → is_marked v ≡ false
+pub lists_value : (s : State) (v : InstructionValue) (span : Option Span) → is_function_expression v ≡ false
     → ListsSince s (with_value s v span)
 lists_value s v span plain =
     lists_then s (with_temporary s span) (with_value s v span) (lists_same s (with_temporary s span) refl)
@@ -377,17 +289,24 @@ lists_stored_last s place value span part behind outer =
     lists_then (beside outer.instructions s) (beside outer.instructions stored) (last_hole stored behind gotos.Break part outer)
     (lists_beside outer.instructions s stored (lists_stored s place value span)) (lists_last stored behind gotos.Break part outer)
 
--- The body of a loop or of a labelled statement ends, and the block that was set aside with the terminal `end`.
+-- The body of a loop or of a labelled statement ends.
+lists_scope_left : (s : State) (behind : ℕ) (variant : GotoVariant) (part : Span) (outer : WipBlock)
+    → ListsSince (beside outer.instructions s) (last_hole (without_scope s) behind variant part outer)
+lists_scope_left s behind variant part outer =
+    let ids : List InstructionId = outer.instructions in
+    let left : State = without_scope s in
+    lists_then (beside ids s) (beside ids left) (last_hole left behind variant part outer)
+    (lists_same (beside ids s) (beside ids left) refl)
+    (lists_last left behind variant part outer)
+
+-- Behind it the block ends that was set aside, with the terminal `end`.
 lists_scope_ended : (s : State) (behind : ℕ) (variant : GotoVariant) (part : Span) (outer : WipBlock) (end : Terminal) (next : WipBlock)
     → next.instructions ≡ []
     → ListsSince (beside outer.instructions s) (completed_by (last_hole (without_scope s) behind variant part outer) end next)
 lists_scope_ended s behind variant part outer end next none =
-    let ids : List InstructionId = outer.instructions in
-    let left : State = without_scope s in
-    let gone : State = last_hole left behind variant part outer in
-    lists_then (beside ids s) (beside ids left) (completed_by gone end next) (lists_same (beside ids s) (beside ids left) refl)
-    (lists_then (beside ids left) gone (completed_by gone end next) (lists_last left behind variant part outer)
-    (lists_completed gone end next none))
+    let gone : State = last_hole (without_scope s) behind variant part outer in
+    lists_then (beside outer.instructions s) gone (completed_by gone end next) (lists_scope_left s behind variant part outer)
+    (lists_completed gone end next none)
 
 -- The part in front of a loop's body ends, and the body's hole opens.
 lists_for_opened : (f : ForParts) (s : State) (part : Span) → ListsSince s (for_opened f s part)
@@ -448,25 +367,25 @@ lists_if_ended f s test none = lists_completed s (if_end f.behind.id.0 f.consequ
 
 -- No value that an expression leaves makes a function.
 
-load_plain : (object : Place) (key : MemberKey) → is_marked (load_of object key) ≡ false
+load_plain : (object : Place) (key : MemberKey) → is_function_expression (load_of object key) ≡ false
 load_plain object (forms.Fixed key) = refl
 load_plain object (forms.Computed key) = refl
 
-store_plain : (object : Place) (key : MemberKey) (value : Place) → is_marked (store_of object key value) ≡ false
+store_plain : (object : Place) (key : MemberKey) (value : Place) → is_function_expression (store_of object key value) ≡ false
 store_plain object (forms.Fixed key) value = refl
 store_plain object (forms.Computed key) value = refl
 
-delete_plain : (object : Place) (key : MemberKey) → is_marked (delete_of object key) ≡ false
+delete_plain : (object : Place) (key : MemberKey) → is_function_expression (delete_of object key) ≡ false
 delete_plain object (forms.Fixed key) = refl
 delete_plain object (forms.Computed key) = refl
 
 update_plain : (prefix : Bool) (operator : UpdateOperator) (variable : Place)
-    → is_marked (update_of prefix operator variable) ≡ false
+    → is_function_expression (update_of prefix operator variable) ≡ false
 update_plain true operator variable = refl
 update_plain false operator variable = refl
 
 form_plain : {w : Word} {fields parts : Pieces} {pieces : List Piece} {v : InstructionValue} → IsForm w fields parts pieces v
-    → is_marked v ≡ false
+    → is_function_expression v ≡ false
 form_plain (forms.Load {object} {key} is) = load_plain object key
 form_plain (forms.Delete operator {object} {key} is inside member) = delete_plain object key
 form_plain _ = refl
@@ -477,14 +396,14 @@ lists_found : (names : Names) (s : State) (symbol : SymbolId) (at : Span) → Li
 lists_found names s symbol at = lists_same s (found names s symbol at) refl
 
 lists_found_value : (names : Names) (s : State) (symbol : SymbolId) (at : Span) (v : InstructionValue) (span : Option Span)
-    → is_marked v ≡ false → ListsSince s (with_value (found names s symbol at) v span)
+    → is_function_expression v ≡ false → ListsSince s (with_value (found names s symbol at) v span)
 lists_found_value names s symbol at v span plain =
     lists_then s (found names s symbol at) _ (lists_found names s symbol at) (lists_value (found names s symbol at) v span plain)
 
 lists_noted : (s : State) (d : Diagnostic) → ListsSince s (recorded s d)
 lists_noted s d = lists_same s (recorded s d) refl
 
-lists_noted_value : (s : State) (d : Diagnostic) (v : InstructionValue) (span : Option Span) → is_marked v ≡ false
+lists_noted_value : (s : State) (d : Diagnostic) (v : InstructionValue) (span : Option Span) → is_function_expression v ≡ false
     → ListsSince s (with_value (recorded s d) v span)
 lists_noted_value s d v span plain = lists_then s (recorded s d) _ (lists_noted s d) (lists_value (recorded s d) v span plain)
 
@@ -625,6 +544,22 @@ test_lists {at} (lowered.NoTest s) =
     lists_noted_value s (refusal row.F32 at) (values.Primitive (primitives.Boolean true)) (Some at) refl
 test_lists (lowered.Tested e s t p l) = expression_lists l
 
+-- The head of a loop over keys or values.
+head_lists : {names : Names} {value : Place} {e : Syntax} {s t : State} {p : Place} → LoweredHead names value e s t p → ListsSince s t
+head_lists {names} (lowered.Declared at there bind kind name type symbol identifier s annotated is f) =
+    let again : State = found_again names s symbol identifier bind.span in
+    lists_then s again _ (lists_same s again refl) (lists_value again _ (Some at.span) refl)
+head_lists {names} (lowered.Reassigned at name symbol identifier s is mutable f) =
+    lists_found_value names s symbol at.span _ (Some at.span) refl
+head_lists {names} (lowered.ReassignedConstant at name symbol identifier s is constant f) =
+    let first : State = found names s symbol at.span in
+    lists_then s first _ (lists_found names s symbol at.span)
+    (lists_noted first (diagnostic_at row.F6 (names.name symbol.0) at.span))
+head_lists {value} (lowered.StoredGlobal at name binding s is) = lists_value s (values.StoreGlobal name value) (Some at.span) refl
+head_lists {value} (lowered.StoredMember at w fields parts pieces object key s t is l) =
+    lists_then s t _ (all_lists l) (lists_value t (store_of object key value) (Some at.span) (store_plain object key value))
+head_lists (lowered.Lost at w fields s is) = lists_noted s (refusal (row_of_head w) at.span)
+
 mutual
   pub statement_lists : {names : Names} {e : Syntax} {s t : State} → LoweredStatement names e s t → ListsSince s t
   statement_lists (lowered.Empty at s) = lists_refl s
@@ -733,6 +668,45 @@ mutual
       (for_aside g).1 refl)
       (lists_then testing s4 _ (test_lists second)
       (lists_completed s4 (branch p g.body g.behind.id.0 g.behind.id.0 g.span) g.behind refl))))))
+  loop_lists {own} (lowered.ForIn at head right body s s2 s3 s4 collection p first second third) =
+      let outer : List InstructionId = s.current.instructions in
+      let n : ℕ = s.env.next_block in
+      let f : RoundsParts = forin_at s at.span in
+      let begun : State = forin_begun s own in
+      let behind : State = rounds_bodied f s2 (span_of body) in
+      let headed : State = forin_headed (rounds_shut f) s3 in
+      let righted : State = forin_righted (rounds_shut f) s3 (span_of head) collection in
+      lists_then s (beside outer begun) _ (lists_entered s begun refl refl refl)
+      (lists_then (beside outer begun) (beside outer s2) _ (lists_beside outer begun s2 (statement_lists first))
+      (lists_then (beside outer s2) behind _ (lists_scope_left s2 (n + 1) gotos.Continue (span_of body) s.current)
+      (lists_then behind s3 _ (expression_lists second)
+      (lists_then s3 headed _ (lists_completed s3 (forin_end n at.span) (new_block (n + 1) blocks.Loop) refl)
+      (lists_then headed righted _ (lists_value headed (values.NextPropertyOf collection) (Some (span_of head)) refl)
+      (lists_then righted s4 _ (head_lists third)
+      (lists_completed s4 (branch p (n + 1 + 1) n n at.span) (new_block n blocks.Block) refl)))))))
+  loop_lists {own} (lowered.ForOf at head right body s s2 s3 s4 collection p first second third) =
+      let outer : List InstructionId = s.current.instructions in
+      let n : ℕ = s.env.next_block in
+      let f : ForOfParts = forof_at s at.span in
+      let begun : State = forof_begun s own in
+      let behind : State = forof_bodied f s2 (span_of body) in
+      let headed : State = forof_headed (forof_shut f) s3 in
+      let opened : State = with_value headed (values.GetIterator collection) collection.span in
+      let tested : State = forof_tested (forof_shut f) s3 collection in
+      let righted : State = forof_righted (forof_shut f) s3 (span_of head) collection in
+      let iterator : Place = forof_iterator (forof_shut f) s3 collection in
+      lists_then s (beside outer begun) _ (lists_entered s begun refl refl refl)
+      (lists_then (beside outer begun) (beside outer s2) _ (lists_beside outer begun s2 (statement_lists first))
+      (lists_then (beside outer s2) behind _ (lists_scope_left s2 (n + 1) gotos.Continue (span_of body) s.current)
+      (lists_then behind s3 _ (expression_lists second)
+      (lists_then s3 headed _ (lists_completed s3 (forof_end n at.span) (new_block (n + 1) blocks.Loop) refl)
+      (lists_then headed opened _ (lists_value headed (values.GetIterator collection) collection.span refl)
+      (lists_then opened tested _
+      (lists_completed opened (goto (n + 1 + 1) gotos.Break at.span) (new_block (n + 1 + 1) blocks.Loop) refl)
+      (lists_then tested righted _ (lists_value tested (values.IteratorNext iterator collection) (Some (span_of head)) refl)
+      (lists_then righted s4 _ (head_lists third)
+      (lists_completed s4 (branch p (n + 1 + 1 + 1) n n at.span) (new_block n blocks.Block) refl)))))))))
+  loop_lists (lowered.AwaitRefused at head right body s) = lists_noted s (refusal row.F33 at.span)
 
   init_lists : {names : Names} {at : Span} {e : Syntax} {s t : State} → LoweredInit names at e s t → ListsSince s t
   init_lists {at} (lowered.NoInit s) = lists_value s (values.Primitive primitives.Undefined) (Some at) refl

@@ -18,11 +18,13 @@ use Rattle.rl_frames.proofs.ForLives.{for_leaves, for_leaves_plain, for_lives, f
 use Rattle.rl_frames.proofs.LabelFrames.{label_leaves, label_lives}
 use Rattle.rl_frames.proofs.Lives.{if_leaves, if_lives, if_then_leaves}
 use Rattle.rl_frames.proofs.LoopLives.{do_while_leaves, do_while_lives, while_leaves, while_lives}
+use Rattle.rl_frames.proofs.RoundLives.{forin_leaves, forin_lives, forof_leaves, forof_lives}
 use Rattle.rl_frames.proofs.ValueLives.{if_then_lives}
 use Rattle.rl_hir.specs.Pieces.{Piece}
 use Rattle.rl_hir.specs.Written.{value_word}
 use Rattle.rl_hir.specs.declared.function.BlockKind.TheVariants as blocks
 use Rattle.rl_hir.specs.declared.instruction.InstructionKind.{InstructionKind}
+use Rattle.rl_hir.specs.declared.instruction.InstructionKind.TheVariants as variables
 use Rattle.rl_hir.specs.declared.instruction.InstructionValue.{InstructionValue}
 use Rattle.rl_hir.specs.declared.instruction.InstructionValue.TheVariants as values
 use Rattle.rl_hir.specs.declared.instruction.Place.{Place}
@@ -31,15 +33,18 @@ use Rattle.rl_hir.specs.declared.terminal.GotoVariant.{GotoVariant}
 use Rattle.rl_hir.specs.declared.terminal.GotoVariant.TheVariants as gotos
 use Rattle.rl_hir.specs.declared.terminal.ReturnVariant.TheVariants as returns
 use Rattle.rl_lowered.proofs.Blocks.{all_blocks, blocks_cast, blocks_member, declarators_blocks, expression_blocks, expression_passes}
-use Rattle.rl_lowered.proofs.Blocks.{init_blocks, init_passes, last_blocks, loop_is, statement_blocks, statements_blocks}
+use Rattle.rl_lowered.proofs.Blocks.{head_blocks, head_passes, init_blocks, init_passes, last_blocks, loop_is, statement_blocks}
+use Rattle.rl_lowered.proofs.Blocks.{statements_blocks}
 use Rattle.rl_lowered.proofs.Blocks.{test_blocks, test_passes}
 use Rattle.rl_lowered.proofs.Clean.{branches_clean, cast_clean, computed_row_clean, constant_update_never, do_while_clean, first_none}
 use Rattle.rl_lowered.proofs.Clean.{for_clean, form_clean, never, while_clean}
 use Rattle.rl_lowered.proofs.Clean.{fraction_row_never, method_clean, outer_never, private_clean, private_never, property_row_clean}
 use Rattle.rl_lowered.proofs.Clean.{refused_never, refusing_never, row_clean, second_none, spread_row_clean, unknown_row_never}
-use Rattle.rl_lowered.proofs.Clean.{updated_member_clean, wrapper_clean}
-use Rattle.rl_lowered.proofs.HeldParts.{HeldBy, IsHeldAs, Unheld, cast_held, computed_held, declarator_held, form_held, form_word}
-use Rattle.rl_lowered.proofs.HeldParts.{literal_held, method_held, property_held, updated_held, wrapper_held}
+use Rattle.rl_lowered.proofs.Clean.{constant_head_never, lost_head_never, member_head_clean, rounds_clean, updated_member_clean}
+use Rattle.rl_lowered.proofs.Clean.{wrapper_clean}
+use Rattle.rl_lowered.proofs.HeldParts.{HeldBy, IsHeldAs, Unheld, cast_held, computed_held, declared_head_held, declarator_held}
+use Rattle.rl_lowered.proofs.HeldParts.{form_held, form_word, literal_held, member_held, method_held, property_held, updated_held}
+use Rattle.rl_lowered.proofs.HeldParts.{wrapper_held}
 use Rattle.rl_lowered.proofs.LiveFrames.{lives_ahead, lives_left, lives_on, logical_lives, row_lives, sequence_lives, ternary_lives}
 use Rattle.rl_lowered.proofs.LiveFrames.{value_keyed, value_keyless}
 use Rattle.rl_lowered.proofs.Meant.{private_member_never}
@@ -47,6 +52,8 @@ use Rattle.rl_lowered.proofs.Plain.{init_said, lowered_plain}
 use Rattle.rl_lowered.specs.Forms.{MemberKey, load_of, store_of, type_of, typed}
 use Rattle.rl_lowered.specs.Lowered.{Asked, Block, Cast, Conditional, Debugger, EarlierPart, Empty, Expression, Global, IfElse, IfThen, LastPart}
 use Rattle.rl_lowered.specs.Lowered.{Break, Continue, DeclaredInit, DoWhile, ForPlain, ForUpdated, Labeled, LabeledLoop, LoweredInit}
+use Rattle.rl_lowered.specs.Lowered.{AwaitRefused, Declared, ForIn, ForOf, Lost, LoweredHead, Reassigned, ReassignedConstant}
+use Rattle.rl_lowered.specs.Lowered.{StoredGlobal, StoredMember, found_again}
 use Rattle.rl_lowered.specs.Lowered.{LoweredLoop, LoweredTest, NoInit, NoTest, RefusedInit, Tested, Unlabeled, While, label_part}
 use Rattle.rl_lowered.specs.Lowered.{part_span}
 use Rattle.rl_lowered.specs.Lowered.{Literal, Logical, Lowered, LoweredBody, LoweredDeclarators, LoweredLast, LoweredParts, LoweredStatement}
@@ -62,7 +69,7 @@ use Rattle.rl_model.specs.Dead.{Outs, goes_on, is_broken, lives, lives_all, loop
 use Rattle.rl_names.specs.Names.{Names}
 use Rattle.rl_promises.specs.Jumps.{is_loop}
 use Rattle.rl_promises.specs.Live.{Held, held_among, held_as, held_in, live_all, live_in, live_in_body}
-use Rattle.rl_promises.specs.Rows.{refusals, refusals_in, said_of_init, said_of_test}
+use Rattle.rl_promises.specs.Rows.{refusals, refusals_at_head, refusals_in, said_of_init, said_of_test}
 use Rattle.rl_promises.specs.Tallies.{held_word}
 use Rattle.rl_runs.proofs.Leaving.{leaves_broken, leaves_continued, leaves_none, leaves_row, outs_by}
 use Rattle.rl_runs.proofs.Living.{lives_none, lives_refl, lives_then}
@@ -288,6 +295,27 @@ test_lives : {names : Names} {at : Span} {e : Syntax} {s t : State} {p : Place} 
 test_lives (NoTest s) unsaid none = absurd (never unsaid)
 test_lives (Tested e s t p d) unsaid none = expression_lives d none
 
+-- The head of a loop over keys or values.
+head_lives : {names : Names} {value : Place} {e : Syntax} {s t : State} {p : Place} → LoweredHead names value e s t p
+    → refusals_at_head names e ≡ [] → Lives held_by (held_in e) true s t
+head_lives {names} {value} (Declared at there bind kind name type symbol identifier s annotated is f) none =
+    let v : InstructionValue =
+    values.StoreLocal variables.Let (record { identifier = record { 0 = identifier }; span = Some at.span }) value in
+    let l = value_keyless held_by (found_again names s symbol identifier bind.span) v (Some at.span) in
+    lives_same (declared_head_held at there bind kind name type annotated) (record { onward = l.onward; stands = l.stands })
+head_lives {names} {value} (Reassigned at name symbol identifier s is mutable f) none =
+    found_lives names s symbol at.span
+    (values.StoreLocal variables.Reassign (record { identifier = record { 0 = identifier }; span = Some at.span }) value) (Some at.span)
+head_lives {names} (ReassignedConstant at name symbol identifier s is constant f) none =
+    absurd (constant_head_never names at name symbol is constant none)
+head_lives {value} (StoredGlobal at name binding s is) none = value_keyless held_by s (values.StoreGlobal name value) (Some at.span)
+head_lives {names} {value} (StoredMember at w fields parts pieces object key s t is d) none =
+    let v : InstructionValue = store_of object key value in
+    lives_same (member_held is at)
+    (lives_behind s (extends_value t v (Some at.span)) (value_keyless held_by t v (Some at.span))
+    (all_lives d (member_head_clean is names at none)))
+head_lives {names} (Lost at w fields s is) none = absurd (lost_head_never names at w fields is none)
+
 -- A jump does not complete.
 jump_lives : (s : State) (target : BlockId) (variant : GotoVariant) (span : Span) (label : Label)
     → Lives held_by (held_in (label_part label) ++ []) false s (next_hole s target.0 variant span blocks.Block)
@@ -452,6 +480,29 @@ mutual
         leaves = for_leaves_plain s s2 s3 s4 own p at.span (part_span at.span init) (span_of body) outs (init_blocks di).extends
             (statement_blocks d).extends (test_blocks dt).extends (init_passes di) (test_passes dt) l.leaves;
       }
+  loop_lives {names} {own} (ForIn at head right body s s2 s3 s4 collection p d dr dp) none =
+      let clean = rounds_clean names head right body none in
+      let l = statement_lives d clean.0 in
+      let outs : Outs = (lives None body).outs in record {
+        lives = falls_same (under_true own outs)
+            (forin_lives s s2 s3 s4 own collection p at.span (span_of head) (span_of body) (expression_blocks dr).extends
+            (head_blocks dp).extends (expression_passes dr) (head_passes dp) held_by (held_in head) (held_in right) (live_in None body)
+            outs.falls l.lives (expression_lives dr clean.1) (head_lives dp clean.2));
+        leaves = forin_leaves s s2 s3 s4 own collection p at.span (span_of head) (span_of body) (expression_blocks dr).extends
+            (head_blocks dp).extends (expression_passes dr) (head_passes dp) outs l.leaves;
+      }
+  loop_lives {names} {own} (ForOf at head right body s s2 s3 s4 collection p d dr dp) none =
+      let clean = rounds_clean names head right body none in
+      let l = statement_lives d clean.0 in
+      let outs : Outs = (lives None body).outs in record {
+        lives = falls_same (under_true own outs)
+            (forof_lives s s2 s3 s4 own collection p at.span (span_of head) (span_of body) (expression_blocks dr).extends
+            (head_blocks dp).extends (expression_passes dr) (head_passes dp) held_by (held_in head) (held_in right) (live_in None body)
+            outs.falls l.lives (expression_lives dr clean.1) (head_lives dp clean.2));
+        leaves = forof_leaves s s2 s3 s4 own collection p at.span (span_of head) (span_of body) (expression_blocks dr).extends
+            (head_blocks dp).extends (expression_passes dr) (head_passes dp) outs l.leaves;
+      }
+  loop_lives (AwaitRefused at head right body s) none = absurd (never none)
 
   init_lives : {names : Names} {at : Span} {e : Syntax} {s t : State} → LoweredInit names at e s t → said_of_init at e ≡ []
       → refusals names e ≡ [] → Lives held_by (held_in e) true s t

@@ -28,8 +28,11 @@ use Rattle.rl_frames.specs.Frames.{LogicalParts, logical_after, logical_at, logi
 use Rattle.rl_frames.specs.Frames.{SequenceParts, sequence_at, sequence_ended}
 use Rattle.rl_frames.specs.Frames.{TernaryParts, ternary_after, ternary_at, ternary_ended, ternary_parted}
 use Rattle.rl_frames.specs.Frames.{ternary_alternated, ternary_consequent}
-use Rattle.rl_frames.specs.Parts.{for_begun, if_begun, label_begun, loads, logical_begun, logical_entered, logical_left, logical_place}
-use Rattle.rl_frames.specs.Parts.{sequence_begun, ternary_begun, while_begun}
+use Rattle.rl_frames.specs.Parts.{for_begun, forin_begun, forof_begun, if_begun, label_begun, loads, logical_begun, logical_entered}
+use Rattle.rl_frames.specs.Parts.{logical_left, logical_place, sequence_begun, ternary_begun, while_begun}
+use Rattle.rl_frames.specs.Rounds.{ForOfParts, RoundsParts, forin_at, forin_headed, forin_righted, forof_after, forof_at, forof_bodied}
+use Rattle.rl_frames.specs.Rounds.{forof_ended, forof_headed, forof_iterator, forof_righted, forof_shut, forof_tested, rounds_bodied}
+use Rattle.rl_frames.specs.Rounds.{rounds_ended, rounds_opened, rounds_shut}
 use Rattle.rl_hir.specs.Pairs.{identifier_of, pair}
 use Rattle.rl_hir.specs.Pieces.{Piece}
 use Rattle.rl_hir.specs.declared.function.Identifier.{Identifier}
@@ -47,10 +50,11 @@ use Rattle.rl_hir.specs.declared.instruction.Place.{Place}
 use Rattle.rl_hir.specs.declared.instruction.PrimitiveValue.TheVariants as primitives
 use Rattle.rl_hir.specs.declared.terminal.GotoVariant.TheVariants as gotos
 use Rattle.rl_hir.specs.declared.terminal.ReturnVariant.TheVariants as returns
+use Rattle.rl_lowered.proofs.Redeclared.{names_redeclared}
 use Rattle.rl_lowered.specs.Forms.{MemberKey, load_of, store_of, typed}
-use Rattle.rl_lowered.specs.Lowered.{Lowered, LoweredBody, LoweredDeclarators, LoweredInit, LoweredLast, LoweredLoop, LoweredParts}
-use Rattle.rl_lowered.specs.Lowered.{LoweredStatement, LoweredStatements, LoweredTest, declaring, member_loaded, member_one, member_stored}
-use Rattle.rl_lowered.specs.Lowered.{member_updated, part_span, value_span}
+use Rattle.rl_lowered.specs.Lowered.{Lowered, LoweredBody, LoweredDeclarators, LoweredHead, LoweredInit, LoweredLast, LoweredLoop}
+use Rattle.rl_lowered.specs.Lowered.{LoweredParts, LoweredStatement, LoweredStatements, LoweredTest, declaring, found_again, member_loaded}
+use Rattle.rl_lowered.specs.Lowered.{member_one, member_stored, member_updated, part_span, value_span}
 use Rattle.rl_lowered.specs.Lowered as lowered
 use Rattle.rl_lowered.specs.Named.{IsFound, IsNamed, KeepsNames, declared_span, found}
 use Rattle.rl_model.specs.Actions.{Label}
@@ -58,7 +62,7 @@ use Rattle.rl_names.specs.Names.{Names}
 use Rattle.rl_used_names.specs.Candidates.{candidate}
 use Rattle.rl_promises.specs.Fields.{IsNamedPair, name_at}
 use Rattle.rl_promises.specs.Locals.{IsVariable}
-use Rattle.rl_promises.specs.Rows.{refusal}
+use Rattle.rl_promises.specs.Rows.{refusal, row_of_head}
 use Rattle.rl_runs.proofs.Steps.{get_more}
 use Rattle.rl_runs.specs.Moves.{next_hole, return_of, returned_from, stored_in}
 use Rattle.rl_semantic.specs.declared.semantic.Semantic.{Semantic}
@@ -94,7 +98,7 @@ known_by s = record {
 pub names_refl : {names : Names} (s : State) → KeepsNames names s s
 names_refl s = record {
   named = λ n. n;
-  identifiers = λ identifier known is named. is;
+  identifiers = λ identifier known is named. record { span = known.span; is = is };
   pairs = λ p. p;
   functions = refl;
   fn_type = refl;
@@ -104,7 +108,10 @@ names_refl s = record {
 pub names_then : {names : Names} (a b c : State) → KeepsNames names a b → KeepsNames names b c → KeepsNames names a c
 names_then a b c j k = record {
   named = λ n. k.named (j.named n);
-  identifiers = λ identifier known is named. k.identifiers identifier known (j.identifiers identifier known is named) named;
+  identifiers = λ identifier known is named.
+      let first = j.identifiers identifier known is named in
+      let second = k.identifiers identifier (record known { span = first.span }) first.is named in
+      record { span = second.span; is = second.is };
   pairs = λ p. k.pairs (j.pairs p);
   functions = k.functions ∙ j.functions;
   fn_type = k.fn_type ∙ j.fn_type;
@@ -124,7 +131,8 @@ names_same {names} s t same = record {
     noted = λ symbol identifier is name none. n.noted symbol identifier (ap (λ (k : Known). identifier_of k.bindings symbol) same ∙ is) name
         (ap (λ (k : Known). k.diagnostics) same ∙ none);
   };
-  identifiers = λ identifier known is named. ap (λ (k : Known). slice_get k.identifiers identifier) (sym same) ∙ is;
+  identifiers = λ identifier known is named.
+      record { span = known.span; is = ap (λ (k : Known). slice_get k.identifiers identifier) (sym same) ∙ is };
   pairs = λ p. subst (λ (k : Known). All (IsNamedPair names k.identifiers) k.pairs) same p;
   functions = ap (λ (k : Known). k.functions) (sym same);
   fn_type = ap (λ (k : Known). k.fn_type) (sym same);
@@ -147,7 +155,8 @@ names_temporary {names} s span = record {
         omega (arith, below, length-append s.env.identifiers (record { name = None; span = span; type_id = record { 0 = s.env.next_type } } ∷ []));
     noted = n.noted;
   };
-  identifiers = λ identifier known is named. get_more s.env.identifiers _ identifier known is;
+  identifiers = λ identifier known is named.
+      record { span = known.span; is = get_more s.env.identifiers _ identifier known is };
   pairs = λ p. named_pairs names s.env.identifiers _ s.env.pairs p;
   functions = refl;
   fn_type = refl;
@@ -184,7 +193,7 @@ names_recorded s d = record {
     made = n.made;
     noted = λ symbol identifier is name. some_last s.env.diagnostics d;
   };
-  identifiers = λ identifier known is named. is;
+  identifiers = λ identifier known is named. record { span = known.span; is = is };
   pairs = λ p. p;
   functions = refl;
   fn_type = refl;
@@ -243,7 +252,7 @@ module _ (names : Names) (s : State) (symbol : SymbolId) (at : Span) where
       made = n.made;
       noted = λ other identifier is name. some_front s.env.diagnostics _ (n.noted other identifier is name);
     };
-    identifiers = λ identifier known is named. is;
+    identifiers = λ identifier known is named. record { span = known.span; is = is };
     pairs = λ p. p;
     functions = refl;
     fn_type = refl;
@@ -256,7 +265,8 @@ module _ (names : Names) (s : State) (symbol : SymbolId) (at : Span) where
       made = λ other identifier is. made_by (identifier_of s.bindings other) other identifier refl n is;
       noted = λ other identifier is name. noted_by (identifier_of s.bindings other) other identifier refl n is name;
     };
-    identifiers = λ identifier known is named. get_more s.env.identifiers _ identifier known is;
+    identifiers = λ identifier known is named.
+        record { span = known.span; is = get_more s.env.identifiers _ identifier known is };
     pairs = λ p. All-push (IsNamedPair names made.env.identifiers) s.env.pairs (pair symbol.0 (length s.env.identifiers))
         (named_pairs names s.env.identifiers _ s.env.pairs p)
         (record {
@@ -273,6 +283,17 @@ module _ (names : Names) (s : State) (symbol : SymbolId) (at : Span) where
 pub names_found : {names : Names} (s : State) (symbol : SymbolId) (at : Span) (identifier : ℕ) → IsFound names s symbol at identifier
     → KeepsNames names s (found names s symbol at)
 names_found {names} s symbol at identifier f = names_by names s symbol at (identifier_of s.bindings symbol.0) f.variable
+
+-- The identifier was made.
+pub found_within : {names : Names} (s : State) (symbol : SymbolId) (at : Span) (identifier : ℕ) → IsFound names s symbol at identifier
+    → identifier < length (found names s symbol at).env.identifiers
+found_within s symbol at identifier f = ((names_found s symbol at identifier f).named f.named).made symbol.0 identifier f.bound
+
+pub names_found_again : {names : Names} (s : State) (symbol : SymbolId) (at : Span) (identifier : ℕ) → IsFound names s symbol at identifier
+    → KeepsNames names s (found_again names s symbol identifier at)
+names_found_again {names} s symbol at identifier f =
+    names_then s (found names s symbol at) _ (names_found s symbol at identifier f)
+    (names_redeclared (found names s symbol at) identifier at)
 
 -- A value behind a look-up, or behind a diagnostic.
 
@@ -362,6 +383,23 @@ names_sequence_ended : {names : Names} (f : SequenceParts) (s : State) (value : 
 names_sequence_ended f s value part =
     names_then s (stored_in s f.place value part) (sequence_ended f s value part) (names_stored s f.place value part)
     (names_same (stored_in s f.place value part) (sequence_ended f s value part) refl)
+
+pub names_forin_righted : {names : Names} (f : RoundsParts) (s : State) (left : Span) (collection : Place)
+    → KeepsNames names s (forin_righted f s left collection)
+names_forin_righted f s left collection =
+    names_then s (forin_headed f s) (forin_righted f s left collection) (names_same s (forin_headed f s) refl)
+    (names_value (forin_headed f s) (values.NextPropertyOf collection) (Some left))
+
+pub names_forof_righted : {names : Names} (f : ForOfParts) (s : State) (left : Span) (collection : Place)
+    → KeepsNames names s (forof_righted f s left collection)
+names_forof_righted f s left collection =
+    let headed : State = forof_headed f s in
+    let opened : State = with_value headed (values.GetIterator collection) collection.span in
+    let tested : State = forof_tested f s collection in
+    names_then s headed _ (names_same s headed refl)
+    (names_then headed opened _ (names_value headed (values.GetIterator collection) collection.span)
+    (names_then opened tested _ (names_same opened tested refl)
+    (names_value tested (values.IteratorNext (forof_iterator f s collection) collection) (Some left))))
 
 mutual
   pub expression_names : {names : Names} {e : Syntax} {s t : State} {p : Place} → Lowered names e s t p → KeepsNames names s t
@@ -467,6 +505,23 @@ test_names {at} (lowered.NoTest s) =
     names_noted_value s (refusal row.F32 at) (values.Primitive (primitives.Boolean true)) (Some at)
 test_names (lowered.Tested e s t p l) = expression_names l
 
+-- The head of a loop over keys or values.
+pub head_names : {names : Names} {value : Place} {e : Syntax} {s t : State} {p : Place} → LoweredHead names value e s t p
+    → KeepsNames names s t
+head_names {names} (lowered.Declared at there bind kind name type symbol identifier s annotated is f) =
+    let again : State = found_again names s symbol identifier bind.span in
+    names_then s again _ (names_found_again s symbol bind.span identifier f) (names_value again _ (Some at.span))
+head_names (lowered.Reassigned at name symbol identifier s is mutable f) =
+    names_found_value s symbol at.span identifier _ (Some at.span) f
+head_names {names} (lowered.ReassignedConstant at name symbol identifier s is constant f) =
+    let first : State = found names s symbol at.span in
+    names_then s first _ (names_found s symbol at.span identifier f)
+    (names_recorded first (diagnostic_at row.F6 (names.name symbol.0) at.span))
+head_names {value} (lowered.StoredGlobal at name binding s is) = names_value s (values.StoreGlobal name value) (Some at.span)
+head_names {value} (lowered.StoredMember at w fields parts pieces object key s t is l) =
+    names_then s t _ (all_names l) (names_value t (store_of object key value) (Some at.span))
+head_names (lowered.Lost at w fields s is) = names_recorded s (refusal (row_of_head w) at.span)
+
 mutual
   pub statement_names : {names : Names} {e : Syntax} {s t : State} → LoweredStatement names e s t → KeepsNames names s t
   statement_names (lowered.Empty at s) = names_refl s
@@ -549,6 +604,29 @@ mutual
       (names_then opened s3 _ (statement_names third)
       (names_then s3 testing _ (names_same s3 testing refl)
       (names_then testing s4 _ (test_names second) (names_same s4 (for_ended (for_after g) s4 p) refl))))))
+  loop_names {own} (lowered.ForIn at head right body s s2 s3 s4 collection p first second third) =
+      let f : RoundsParts = forin_at s at.span in
+      let begun : State = forin_begun s own in
+      let behind : State = rounds_bodied f s2 (span_of body) in
+      let righted : State = forin_righted (rounds_shut f) s3 (span_of head) collection in
+      names_then s begun _ (names_same s begun refl)
+      (names_then begun s2 _ (statement_names first)
+      (names_then s2 behind _ (names_same s2 behind refl)
+      (names_then behind s3 _ (expression_names second)
+      (names_then s3 righted _ (names_forin_righted (rounds_shut f) s3 (span_of head) collection)
+      (names_then righted s4 _ (head_names third) (names_same s4 (rounds_ended (rounds_opened (rounds_shut f)) s4 p) refl))))))
+  loop_names {own} (lowered.ForOf at head right body s s2 s3 s4 collection p first second third) =
+      let f : ForOfParts = forof_at s at.span in
+      let begun : State = forof_begun s own in
+      let behind : State = forof_bodied f s2 (span_of body) in
+      let righted : State = forof_righted (forof_shut f) s3 (span_of head) collection in
+      names_then s begun _ (names_same s begun refl)
+      (names_then begun s2 _ (statement_names first)
+      (names_then s2 behind _ (names_same s2 behind refl)
+      (names_then behind s3 _ (expression_names second)
+      (names_then s3 righted _ (names_forof_righted (forof_shut f) s3 (span_of head) collection)
+      (names_then righted s4 _ (head_names third) (names_same s4 (forof_ended (forof_after (forof_shut f)) s4 p) refl))))))
+  loop_names (lowered.AwaitRefused at head right body s) = names_recorded s (refusal row.F33 at.span)
 
   pub init_names : {names : Names} {at : Span} {e : Syntax} {s t : State} → LoweredInit names at e s t → KeepsNames names s t
   init_names {at} (lowered.NoInit s) = names_value s (values.Primitive primitives.Undefined) (Some at)

@@ -24,6 +24,7 @@ use Rattle.rl_model.specs.Statements.{has_meaning}
 use Rattle.rl_names.specs.Names.{Names}
 use Rattle.rl_promises.specs.Live.{held_in, live_in_body}
 use Rattle.rl_promises.specs.Outs.{is_known_key}
+use Rattle.rl_promises.specs.Rebound.{span_behind_body}
 use Rattle.rl_promises.specs.Rows.{refusal, refusals_in, said_of_init, said_of_test}
 use Rattle.rl_syntax.specs.declared.numbered.At.{At}
 use Rattle.rl_syntax.specs.declared.word.Word.{Word}
@@ -36,7 +37,8 @@ is_operand (Node at word.Var parts) = false
 is_operand (Node at w parts) = true
 is_operand _ = false
 
--- The argument has one value, its own; the body returns it; a key in brackets may be computed; and it is no declaration.
+-- The argument has one value, its own; the body returns it; a key in brackets may be computed; it is no declaration, and no head of a
+-- loop stands in it.
 pub record IsPlain (e : Syntax) : Type 0 where
   pub shape : shape_of e ≡ codes "place" ∷ []
   pub value : (scene : Scene) (plain : Action Value) → values_of scene e plain ≡ one_value plain
@@ -45,55 +47,191 @@ pub record IsPlain (e : Syntax) : Type 0 where
   pub alone : held_in e ≡ live_in_body e
   pub ends : body_falls e ≡ false
   pub node : is_operand e ≡ true
+  pub spans : (names : Names) (symbol : ℕ) (before : Span) → span_behind_body names symbol e before ≡ before
 
 literal_plain : {w : Word} {fields : Pieces} {p : PrimitiveValue} → IsLiteral w fields p → (at : At) → IsPlain (Node at w fields)
 literal_plain forms.Null at =
-    record { shape = refl; value = λ scene plain. refl; last = λ scene. refl; key = refl; alone = refl; ends = refl; node = refl }
+    record {
+      shape = refl;
+      value = λ scene plain. refl;
+      last = λ scene. refl;
+      key = refl;
+      alone = refl;
+      ends = refl;
+      node = refl;
+      spans = λ names symbol before. refl;
+    }
 literal_plain _ at =
-    record { shape = refl; value = λ scene plain. refl; last = λ scene. refl; key = refl; alone = refl; ends = refl; node = refl }
+    record {
+      shape = refl;
+      value = λ scene plain. refl;
+      last = λ scene. refl;
+      key = refl;
+      alone = refl;
+      ends = refl;
+      node = refl;
+      spans = λ names symbol before. refl;
+    }
 
 refused_plain : {names : Names} {w : Word} {fields : Pieces} {r : Row} → IsRefused names w fields r → (at : At) → IsPlain (Node at w fields)
 refused_plain forms.Super at =
-    record { shape = refl; value = λ scene plain. refl; last = λ scene. refl; key = refl; alone = refl; ends = refl; node = refl }
+    record {
+      shape = refl;
+      value = λ scene plain. refl;
+      last = λ scene. refl;
+      key = refl;
+      alone = refl;
+      ends = refl;
+      node = refl;
+      spans = λ names symbol before. refl;
+    }
 refused_plain _ at =
-    record { shape = refl; value = λ scene plain. refl; last = λ scene. refl; key = refl; alone = refl; ends = refl; node = refl }
+    record {
+      shape = refl;
+      value = λ scene plain. refl;
+      last = λ scene. refl;
+      key = refl;
+      alone = refl;
+      ends = refl;
+      node = refl;
+      spans = λ names symbol before. refl;
+    }
 
 refusing_plain : {w : Word} {fields parts : Pieces} {r : Row} → IsRefusing w fields parts r → (at : At) → IsPlain (Node at w fields)
 refusing_plain forms.PrivateIn at =
-    record { shape = refl; value = λ scene plain. refl; last = λ scene. refl; key = refl; alone = refl; ends = refl; node = refl }
+    record {
+      shape = refl;
+      value = λ scene plain. refl;
+      last = λ scene. refl;
+      key = refl;
+      alone = refl;
+      ends = refl;
+      node = refl;
+      spans = λ names symbol before. refl;
+    }
 refusing_plain _ at =
-    record { shape = refl; value = λ scene plain. refl; last = λ scene. refl; key = refl; alone = refl; ends = refl; node = refl }
+    record {
+      shape = refl;
+      value = λ scene plain. refl;
+      last = λ scene. refl;
+      key = refl;
+      alone = refl;
+      ends = refl;
+      node = refl;
+      spans = λ names symbol before. refl;
+    }
 
 private_plain : {w : Word} {fields : Pieces} {e : Syntax} → IsPrivate w fields e → (at : At) → IsPlain (Node at w fields)
 private_plain forms.PrivateUpdate at =
-    record { shape = refl; value = λ scene plain. refl; last = λ scene. refl; key = refl; alone = refl; ends = refl; node = refl }
+    record {
+      shape = refl;
+      value = λ scene plain. refl;
+      last = λ scene. refl;
+      key = refl;
+      alone = refl;
+      ends = refl;
+      node = refl;
+      spans = λ names symbol before. refl;
+    }
 private_plain _ at =
-    record { shape = refl; value = λ scene plain. refl; last = λ scene. refl; key = refl; alone = refl; ends = refl; node = refl }
+    record {
+      shape = refl;
+      value = λ scene plain. refl;
+      last = λ scene. refl;
+      key = refl;
+      alone = refl;
+      ends = refl;
+      node = refl;
+      spans = λ names symbol before. refl;
+    }
 
 wrapper_plain : {w : Word} {fields : Pieces} {e : Syntax} → IsWrapper w fields e → (at : At) → IsPlain (Node at w fields)
 wrapper_plain forms.Parenthesized at =
-    record { shape = refl; value = λ scene plain. refl; last = λ scene. refl; key = refl; alone = refl; ends = refl; node = refl }
+    record {
+      shape = refl;
+      value = λ scene plain. refl;
+      last = λ scene. refl;
+      key = refl;
+      alone = refl;
+      ends = refl;
+      node = refl;
+      spans = λ names symbol before. refl;
+    }
 wrapper_plain _ at =
-    record { shape = refl; value = λ scene plain. refl; last = λ scene. refl; key = refl; alone = refl; ends = refl; node = refl }
+    record {
+      shape = refl;
+      value = λ scene plain. refl;
+      last = λ scene. refl;
+      key = refl;
+      alone = refl;
+      ends = refl;
+      node = refl;
+      spans = λ names symbol before. refl;
+    }
 
 cast_plain : {w : Word} {fields : Pieces} {e type : Syntax} → IsCast w fields e type → (at : At) → IsPlain (Node at w fields)
 cast_plain forms.As at =
-    record { shape = refl; value = λ scene plain. refl; last = λ scene. refl; key = refl; alone = refl; ends = refl; node = refl }
+    record {
+      shape = refl;
+      value = λ scene plain. refl;
+      last = λ scene. refl;
+      key = refl;
+      alone = refl;
+      ends = refl;
+      node = refl;
+      spans = λ names symbol before. refl;
+    }
 cast_plain _ at =
-    record { shape = refl; value = λ scene plain. refl; last = λ scene. refl; key = refl; alone = refl; ends = refl; node = refl }
+    record {
+      shape = refl;
+      value = λ scene plain. refl;
+      last = λ scene. refl;
+      key = refl;
+      alone = refl;
+      ends = refl;
+      node = refl;
+      spans = λ names symbol before. refl;
+    }
 
 member_plain : {w : Word} {fields parts : Pieces} {pieces : List Piece} {object : Place} {key : MemberKey}
     → IsMember w fields parts pieces object key → (at : At) → IsPlain (Node at w fields)
 member_plain forms.Static at =
-    record { shape = refl; value = λ scene plain. refl; last = λ scene. refl; key = refl; alone = refl; ends = refl; node = refl }
+    record {
+      shape = refl;
+      value = λ scene plain. refl;
+      last = λ scene. refl;
+      key = refl;
+      alone = refl;
+      ends = refl;
+      node = refl;
+      spans = λ names symbol before. refl;
+    }
 member_plain _ at =
-    record { shape = refl; value = λ scene plain. refl; last = λ scene. refl; key = refl; alone = refl; ends = refl; node = refl }
+    record {
+      shape = refl;
+      value = λ scene plain. refl;
+      last = λ scene. refl;
+      key = refl;
+      alone = refl;
+      ends = refl;
+      node = refl;
+      spans = λ names symbol before. refl;
+    }
 
 form_plain : {w : Word} {fields parts : Pieces} {pieces : List Piece} {v : InstructionValue} → IsForm w fields parts pieces v → (at : At)
     → IsPlain (Node at w fields)
 form_plain (forms.Load is) at = member_plain is at
 form_plain _ at =
-    record { shape = refl; value = λ scene plain. refl; last = λ scene. refl; key = refl; alone = refl; ends = refl; node = refl }
+    record {
+      shape = refl;
+      value = λ scene plain. refl;
+      last = λ scene. refl;
+      key = refl;
+      alone = refl;
+      ends = refl;
+      node = refl;
+      spans = λ names symbol before. refl;
+    }
 
 pub lowered_plain : {names : Names} {e : Syntax} {s t : State} {p : Place} → Lowered names e s t p → IsPlain e
 lowered_plain (lowered.Literal at w fields p s is) = literal_plain is at
@@ -104,7 +242,16 @@ lowered_plain (lowered.Same at w fields e s t p is by) = wrapper_plain is at
 lowered_plain (lowered.Cast at there w fields e type k s t p is annotated by) = cast_plain is at
 lowered_plain (lowered.Asked at w fields parts pieces v s t form all) = form_plain form at
 lowered_plain _ =
-    record { shape = refl; value = λ scene plain. refl; last = λ scene. refl; key = refl; alone = refl; ends = refl; node = refl }
+    record {
+      shape = refl;
+      value = λ scene plain. refl;
+      last = λ scene. refl;
+      key = refl;
+      alone = refl;
+      ends = refl;
+      node = refl;
+      spans = λ names symbol before. refl;
+    }
 
 -- As a part of the head of a `for` loop: in front it is refused, and as a test it is not.
 

@@ -29,10 +29,11 @@ use Rattle.rl_names.specs.Names.{Names}
 use Rattle.rl_names.specs.declared.names.Meaning.{Meaning}
 use Rattle.rl_names.specs.declared.names.Meaning.TheVariants.{Local, Outer}
 use Rattle.rl_promises.proofs.CoveredForms.{none_fits}
-use Rattle.rl_promises.specs.Outs.{is_known_key, is_wrapped}
-use Rattle.rl_promises.specs.Rows.{is_eval, label_of, refusal, refusals, refusals_in, said_of_local, said_of_name, said_of_target, said_of_update}
+use Rattle.rl_promises.specs.Outs.{is_known_key, is_lost_head, is_wrapped}
+use Rattle.rl_promises.specs.Rows.{is_eval, label_of, refusal, refusals, refusals_at_head, refusals_in, row_of_head, said_of_local}
+use Rattle.rl_promises.specs.Rows.{said_of_name, said_of_stored, said_of_target, said_of_update}
 use Rattle.rl_semantic.specs.Items.{of_item}
-use Rattle.rl_syntax.specs.Syntax.{Syntax, Node, Listed, Said, Flag, Pieces, End, Then, span_of}
+use Rattle.rl_syntax.specs.Syntax.{Syntax, Node, Listed, Said, Flag, Absent, Pieces, End, Then, span_of}
 use Rattle.rl_syntax.specs.declared.numbered.At.{At}
 use Rattle.rl_syntax.specs.declared.word.Word.{Word as NodeWord}
 use Rattle.rl_syntax.specs.declared.word.Word.TheVariants as word
@@ -255,3 +256,47 @@ pub unknown_refuses : (names : Names) (at : At) (computed : Bool) (key e : Synta
     → refusals names (Node at word.Prop (Then (Flag computed) (Then key (Then e End)))) ≡ refusal row.F9 (span_of key) ∷ []
 unknown_refuses names at computed key e is =
     ap (λ (b : Bool). if b then refusals names key ++ refusals names e else refusal row.F9 (span_of key) ∷ []) is
+
+-- Heads of loops over keys or values.
+
+pub declared_head_refuses : (names : Names) (at there bind : At) (kind name : List ℕ) (type : Syntax) (symbol : SymbolId)
+    → IsAnnotation type → names.declared bind.id.0 ≡ Some symbol
+    → refusals_at_head names
+    (Node at word.Var
+    (Then (Said kind)
+    (Then (Listed (Then (Node there word.Declarator (Then (Node bind word.Bind (Then (Said name) (Then type End))) (Then Absent End))) End))
+    End)))
+    ≡ said_of_local (names.name symbol.0) (label_of names symbol bind.span)
+declared_head_refuses names at there bind kind name type symbol annotated is =
+    let pattern : Syntax = Node bind word.Bind (Then (Said name) (Then type End)) in
+    append-nil (refusals names pattern ++ []) ∙ append-nil (refusals names pattern) ∙ bind_refuses names bind name type symbol annotated is
+
+pub stored_head_refuses : (names : Names) (at : At) (name : List ℕ) (symbol : SymbolId) (constant : Bool)
+    → names.meaning at.reference.0 name ≡ Local symbol → names.is_const symbol.0 ≡ constant
+    → refusals_at_head names (Node at word.Id (Then (Said name) End))
+    ≡ said_of_local (names.name symbol.0) (label_of names symbol at.span)
+    ++ (if constant then diagnostic_at row.F6 (names.name symbol.0) at.span ∷ [] else [])
+stored_head_refuses names at name symbol constant is const =
+    ap (λ (m : Meaning). said_of_stored names at.span m) is
+    ∙ ap (λ (b : Bool). said_of_local (names.name symbol.0) (label_of names symbol at.span)
+    ++ (if b then diagnostic_at row.F6 (names.name symbol.0) at.span ∷ [] else [])) const
+
+pub outer_head_refuses : (names : Names) (at : At) (name : List ℕ) (binding : NonLocalBinding)
+    → names.meaning at.reference.0 name ≡ Outer binding → refusals_at_head names (Node at word.Id (Then (Said name) End)) ≡ []
+outer_head_refuses names at name binding is = ap (λ (m : Meaning). said_of_stored names at.span m) is
+
+pub member_head_refuses : (names : Names) (at : At) {w : NodeWord} {fields parts : Pieces} {pieces : List Piece} {object : Place}
+    {key : MemberKey} → IsMember w fields parts pieces object key → refusals_at_head names (Node at w fields) ≡ refusals_in names parts
+member_head_refuses names at forms.Static = refl
+member_head_refuses names at (forms.Indexed other) = refl
+member_head_refuses names at (forms.Numbered {object} {there} {text} is) =
+    ap (λ (b : Bool). refusals names object ++ (((if b then [] else refusal row.F43 there.span ∷ []) ++ []) ++ [])) is
+
+pub lost_head_refuses : (names : Names) (at : At) (w : NodeWord) (fields : Pieces) → is_lost_head (Node at w fields) ≡ true
+    → refusals_at_head names (Node at w fields) ≡ refusal (row_of_head w) at.span ∷ []
+lost_head_refuses names at word.Privatemember fields is = refl
+lost_head_refuses names at word.As fields is = refl
+lost_head_refuses names at word.Satisfies fields is = refl
+lost_head_refuses names at word.Assert fields is = refl
+lost_head_refuses names at word.Nonnull fields is = refl
+lost_head_refuses names at _ fields is = let never : false ≡ true = is in absurd (cc)

@@ -24,6 +24,8 @@ use Rattle.rl_frames.specs.Frames.{LogicalParts, logical_at}
 use Rattle.rl_frames.specs.Frames.{sequence_at}
 use Rattle.rl_frames.specs.Frames.{TernaryParts, ternary_at}
 use Rattle.rl_frames.specs.Parts.{loads, logical_begun, logical_entered, logical_left, logical_place}
+use Rattle.rl_frames.specs.Rounds.{ForOfParts, RoundsParts, forin_at, forin_headed, forof_at, forof_headed, forof_iterator, forof_shut}
+use Rattle.rl_frames.specs.Rounds.{forof_tested, rounds_shut}
 use Rattle.rl_hir.specs.Pairs.{identifier_of}
 use Rattle.rl_hir.specs.Pieces.{Piece}
 use Rattle.rl_hir.specs.declared.instruction.Instruction.{Instruction}
@@ -34,21 +36,23 @@ use Rattle.rl_hir.specs.declared.instruction.InstructionValue.TheVariants as val
 use Rattle.rl_hir.specs.declared.instruction.Place.{Place}
 use Rattle.rl_hir.specs.declared.instruction.PrimitiveValue.TheVariants as primitives
 use Rattle.rl_lowered.proofs.Plain.{init_said, lowered_plain, test_unsaid}
-use Rattle.rl_lowered.proofs.Refusals.{bind_refuses, cast_refuses, computed_refuses, constant_refuses, form_refuses, fraction_refuses, literal_refuses}
-use Rattle.rl_lowered.proofs.Refusals.{method_refuses, name_refuses, outer_refuses, private_refuses, property_refuses, refused_refuses}
-use Rattle.rl_lowered.proofs.Refusals.{refusing_refuses, texts_refuse, unknown_refuses, update_refuses, updated_member_refuses, wrapper_refuses}
+use Rattle.rl_lowered.proofs.Refusals.{bind_refuses, cast_refuses, computed_refuses, constant_refuses, declared_head_refuses}
+use Rattle.rl_lowered.proofs.Refusals.{form_refuses, fraction_refuses, literal_refuses, lost_head_refuses, member_head_refuses}
+use Rattle.rl_lowered.proofs.Refusals.{method_refuses, name_refuses, outer_head_refuses, outer_refuses, private_refuses, property_refuses}
+use Rattle.rl_lowered.proofs.Refusals.{refused_refuses, refusing_refuses, stored_head_refuses, texts_refuse, unknown_refuses}
+use Rattle.rl_lowered.proofs.Refusals.{update_refuses, updated_member_refuses, wrapper_refuses}
 use Rattle.rl_lowered.specs.Forms.{MemberKey, load_of, store_of, typed}
-use Rattle.rl_lowered.specs.Lowered.{Lowered, LoweredBody, LoweredDeclarators, LoweredInit, LoweredLast, LoweredLoop, LoweredParts}
-use Rattle.rl_lowered.specs.Lowered.{LoweredStatement, LoweredStatements, LoweredTest, declaring, label_part, member_loaded, member_one}
-use Rattle.rl_lowered.specs.Lowered.{member_stored, member_updated, value_span}
+use Rattle.rl_lowered.specs.Lowered.{Lowered, LoweredBody, LoweredDeclarators, LoweredHead, LoweredInit, LoweredLast, LoweredLoop}
+use Rattle.rl_lowered.specs.Lowered.{LoweredParts, LoweredStatement, LoweredStatements, LoweredTest, declaring, found_again, label_part}
+use Rattle.rl_lowered.specs.Lowered.{member_loaded, member_one, member_stored, member_updated, value_span}
 use Rattle.rl_lowered.specs.Lowered as lowered
 use Rattle.rl_lowered.specs.Named.{IsFound, TellDeclarations, found}
 use Rattle.rl_model.specs.Actions.{Label}
 use Rattle.rl_names.specs.Names.{Names}
 use Rattle.rl_names.specs.declared.names.Meaning.TheVariants.{Local}
 use Rattle.rl_promises.proofs.Covering.{none_in}
-use Rattle.rl_promises.specs.Rows.{IsTold, Nothing, Records, Renamed, Told, label_of, refusal, refusals, refusals_in, said_of_init}
-use Rattle.rl_promises.specs.Rows.{said_of_local, said_of_test}
+use Rattle.rl_promises.specs.Rows.{IsTold, Nothing, Records, Renamed, Told, label_of, refusal, refusals, refusals_at_head, refusals_in}
+use Rattle.rl_promises.specs.Rows.{row_of_head, said_of_init, said_of_local, said_of_test}
 use Rattle.rl_resolver.specs.Lookups.{declaration_ident}
 use Rattle.rl_runs.specs.Moves.{stored_in}
 use Rattle.rl_bindings.specs.declared.event.Bound.{Bound}
@@ -333,6 +337,34 @@ test_refused {names} {at} (lowered.Tested e s t p l) =
     records_same _ _ (said s) (said t)
     (ap (λ (ds : List Diagnostic). ds ++ refusals names e) (test_unsaid e (lowered_plain l).node at)) (expression_refused l)
 
+-- The head of a loop over keys or values.
+head_refused : {names : Names} {value : Place} {e : Syntax} {s t : State} {p : Place} → LoweredHead names value e s t p
+    → Records (refusals_at_head names e) (said s) (said t)
+head_refused {names} (lowered.Declared at there bind kind name type symbol identifier s annotated is f) =
+    let again : State = found_again names s symbol identifier bind.span in
+    records_same _ _ (said s) _ (declared_head_refuses names at there bind kind name type symbol annotated is)
+    (records_behind _ (said s) (said (found names s symbol bind.span)) _ (value_said again _ (Some at.span))
+    (found_said names s symbol bind.span identifier f))
+head_refused {names} (lowered.Reassigned at name symbol identifier s is mutable f) =
+    records_same _ _ (said s) _
+    (stored_head_refuses names at name symbol false is mutable
+    ∙ append-nil (said_of_local (names.name symbol.0) (label_of names symbol at.span)))
+    (found_value_said names s symbol at.span identifier _ (Some at.span) f)
+head_refused {names} (lowered.ReassignedConstant at name symbol identifier s is constant f) =
+    let first : State = found names s symbol at.span in
+    let d : Diagnostic = diagnostic_at row.F6 (names.name symbol.0) at.span in
+    records_same _ _ (said s) _ (stored_head_refuses names at name symbol true is constant)
+    (records_then _ (d ∷ []) (said s) (said first) _ (found_said names s symbol at.span identifier f)
+    (records_all (d ∷ []) (said first) _ refl))
+head_refused {names} {value} (lowered.StoredGlobal at name binding s is) =
+    records_none _ (said s) _ (outer_head_refuses names at name binding is) (value_said s (values.StoreGlobal name value) (Some at.span))
+head_refused {names} {value} (lowered.StoredMember at w fields parts pieces object key s t is l) =
+    records_same _ _ (said s) _ (member_head_refuses names at is)
+    (records_behind _ (said s) (said t) _ (value_said t (store_of object key value) (Some at.span)) (all_refused l))
+head_refused {names} (lowered.Lost at w fields s is) =
+    records_same _ _ (said s) _ (lost_head_refuses names at w fields is)
+    (records_all (refusal (row_of_head w) at.span ∷ []) (said s) _ refl)
+
 -- A jump has no refusals.
 jump_refuses : (names : Names) (label : Label) → refusals names (label_part label) ++ [] ≡ []
 jump_refuses names None = refl
@@ -392,6 +424,22 @@ mutual
       (records_then (front ++ [] ++ refusals names body) _ (said s) (said s3) (said s4)
       (records_then (front ++ []) (refusals names body) (said s) (said s2) (said s3)
       (records_unit front (said s) (said s2) (init_refused first)) (statement_refused third)) (test_refused second))
+  loop_refused {names} (lowered.ForIn at head right body s s2 s3 s4 collection p first second third) =
+      let f : RoundsParts = rounds_shut (forin_at s at.span) in
+      records_then (refusals names body ++ refusals names right) (refusals_at_head names head) (said s) (said s3) (said s4)
+      (records_then (refusals names body) (refusals names right) (said s) (said s2) (said s3) (statement_refused first)
+      (expression_refused second))
+      (records_before _ (said s3) _ (said s4) (value_said (forin_headed f s3) (values.NextPropertyOf collection) (Some (span_of head)))
+      (head_refused third))
+  loop_refused {names} (lowered.ForOf at head right body s s2 s3 s4 collection p first second third) =
+      let f : ForOfParts = forof_shut (forof_at s at.span) in
+      records_then (refusals names body ++ refusals names right) (refusals_at_head names head) (said s) (said s3) (said s4)
+      (records_then (refusals names body) (refusals names right) (said s) (said s2) (said s3) (statement_refused first)
+      (expression_refused second))
+      (records_before _ (said s3) _ (said s4)
+      (value_said (forof_tested f s3 collection) (values.IteratorNext (forof_iterator f s3 collection) collection) (Some (span_of head))
+      ∙ value_said (forof_headed f s3) (values.GetIterator collection) collection.span) (head_refused third))
+  loop_refused (lowered.AwaitRefused at head right body s) = records_all (refusal row.F33 at.span ∷ []) (said s) _ refl
 
   init_refused : {names : Names} {at : Span} {e : Syntax} {s t : State} → LoweredInit names at e s t
       → Records (said_of_init at e ++ refusals names e) (said s) (said t)

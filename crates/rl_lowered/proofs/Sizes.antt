@@ -16,20 +16,24 @@ use Rattle.rl_builder.specs.Names.{fresh_identifier, new_span, resolved_by}
 use Rattle.rl_frames.proofs.FrameSizes.{if_alternate_size, if_begun_size, if_consequent_size, logical_begun_size, logical_ended_size}
 use Rattle.rl_frames.proofs.FrameSizes.{logical_righted_size, sequence_begun_size, sequence_ended_size, ternary_alternated_size}
 use Rattle.rl_frames.proofs.FrameSizes.{ternary_begun_size, ternary_consequent_size}
+use Rattle.rl_frames.proofs.RoundSizes.{forin_size, forof_size}
 use Rattle.rl_frames.specs.Frames.{IfParts, LogicalParts, TernaryParts, if_after_consequent, if_at, logical_after, logical_at, sequence_at}
 use Rattle.rl_frames.specs.Frames.{ternary_at, ternary_parted}
 use Rattle.rl_hir.specs.Pairs.{identifier_of}
 use Rattle.rl_hir.specs.Pieces.{Piece}
 use Rattle.rl_hir.specs.declared.instruction.InstructionKind.{InstructionKind}
+use Rattle.rl_hir.specs.declared.instruction.InstructionKind.TheVariants as variables
 use Rattle.rl_hir.specs.declared.instruction.InstructionValue.{InstructionValue}
 use Rattle.rl_hir.specs.declared.instruction.InstructionValue.TheVariants as values
 use Rattle.rl_hir.specs.declared.instruction.Place.{Place}
 use Rattle.rl_hir.specs.declared.instruction.PrimitiveValue.TheVariants as primitives
+use Rattle.rl_lowered.proofs.Redeclared.{size_redeclared}
 use Rattle.rl_lowered.specs.Forms.{IsCast, IsForm, IsInside, IsMember, IsPrivate, IsRefusing, IsWrapper, MemberKey, load_of, store_of, type_of, typed}
 use Rattle.rl_lowered.specs.Forms as forms
-use Rattle.rl_lowered.specs.Lowered.{Lowered, LoweredBody, LoweredDeclarators, LoweredInit, LoweredLast, LoweredLoop, LoweredParts}
-use Rattle.rl_lowered.specs.Lowered.{LoweredStatement, LoweredStatements, LoweredTest}
-use Rattle.rl_lowered.specs.Lowered.{binary_of, declaring, member_loaded, member_one, member_stored, member_updated, update_of, value_span}
+use Rattle.rl_lowered.specs.Lowered.{Lowered, LoweredBody, LoweredDeclarators, LoweredHead, LoweredInit, LoweredLast, LoweredLoop}
+use Rattle.rl_lowered.specs.Lowered.{LoweredParts, LoweredStatement, LoweredStatements, LoweredTest}
+use Rattle.rl_lowered.specs.Lowered.{binary_of, declaring, found_again, member_loaded, member_one, member_stored, member_updated}
+use Rattle.rl_lowered.specs.Lowered.{update_of, value_span}
 use Rattle.rl_lowered.specs.Lowered as lowered
 use Rattle.rl_lowered.specs.Named.{found}
 use Rattle.rl_lowered.specs.Promised.{share}
@@ -237,6 +241,32 @@ test_size {at} (lowered.NoTest s) =
     omega (arith, size_value (recorded s (refusal row.F32 at)) (values.Primitive (primitives.Boolean true)) (Some at))
 test_size (lowered.Tested e s t p l) = omega (arith, expression_size l)
 
+-- The head of a loop over keys or values.
+pub head_size : {names : Names} {value : Place} {e : Syntax} {s t : State} {p : Place} → LoweredHead names value e s t p
+    → size_of t ≤ size_of s + share (nodes e)
+head_size {names} {value} (lowered.Declared at there bind kind name type symbol identifier s annotated is f) =
+    let place : Place = record { identifier = record { 0 = identifier }; span = Some at.span } in
+    omega (
+      arith,
+      found_size names s symbol bind.span,
+      size_redeclared (found names s symbol bind.span) identifier bind.span,
+      size_value (found_again names s symbol identifier bind.span) (values.StoreLocal variables.Let place value) (Some at.span),
+    )
+head_size {names} {value} (lowered.Reassigned at name symbol identifier s is mutable f) =
+    let place : Place = record { identifier = record { 0 = identifier }; span = Some at.span } in
+    omega (
+      arith,
+      found_size names s symbol at.span,
+      size_value (found names s symbol at.span) (values.StoreLocal variables.Reassign place value) (Some at.span),
+    )
+head_size {names} (lowered.ReassignedConstant at name symbol identifier s is constant f) =
+    omega (arith, found_size names s symbol at.span)
+head_size {value} (lowered.StoredGlobal at name binding s is) =
+    omega (arith, size_value s (values.StoreGlobal name value) (Some at.span))
+head_size {value} (lowered.StoredMember at w fields parts pieces object key s t is l) =
+    omega (arith, member_nodes is, all_size l, size_value t (store_of object key value) (Some at.span))
+head_size (lowered.Lost at w fields s is) = omega arith
+
 mutual
   pub statement_size : {names : Names} {e : Syntax} {s t : State} → LoweredStatement names e s t
       → size_of t ≤ size_of s + share (nodes e)
@@ -269,6 +299,15 @@ mutual
       omega (arith, init_size first, expression_size third, statement_size fourth, test_size second)
   loop_size (lowered.ForPlain at init test body s s2 s3 s4 p first third second) =
       omega (arith, init_size first, statement_size third, test_size second)
+  loop_size {own} (lowered.ForIn at head right body s s2 s3 s4 collection p first second third) =
+      let whole = forin_size s s2 s3 s4 own collection p at.span (span_of head) (span_of body) (share (nodes body)) (share (nodes right))
+      (share (nodes head)) (statement_size first) (expression_size second) (head_size third) in
+      omega (arith, whole)
+  loop_size {own} (lowered.ForOf at head right body s s2 s3 s4 collection p first second third) =
+      let whole = forof_size s s2 s3 s4 own collection p at.span (span_of head) (span_of body) (share (nodes body)) (share (nodes right))
+      (share (nodes head)) (statement_size first) (expression_size second) (head_size third) in
+      omega (arith, whole)
+  loop_size (lowered.AwaitRefused at head right body s) = omega arith
 
   pub init_size : {names : Names} {at : Span} {e : Syntax} {s t : State} → LoweredInit names at e s t
       → size_of t ≤ size_of s + share (nodes e) + 4

@@ -63,7 +63,7 @@ use Rattle.rl_lowered.proofs.Spanned.{value_spanned}
 
 -- A value behind what came before
 
-value_sound : (small : Type 0) (s t : State) (v : InstructionValue) (span : Span) → StaysSound small s t
+pub value_sound : (small : Type 0) (s t : State) (v : InstructionValue) (span : Span) → StaysSound small s t
     → AreKnown (length t.env.identifiers) (value_places v) → (small → HasSmallCounters t → IsWritable (listing.value v))
     → (small → IsSmallSpan span)
     → StaysSound small s (with_value t v (Some span)) × IsSoundPlace small (with_value t v (Some span)) (temporary t (Some span))
@@ -88,7 +88,7 @@ places_next : (small : Type 0) (mid new : State) (ps : List Place) → StaysSoun
 places_next small mid new ps j all =
     All-weaker (IsSoundPlace small mid) (IsSoundPlace small new) (λ q known. place_next small mid new q j known) ps all
 
-places_weaker : (P R : Type 0) (t : State) (ps : List Place) → (R → P) → All (IsSoundPlace P t) ps → All (IsSoundPlace R t) ps
+pub places_weaker : (P R : Type 0) (t : State) (ps : List Place) → (R → P) → All (IsSoundPlace P t) ps → All (IsSoundPlace R t) ps
 places_weaker P R t ps first all =
     All-weaker (IsSoundPlace P t) (IsSoundPlace R t) (λ q known. place_weaker P R t q first known) ps all
 

@@ -2,7 +2,7 @@
 use Rattle.std.proofs.Common.{◌≡◌, ℕ, ◌++◌, Bool, true, List, [], ◌∷◌, All, codes, lit<, refl, sym, ap}
 use Rattle.std.proofs.Common.{◌∙◌, subst}
 use Rattle.std.specs.Str.{IsUtf8}
-use Rattle.std.proofs.lemmas.List.Elements.{All-head, All-tail}
+use Rattle.std.proofs.lemmas.List.Elements.{All-cons, All-head, All-nil, All-tail}
 use Rattle.std.proofs.lemmas.Str.{IsUtf8-append, IsUtf8-nil}
 use Rattle.rl_base.specs.Operators.{operator_text, unary_text}
 use Rattle.rl_base.specs.declared.row.Row.{Row}
@@ -273,6 +273,28 @@ store_writable (Indexed {p} {q} other) at v small all =
 store_writable (Numbered {text} {p} numeral) at v small all =
     asks_writable (codes "propertystore") (used p ∷ Takes (Key (keys.Number (number_of text))) ∷ used v ∷ []) (lit< tt, refl)
     (number_key text numeral, tt) all
+
+-- A global that takes a value, and the steps of loops over keys and values
+
+pub global_store_writable : (name : List ℕ) (v : Place) → IsUtf8 name → IsWritable (listing.place v)
+    → IsWritable (listing.value (values.StoreGlobal name v))
+global_store_writable name v utf8 w =
+    asks_writable (codes "storeglobal") (Says name ∷ used v ∷ []) (lit< tt, refl) (utf8, tt)
+    (All-cons WritesPlace v [] w (All-nil WritesPlace))
+
+pub key_step_writable : (v : Place) → IsWritable (listing.place v) → IsWritable (listing.value (values.NextPropertyOf v))
+key_step_writable v w =
+    asks_writable (codes "nextpropertyof") (used v ∷ []) (lit< tt, refl) tt (All-cons WritesPlace v [] w (All-nil WritesPlace))
+
+pub iterator_writable : (v : Place) → IsWritable (listing.place v) → IsWritable (listing.value (values.GetIterator v))
+iterator_writable v w =
+    asks_writable (codes "getiterator") (used v ∷ []) (lit< tt, refl) tt (All-cons WritesPlace v [] w (All-nil WritesPlace))
+
+pub item_step_writable : (iterator v : Place) → IsWritable (listing.place iterator) → IsWritable (listing.place v)
+    → IsWritable (listing.value (values.IteratorNext iterator v))
+item_step_writable iterator v first second =
+    asks_writable (codes "iteratornext") (used iterator ∷ used v ∷ []) (lit< tt, refl) tt
+    (All-cons WritesPlace iterator (v ∷ []) first (All-cons WritesPlace v [] second (All-nil WritesPlace)))
 
 -- The call of a method, a debugger statement, and an object literal
 

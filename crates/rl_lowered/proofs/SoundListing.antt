@@ -1,5 +1,6 @@
 -- Listings that the notation has, from those of their parts.
 use Rattle.std.proofs.Common.{◌≡◌, Some, ℕ, ◌<◌, ◌≤◌, ◌^◌, Bool, true, false, List, [], ◌∷◌, map, All, Option, None, codes, lit<, refl, subst, arith}
+use Rattle.std.specs.Prelude.{IfSome}
 use Rattle.std.specs.Str.{IsUtf8}
 use Rattle.std.proofs.lemmas.List.Elements.{All-append, All-cons, All-head, All-nil, All-tail}
 use Rattle.rl_base.specs.declared.span.Span.{Span}
@@ -96,6 +97,10 @@ type_utf8 types.Other = (codes "other", (refl, refl))
 
 pub span_writable : (s : Span) → IsSmallSpan s → IsWritable (listing.span s)
 span_writable s small = ((lit< tt, refl), (small_fits s.start small.0, (small_fits s.end small.1, tt)))
+
+pub span_optional : (o : Option Span) → IfSome o IsSmallSpan → IsWritable (listing.optional listing.span o)
+span_optional None small = tt
+span_optional (Some at) small = span_writable at small
 
 pub place_writable : (p : Place) → p.identifier.0 ≤ largest → IsWritable (listing.optional listing.span p.span)
     → IsWritable (listing.place p)
@@ -283,6 +288,17 @@ pub for_writable : (init test : ℕ) (update : Option BlockId) (body behind : �
     → IsWritable (listing.terminal (ends_by (ends.For (block_id init) (block_id test) update (block_id body) (block_id behind)) (Some at)))
 for_writable init test update body behind at first second third fourth fifth span =
     ((lit< tt, refl), (omega arith, (span_writable at span, (first, (second, (third, (fourth, (fifth, tt))))))))
+
+pub forin_writable : (init body behind : ℕ) (at : Span) → init ≤ largest → body ≤ largest → behind ≤ largest → IsSmallSpan at
+    → IsWritable (listing.terminal (ends_by (ends.ForIn (block_id init) (block_id body) (block_id behind)) (Some at)))
+forin_writable init body behind at first second third span =
+    ((lit< tt, refl), (omega arith, (span_writable at span, (first, (second, (third, tt))))))
+
+pub forof_writable : (init test body behind : ℕ) (at : Span) → init ≤ largest → test ≤ largest → body ≤ largest → behind ≤ largest
+    → IsSmallSpan at
+    → IsWritable (listing.terminal (ends_by (ends.ForOf (block_id init) (block_id test) (block_id body) (block_id behind)) (Some at)))
+forof_writable init test body behind at first second third fourth span =
+    ((lit< tt, refl), (omega arith, (span_writable at span, (first, (second, (third, (fourth, tt)))))))
 
 pub label_writable : (block behind : ℕ) (at : Span) → block ≤ largest → behind ≤ largest → IsSmallSpan at
     → IsWritable (listing.terminal (ends_by (ends.Label (block_id block) (block_id behind)) (Some at)))

@@ -44,7 +44,7 @@ sound_two_opened small s =
     (sound_entered small (reserved (reserved s)) (new_block (s.env.next_block + 1) block.Block)
     (λ fits. empty_writable (s.env.next_block + 1) block.Block (omega (arith, fits.blocks)))))
 
-sound_three : (small : Type 0) (s : State) → StaysSound small s (reserved (reserved (reserved s)))
+pub sound_three : (small : Type 0) (s : State) → StaysSound small s (reserved (reserved (reserved s)))
 sound_three small s =
     sound_next small s (reserved s) _ (sound_reserved small s)
     (sound_next small (reserved s) (reserved (reserved s)) _ (sound_reserved small (reserved s))
@@ -100,7 +100,7 @@ sound_scope_ended small s s2 again variant part end next before first second par
         (λ fits w. empty_writable next kind (omega (arith, second, fits.blocks)))
 
 -- The hole of a test ends, and the block behind the loop goes on.
-sound_tested : (small : Type 0) (old s : State) (test : Place) (body behind note : ℕ) (span : Span) → StaysSound small old s
+pub sound_tested : (small : Type 0) (old s : State) (test : Place) (body behind note : ℕ) (span : Span) → StaysSound small old s
     → IsSoundPlace small s test → body < s.env.next_block → behind < s.env.next_block → note < s.env.next_block → (small → IsSmallSpan span)
     → StaysSound small old (completed_by s (branch test body behind note span) (new_block behind block.Block))
 sound_tested small old s test body behind note span before place first second third at =

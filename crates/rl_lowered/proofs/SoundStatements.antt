@@ -11,7 +11,10 @@ use Rattle.rl_builder.specs.Temporaries.{temporary, with_value}
 use Rattle.rl_frames.specs.Frames.{do_while_bodied, label_at, label_ended, while_after, while_at, while_bodied, while_ended}
 use Rattle.rl_frames.specs.Frames.{for_after, for_after_init, for_after_update, for_at, for_bodied, for_ended, for_inited, for_updated}
 use Rattle.rl_frames.specs.Frames.{if_alternate, if_after_consequent, if_at, if_consequent, if_ended, if_shut}
-use Rattle.rl_frames.specs.Parts.{for_begun, if_begun, label_begun, while_begun}
+use Rattle.rl_frames.specs.Parts.{for_begun, forin_begun, forof_begun, if_begun, label_begun, while_begun}
+use Rattle.rl_frames.specs.Rounds.{forin_at, forin_headed, forin_key, forin_righted, forof_after, forof_at, forof_bodied, forof_ended}
+use Rattle.rl_frames.specs.Rounds.{forof_item, forof_iterator, forof_righted, forof_shut, forof_tested, rounds_bodied, rounds_ended}
+use Rattle.rl_frames.specs.Rounds.{rounds_opened, rounds_shut}
 use Rattle.rl_hir.specs.Listing as listing
 use Rattle.rl_hir.specs.declared.function.BlockKind.TheVariants as blocks
 use Rattle.rl_hir.specs.declared.instruction.InstructionKind.{InstructionKind}
@@ -22,13 +25,19 @@ use Rattle.rl_hir.specs.declared.terminal.ReturnVariant.TheVariants as returns
 use Rattle.rl_lowered.proofs.Sound.{IsSound, expression_sound, one_place, over_sound, variable_place}
 use Rattle.rl_lowered.proofs.SoundForms.{debugger_writable}
 use Rattle.rl_lowered.proofs.SoundFrames.{if_else_sound, if_then_sound}
-use Rattle.rl_lowered.proofs.SoundListing.{boolean_writable, declared_writable, initialized_writable, span_writable, undefined_writable}
+use Rattle.rl_lowered.proofs.SoundHeads.{head_sound}
+use Rattle.rl_lowered.proofs.SoundListing.{boolean_writable, declared_writable, initialized_writable, span_optional, span_writable}
+use Rattle.rl_lowered.proofs.SoundListing.{undefined_writable}
 use Rattle.rl_lowered.proofs.SoundLoops.{break_sound, continue_sound, do_while_sound, for_plain_sound, for_sound, label_sound, while_sound}
-use Rattle.rl_lowered.proofs.SoundMoves.{empty_writable, none_known, place_next, place_weaker, sound_next, sound_recorded, sound_refl}
+use Rattle.rl_lowered.proofs.SoundMoves.{empty_writable, none_known, place_made, place_next, place_weaker, sound_next, sound_recorded}
+use Rattle.rl_lowered.proofs.SoundMoves.{sound_refl}
 use Rattle.rl_lowered.proofs.SoundMoves.{sound_reserved, sound_return, sound_returned, sound_then, sound_value, sound_weaker, value_place}
 use Rattle.rl_lowered.proofs.SoundNames.{sound_found}
-use Rattle.rl_lowered.proofs.SoundTrees.{span_small}
-use Rattle.rl_lowered.specs.Lowered.{Block, Break, Continue, Debugger, DeclaredInit, DoWhile, Empty, Expression, ForPlain, ForUpdated}
+use Rattle.rl_lowered.proofs.SoundRounds.{forin_sound, forof_sound}
+use Rattle.rl_lowered.proofs.SoundTrees.{each_small, span_small}
+use Rattle.rl_lowered.proofs.Spanned.{place_spanned}
+use Rattle.rl_lowered.specs.Lowered.{AwaitRefused, Block, Break, Continue, Debugger, DeclaredInit, DoWhile, Empty, Expression, ForIn}
+use Rattle.rl_lowered.specs.Lowered.{ForOf, ForPlain, ForUpdated}
 use Rattle.rl_lowered.specs.Lowered.{IfElse}
 use Rattle.rl_lowered.specs.Lowered.{IfThen, Labeled, LabeledLoop, LoweredBody, LoweredDeclarators, LoweredInit, LoweredLoop}
 use Rattle.rl_lowered.specs.Lowered.{LoweredStatement, LoweredStatements, LoweredTest, NextDeclared, NextInitialized, NextStatement}
@@ -40,10 +49,11 @@ use Rattle.rl_model.specs.Actions.{Label}
 use Rattle.rl_names.specs.Names.{Names}
 use Rattle.rl_promises.specs.Locals.{IsSmallSpan, KnowsNames}
 use Rattle.rl_promises.specs.Rows.{refusal}
+use Rattle.rl_runs.proofs.Moves.{value_made}
 use Rattle.rl_runs.specs.Moves.{return_of, returned_from}
 use Rattle.rl_syntax.specs.declared.numbered.At.{At}
 use Rattle.rl_syntax.specs.declared.word.Word.TheVariants as word
-use Rattle.rl_syntax.specs.Syntax.{Syntax, Node, Listed, Said, Absent, Pieces, End, Then, span_of}
+use Rattle.rl_syntax.specs.Syntax.{Syntax, Node, Listed, Said, Flag, Absent, Pieces, End, Then, span_of}
 use Rattle.rl_text.specs.Notation.{IsWritable}
 
 return_sound : (at : At) (e : Syntax) (s t : State) (p : Place) → IsSound (IsSmallTree e) s t p
@@ -260,6 +270,80 @@ for_plain_tree_sound at init test body own s s2 s3 s4 p first third second =
     body_small : small → IsSmallTree body
     body_small holds = (holds.0.1.1.1.1.0, holds.1.1.1.1.1.0)
 
+-- Loops over keys or values
+
+forin_tree_sound : (at : At) (head right body : Syntax) (own : Label) (s s2 s3 s4 : State) (collection p : Place)
+    → StaysSound (IsSmallTree body) (forin_begun s own) s2
+    → IsSound (IsSmallTree right) (rounds_bodied (forin_at s at.span) s2 (span_of body)) s3 collection
+    → IsSound (IsSmallTree head) (forin_righted (rounds_shut (forin_at s at.span)) s3 (span_of head) collection) s4 p
+    → StaysSound (IsSmallTree (Node at word.Forin (Then head (Then right (Then body End))))) s
+    (rounds_ended (rounds_opened (rounds_shut (forin_at s at.span))) s4 p)
+forin_tree_sound at head right body own s s2 s3 s4 collection p first second third =
+    forin_sound small s s2 s3 s4 own at.span (span_of body) (span_of head) collection p (λ holds. holds.0.0)
+    (λ holds. span_small body (body_small holds).0) (λ holds. span_small head (head_small holds).0)
+    (sound_weaker (IsSmallTree body) small _ s2 body_small first) (sound_weaker (IsSmallTree right) small _ s3 right_small second.0)
+    (place_weaker (IsSmallTree right) small s3 collection right_small second.1)
+    (sound_weaker (IsSmallTree head) small _ s4 head_small third.0) (place_weaker (IsSmallTree head) small s4 p head_small third.1)
+  where
+    small : Type 0
+    small = IsSmallTree (Node at word.Forin (Then head (Then right (Then body End))))
+
+    head_small : small → IsSmallTree head
+    head_small holds = (holds.0.1.0, holds.1.1.0)
+
+    right_small : small → IsSmallTree right
+    right_small holds = (holds.0.1.1.0, holds.1.1.1.0)
+
+    body_small : small → IsSmallTree body
+    body_small holds = (holds.0.1.1.1.0, holds.1.1.1.1.0)
+
+forof_tree_sound : (at : At) (head right body : Syntax) (own : Label) (s s2 s3 s4 : State) (collection p : Place)
+    → (IsSmallTree right → IsWritable (listing.optional listing.span collection.span))
+    → StaysSound (IsSmallTree body) (forof_begun s own) s2
+    → IsSound (IsSmallTree right) (forof_bodied (forof_at s at.span) s2 (span_of body)) s3 collection
+    → IsSound (IsSmallTree head) (forof_righted (forof_shut (forof_at s at.span)) s3 (span_of head) collection) s4 p
+    → StaysSound (IsSmallTree (Node at word.Forof (Then (Flag false) (Then head (Then right (Then body End)))))) s
+    (forof_ended (forof_after (forof_shut (forof_at s at.span))) s4 p)
+forof_tree_sound at head right body own s s2 s3 s4 collection p from_at first second third =
+    forof_sound small s s2 s3 s4 own at.span (span_of body) (span_of head) collection p (λ holds. holds.0.0)
+    (λ holds. span_small body (body_small holds).0) (λ holds. span_small head (head_small holds).0) (λ holds. from_at (right_small holds))
+    (sound_weaker (IsSmallTree body) small _ s2 body_small first) (sound_weaker (IsSmallTree right) small _ s3 right_small second.0)
+    (place_weaker (IsSmallTree right) small s3 collection right_small second.1)
+    (sound_weaker (IsSmallTree head) small _ s4 head_small third.0) (place_weaker (IsSmallTree head) small s4 p head_small third.1)
+  where
+    small : Type 0
+    small = IsSmallTree (Node at word.Forof (Then (Flag false) (Then head (Then right (Then body End)))))
+
+    head_small : small → IsSmallTree head
+    head_small holds = (holds.0.1.1.0, holds.1.1.1.0)
+
+    right_small : small → IsSmallTree right
+    right_small holds = (holds.0.1.1.1.0, holds.1.1.1.1.0)
+
+    body_small : small → IsSmallTree body
+    body_small holds = (holds.0.1.1.1.1.0, holds.1.1.1.1.1.0)
+
+-- The place of the key, and that of the value, which the head takes.
+
+key_place : (head : Syntax) (s s3 : State) (span : Span) (collection : Place)
+    → IsSoundPlace (IsSmallTree head) (forin_righted (rounds_shut (forin_at s span)) s3 (span_of head) collection)
+    (forin_key (rounds_shut (forin_at s span)) s3 (span_of head))
+key_place head s s3 span collection =
+    let headed : State = forin_headed (rounds_shut (forin_at s span)) s3 in
+    place_made (IsSmallTree head) (forin_righted (rounds_shut (forin_at s span)) s3 (span_of head) collection)
+    (length headed.env.identifiers) (span_of head)
+    (value_made headed (values.NextPropertyOf collection) (Some (span_of head))) (λ holds. span_small head holds.0)
+
+item_place : (head : Syntax) (s s3 : State) (span : Span) (collection : Place)
+    → IsSoundPlace (IsSmallTree head) (forof_righted (forof_shut (forof_at s span)) s3 (span_of head) collection)
+    (forof_item (forof_shut (forof_at s span)) s3 (span_of head) collection)
+item_place head s s3 span collection =
+    let tested : State = forof_tested (forof_shut (forof_at s span)) s3 collection in
+    let iterator : Place = forof_iterator (forof_shut (forof_at s span)) s3 collection in
+    place_made (IsSmallTree head) (forof_righted (forof_shut (forof_at s span)) s3 (span_of head) collection)
+    (length tested.env.identifiers) (span_of head)
+    (value_made tested (values.IteratorNext iterator collection) (Some (span_of head))) (λ holds. span_small head holds.0)
+
 -- Declarations of variables
 
 declarators_sound : {names : Names} {at : Span} {k : InstructionKind} {es : Pieces} {s t : State} → KnowsNames names
@@ -351,6 +435,14 @@ mutual
   loop_sound {own} knows (ForPlain at init test body s s2 s3 s4 p first third second) =
       for_plain_tree_sound at init test body own s s2 s3 s4 p (init_sound knows first) (statement_sound knows third)
       (test_sound knows second)
+  loop_sound {own} knows (ForIn at head right body s s2 s3 s4 collection p first second third) =
+      forin_tree_sound at head right body own s s2 s3 s4 collection p (statement_sound knows first) (expression_sound knows second)
+      (head_sound knows third (key_place head s s3 at.span collection))
+  loop_sound {own} knows (ForOf at head right body s s2 s3 s4 collection p first second third) =
+      forof_tree_sound at head right body own s s2 s3 s4 collection p
+      (λ small. span_optional collection.span (place_spanned IsSmallSpan second (each_small right small.0)))
+      (statement_sound knows first) (expression_sound knows second) (head_sound knows third (item_place head s s3 at.span collection))
+  loop_sound knows (AwaitRefused at head right body s) = sound_recorded _ s (refusal row.F33 at.span)
 
   init_sound : {names : Names} {at : Span} {e : Syntax} {s t : State} → KnowsNames names → LoweredInit names at e s t
       → StaysSound (IsSmallPart at e) s t

@@ -1,5 +1,6 @@
 -- Lowering a part gives no span that is none of the part's nodes or of a declaration, and its value is in a place without another.
 use Rattle.std.proofs.Common.{◌≡◌, Bool, true, List, [], ◌∷◌, Some, None, sym, subst}
+use Rattle.std.proofs.lemmas.List.Elements.{All-append}
 use Rattle.std.specs.Prelude.{IfSome}
 use Rattle.rl_base.specs.Diagnostics.{diagnostic_at}
 use Rattle.rl_base.specs.declared.row.Row.TheVariants as row
@@ -14,6 +15,7 @@ use Rattle.rl_hir.specs.Instructions.{binding_texts}
 use Rattle.rl_hir.specs.Pieces.{Piece, argument_pieces, gathered}
 use Rattle.rl_hir.specs.declared.function.BlockKind.TheVariants as blocks
 use Rattle.rl_hir.specs.declared.instruction.InstructionKind.{InstructionKind}
+use Rattle.rl_hir.specs.declared.instruction.InstructionKind.TheVariants as variables
 use Rattle.rl_hir.specs.declared.instruction.InstructionValue.TheVariants as values
 use Rattle.rl_hir.specs.declared.instruction.NonLocalBinding.{NonLocalBinding}
 use Rattle.rl_hir.specs.declared.instruction.Place.{Place}
@@ -22,24 +24,26 @@ use Rattle.rl_hir.specs.declared.instruction.PrimitiveValue.TheVariants as primi
 use Rattle.rl_hir.specs.declared.terminal.GotoVariant.TheVariants as gotos
 use Rattle.rl_hir.specs.declared.terminal.ReturnVariant.TheVariants as returns
 use Rattle.rl_lowered.proofs.Plain.{lowered_plain, operand_span}
-use Rattle.rl_lowered.proofs.SoundForms.{form_places, method_places, object_places}
+use Rattle.rl_lowered.proofs.SoundForms.{form_places, method_places, object_places, stored_places}
 use Rattle.rl_lowered.proofs.SpannedForms.{cast_each, form_cast, form_each, load_spans, member_each, object_spanned, outer_spanned}
-use Rattle.rl_lowered.proofs.SpannedForms.{private_each, refusing_each, result_spanned, update_cast, update_spanned}
+use Rattle.rl_lowered.proofs.SpannedForms.{private_each, refusing_each, result_spanned, store_cast, update_cast, update_spanned}
 use Rattle.rl_lowered.proofs.SpannedForms.{update_spans, wrapper_each}
-use Rattle.rl_lowered.proofs.SpannedFrames.{do_while_spans, for_plain_spans, for_spans, if_else_spans, if_then_spans, label_spans}
+use Rattle.rl_lowered.proofs.SpannedFrames.{do_while_spans, for_plain_spans, for_spans, forin_spans, forof_spans, if_else_spans}
+use Rattle.rl_lowered.proofs.SpannedFrames.{if_then_spans, label_spans}
 use Rattle.rl_lowered.proofs.SpannedFrames.{logical_spans, sequence_spans, ternary_spans, while_spans}
 use Rattle.rl_lowered.proofs.SpannedMoves.{found_spans, more_spanned, next_hole_spans, none_spanned, one_spanned, recorded_spans}
-use Rattle.rl_lowered.proofs.SpannedMoves.{reserved_spans}
+use Rattle.rl_lowered.proofs.SpannedMoves.{redeclared_spans, reserved_spans}
 use Rattle.rl_lowered.proofs.SpannedMoves.{return_spans, returned_spans, span_or, type_spans, value_spans}
-use Rattle.rl_lowered.specs.Forms.{IsMember, MemberKey, load_of, places_in, type_of, typed}
-use Rattle.rl_lowered.specs.Lowered.{Lowered, LoweredBody, LoweredDeclarators, LoweredInit, LoweredLast, LoweredLoop, LoweredParts}
-use Rattle.rl_lowered.specs.Lowered.{LoweredStatement, LoweredStatements, LoweredTest, declaring, part_span, update_of, value_span}
+use Rattle.rl_lowered.specs.Forms.{IsMember, MemberKey, load_of, places_in, store_of, type_of, typed}
+use Rattle.rl_lowered.specs.Lowered.{Lowered, LoweredBody, LoweredDeclarators, LoweredHead, LoweredInit, LoweredLast, LoweredLoop}
+use Rattle.rl_lowered.specs.Lowered.{LoweredParts, LoweredStatement, LoweredStatements, LoweredTest, declaring, found_again, part_span}
+use Rattle.rl_lowered.specs.Lowered.{update_of, value_span}
 use Rattle.rl_lowered.specs.Lowered as lowered
 use Rattle.rl_lowered.specs.Named.{found}
 use Rattle.rl_lowered.specs.Spanned.{EachSpan, EachSpanAmong, KeepsSpans}
 use Rattle.rl_model.specs.Actions.{Label}
 use Rattle.rl_names.specs.Names.{Names}
-use Rattle.rl_promises.specs.Rows.{refusal}
+use Rattle.rl_promises.specs.Rows.{refusal, row_of_head}
 use Rattle.rl_promises.specs.Spans.{AreSpanned}
 use Rattle.rl_syntax.specs.Syntax.{Syntax, Pieces, span_of}
 use Rattle.rl_syntax.specs.declared.word.Word.{Word}
@@ -255,6 +259,50 @@ module _ (P : Span → Type 0) where
   init_own {at} (lowered.RefusedInit e s t p by) here each =
       subst P (sym (operand_span e (lowered_plain by).node at)) (part_spanned by each)
 
+  -- The head of a loop over keys or values.
+
+  head_own : {names : Names} {value : Place} {e : Syntax} {s t : State} {p : Place} → LoweredHead names value e s t p → EachSpan P e
+      → P (span_of e)
+  head_own (lowered.Declared at there bind kind name type symbol identifier s annotated is f) each = each.0
+  head_own _ each = each.0
+
+  -- Its place is its own, or that of the value.
+  head_spanned : {names : Names} {value : Place} {e : Syntax} {s t : State} {p : Place} → LoweredHead names value e s t p
+      → IfSome value.span P → EachSpan P e → IfSome p.span P
+  head_spanned (lowered.ReassignedConstant at name symbol identifier s is constant f) given each = given
+  head_spanned (lowered.Lost at w fields s is) given each = given
+  head_spanned _ given each = each.0
+
+  head_spans : {names : Names} {value : Place} {e : Syntax} {s t : State} {p : Place} → LoweredHead names value e s t p
+      → IfSome value.span P → EachSpan P e → KeepsSpans P s t
+  head_spans {names} {value} (lowered.Declared at there bind kind name type symbol identifier s annotated is f) given each h =
+      value_spans P (found_again names s symbol identifier bind.span)
+      (values.StoreLocal variables.Let (record { identifier = record { 0 = identifier }; span = Some at.span }) value) (Some at.span)
+      each.0 tt
+      (more_spanned P (record { identifier = record { 0 = identifier }; span = Some at.span }) (value ∷ []) each.0
+      (one_spanned P value given))
+      (redeclared_spans P (found names s symbol bind.span) identifier bind.span each.1.1.0.0.1.0.0
+      (found_spans P names s symbol bind.span each.1.1.0.0.1.0.0 h))
+  head_spans {names} {value} (lowered.Reassigned at name symbol identifier s is mutable f) given each h =
+      value_spans P (found names s symbol at.span)
+      (values.StoreLocal variables.Reassign (record { identifier = record { 0 = identifier }; span = Some at.span }) value) (Some at.span)
+      each.0 tt
+      (more_spanned P (record { identifier = record { 0 = identifier }; span = Some at.span }) (value ∷ []) each.0
+      (one_spanned P value given))
+      (found_spans P names s symbol at.span each.0 h)
+  head_spans {names} (lowered.ReassignedConstant at name symbol identifier s is constant f) given each h =
+      recorded_spans P (found names s symbol at.span) (diagnostic_at row.F6 (names.name symbol.0) at.span)
+      (found_spans P names s symbol at.span each.0 h)
+  head_spans {value} (lowered.StoredGlobal at name binding s is) given each h =
+      value_spans P s (values.StoreGlobal name value) (Some at.span) each.0 tt (one_spanned P value given) h
+  head_spans {value} (lowered.StoredMember at w fields parts pieces object key s t is all) given each h =
+      value_spans P t (store_of object key value) (Some at.span) each.0 (store_cast P object key value)
+      (subst (AreSpanned P) (sym (stored_places is value))
+      (All-append (λ (p : Place). IfSome p.span P) (places_in pieces) (value ∷ []) (places_spanned all (member_each P is each.1))
+      (one_spanned P value given)))
+      (all_spans all (member_each P is each.1) h)
+  head_spans (lowered.Lost at w fields s is) given each h = recorded_spans P s (refusal (row_of_head w) at.span) h
+
   mutual
     pub statement_spans : {names : Names} {e : Syntax} {s t : State} → LoweredStatement names e s t → EachSpan P e → KeepsSpans P s t
     statement_spans (lowered.Empty at s) each h = h
@@ -301,6 +349,17 @@ module _ (P : Span → Type 0) where
         for_plain_spans P s s2 s3 s4 own at.span (part_span at.span init) (span_of body) p each.0 (init_own first each.0 each.1.0)
         (statement_own third each.1.1.1.1.0) (test_spanned second each.0 each.1.1.0) (init_spans first each.0 each.1.0)
         (statement_spans third each.1.1.1.1.0) (test_spans second each.0 each.1.1.0) h
+    loop_spans {own} (lowered.ForIn at head right body s s2 s3 s4 collection p first second third) each h =
+        forin_spans P s s2 s3 s4 own at.span (span_of body) (span_of head) collection p each.0 (statement_own first each.1.1.1.0)
+        (head_own third each.1.0) (place_spanned second each.1.1.0) (head_spanned third (head_own third each.1.0) each.1.0)
+        (statement_spans first each.1.1.1.0) (expression_spans second each.1.1.0)
+        (head_spans third (head_own third each.1.0) each.1.0) h
+    loop_spans {own} (lowered.ForOf at head right body s s2 s3 s4 collection p first second third) each h =
+        forof_spans P s s2 s3 s4 own at.span (span_of body) (span_of head) collection p each.0 (statement_own first each.1.1.1.1.0)
+        (head_own third each.1.1.0) (place_spanned second each.1.1.1.0) (head_spanned third (head_own third each.1.1.0) each.1.1.0)
+        (statement_spans first each.1.1.1.1.0) (expression_spans second each.1.1.1.0)
+        (head_spans third (head_own third each.1.1.0) each.1.1.0) h
+    loop_spans (lowered.AwaitRefused at head right body s) each h = recorded_spans P s (refusal row.F33 at.span) h
 
     init_spans : {names : Names} {at : Span} {e : Syntax} {s t : State} → LoweredInit names at e s t → P at → EachSpan P e
         → KeepsSpans P s t

@@ -85,7 +85,7 @@ module _ (P : Span → Type 0) where
   delete_cast object (Fixed key) = tt
   delete_cast object (Computed p) = tt
 
-  store_cast : (object : Place) (key : MemberKey) (value : Place) → IfSome (type_span (store_of object key value)) P
+  pub store_cast : (object : Place) (key : MemberKey) (value : Place) → IfSome (type_span (store_of object key value)) P
   store_cast object (Fixed key) value = tt
   store_cast object (Computed p) value = tt
 

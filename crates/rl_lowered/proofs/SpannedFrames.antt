@@ -5,6 +5,7 @@ use Rattle.rl_base.specs.declared.operator.LogicalOperator.{LogicalOperator}
 use Rattle.rl_base.specs.declared.span.Span.{Span}
 use Rattle.rl_builder.specs.Builder.{State, completed_by, entered, new_block, pushed, reserved, with_temporary}
 use Rattle.rl_builder.specs.declared.blocks.WipBlock.{WipBlock}
+use Rattle.rl_builder.specs.Temporaries.{with_value}
 use Rattle.rl_frames.specs.Frames.{ForParts, for_after, for_after_init, for_after_update, for_again, for_aside, for_at, for_bodied}
 use Rattle.rl_frames.specs.Frames.{for_ended, for_inited, for_opened, for_updated}
 use Rattle.rl_frames.specs.Frames.{do_while_bodied, label_at, label_ended, while_after, while_at, while_bodied, while_ended}
@@ -13,10 +14,15 @@ use Rattle.rl_frames.specs.Frames.{if_alternate, if_after_consequent, if_at, if_
 use Rattle.rl_frames.specs.Frames.{logical_after, logical_at, logical_ended, logical_righted}
 use Rattle.rl_frames.specs.Frames.{sequence_at, sequence_ended}
 use Rattle.rl_frames.specs.Frames.{ternary_after, ternary_alternated, ternary_at, ternary_consequent, ternary_ended, ternary_parted}
-use Rattle.rl_frames.specs.Parts.{do_while_end, for_begun, label_begun, label_end, while_begun, while_end}
+use Rattle.rl_frames.specs.Parts.{do_while_end, for_begun, forin_begun, forin_end, forof_begun, forof_end, label_begun, label_end}
+use Rattle.rl_frames.specs.Parts.{while_begun, while_end}
 use Rattle.rl_frames.specs.Parts.{if_begun, if_end, loads, logical_begun, logical_entered, logical_left, logical_place}
 use Rattle.rl_frames.specs.Parts.{sequence_begun, ternary_begun, ternary_place}
+use Rattle.rl_frames.specs.Rounds.{ForOfParts, forin_at, forin_headed, forin_righted, forof_after, forof_at, forof_bodied, forof_ended}
+use Rattle.rl_frames.specs.Rounds.{forof_headed, forof_iterator, forof_righted, forof_shut, forof_tested, rounds_bodied, rounds_ended}
+use Rattle.rl_frames.specs.Rounds.{rounds_opened, rounds_shut}
 use Rattle.rl_hir.specs.declared.function.BlockKind.TheVariants as block
+use Rattle.rl_hir.specs.declared.instruction.InstructionValue.TheVariants as values
 use Rattle.rl_hir.specs.declared.instruction.Place.{Place}
 use Rattle.rl_hir.specs.declared.terminal.GotoVariant.{GotoVariant}
 use Rattle.rl_hir.specs.declared.terminal.GotoVariant.TheVariants as gotos
@@ -24,10 +30,11 @@ use Rattle.rl_hir.specs.declared.terminal.Terminal.{Terminal}
 use Rattle.rl_hir.specs.declared.terminal.TerminalKind.TheVariants as kinds
 use Rattle.rl_lowered.proofs.SpannedMoves.{completed_spans, entered_spans, last_hole_spans, more_spanned, next_hole_spans, none_spanned}
 use Rattle.rl_lowered.proofs.SpannedMoves.{one_spanned, pushed_spans, reserved_spans, scopes_spans, stored_spans, temporary_spans}
+use Rattle.rl_lowered.proofs.SpannedMoves.{value_spans}
 use Rattle.rl_lowered.specs.Spanned.{HasSpans, KeepsSpans}
 use Rattle.rl_model.specs.Actions.{Label}
 use Rattle.rl_promises.specs.Spans.{IsSpannedTerminal}
-use Rattle.rl_runs.specs.Moves.{block_id, branch, ends_by, last_hole, next_hole, stored_in, without_scope}
+use Rattle.rl_runs.specs.Moves.{block_id, branch, ends_by, goto, last_hole, next_hole, stored_in, without_scope}
 
 module _ (P : Span → Type 0) where
   two_spans : (s : State) → KeepsSpans P s (reserved (reserved s))
@@ -232,3 +239,63 @@ module _ (P : Span → Type 0) where
       (second
       (for_bodied_spans (for_after_init (for_at s span own false) s2) s3 last at last_at
       (third (for_opened_spans (for_at s span own false) s2 part part_at (first (for_begun_spans s h))))))
+
+  -- Loops over keys or values
+
+  -- A block in a scope ends.
+  scope_left_spans : (s : State) (behind : ℕ) (part : Span) (outer : WipBlock) → P part
+      → KeepsSpans P s (last_hole (without_scope s) behind gotos.Continue part outer)
+  scope_left_spans s behind part outer part_at h =
+      last_hole_spans P (without_scope s) behind gotos.Continue part outer part_at (scopes_spans P s (without_scope s).scopes h)
+
+  forin_begun_spans : (s : State) (own : Label) → KeepsSpans P s (forin_begun s own)
+  forin_begun_spans s own h =
+      scopes_spans P (entered (reserved (reserved (reserved s))) (new_block (s.env.next_block + 1 + 1) block.Block))
+      (forin_begun s own).scopes
+      (entered_spans P (reserved (reserved (reserved s))) (new_block (s.env.next_block + 1 + 1) block.Block) (three_spans s h))
+
+  forof_begun_spans : (s : State) (own : Label) → KeepsSpans P s (forof_begun s own)
+  forof_begun_spans s own h =
+      scopes_spans P (entered (reserved (reserved (reserved (reserved s)))) (new_block (s.env.next_block + 1 + 1 + 1) block.Block))
+      (forof_begun s own).scopes
+      (entered_spans P (reserved (reserved (reserved (reserved s)))) (new_block (s.env.next_block + 1 + 1 + 1) block.Block)
+      (reserved_spans P (reserved (reserved (reserved s))) (three_spans s h)))
+
+  pub forin_spans : (s s2 s3 s4 : State) (own : Label) (span part left : Span) (collection p : Place) → P span → P part → P left
+      → IfSome collection.span P → IfSome p.span P → KeepsSpans P (forin_begun s own) s2
+      → KeepsSpans P (rounds_bodied (forin_at s span) s2 part) s3
+      → KeepsSpans P (forin_righted (rounds_shut (forin_at s span)) s3 left collection) s4
+      → KeepsSpans P s (rounds_ended (rounds_opened (rounds_shut (forin_at s span))) s4 p)
+  forin_spans s s2 s3 s4 own span part left collection p at part_at left_at place test first second third h =
+      branched_spans s4 p (s.env.next_block + 1 + 1) s.env.next_block s.env.next_block span (new_block s.env.next_block block.Block) at test
+      (third
+      (value_spans P (forin_headed (rounds_shut (forin_at s span)) s3) (values.NextPropertyOf collection) (Some left) left_at tt
+      (one_spanned P collection place)
+      (completed_spans P s3 (forin_end s.env.next_block span) (new_block (s.env.next_block + 1) block.Loop)
+      (record { own = at; places = none_spanned P })
+      (second (scope_left_spans s2 (s.env.next_block + 1) part s.current part_at (first (forin_begun_spans s own h)))))))
+
+  pub forof_spans : (s s2 s3 s4 : State) (own : Label) (span part left : Span) (collection p : Place) → P span → P part → P left
+      → IfSome collection.span P → IfSome p.span P → KeepsSpans P (forof_begun s own) s2
+      → KeepsSpans P (forof_bodied (forof_at s span) s2 part) s3
+      → KeepsSpans P (forof_righted (forof_shut (forof_at s span)) s3 left collection) s4
+      → KeepsSpans P s (forof_ended (forof_after (forof_shut (forof_at s span))) s4 p)
+  forof_spans s s2 s3 s4 own span part left collection p at part_at left_at place test first second third h =
+      branched_spans s4 p (s.env.next_block + 1 + 1 + 1) s.env.next_block s.env.next_block span (new_block s.env.next_block block.Block) at
+      test
+      (third
+      (value_spans P (forof_tested frame s3 collection) (values.IteratorNext (forof_iterator frame s3 collection) collection) (Some left)
+      left_at tt
+      (more_spanned P (forof_iterator frame s3 collection) (collection ∷ []) place (one_spanned P collection place))
+      (completed_spans P opened (goto (s.env.next_block + 1 + 1) gotos.Break span) (new_block (s.env.next_block + 1 + 1) block.Loop)
+      (record { own = at; places = none_spanned P })
+      (value_spans P (forof_headed frame s3) (values.GetIterator collection) collection.span place tt (one_spanned P collection place)
+      (completed_spans P s3 (forof_end s.env.next_block span) (new_block (s.env.next_block + 1) block.Loop)
+      (record { own = at; places = none_spanned P })
+      (second (scope_left_spans s2 (s.env.next_block + 1) part s.current part_at (first (forof_begun_spans s own h)))))))))
+    where
+      frame : ForOfParts
+      frame = forof_shut (forof_at s span)
+
+      opened : State
+      opened = with_value (forof_headed frame s3) (values.GetIterator collection) collection.span

@@ -15,6 +15,7 @@ use Rattle.rl_builder.specs.declared.blocks.WipBlock.{WipBlock}
 use Rattle.rl_builder.specs.declared.jumps.JumpScope.{JumpScope}
 use Rattle.rl_context.specs.Index.{declaration_span}
 use Rattle.rl_hir.specs.Blocks.{Pair as BlockPair}
+use Rattle.rl_hir.specs.Identifiers.{with_span}
 use Rattle.rl_hir.specs.Pairs.{identifier_of}
 use Rattle.rl_hir.specs.declared.function.BlockKind.{BlockKind}
 use Rattle.rl_hir.specs.declared.function.Identifier.{Identifier}
@@ -26,6 +27,8 @@ use Rattle.rl_hir.specs.declared.instruction.Place.{Place}
 use Rattle.rl_hir.specs.declared.terminal.GotoVariant.{GotoVariant}
 use Rattle.rl_hir.specs.declared.terminal.ReturnVariant.{ReturnVariant}
 use Rattle.rl_hir.specs.declared.terminal.Terminal.{Terminal}
+use Rattle.rl_lowered.proofs.Redeclared.{all_changed}
+use Rattle.rl_lowered.specs.Lowered.{redeclared}
 use Rattle.rl_lowered.specs.Named.{found}
 use Rattle.rl_lowered.specs.Spanned.{KeepsSpans}
 use Rattle.rl_model.specs.WellFormed.{value_places}
@@ -182,3 +185,13 @@ module _ (P : Span → Type 0) where
 
   pub found_spans : (names : Names) (s : State) (symbol : SymbolId) (at : Span) → P at → KeepsSpans P s (found names s symbol at)
   found_spans names s symbol at here h = resolved_spans s (names.name symbol.0) symbol.0 at here h
+
+  -- An identifier gets another span.
+  pub redeclared_spans : (s : State) (identifier : ℕ) (span : Span) → P span → KeepsSpans P s (redeclared s identifier span)
+  redeclared_spans s identifier span at h = record {
+    table = h.table;
+    terminals = h.terminals;
+    identifiers = all_changed (λ (i : Identifier). IfSome i.span P) (with_span span) identifier s.env.identifiers (λ i old. at)
+        h.identifiers;
+    declarations = h.declarations;
+  }

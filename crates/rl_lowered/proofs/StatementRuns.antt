@@ -10,11 +10,13 @@ use Rattle.rl_base.specs.declared.variable_kind.VariableKind.TheVariants as kind
 use Rattle.rl_builder.specs.Builder.{State, completed_by, new_block, reserved}
 use Rattle.rl_builder.specs.declared.blocks.WipBlock.{WipBlock}
 use Rattle.rl_builder.specs.Temporaries.{temporary, with_value}
+use Rattle.rl_frames.proofs.Enumerations.{forin_runs}
 use Rattle.rl_frames.proofs.ForRuns.{for_runs, for_runs_plain}
 use Rattle.rl_frames.proofs.Ifs.{if_runs, if_then_runs}
+use Rattle.rl_frames.proofs.Iterations.{forof_runs}
 use Rattle.rl_frames.proofs.LabelFrames.{label_runs}
 use Rattle.rl_frames.proofs.Loops.{do_while_runs, while_runs}
-use Rattle.rl_frames.proofs.Meant.{do_while_meant, for_meant, if_meant, while_meant}
+use Rattle.rl_frames.proofs.Meant.{do_while_meant, for_meant, forin_meant, forof_meant, if_meant, while_meant}
 use Rattle.rl_frames.specs.Parts.{label_begun}
 use Rattle.rl_hir.specs.declared.function.BlockKind.TheVariants as blocks
 use Rattle.rl_hir.specs.declared.instruction.InstructionKind.{InstructionKind}
@@ -24,13 +26,16 @@ use Rattle.rl_hir.specs.declared.instruction.PrimitiveValue.TheVariants as primi
 use Rattle.rl_hir.specs.declared.terminal.GotoVariant.TheVariants as gotos
 use Rattle.rl_hir.specs.declared.terminal.ReturnVariant.{ReturnVariant}
 use Rattle.rl_hir.specs.declared.terminal.ReturnVariant.TheVariants as returns
-use Rattle.rl_lowered.proofs.Blocks.{declarators_blocks, declares_of, expression_blocks, init_blocks}
+use Rattle.rl_lowered.proofs.Blocks.{declarators_blocks, declares_of, expression_blocks, head_blocks, init_blocks}
 use Rattle.rl_lowered.proofs.Blocks.{loop_is, statement_blocks, statements_blocks, test_blocks}
-use Rattle.rl_lowered.proofs.Clean.{branches_clean, do_while_clean, first_none, for_clean, never, row_clean, second_none, while_clean}
+use Rattle.rl_lowered.proofs.Clean.{branches_clean, do_while_clean, first_none, for_clean, never, rounds_clean, row_clean, second_none}
+use Rattle.rl_lowered.proofs.Clean.{while_clean}
+use Rattle.rl_lowered.proofs.HeadRuns.{head_runs}
 use Rattle.rl_lowered.proofs.Plain.{declared_meant, init_said, lowered_plain, operand_there, undeclared_meant}
 use Rattle.rl_lowered.proofs.Runs.{expression_runs}
 use Rattle.rl_lowered.specs.Lowered.{Literal, Lowered, LoweredDeclarators, NextDeclared, NextInitialized, NoDeclarator, declaring, kind_of}
-use Rattle.rl_lowered.specs.Lowered.{Break, Continue, DeclaredInit, DoWhile, ForPlain, ForUpdated, Labeled, LabeledLoop, LoweredInit}
+use Rattle.rl_lowered.specs.Lowered.{AwaitRefused, Break, Continue, DeclaredInit, DoWhile, ForIn, ForOf, ForPlain, ForUpdated, Labeled}
+use Rattle.rl_lowered.specs.Lowered.{LabeledLoop, LoweredInit}
 use Rattle.rl_lowered.specs.Lowered.{LoweredLoop, LoweredTest, NoInit, NoTest, RefusedInit, Tested, Unlabeled, While, label_part}
 use Rattle.rl_lowered.specs.Lowered.{part_span}
 use Rattle.rl_lowered.specs.Lowered.{Block, Debugger, Empty, Expression, IfElse, IfThen, LoweredBody, LoweredStatement, LoweredStatements}
@@ -50,7 +55,7 @@ use Rattle.rl_model.specs.Events.{event}
 use Rattle.rl_model.specs.Expressions.{eval}
 use Rattle.rl_model.specs.Patterns.{declare}
 use Rattle.rl_model.specs.Scene.{Scene}
-use Rattle.rl_model.specs.Statements.{declare_all, declare_one, eval_optional, exec, exec_all, has_meaning}
+use Rattle.rl_model.specs.Statements.{declare_all, declare_one, eval_optional, exec, exec_all, has_meaning, take_head}
 use Rattle.rl_names.specs.Names.{Names}
 use Rattle.rl_promises.specs.Jumps.{is_loop}
 use Rattle.rl_promises.specs.Rows.{refusals, refusals_in, said_of_init, said_of_test}
@@ -104,6 +109,13 @@ head_unused init test update body is =
     let second = or_false (has_using test) _ first.1 in
     let third = or_false (has_using update) _ second.1 in
     (first.0, (or_false (has_using body) false third.1).0)
+
+rounds_unused : (head right body : Syntax) → has_using head || (has_using right || (has_using body || false)) ≡ false
+    → (has_using head ≡ false) × (has_using body ≡ false)
+rounds_unused head right body is =
+    let first = or_false (has_using head) _ is in
+    let second = or_false (has_using right) _ first.1 in
+    (first.0, (or_false (has_using body) false second.1).0)
 
 -- Declarations of variables.
 
@@ -333,6 +345,23 @@ mutual
       (statement_blocks by).extends (test_blocks by_test).extends scene.world (exec scene None init) (eval scene test)
       (exec scene None body) (init_runs by_init clean.init_said clean.init bare.0 scene same ported)
       (statement_runs by clean.body bare.1 scene same ported) (test_runs by_test clean.test_said clean.test scene same ported))
+  loop_runs {names} {own} (ForIn at head right body s s2 s3 s4 collection p by by_right by_head) none unused scene same ported =
+      let clean = rounds_clean names head right body none in
+      let bare = rounds_unused head right body unused in
+      does_same scene.world s _ (λ ways normal source answers. sym (forin_meant scene own at head right body ways normal source answers))
+      (forin_runs s s2 s3 s4 own collection p at.span (span_of head) (span_of body) (statement_blocks by).extends
+      (expression_blocks by_right).extends (head_blocks by_head).extends scene.world (eval scene right) (take_head scene head)
+      (exec scene None body) (statement_runs by clean.0 bare.1 scene same ported) (expression_runs by_right clean.1 scene same ported)
+      (head_runs by_head clean.2 bare.0 scene same ported))
+  loop_runs {names} {own} (ForOf at head right body s s2 s3 s4 collection p by by_right by_head) none unused scene same ported =
+      let clean = rounds_clean names head right body none in
+      let bare = rounds_unused head right body unused in
+      does_same scene.world s _ (λ ways normal source answers. sym (forof_meant scene own at head right body ways normal source answers))
+      (forof_runs s s2 s3 s4 own collection p at.span (span_of head) (span_of body) (statement_blocks by).extends
+      (expression_blocks by_right).extends (head_blocks by_head).extends scene.world (eval scene right) (take_head scene head)
+      (exec scene None body) (statement_runs by clean.0 bare.1 scene same ported) (expression_runs by_right clean.1 scene same ported)
+      (head_runs by_head clean.2 bare.0 scene same ported))
+  loop_runs (AwaitRefused at head right body s) none unused scene same ported = absurd (never none)
 
   pub statements_runs : {names : Names} {es : Pieces} {s t : State} → LoweredStatements names es s t → refusals_in names es ≡ []
       → have_using es ≡ false → (scene : Scene) → scene.names ≡ names → scene.ported ≡ true → RunsStatement scene.world (exec_all scene es) s t

@@ -1,60 +1,51 @@
--- A builder that began without blocks reads no note behind a construct whose terminal `build` may replace, and has no steps of loops.
-use Rattle.std.proofs.Common.{◌≡◌, ℕ, inl, inr, false, List, [], All, Some, slice_get, sym, ap, ◌∙◌, subst}
-use Rattle.std.proofs.lemmas.List.Elements.{All-get_or}
-use Rattle.std.proofs.lemmas.Option.{get_or_from_slice_get, slice_get_within}
+-- A builder that began without blocks reads no note behind a construct whose terminal `build` may replace, and has no step of a loop where
+-- none may stand.
+use Rattle.std.proofs.Common.{◌≡◌, ℕ, inl, inr, List, [], Some, slice_get, sym, ap, ◌∙◌, subst}
 use Rattle.rl_base.specs.declared.ids.BlockId.{BlockId}
 use Rattle.rl_base.specs.declared.ids.InstructionId.{InstructionId}
 use Rattle.rl_builder.specs.Builder.{State}
 use Rattle.rl_builder.specs.declared.jumps.JumpScope.{JumpScope}
 use Rattle.rl_hir.specs.Blocks.{Pair as BlockPair}
-use Rattle.rl_hir.specs.declared.instruction.Instruction.{Instruction}
-use Rattle.rl_hir.specs.declared.instruction.InstructionKind.{InstructionKind}
-use Rattle.rl_hir.specs.declared.instruction.InstructionKind.TheVariants as kinds
-use Rattle.rl_hir.specs.declared.instruction.InstructionValue.{InstructionValue}
-use Rattle.rl_hir.specs.declared.instruction.InstructionValue.TheVariants as values
 use Rattle.rl_hir.specs.declared.terminal.TerminalKind.{TerminalKind}
-use Rattle.rl_lowered.specs.Listing.{is_step}
-use Rattle.rl_machine.specs.Acts.{act, declared}
-use Rattle.rl_machine.specs.Prunes.{IsStep}
-use Rattle.rl_machine.specs.Traces.{Store}
-use Rattle.rl_runs.specs.Blocks.{ByBreak, ByContinue, ByHandler, IsTarget}
+use Rattle.rl_lowered.specs.Steps.{KeepsStepsApart}
+use Rattle.rl_runs.proofs.StepNotes.{none_listed}
+use Rattle.rl_runs.specs.Blocks.{ByBreak, ByContinue, ByHandler, IsOneOf, IsTarget}
 use Rattle.rl_runs.specs.ReadNotes.{KeepsUnread, KnowsReads, MarkedAt, Unread}
-use Rattle.rl_runs.specs.StepNotes.{HasStep, StepIn, Stepless}
+use Rattle.rl_runs.specs.StepNotes.{HasStep, KnowsListed, KnowsStepless, StepIn, Stepless}
 
 -- Steps
 
-declared_unstepped : (kind : InstructionKind) (variable : ℕ) → IsStep (declared kind variable) → ⊥
-declared_unstepped kinds.Catch variable step = step
-declared_unstepped _ variable step = step
+-- From a builder that has neither blocks nor instructions on.
+pub stepless_whole : (s t : State) → s.completed ≡ [] → s.current.instructions ≡ [] → KeepsStepsApart s t → Stepless t
+stepless_whole s t completed blank k = k.keeps.stepless listed knows (λ id m h. none_stands id h)
+  where
+    none_at : (place : ℕ) (number : InstructionId) → slice_get {X = InstructionId} [] place ≡ Some number → ⊥
+    none_at place number at = absurd (cc)
 
-value_unstepped : (v : InstructionValue) → is_step v ≡ false → (result : ℕ) (store : Store) → IsStep (act result v store) → ⊥
-value_unstepped (values.GetIterator p) is result store step = cc
-value_unstepped (values.IteratorNext iterator p) is result store step = cc
-value_unstepped (values.NextPropertyOf p) is result store step = cc
-value_unstepped (values.DeclareLocal kind p) is result store step = declared_unstepped kind p.identifier.0 step
-value_unstepped (values.DeclareContext kind p) is result store step = declared_unstepped kind p.identifier.0 step
-value_unstepped _ is result store step = step
+    none_done : (block : BlockPair) → IsOneOf s.completed block → ⊥
+    none_done block one =
+        let never : slice_get {X = BlockPair} [] one.index ≡ Some block =
+        ap (λ (l : List BlockPair). slice_get l one.index) (sym completed) ∙ one.found in
+        absurd (cc)
 
-module _ (s : State) (all : All (λ (i : Instruction). is_step i.value ≡ false) s.table) where
-  abbrev Unstepped : Instruction → Type 0
-  Unstepped i = is_step i.value ≡ false
+    none_stands : (id : ℕ) → StepIn s id → ⊥
+    none_stands id h = elim h [
+      | inl d ↦ none_done d.block d.one
+      | inr w ↦ none_listed s.table (subst (λ (ids : List InstructionId). HasStep s.table ids) blank w.1)
+    ]
 
-  at_index : (index : ℕ) (i : Instruction) → slice_get s.table index ≡ Some i → Unstepped i
-  at_index index i is =
-      subst Unstepped (get_or_from_slice_get s.table index i i is)
-      (All-get_or Unstepped s.table index i (slice_get_within s.table index i is) all)
+    listed : KnowsListed s
+    listed = record {
+      done = λ block one. absurd (none_done block one);
+      current = λ place number at.
+          absurd (none_at place number (subst (λ (ids : List InstructionId). slice_get ids place ≡ Some number) blank at));
+    }
 
-  none_stands : {listed : List InstructionId} → HasStep s.table listed → ⊥
-  none_stands h =
-      value_unstepped h.instruction.value (at_index h.number.0 h.instruction h.kept) h.instruction.lvalue.identifier.0 h.reads.store
-      h.reads.step
-
-  none_steps : (id : ℕ) → StepIn s id → ⊥
-  none_steps id h = elim h [ inl d ↦ none_stands d.step | inr w ↦ none_stands w.1 ]
-
-  -- No step stands anywhere.
-  pub stepless_whole : Stepless s
-  stepless_whole id m step = none_steps id step
+    knows : KnowsStepless s
+    knows = record {
+      marked = λ id m. absurd (none_done m.block m.one);
+      steps = λ id h. absurd (none_stands id h);
+    }
 
 -- Notes that are read
 

@@ -17,6 +17,8 @@ use Rattle.rl_frames.specs.Parts.{loads, logical_entered, logical_left, logical_
 use Rattle.rl_grammar.proofs.Viewing.{rest_fit}
 use Rattle.rl_grammar.specs.Grammar.{every}
 use Rattle.rl_grammar.specs.declared.kind.Kind.TheVariants as sort
+use Rattle.rl_frames.specs.Rounds.{ForOfParts, RoundsParts, forin_at, forin_headed, forof_at, forof_headed, forof_iterator, forof_shut}
+use Rattle.rl_frames.specs.Rounds.{forof_tested, rounds_shut}
 use Rattle.rl_hir.specs.Pieces.{Piece}
 use Rattle.rl_hir.specs.Written.{value_word}
 use Rattle.rl_hir.specs.declared.instruction.Instruction.{Instruction}
@@ -30,14 +32,17 @@ use Rattle.rl_lowered.proofs.Clean.{branches_clean, cast_clean, computed_row_cle
 use Rattle.rl_lowered.proofs.Clean.{for_clean, form_clean, never, while_clean}
 use Rattle.rl_lowered.proofs.Clean.{fraction_row_never, method_clean, outer_never, private_clean, private_never, property_row_clean}
 use Rattle.rl_lowered.proofs.Clean.{refused_never, refusing_never, row_clean, second_none, spread_row_clean, unknown_row_never}
-use Rattle.rl_lowered.proofs.Clean.{updated_member_clean, wrapper_clean}
-use Rattle.rl_lowered.proofs.HeldParts.{HeldBy, IsHeldAs, Unheld, cast_held, declarator_held, form_held, form_word, is_held, literal_held}
-use Rattle.rl_lowered.proofs.HeldParts.{method_held, property_held, updated_held, wrapper_held}
+use Rattle.rl_lowered.proofs.Clean.{constant_head_never, lost_head_never, member_head_clean, rounds_clean, updated_member_clean}
+use Rattle.rl_lowered.proofs.Clean.{wrapper_clean}
+use Rattle.rl_lowered.proofs.HeldParts.{HeldBy, IsHeldAs, Unheld, cast_held, declared_head_held, declarator_held, form_held, form_word}
+use Rattle.rl_lowered.proofs.HeldParts.{is_held, literal_held, member_held, method_held, property_held, updated_held, wrapper_held}
 use Rattle.rl_lowered.proofs.Meant.{private_member_never}
 use Rattle.rl_lowered.proofs.Plain.{init_said, lowered_plain}
 use Rattle.rl_lowered.specs.Forms.{MemberKey, Computed, Fixed, load_of, store_of, typed}
 use Rattle.rl_lowered.specs.Lowered.{Asked, Block, Cast, Conditional, Debugger, EarlierPart, Empty, Expression, Global, IfElse, IfThen, LastPart}
 use Rattle.rl_lowered.specs.Lowered.{Break, Continue, DeclaredInit, DoWhile, ForPlain, ForUpdated, Labeled, LabeledLoop, LoweredInit}
+use Rattle.rl_lowered.specs.Lowered.{AwaitRefused, Declared, ForIn, ForOf, Lost, LoweredHead, Reassigned, ReassignedConstant}
+use Rattle.rl_lowered.specs.Lowered.{StoredGlobal, StoredMember, found_again}
 use Rattle.rl_lowered.specs.Lowered.{LoweredLoop, LoweredTest, NoInit, NoTest, RefusedInit, Tested, Unlabeled, While, label_part}
 use Rattle.rl_lowered.specs.Lowered.{Literal, Logical, Lowered, LoweredBody, LoweredDeclarators, LoweredLast, LoweredParts, LoweredStatement}
 use Rattle.rl_lowered.specs.Lowered.{LoweredStatements, Method, NextComputed, NextDeclared, NextFraction, NextHole, NextInitialized, NextPart}
@@ -52,7 +57,7 @@ use Rattle.rl_names.specs.Names.{Names}
 use Rattle.rl_promises.proofs.Unheld.{unheld_untallied}
 use Rattle.rl_promises.specs.Held.{is_of, is_span, times}
 use Rattle.rl_promises.specs.Live.{Held, held_among, held_as, held_in}
-use Rattle.rl_promises.specs.Rows.{refusals, refusals_in, said_of_init, said_of_test}
+use Rattle.rl_promises.specs.Rows.{refusals, refusals_at_head, refusals_in, said_of_init, said_of_test}
 use Rattle.rl_promises.specs.Tallies.{Awaits, Calls, Constructions, IsHeldKind, held_word, is_among, tallied, tallied_among}
 use Rattle.rl_runs.specs.Moves.{stored_in}
 use Rattle.rl_syntax.specs.declared.word.Word.TheVariants as word
@@ -126,6 +131,14 @@ added_for a b c d e init test update body p q r s = omega (arith, p, q, r, s)
 added_plain_for : (a b c d init test body : ℕ) → b ≡ a + init → c ≡ b + body → d ≡ c + test
     → d ≡ a + (0 + (init + (test + (0 + (body + 0)))))
 added_plain_for a b c d init test body p q r = omega (arith, p, q, r)
+
+added_rounds : (a b c d e head right body : ℕ) → b ≡ a + body → c ≡ b + right → d ≡ c + 0 → e ≡ d + head
+    → e ≡ a + (0 + (head + (right + (body + 0))))
+added_rounds a b c d e head right body p q r s = omega (arith, p, q, r, s)
+
+added_iterated : (a b c d e f head right body : ℕ) → b ≡ a + body → c ≡ b + right → d ≡ c + 0 → e ≡ d + 0 → f ≡ e + head
+    → f ≡ a + (0 + (0 + (head + (right + (body + 0)))))
+added_iterated a b c d e f head right body p q r s t = omega (arith, p, q, r, s, t)
 
 added_jump : (a n : ℕ) → n ≡ 0 → a ≡ a + (0 + (n + 0))
 added_jump a n none = omega (arith, none)
@@ -418,6 +431,24 @@ module _ (key : Counted) (held : IsHeldKind key.kinds) where
   test_tallies (NoTest s) unsaid none = absurd (never unsaid)
   test_tallies (Tested e s t p d) unsaid none = expression_tallies d none
 
+  -- The head of a loop over keys or values.
+  head_tallies : {names : Names} {value : Place} {e : Syntax} {s t : State} {p : Place} → LoweredHead names value e s t p
+      → refusals_at_head names e ≡ [] → times key t.table ≡ times key s.table + tallied key e
+  head_tallies {names} {e = e} (Declared at there bind kind name type symbol identifier s annotated is f) none =
+      added_leaf _ _ _ (same_tallied e Absent (declared_head_held at there bind kind name type annotated))
+      (unheld_tallies (found_again names s symbol identifier bind.span) _ (Some at.span) refl)
+  head_tallies {names} (Reassigned at name symbol identifier s is mutable f) none =
+      added_leaf _ _ _ refl (unheld_tallies (found names s symbol at.span) _ (Some at.span) refl)
+  head_tallies {names} (ReassignedConstant at name symbol identifier s is constant f) none =
+      absurd (constant_head_never names at name symbol is constant none)
+  head_tallies {value} (StoredGlobal at name binding s is) none =
+      added_leaf _ _ _ refl (unheld_tallies s (values.StoreGlobal name value) (Some at.span) refl)
+  head_tallies {names} {value} (StoredMember at w fields parts pieces object k s t is d) none =
+      added_same _ _ _ _ (row_tallied (Node at w fields) parts (member_held is at))
+      (added_behind _ _ _ _ (all_tallies d (member_head_clean is names at none))
+      (unheld_tallies t (store_of object k value) (Some at.span) (store_unheld object k value)))
+  head_tallies {names} (Lost at w fields s is) none = absurd (lost_head_never names at w fields is none)
+
   jump_tallied : (label : Label) → tallied key (label_part label) ≡ 0
   jump_tallied None = refl
   jump_tallied (Some label) = refl
@@ -469,6 +500,19 @@ module _ (key : Counted) (held : IsHeldKind key.kinds) where
         let clean = for_clean names at.span init test Absent body none in
         added_plain_for _ _ _ _ _ _ _ (init_tallies di clean.init_said clean.init) (statement_tallies d clean.body)
         (test_tallies dt clean.test_said clean.test)
+    loop_tallies {names} (ForIn at head right body s s2 s3 s4 collection p d dr dp) none =
+        let f : RoundsParts = rounds_shut (forin_at s at.span) in
+        let clean = rounds_clean names head right body none in
+        added_rounds _ _ _ _ _ _ _ _ (statement_tallies d clean.0) (expression_tallies dr clean.1)
+        (unheld_tallies (forin_headed f s3) (values.NextPropertyOf collection) (Some (span_of head)) refl) (head_tallies dp clean.2)
+    loop_tallies {names} (ForOf at head right body s s2 s3 s4 collection p d dr dp) none =
+        let f : ForOfParts = forof_shut (forof_at s at.span) in
+        let clean = rounds_clean names head right body none in
+        added_iterated _ _ _ _ _ _ _ _ _ (statement_tallies d clean.0) (expression_tallies dr clean.1)
+        (unheld_tallies (forof_headed f s3) (values.GetIterator collection) collection.span refl)
+        (unheld_tallies (forof_tested f s3 collection) (values.IteratorNext (forof_iterator f s3 collection) collection)
+        (Some (span_of head)) refl) (head_tallies dp clean.2)
+    loop_tallies (AwaitRefused at head right body s) none = absurd (never none)
 
     init_tallies : {names : Names} {at : Span} {e : Syntax} {s t : State} → LoweredInit names at e s t → said_of_init at e ≡ []
         → refusals names e ≡ [] → times key t.table ≡ times key s.table + tallied key e

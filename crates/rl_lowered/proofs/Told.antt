@@ -4,13 +4,14 @@ use Rattle.rl_base.specs.declared.span.Span.{Span}
 use Rattle.rl_builder.specs.Builder.{State}
 use Rattle.rl_hir.specs.Pieces.{Piece}
 use Rattle.rl_hir.specs.declared.instruction.Place.{Place}
-use Rattle.rl_lowered.proofs.Names.{all_names, expression_names, init_names, last_names, loop_names, statement_names, statements_names}
-use Rattle.rl_lowered.proofs.Names.{test_names}
-use Rattle.rl_lowered.proofs.Sizes.{all_size, expression_size, init_size, last_size, loop_size, statement_size, statements_size, test_size}
-use Rattle.rl_lowered.specs.Lowered.{Lowered, LoweredAll, LoweredInit, LoweredLast, LoweredLoop, LoweredProperties, LoweredStatement}
-use Rattle.rl_lowered.specs.Lowered.{LoweredStatements, LoweredTest}
-use Rattle.rl_lowered.specs.Promised.{LowersAll, LowersExpression, LowersInit, LowersLast, LowersLoop, LowersProperties, LowersStatement}
-use Rattle.rl_lowered.specs.Promised.{LowersStatements, LowersTest}
+use Rattle.rl_lowered.proofs.Names.{all_names, expression_names, head_names, init_names, last_names, loop_names, statement_names}
+use Rattle.rl_lowered.proofs.Names.{statements_names, test_names}
+use Rattle.rl_lowered.proofs.Sizes.{all_size, expression_size, head_size, init_size, last_size, loop_size, statement_size, statements_size}
+use Rattle.rl_lowered.proofs.Sizes.{test_size}
+use Rattle.rl_lowered.specs.Lowered.{Lowered, LoweredAll, LoweredHead, LoweredInit, LoweredLast, LoweredLoop, LoweredProperties}
+use Rattle.rl_lowered.specs.Lowered.{LoweredStatement, LoweredStatements, LoweredTest}
+use Rattle.rl_lowered.specs.Promised.{LowersAll, LowersExpression, LowersHead, LowersInit, LowersLast, LowersLoop, LowersProperties}
+use Rattle.rl_lowered.specs.Promised.{LowersStatement, LowersStatements, LowersTest}
 use Rattle.rl_model.specs.Actions.{Label}
 use Rattle.rl_names.specs.Names.{Names}
 use Rattle.rl_syntax.specs.Syntax.{Syntax, Pieces}
@@ -42,6 +43,10 @@ told_init l = record { by = l; named = (init_names l).named; size = init_size l 
 pub told_test : {names : Names} {at : Span} {e : Syntax} {s t : State} {p : Place} → LoweredTest names at e s t p
     → LowersTest names at e s t p
 told_test l = record { by = l; named = (test_names l).named; size = test_size l }
+
+pub told_head : {names : Names} {value : Place} {e : Syntax} {s t : State} {p : Place} → LoweredHead names value e s t p
+    → LowersHead names value e s t p
+told_head l = record { by = l; named = (head_names l).named; size = head_size l }
 
 pub told_statements : {names : Names} {es : Pieces} {s t : State} → LoweredStatements names es s t → LowersStatements names es s t
 told_statements l = record { by = l; named = (statements_names l).named; size = statements_size l }

@@ -16,6 +16,7 @@ use Rattle.rl_builder.specs.Builder.{State, completed_by, new_block, pushed, rec
 use Rattle.rl_builder.specs.declared.blocks.WipBlock.{WipBlock}
 use Rattle.rl_builder.specs.Temporaries.{temporary, unordered, with_value}
 use Rattle.rl_frames.proofs.LoopNotes.{do_while_unread, while_unread}
+use Rattle.rl_frames.proofs.RoundNotes.{forin_unread, forof_unread}
 use Rattle.rl_frames.specs.Frames.{ForParts, for_after_init, for_after_update, for_again, for_aside, for_at, for_bodied}
 use Rattle.rl_frames.specs.Frames.{for_inited, for_opened, for_updated}
 use Rattle.rl_frames.specs.Frames.{IfParts, if_after_consequent, if_alternate, if_at, if_consequent}
@@ -24,6 +25,8 @@ use Rattle.rl_frames.specs.Frames.{LogicalParts, aside_of, logical_at, logical_r
 use Rattle.rl_frames.specs.Frames.{SequenceParts, sequence_at}
 use Rattle.rl_frames.specs.Frames.{TernaryParts, ternary_alternated, ternary_aside, ternary_at, ternary_consequent}
 use Rattle.rl_frames.specs.Frames.{ternary_parted}
+use Rattle.rl_frames.specs.Rounds.{ForOfParts, RoundsParts, forin_at, forin_headed, forof_at, forof_headed, forof_iterator, forof_shut}
+use Rattle.rl_frames.specs.Rounds.{forof_tested, rounds_shut}
 use Rattle.rl_frames.specs.Parts.{for_begun, for_end, if_begun, if_end, label_begun, label_end, loads, logical_begun, logical_entered}
 use Rattle.rl_frames.specs.Parts.{logical_left, logical_place, sequence_begun, ternary_begun}
 use Rattle.rl_hir.specs.Blocks.{Pair as BlockPair}
@@ -43,16 +46,16 @@ use Rattle.rl_hir.specs.declared.terminal.ReturnVariant.TheVariants as returns
 use Rattle.rl_hir.specs.declared.terminal.Terminal.{Terminal}
 use Rattle.rl_hir.specs.declared.terminal.TerminalKind.{TerminalKind}
 use Rattle.rl_hir.specs.declared.terminal.TerminalKind.TheVariants as kinds
-use Rattle.rl_lowered.proofs.Blocks.{expression_blocks, statement_blocks}
+use Rattle.rl_lowered.proofs.Blocks.{expression_blocks, head_blocks, statement_blocks}
 use Rattle.rl_lowered.specs.Forms.{MemberKey, load_of, store_of, typed}
-use Rattle.rl_lowered.specs.Lowered.{Lowered, LoweredBody, LoweredDeclarators, LoweredInit, LoweredLast, LoweredLoop, LoweredParts}
-use Rattle.rl_lowered.specs.Lowered.{LoweredStatement, LoweredStatements, LoweredTest, declaring, member_loaded, member_one, member_stored}
-use Rattle.rl_lowered.specs.Lowered.{member_updated, part_span, value_span}
+use Rattle.rl_lowered.specs.Lowered.{Lowered, LoweredBody, LoweredDeclarators, LoweredHead, LoweredInit, LoweredLast, LoweredLoop}
+use Rattle.rl_lowered.specs.Lowered.{LoweredParts, LoweredStatement, LoweredStatements, LoweredTest, declaring, found_again, member_loaded}
+use Rattle.rl_lowered.specs.Lowered.{member_one, member_stored, member_updated, part_span, value_span}
 use Rattle.rl_lowered.specs.Lowered as lowered
 use Rattle.rl_lowered.specs.Named.{found}
 use Rattle.rl_model.specs.Actions.{Label}
 use Rattle.rl_names.specs.Names.{Names}
-use Rattle.rl_promises.specs.Rows.{refusal}
+use Rattle.rl_promises.specs.Rows.{refusal, row_of_head}
 use Rattle.rl_runs.proofs.Moves.{extends_pushed}
 use Rattle.rl_runs.proofs.Naming.{named_first, named_none}
 use Rattle.rl_runs.proofs.ReadNotes.{marked_ended, unread_ended, unread_pushed, unread_then}
@@ -381,6 +384,22 @@ test_unread {at} (lowered.NoTest s) =
     unreads_noted_value s (refusal row.F32 at) (values.Primitive (primitives.Boolean true)) (Some at)
 test_unread (lowered.Tested e s t p l) = expression_unread l
 
+-- The head of a loop over keys or values.
+head_unread : {names : Names} {value : Place} {e : Syntax} {s t : State} {p : Place} → LoweredHead names value e s t p → Unreads s t
+head_unread {names} (lowered.Declared at there bind kind name type symbol identifier s annotated is f) =
+    let again : State = found_again names s symbol identifier bind.span in
+    unreads_then s again _ (unreads_same s again refl refl (omega arith)) (unreads_value again _ (Some at.span))
+head_unread {names} (lowered.Reassigned at name symbol identifier s is mutable f) =
+    unreads_found_value names s symbol at.span _ (Some at.span)
+head_unread {names} (lowered.ReassignedConstant at name symbol identifier s is constant f) =
+    let first : State = found names s symbol at.span in
+    unreads_then s first _ (unreads_found names s symbol at.span)
+    (unreads_noted first (diagnostic_at row.F6 (names.name symbol.0) at.span))
+head_unread {value} (lowered.StoredGlobal at name binding s is) = unreads_value s (values.StoreGlobal name value) (Some at.span)
+head_unread {value} (lowered.StoredMember at w fields parts pieces object key s t is l) =
+    unreads_then s t _ (all_unread l) (unreads_value t (store_of object key value) (Some at.span))
+head_unread (lowered.Lost at w fields s is) = unreads_noted s (refusal (row_of_head w) at.span)
+
 mutual
   pub statement_unread : {names : Names} {e : Syntax} {s t : State} → LoweredStatement names e s t → Unreads s t
   statement_unread (lowered.Empty at s) = unreads_refl s
@@ -472,6 +491,31 @@ mutual
       (unreads_scope_ended s3 (for_again g).0 gotos.Continue (span_of body) s.current (for_end f.test g.update g.body at.span)
       (for_aside g).1 refl refl)
       (test_unread second)))))
+  loop_unread {own} (lowered.ForIn at head right body s s2 s3 s4 collection p first second third) =
+      let f : RoundsParts = rounds_shut (forin_at s at.span) in
+      let b = statement_unread first in
+      let r = expression_unread second in
+      let v = unreads_value (forin_headed f s3) (values.NextPropertyOf collection) (Some (span_of head)) in
+      let h = head_unread third in record {
+        grows = omega (arith, b.grows, r.grows, v.grows, h.grows);
+        handlers = h.handlers ∙ v.handlers ∙ r.handlers ∙ b.handlers;
+        keeps = forin_unread s s2 s3 s4 own collection p at.span (span_of head) (span_of body) (statement_blocks first).extends
+            (expression_blocks second).extends (head_blocks third).extends b.keeps r.keeps h.keeps;
+      }
+  loop_unread {own} (lowered.ForOf at head right body s s2 s3 s4 collection p first second third) =
+      let f : ForOfParts = forof_shut (forof_at s at.span) in
+      let b = statement_unread first in
+      let r = expression_unread second in
+      let o = unreads_value (forof_headed f s3) (values.GetIterator collection) collection.span in
+      let v = unreads_value (forof_tested f s3 collection) (values.IteratorNext (forof_iterator f s3 collection) collection)
+      (Some (span_of head)) in
+      let h = head_unread third in record {
+        grows = omega (arith, b.grows, r.grows, o.grows, v.grows, h.grows);
+        handlers = h.handlers ∙ v.handlers ∙ o.handlers ∙ r.handlers ∙ b.handlers;
+        keeps = forof_unread s s2 s3 s4 own collection p at.span (span_of head) (span_of body) (statement_blocks first).extends
+            (expression_blocks second).extends (head_blocks third).extends b.keeps r.keeps h.keeps;
+      }
+  loop_unread (lowered.AwaitRefused at head right body s) = unreads_noted s (refusal row.F33 at.span)
 
   init_unread : {names : Names} {at : Span} {e : Syntax} {s t : State} → LoweredInit names at e s t → Unreads s t
   init_unread {at} (lowered.NoInit s) = unreads_value s (values.Primitive primitives.Undefined) (Some at)

@@ -6,3 +6,4 @@ pub mod Named
 pub mod Promised
 pub mod Sound
 pub mod Spanned
+pub mod Steps

@@ -1,13 +1,11 @@
 -- The instructions that blocks list, between two states: each that was made since is listed once, and no other is listed anew.
-use Rattle.std.specs.Prelude.{◌≡◌, ℕ, ◌+◌, ◌≤◌, Bool, true, false, if◌then◌else◌, ◌&&◌, ◌||◌, nat_le, nat_lt, nat_eq, ◌++◌}
+use Rattle.std.specs.Prelude.{◌≡◌, ℕ, ◌+◌, ◌≤◌, false, if◌then◌else◌, ◌&&◌, nat_le, nat_lt, nat_eq, ◌++◌}
 use Rattle.std.specs.Prelude.{List, [], ◌∷◌, All, length, map}
 use Rattle.rl_builder.specs.Builder.{State}
 use Rattle.rl_builder.specs.Dropped.{is_function_expression}
 use Rattle.rl_hir.specs.Blocks.{Pair as BlockPair}
 use Rattle.rl_hir.specs.Numbered.{listed_in}
 use Rattle.rl_hir.specs.declared.instruction.Instruction.{Instruction}
-use Rattle.rl_hir.specs.declared.instruction.InstructionValue.{InstructionValue}
-use Rattle.rl_hir.specs.declared.instruction.InstructionValue.TheVariants as values
 use Rattle.rl_order.specs.Numbering.{orders_of}
 use Rattle.rl_runs.specs.Listed.{AreBelow}
 
@@ -29,19 +27,8 @@ pub record ListsTable (s : State) : Type 0 where
   pub completed : All (λ (b : BlockPair). AreBelow (length s.table) b.1.instructions) s.completed
   pub current : AreBelow (length s.table) s.current.instructions
 
--- True of a value that asks for an iterator, or for the next value of a loop.
-abbrev pub is_step : InstructionValue → Bool
-is_step (values.GetIterator collection) = true
-is_step (values.IteratorNext iterator collection) = true
-is_step (values.NextPropertyOf object) = true
-is_step _ = false
-
--- True of a value that makes a function, or is a step of a loop.
-abbrev pub is_marked : InstructionValue → Bool
-is_marked value = is_function_expression value || is_step value
-
 -- Each instruction that was made since is listed once more than before, and the numbers that blocks take grow as the table and the blocks
--- do. No instruction has an order yet, makes a function or is a step of a loop, and no completed block has predecessors.
+-- do. No instruction has an order yet or makes a function, and no completed block has predecessors.
 pub record ListsSince (old new : State) : Type 0 where
   pub longer : length old.table ≤ length new.table
   pub within : ListsTable old → ListsTable new
@@ -52,5 +39,4 @@ pub record ListsSince (old new : State) : Type 0 where
   pub unordered : All (λ (i : Instruction). i.order.0 ≡ 0) old.table → All (λ (i : Instruction). i.order.0 ≡ 0) new.table
   pub no_functions : All (λ (i : Instruction). is_function_expression i.value ≡ false) old.table
       → All (λ (i : Instruction). is_function_expression i.value ≡ false) new.table
-  pub no_steps : All (λ (i : Instruction). is_step i.value ≡ false) old.table → All (λ (i : Instruction). is_step i.value ≡ false) new.table
   pub predecessors : All (λ (b : BlockPair). b.1.preds ≡ []) old.completed → All (λ (b : BlockPair). b.1.preds ≡ []) new.completed

@@ -26,10 +26,13 @@ use Rattle.rl_frames.specs.Frames.{for_after, for_after_init, for_after_update, 
 use Rattle.rl_frames.specs.Frames.{logical_after, logical_at, logical_ended, logical_righted}
 use Rattle.rl_frames.specs.Frames.{sequence_at, sequence_ended}
 use Rattle.rl_frames.specs.Frames.{ternary_after, ternary_alternated, ternary_at, ternary_consequent, ternary_ended, ternary_parted}
-use Rattle.rl_frames.specs.Parts.{for_begun, if_begun, label_begun, logical_begun, logical_place, sequence_begun, sequence_place}
-use Rattle.rl_frames.specs.Parts.{ternary_begun, ternary_place, while_begun}
+use Rattle.rl_frames.specs.Parts.{for_begun, forin_begun, forof_begun, if_begun, label_begun, logical_begun, logical_place}
+use Rattle.rl_frames.specs.Parts.{sequence_begun, sequence_place, ternary_begun, ternary_place, while_begun}
+use Rattle.rl_frames.specs.Rounds.{forin_at, forin_key, forin_righted, forof_after, forof_at, forof_bodied, forof_ended, forof_item}
+use Rattle.rl_frames.specs.Rounds.{forof_righted, forof_shut, rounds_bodied, rounds_ended, rounds_opened, rounds_shut}
 use Rattle.rl_grammar.specs.Grammar.{every}
 use Rattle.rl_grammar.specs.declared.kind.Kind.TheVariants as sort
+use Rattle.rl_hir.specs.Identifiers.{changed_at, with_span}
 use Rattle.rl_hir.specs.Pieces.{Piece, Gives, Names as Named, Says, Spreads, argument_pieces, gathered, property_pieces}
 use Rattle.rl_hir.specs.declared.function.BlockKind.TheVariants as blocks
 use Rattle.rl_hir.specs.declared.instruction.InstructionKind.{InstructionKind}
@@ -52,8 +55,8 @@ use Rattle.rl_model.specs.Shapes.{is_computed, key_text, said}
 use Rattle.rl_names.specs.Names.{Names}
 use Rattle.rl_names.specs.declared.names.Meaning.TheVariants.{Local, Outer}
 use Rattle.rl_promises.specs.Jumps.{is_loop}
-use Rattle.rl_promises.specs.Outs.{is_known_key}
-use Rattle.rl_promises.specs.Rows.{is_eval, refusal}
+use Rattle.rl_promises.specs.Outs.{is_known_key, is_lost_head}
+use Rattle.rl_promises.specs.Rows.{is_eval, refusal, row_of_head}
 use Rattle.rl_runs.specs.Moves.{next_hole, return_of, returned_from}
 use Rattle.rl_syntax.specs.declared.numbered.At.{At}
 use Rattle.rl_syntax.specs.declared.word.Word.{Word}
@@ -297,6 +300,55 @@ pub data LoweredTest (names : Names) (at : Span) : Syntax → (old new : State) 
       (temporary (recorded s (refusal row.F32 at)) (Some at))
   Tested : (e : Syntax) (s t : State) (p : Place) → Lowered names e s t p → LoweredTest names at e s t p
 
+-- The state behind a declaration whose identifier gets another span.
+abbrev pub redeclared : State → (identifier : ℕ) → Span → State
+redeclared s identifier span =
+    record s { env = record s.env { identifiers = changed_at (with_span span) identifier s.env.identifiers } }
+
+-- The state behind the look-up of a variable that the head of a loop declares.
+abbrev pub found_again : Names → State → SymbolId → (identifier : ℕ) → Span → State
+found_again names s symbol identifier span = redeclared (found names s symbol span) identifier span
+
+-- The head of a `for`-`in` or `for`-`of` loop was lowered, which gives `value` to a variable or a property. The place is that of the
+-- test behind it: the store's, or `value` where nothing is stored.
+pub data LoweredHead (names : Names) (value : Place) : (head : Syntax) → (old new : State) → Place → Type 0 where
+  -- A declaration by any keyword. The variable's identifier gets the span of its name there.
+  Declared : (at there bind : At) (kind name : List ℕ) (type : Syntax) (symbol : SymbolId) (identifier : ℕ) (s : State)
+      → IsAnnotation type → names.declared bind.id.0 ≡ Some symbol → IsFound names s symbol bind.span identifier
+      → LoweredHead names value
+      (Node at word.Var
+      (Then (Said kind)
+      (Then
+      (Listed (Then (Node there word.Declarator (Then (Node bind word.Bind (Then (Said name) (Then type End))) (Then Absent End))) End))
+      End))) s
+      (with_value (found_again names s symbol identifier bind.span)
+      (values.StoreLocal kinds.Let (record { identifier = record { 0 = identifier }; span = Some at.span }) value) (Some at.span))
+      (temporary (found_again names s symbol identifier bind.span) (Some at.span))
+  -- A local variable.
+  Reassigned : (at : At) (name : List ℕ) (symbol : SymbolId) (identifier : ℕ) (s : State)
+      → names.meaning at.reference.0 name ≡ Local symbol → names.is_const symbol.0 ≡ false → IsFound names s symbol at.span identifier
+      → LoweredHead names value (Node at word.Id (Then (Said name) End)) s
+      (with_value (found names s symbol at.span)
+      (values.StoreLocal kinds.Reassign (record { identifier = record { 0 = identifier }; span = Some at.span }) value) (Some at.span))
+      (temporary (found names s symbol at.span) (Some at.span))
+  -- A constant (row F6).
+  ReassignedConstant : (at : At) (name : List ℕ) (symbol : SymbolId) (identifier : ℕ) (s : State)
+      → names.meaning at.reference.0 name ≡ Local symbol → names.is_const symbol.0 ≡ true → IsFound names s symbol at.span identifier
+      → LoweredHead names value (Node at word.Id (Then (Said name) End)) s
+      (recorded (found names s symbol at.span) (diagnostic_at row.F6 (names.name symbol.0) at.span)) value
+  -- Any other name.
+  StoredGlobal : (at : At) (name : List ℕ) (binding : NonLocalBinding) (s : State) → names.meaning at.reference.0 name ≡ Outer binding
+      → LoweredHead names value (Node at word.Id (Then (Said name) End)) s
+      (with_value s (values.StoreGlobal name value) (Some at.span)) (temporary s (Some at.span))
+  -- A property.
+  StoredMember : (at : At) (w : Word) (fields parts : Pieces) (pieces : List Piece) (object : Place) (key : MemberKey) (s t : State)
+      → IsMember w fields parts pieces object key → LoweredParts names false parts s t pieces
+      → LoweredHead names value (Node at w fields) s
+      (with_value t (store_of object key value) (Some at.span)) (temporary t (Some at.span))
+  -- A property of a private name, or a target under a wrapper (rows F11 and F45).
+  Lost : (at : At) (w : Word) (fields : Pieces) (s : State) → is_lost_head (Node at w fields) ≡ true
+      → LoweredHead names value (Node at w fields) s (recorded s (refusal (row_of_head w) at.span)) value
+
 mutual
   -- A statement was lowered between two states.
   pub data LoweredStatement (names : Names) : Syntax → (old new : State) → Type 0 where
@@ -370,6 +422,24 @@ mutual
         → LoweredTest names at.span test (for_bodied (for_after_init (for_at s at.span own false) s2) s3 (span_of body)) s4 p
         → LoweredLoop names own (Node at word.For (Then init (Then test (Then Absent (Then body End))))) s
         (for_ended (for_after (for_after_init (for_at s at.span own false) s2)) s4 p)
+    ForIn : {own : Label} (at : At) (head right body : Syntax) (s s2 s3 s4 : State) (collection p : Place)
+        → LoweredStatement names body (forin_begun s own) s2
+        → Lowered names right (rounds_bodied (forin_at s at.span) s2 (span_of body)) s3 collection
+        → LoweredHead names (forin_key (rounds_shut (forin_at s at.span)) s3 (span_of head)) head
+        (forin_righted (rounds_shut (forin_at s at.span)) s3 (span_of head) collection) s4 p
+        → LoweredLoop names own (Node at word.Forin (Then head (Then right (Then body End)))) s
+        (rounds_ended (rounds_opened (rounds_shut (forin_at s at.span))) s4 p)
+    ForOf : {own : Label} (at : At) (head right body : Syntax) (s s2 s3 s4 : State) (collection p : Place)
+        → LoweredStatement names body (forof_begun s own) s2
+        → Lowered names right (forof_bodied (forof_at s at.span) s2 (span_of body)) s3 collection
+        → LoweredHead names (forof_item (forof_shut (forof_at s at.span)) s3 (span_of head) collection) head
+        (forof_righted (forof_shut (forof_at s at.span)) s3 (span_of head) collection) s4 p
+        → LoweredLoop names own (Node at word.Forof (Then (Flag false) (Then head (Then right (Then body End))))) s
+        (forof_ended (forof_after (forof_shut (forof_at s at.span))) s4 p)
+    -- `for await` (row F33).
+    AwaitRefused : {own : Label} (at : At) (head right body : Syntax) (s : State)
+        → LoweredLoop names own (Node at word.Forof (Then (Flag true) (Then head (Then right (Then body End))))) s
+        (recorded s (refusal row.F33 at.span))
 
   -- The init of a `for` loop with the span `at` was lowered: undefined stands for an absent one, and an expression is refused (row F31).
   pub data LoweredInit (names : Names) : (at : Span) → Syntax → (old new : State) → Type 0 where

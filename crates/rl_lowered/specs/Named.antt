@@ -10,6 +10,7 @@ use Rattle.rl_promises.specs.Fields.{IsNamedPair}
 use Rattle.rl_promises.specs.Locals.{IsVariable, KnowsNames}
 use Rattle.rl_base.specs.declared.ids.SymbolId.{SymbolId}
 use Rattle.rl_resolver.specs.Lookups.{declaration_ident}
+use Rattle.rl_runs.specs.Facts.{HasSoundNames}
 use Rattle.rl_semantic.specs.declared.semantic.Semantic.{Semantic}
 use Rattle.rl_used_names.specs.IdentifierNames.{fbt}
 
@@ -40,11 +41,26 @@ pub record IsFound (names : Names) (s : State) (symbol : SymbolId) (at : Span) (
   pub bound : identifier_of (found names s symbol at).bindings symbol.0 ≡ Some identifier
   pub agree : NamesAgree s → NamesAgree (found names s symbol at)
 
--- An identifier that has a name stays as it is.
+-- The list has an identifier at the index, which is `known` but for its span.
+pub record HasAgain (identifiers : List Identifier) (identifier : ℕ) (known : Identifier) : Type 0 where
+  pub span : Option Span
+  pub is : slice_get identifiers identifier ≡ Some (record known { span = span })
+
+-- An identifier that has a name keeps all but its span.
 abbrev pub KeepsNamed : (old new : List Identifier) → Type 0
 KeepsNamed old new =
-    (identifier : ℕ) (known : Identifier) → slice_get old identifier ≡ Some known → known.name ≢ None
-    → slice_get new identifier ≡ Some known
+    (identifier : ℕ) (known : Identifier) → slice_get old identifier ≡ Some known → known.name ≢ None → HasAgain new identifier known
+
+-- Each symbol that has an identifier keeps it, and the identifier keeps all but its span: that is `behind symbol before` in the end, where
+-- it was `before`.
+pub record Respans (behind : (symbol : ℕ) → (before : Span) → Span) (old new : State) : Type 0 where
+  pub sound : HasSoundNames old → HasSoundNames new
+  pub bound : HasSoundNames old → (symbol identifier : ℕ) → identifier_of old.bindings symbol ≡ Some identifier
+      → identifier_of new.bindings symbol ≡ Some identifier
+  pub keeps : HasSoundNames old → (symbol identifier : ℕ) (known : Identifier) (before : Span)
+      → identifier_of old.bindings symbol ≡ Some identifier
+      → slice_get old.env.identifiers identifier ≡ Some (record known { span = Some before })
+      → slice_get new.env.identifiers identifier ≡ Some (record known { span = Some (behind symbol before) })
 
 -- The identifiers of the pairs are named for their symbols.
 abbrev pub HasNamedPairs : Names → State → Type 0

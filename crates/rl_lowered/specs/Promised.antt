@@ -7,10 +7,11 @@ use Rattle.rl_hir.specs.declared.instruction.Instruction.{Instruction}
 use Rattle.rl_hir.specs.declared.instruction.Place.{Place}
 use Rattle.rl_hir.specs.declared.terminal.ReturnVariant.TheVariants as returns
 use Rattle.rl_lowered.specs.Listing.{ListsSince}
-use Rattle.rl_lowered.specs.Lowered.{Lowered, LoweredAll, LoweredBody, LoweredInit, LoweredLast, LoweredLoop, LoweredProperties}
-use Rattle.rl_lowered.specs.Lowered.{LoweredStatement, LoweredStatements, LoweredTest}
-use Rattle.rl_lowered.specs.Named.{IsNamed, KeepsNames}
+use Rattle.rl_lowered.specs.Lowered.{Lowered, LoweredAll, LoweredBody, LoweredHead, LoweredInit, LoweredLast, LoweredLoop}
+use Rattle.rl_lowered.specs.Lowered.{LoweredProperties, LoweredStatement, LoweredStatements, LoweredTest}
+use Rattle.rl_lowered.specs.Named.{IsNamed, KeepsNames, Respans}
 use Rattle.rl_lowered.specs.Sound.{IsSmallTree, StaysSound}
+use Rattle.rl_lowered.specs.Steps.{KeepsStepsApart}
 use Rattle.rl_model.specs.Actions.{Action, Label, ◌>>=◌, return_with}
 use Rattle.rl_model.specs.Counted.{Counted}
 use Rattle.rl_model.specs.Expressions.{eval}
@@ -21,6 +22,7 @@ use Rattle.rl_hir.specs.Written.{value_word}
 use Rattle.rl_promises.specs.Held.{times}
 use Rattle.rl_model.specs.Dead.{lives_all}
 use Rattle.rl_promises.specs.Live.{Held, live_in_body}
+use Rattle.rl_promises.specs.Rebound.{span_behind_body}
 use Rattle.rl_promises.specs.Rows.{Records, refusals}
 use Rattle.rl_promises.specs.Stops.{has_using}
 use Rattle.rl_promises.specs.Tallies.{IsHeldKind, tallied}
@@ -86,6 +88,12 @@ pub record LowersTest (names : Names) (at : Span) (e : Syntax) (old new : State)
   pub named : IsNamed names old → IsNamed names new
   pub size : size_of new ≤ size_of old + share (nodes e) + 4
 
+-- As `LowersExpression`, for the head of a `for`-`in` or `for`-`of` loop, which takes `value`.
+pub record LowersHead (names : Names) (value : Place) (e : Syntax) (old new : State) (place : Place) : Type 0 where
+  pub by : LoweredHead names value e old new place
+  pub named : IsNamed names old → IsNamed names new
+  pub size : size_of new ≤ size_of old + share (nodes e)
+
 -- As `LowersStatement`, for statements in order.
 pub record LowersStatements (names : Names) (es : Pieces) (old new : State) : Type 0 where
   pub by : LoweredStatements names es old new
@@ -113,10 +121,12 @@ held_by i = option_map (λ span. record { word = value_word i.value; span = span
 pub record LowersBody (names : Names) (b : Syntax) (old new : State) : Type 0 where
   pub by : LoweredBody names b old new
   pub names_kept : KeepsNames names old new
+  pub respans : Respans (λ symbol before. span_behind_body names symbol b before) old new
   pub size : size_of new ≤ size_of old + share (nodes b + 1)
   pub blocks : PreservesBlocks old new
   pub lists : ListsSince old new
   pub unread : KeepsUnread old new
+  pub steps : KeepsStepsApart old new
   pub refused : Records (refusals names b) old.env.diagnostics new.env.diagnostics
   pub tallies : refusals names b ≡ [] → (key : Counted) → IsHeldKind key.kinds → times key new.table ≡ times key old.table + tallied key b
   pub lives : refusals names b ≡ [] → Lives held_by (live_in_body b) (body_falls b) old new
