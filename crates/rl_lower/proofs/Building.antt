@@ -1,11 +1,12 @@
 -- The end of a body: what blocks list behind it, its size, its names, and its sound parts.
-use Rattle.std.proofs.Common.{◌≡◌, ◌+◌, ◌-◌, ◌≤◌, ◌^◌, [], Option, None, length, Some}
-use Rattle.std.proofs.Common.{refl, arith}
+use Rattle.std.proofs.Common.{◌≡◌, ℕ, ◌+◌, ◌-◌, ◌≤◌, ◌^◌, List, [], Option, None, length, slice_get, Some}
+use Rattle.std.proofs.Common.{refl, ap, ◌∙◌, arith}
 use Rattle.rl_base.specs.declared.ids.BlockId.{BlockId}
 use Rattle.rl_builder.specs.Builder.{State, completed_by, innermost, placeholder, pushed_under, with_temporary}
 use Rattle.rl_builder.specs.Temporaries.{temporary, unordered}
 use Rattle.rl_builder.specs.declared.blocks.WipBlock.{WipBlock}
 use Rattle.rl_hir.specs.declared.function.BlockKind.TheVariants as kinds
+use Rattle.rl_hir.specs.declared.function.Identifier.{Identifier}
 use Rattle.rl_hir.specs.declared.instruction.Instruction.{Instruction}
 use Rattle.rl_hir.specs.declared.instruction.InstructionValue.TheVariants as values
 use Rattle.rl_hir.specs.declared.instruction.PrimitiveValue.TheVariants as primitives
@@ -23,6 +24,7 @@ use Rattle.rl_lowered.specs.Sound.{StaysSound}
 use Rattle.rl_names.specs.Names.{Names}
 use Rattle.rl_runs.proofs.Listed.{listed_completed, listed_value}
 use Rattle.rl_runs.proofs.Sizes.{size_value}
+use Rattle.rl_runs.proofs.Steps.{get_more}
 use Rattle.rl_runs.specs.Blocks.{size_of}
 use Rattle.rl_runs.specs.Listed.{IsListed}
 use Rattle.rl_runs.specs.Moves.{return_of}
@@ -83,3 +85,15 @@ diagnostics_under (Some handler) s i = refl
 pub diagnostics_closed : (s : State) → (closed_off s).env.diagnostics ≡ s.env.diagnostics
 diagnostics_closed s =
     diagnostics_under (innermost s.handlers) (with_temporary s None) (unordered (temporary s None) (values.Primitive primitives.Undefined) None)
+
+identifiers_under : (o : Option BlockId) (s : State) (i : Instruction) → (pushed_under o s i).env.identifiers ≡ s.env.identifiers
+identifiers_under None s i = refl
+identifiers_under (Some handler) s i = refl
+
+-- Identifiers stay behind the end of a body.
+pub identifiers_closed : (s : State) (identifier : ℕ) (known : Identifier) → slice_get s.env.identifiers identifier ≡ Some known
+    → slice_get (closed_off s).env.identifiers identifier ≡ Some known
+identifiers_closed s identifier known there =
+    ap (λ (l : List Identifier). slice_get l identifier)
+    (identifiers_under (innermost s.handlers) (with_temporary s None) (unordered (temporary s None) (values.Primitive primitives.Undefined) None))
+    ∙ get_more s.env.identifiers _ identifier known there

@@ -1,5 +1,5 @@
 -- The graph of a function (`IsGraphOf`): its traces, size, identifiers and fields, from the lowering of its body.
-use Rattle.std.proofs.Common.{◌≡◌, ℕ, ◌+◌, ◌*◌, ◌<◌, ◌≤◌, ◌^◌, ◌++◌, false, List, [], All, length, length-append, slice_get, Option}
+use Rattle.std.proofs.Common.{◌≡◌, ℕ, ◌+◌, ◌*◌, ◌<◌, ◌≤◌, ◌^◌, ◌++◌, false, List, [], All, length, length-append, map, slice_get, Option}
 use Rattle.std.proofs.Common.{Some, refl, sym, ap, ◌∙◌, subst, arith}
 use Rattle.rl_base.specs.declared.diagnostic.Diagnostic.{Diagnostic}
 use Rattle.rl_base.specs.declared.span.Span.{Span}
@@ -10,10 +10,11 @@ use Rattle.rl_hir.specs.Pairs.{identifier_of}
 use Rattle.rl_hir.specs.declared.environment.Environment.{Environment}
 use Rattle.rl_hir.specs.declared.function.Hir.{Hir}
 use Rattle.rl_hir.specs.declared.function.HirFunction.{HirFunction}
+use Rattle.rl_hir.specs.declared.function.Identifier.{Identifier}
 use Rattle.rl_hir.specs.declared.function.Pair.{Pair}
 use Rattle.rl_hir.specs.declared.function.Param.{Param}
 use Rattle.rl_hir.specs.declared.instruction.Instruction.{Instruction}
-use Rattle.rl_lower.proofs.Building.{IsFresh, closed_listed, diagnostics_closed, names_closed}
+use Rattle.rl_lower.proofs.Building.{IsFresh, closed_listed, diagnostics_closed, identifiers_closed, names_closed}
 use Rattle.rl_lower.proofs.Builds.{closed_size, closed_table, few_parts}
 use Rattle.rl_lower.proofs.FunctionTrees.{IsFunction, function_nodes, function_refusals}
 use Rattle.rl_lower.proofs.Functions.{body_trace, closed_extends, function_may, function_runs_by}
@@ -50,12 +51,14 @@ use Rattle.rl_names.specs.declared.parameters.Parameter.{Parameter}
 use Rattle.rl_order.proofs.Pruning.{pruned_size}
 use Rattle.rl_promises.proofs.CoveredMeanings.{params_taken}
 use Rattle.rl_promises.specs.Fields.{AreGiven, ArePairs}
+use Rattle.rl_promises.specs.Rebound.{respanned, span_behind_body}
 use Rattle.rl_promises.specs.Headline.{NeverStuck, SameRuns}
 use Rattle.rl_promises.specs.Rows.{Records, refusals, refusals_of}
 use Rattle.rl_promises.specs.Size.{function_size}
 use Rattle.rl_promises.specs.Stops.{has_using}
 use Rattle.rl_runs.proofs.FinalNames.{sound_covers}
 use Rattle.rl_runs.proofs.Moves.{extends_temporary}
+use Rattle.rl_runs.proofs.Steps.{get_more}
 use Rattle.rl_runs.specs.Blocks.{size_of}
 use Rattle.rl_runs.specs.Continuations.{Agrees}
 use Rattle.rl_runs.specs.Facts.{CoversNames, Extends, HasSoundNames}
@@ -152,7 +155,7 @@ module _ (names : Names) (tables : FunctionTables) (parameters : List Parameter)
   graph_closed none =
       g.graph.closed
       (subst (λ (blocks : List BlockPair). MayOrder (record { blocks = blocks; table = last.table; entry = last.entry })) (sym graph_table)
-      (function_may begun g.state (begun_fresh env tables parameters) lowered_from.blocks graph_fits lowered_from.lists lowered_from.unread
+      (function_may begun g.state (begun_fresh env tables parameters) lowered_from.blocks graph_fits lowered_from.unread lowered_from.steps
       (λ symbol. identifier_of last.env.pairs symbol) alone (sound_covers last (graph_names none)) graph_unlinked))
     where
       -- A world in which no variable is shared.
@@ -235,7 +238,7 @@ lower_runs_by : (f body : Syntax) (names : Names) (tables : FunctionTables) (par
     → trace_by stuck world h pairs start arguments answers ≡ run_function scene f start arguments answers
 lower_runs_by f body names tables given env new params built w declared own is distinct none g supported unskipped h pairs final body_is instructions_is params_is scene world stands =
     function_runs_by scene world begun graph.state (exec_before_end scene body) (begun_fresh env tables parameters) sound
-    lowered.blocks (graph_fits names tables parameters body env new params built graph apart) lowered.lists lowered.unread
+    lowered.blocks (graph_fits names tables parameters body env new params built graph apart) lowered.unread lowered.steps
     (lowered.runs (body_supported names f body w declared own supported) (sym (ap has_using w.is_body) ∙ unskipped) scene stands.named stands.ported) h pairs covers stands.shares f
     built new graph.graph (graph_table names tables parameters body env new params built graph apart) (graph_unlinked names tables parameters body env new params built graph apart) body_is instructions_is
     (λ start arguments. take parameters arguments (set_all start unset))
@@ -331,18 +334,36 @@ lower_pairs names tables parameters body env new behind params built span distin
     ((names_temporary {names = names} (closed_off g.state) span).pairs
     ((graph_keeps names tables parameters body env new params built g distinct).pairs (parameters_pairs (begun_by env tables) names parameters none own))))
 
--- The identifiers of parameters there.
-pub lower_given : (names : Names) (tables : FunctionTables) (parameters : List Parameter) (body : Syntax) (env new behind : Environment)
-    (params : List Param)
-    (built : Graph) (span : Option Span) → AreApart parameters → env.pairs ≡ []
-    → IsGraphOf names tables parameters body env new params built → AreDeclaredAt tables.semantic parameters
-    → behind ≡ one_identifier_more new span
-    → AreGiven behind.identifiers behind.pairs (length env.identifiers) env.next_type parameters
-lower_given names tables parameters body env new behind params built span distinct none g spanned more =
-    subst (λ (e : Environment). AreGiven e.identifiers e.pairs (length env.identifiers) env.next_type parameters) (sym (more ∙ ap (λ (e : Environment). one_identifier_more e span) g.after))
-    (parameters_kept (begun_by env tables) parameters _ _ _ none distinct spanned (graph_extends names tables parameters body env new params built g distinct).names
-    (λ identifier known is named. (names_temporary {names = names} (closed_off g.state) span).identifiers identifier known
-    ((graph_keeps names tables parameters body env new params built g distinct).identifiers identifier known is named) named))
+-- The identifiers of parameters there, each with the span of its last declaration.
+pub lower_given : (f body : Syntax) (names : Names) (tables : FunctionTables) (parameters : List Parameter) (env new behind : Environment)
+    (params : List Param) (built : Graph) (span : Option Span) → body ≡ body_in f → parameters ≡ parameters_of names f
+    → AreApart parameters → env.pairs ≡ [] → IsGraphOf names tables parameters body env new params built
+    → AreDeclaredAt tables.semantic parameters → behind ≡ one_identifier_more new span
+    → AreGiven behind.identifiers behind.pairs (length env.identifiers) env.next_type (respanned names f)
+lower_given f body names tables parameters env new behind params built span body_is is distinct none g declared more =
+    subst (λ (e : Environment). AreGiven e.identifiers e.pairs (length env.identifiers) env.next_type (respanned names f))
+    (sym (more ∙ ap (λ (e : Environment). one_identifier_more e span) g.after))
+    (subst (λ (b : Syntax). AreGiven last.env.identifiers last.env.pairs (length env.identifiers) env.next_type
+    (map (λ (p : Parameter). record p { declaration = span_behind_body names p.symbol.0 b p.declaration }) (parameters_of names f))) body_is
+    (subst (λ (l : List Parameter). AreGiven last.env.identifiers last.env.pairs (length env.identifiers) env.next_type
+    (map (λ (p : Parameter). record p { declaration = span_behind_body names p.symbol.0 body p.declaration }) l)) is
+    (parameters_kept (begun_by env tables) (λ symbol before. span_behind_body names symbol body before) parameters _ _ _ none distinct declared
+    (graph_extends names tables parameters body env new params built g distinct).names spans)))
+  where
+    last : State
+    last = with_temporary (closed_off g.state) span
+
+    begun : State
+    begun = state_with (begun_by env tables) parameters
+
+    spans : (symbol identifier : ℕ) (known : Identifier) (before : Span) → identifier_of begun.bindings symbol ≡ Some identifier
+        → slice_get begun.env.identifiers identifier ≡ Some (record known { span = Some before })
+        → slice_get last.env.identifiers identifier ≡ Some (record known { span = Some (span_behind_body names symbol body before) })
+    spans symbol identifier known before bound there =
+        get_more (closed_off g.state).env.identifiers _ identifier _
+        (identifiers_closed g.state identifier _
+        ((lowered_from names tables parameters body env new params built g distinct).respans.keeps
+        (parameters_sound (begun_by env tables) parameters none distinct) symbol identifier known before bound there))
 
 pub lower_fn_type : (names : Names) (tables : FunctionTables) (parameters : List Parameter) (body : Syntax) (env new : Environment)
     (params : List Param) (built : Graph)

@@ -61,7 +61,7 @@ use Rattle.rl_runs.proofs.Moves.{contained_before}
 use Rattle.rl_runs.proofs.Ordered.{found_holds}
 use Rattle.rl_runs.specs.Blocks as blocks
 use Rattle.rl_runs.specs.Blocks.{IsLedTo, Stands}
-use Rattle.rl_syntax.specs.Syntax.{Syntax, Node, Listed, Said, Pieces, End, Then}
+use Rattle.rl_syntax.specs.Syntax.{Syntax, Node, Listed, Said, Flag, Pieces, End, Then}
 use Rattle.rl_syntax.specs.declared.word.Word.{Word}
 use Rattle.rl_syntax.specs.declared.word.Word.TheVariants as word
 
@@ -142,6 +142,12 @@ mutual
       (All-append IsCountedNode (held_in init ++ held_in test) updates
       (All-append IsCountedNode (held_in init) (held_in test) (node_counted init) (node_counted test)) (where_counted again update))
       (statement_counted None body)
+  statement_counted own (Node at word.Forin (Then head (Then right (Then body End)))) =
+      All-append IsCountedNode (held_in head ++ held_in right) (live_in None body)
+      (All-append IsCountedNode (held_in head) (held_in right) (node_counted head) (node_counted right)) (statement_counted None body)
+  statement_counted own (Node at word.Forof (Then (Flag false) (Then head (Then right (Then body End))))) =
+      All-append IsCountedNode (held_in head ++ held_in right) (live_in None body)
+      (All-append IsCountedNode (held_in head) (held_in right) (node_counted head) (node_counted right)) (statement_counted None body)
   statement_counted own (Node at word.Labeled (Then (Said label) (Then body End))) = statement_counted (Some label) body
   statement_counted own statement = node_counted statement
 

@@ -1,6 +1,6 @@
 -- A finished function: its graph may be built, and has the traces of the body.
 use Rattle.std.proofs.Common.{◌≡◌, ℕ, ◌+◌, ◌-◌, ◌<◌, ◌≤◌, ◌^◌, inl, inr, List, [], All, length, map, slice_get, Option, Some, None, Ok}
-use Rattle.std.proofs.Common.{true, false, refl, sym, ap, ◌∙◌, subst, arith}
+use Rattle.std.proofs.Common.{true, refl, sym, ap, ◌∙◌, subst, arith}
 use Rattle.std.proofs.lemmas.List.{length-map}
 use Rattle.std.proofs.lemmas.List.Elements.{All-nil}
 use Rattle.rl_base.proofs.DistinctLists.{distinct_none}
@@ -9,7 +9,7 @@ use Rattle.rl_base.specs.declared.ids.BlockId.{BlockId}
 use Rattle.rl_base.specs.declared.ids.InstructionId.{InstructionId}
 use Rattle.rl_builder.specs.Build.{IsBuilt, graph_of, unordered_graph}
 use Rattle.rl_builder.specs.Builder.{State, ended_by, innermost, placeholder}
-use Rattle.rl_builder.specs.Temporaries.{temporary, unordered}
+use Rattle.rl_builder.specs.Temporaries.{temporary}
 use Rattle.rl_builder.specs.declared.jumps.JumpScope.{JumpScope}
 use Rattle.rl_builder.specs.Jumps.{lookup_break, lookup_continue}
 use Rattle.rl_hir.specs.Blocks.{Pair as BlockPair}
@@ -28,10 +28,10 @@ use Rattle.rl_lower.proofs.Building.{IsFresh}
 use Rattle.rl_lower.proofs.Ranges.{few_within}
 use Rattle.rl_lower.proofs.StartStores.{start_values, take_arguments}
 use Rattle.rl_lower.specs.Endings.{closed_off, hir_of, with_undefined}
-use Rattle.rl_lowered.proofs.Listing.{lists_completed, lists_then, lists_value}
+use Rattle.rl_lowered.proofs.StepMoves.{apart_ended as steps_ended, apart_then, apart_value}
 use Rattle.rl_lowered.proofs.Stepless.{stepless_whole, unread_whole}
 use Rattle.rl_lowered.proofs.Unread.{unreads_ended, unreads_then, unreads_value}
-use Rattle.rl_lowered.specs.Listing.{ListsSince, is_step}
+use Rattle.rl_lowered.specs.Steps.{KeepsStepsApart}
 use Rattle.rl_machine.proofs.Silence.{settled_walks, settles_passes_once}
 use Rattle.rl_machine.specs.Conditions.{MayOrder}
 use Rattle.rl_machine.specs.Ends.{Notes, no_notes}
@@ -181,7 +181,7 @@ module _ (begun s : State) (fresh : IsFresh begun) (b : PreservesBlocks begun s)
       (subst (λ (id : ℕ). IsCompleted last.completed id) (sym entry_is) (ended_there ending (last_end s) placeholder begun.current.id.0 behind.extends.current))
 
   -- Notes and steps.
-  module _ (lists : ListsSince begun s) (kept : KeepsUnread begun s) where
+  module _ (kept : KeepsUnread begun s) (steps : KeepsStepsApart begun s) where
     unread : Unread last
     unread =
         unread_whole begun last fresh.completed fresh.handlers
@@ -189,17 +189,12 @@ module _ (begun s : State) (fresh : IsFresh begun) (b : PreservesBlocks begun s)
         (unreads_then s ending last (unreads_value s (values.Primitive primitives.Undefined) None)
         (unreads_ended ending (last_end s) placeholder refl refl))).keeps
 
-    all_lists : ListsSince begun last
-    all_lists =
-        lists_then begun s last lists
-        (lists_then s ending last (lists_value s (values.Primitive primitives.Undefined) None refl)
-        (lists_completed ending (last_end s) placeholder refl))
-
     stepless : Stepless last
     stepless =
-        stepless_whole last
-        (all_lists.no_steps (subst (λ (l : List Instruction). All (λ i. is_step i.value ≡ false) l) (sym fresh.table)
-        (All-nil (λ (i : Instruction). is_step i.value ≡ false))))
+        stepless_whole begun last fresh.completed fresh.instructions
+        (apart_then begun s last steps
+        (apart_then s ending last (apart_value s (values.Primitive primitives.Undefined) None refl)
+        (steps_ended ending (last_end s) placeholder refl refl)))
 
     -- The blocks may be ordered.
     pub function_may : (ident : ℕ → Option ℕ) (world : World) → CoversNames last.env.pairs (length last.env.identifiers) ident
@@ -281,7 +276,7 @@ function_runs scene begun s m ident world fresh sound b fits covers r shares sou
 
 -- The function that is built has the traces of its source, whatever trace a stuck run has: `build` keeps the runs of the completed blocks.
 pub function_runs_by : (scene : Scene) (world : World) (begun s : State) (m : Action (Unit {0})) → IsFresh begun → HasSoundNames begun
-    → PreservesBlocks begun s → (closed_off s).env.next_block < 2 ^ 32 → ListsSince begun s → KeepsUnread begun s → RunsStatement scene.world m begun s
+    → PreservesBlocks begun s → (closed_off s).env.next_block < 2 ^ 32 → KeepsUnread begun s → KeepsStepsApart begun s → RunsStatement scene.world m begun s
     → (f : HirFunction (List BlockPair)) (pairs : List Pair)
     → CoversNames (closed_off s).env.pairs (length (closed_off s).env.identifiers) (λ symbol. identifier_of pairs symbol)
     → SharesVariables (λ symbol. identifier_of pairs symbol) scene.world world
@@ -294,7 +289,7 @@ pub function_runs_by : (scene : Scene) (world : World) (begun s : State) (m : Ac
     → ((start : List Assignment) (arguments : List Value) (answers : List Answer) → run_function scene function start arguments answers ≡ body_trace scene m outside (source start arguments) answers)
     → (stuck : Trace) (start : List Assignment) (arguments : List Value) (answers : List Answer)
     → trace_by stuck world f pairs start arguments answers ≡ run_function scene function start arguments answers
-function_runs_by scene world begun s m fresh sound b fits lists kept r f pairs covers shares function built env is_built table_is unlinked body_is instructions_is source agrees means stuck start arguments answers =
+function_runs_by scene world begun s m fresh sound b fits kept steps r f pairs covers shares function built env is_built table_is unlinked body_is instructions_is source agrees means stuck start arguments answers =
     ap (λ (h : Hir (List BlockPair)). graph_trace stuck (record { blocks = h.blocks; table = f.instructions; entry = h.entry }) ident world params start arguments answers) body_is
     ∙ ap (λ (l : List Instruction). graph_trace stuck (record { blocks = built.blocks; table = l; entry = built.entry }) ident world params start arguments answers) instructions_is
     ∙ is_built.runs may stuck ident world params once start arguments answers
@@ -319,7 +314,7 @@ function_runs_by scene world begun s m fresh sound b fits lists kept r f pairs c
     trace = body_trace scene m outside (source start arguments) answers
 
     ordered : MayOrder (completed_graph last)
-    ordered = function_may begun s fresh b fits lists kept ident world covers unlinked
+    ordered = function_may begun s fresh b fits kept steps ident world covers unlinked
 
     may : MayOrder (unordered_graph last)
     may = subst (λ (blocks : List BlockPair). MayOrder (record { blocks = blocks; table = last.table; entry = last.entry })) (sym table_is) ordered

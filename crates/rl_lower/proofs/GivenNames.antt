@@ -17,13 +17,13 @@ use Rattle.rl_builder.specs.Names.{fresh_identifier}
 use Rattle.rl_used_names.specs.IdentifierNames.{name_of}
 use Rattle.rl_used_names.specs.UsedName.{user_of}
 use Rattle.rl_builder.proofs.NameLaws.{name_of-injective}
-use Rattle.rl_promises.specs.Fields.{AreGiven, ArePairs, IsNamedPair, name_at}
+use Rattle.rl_promises.specs.Fields.{AreGiven, ArePairs, IsGiven, IsNamedPair, name_at}
 use Rattle.rl_names.specs.Locals.{AreApart, IsApart}
 use Rattle.rl_promises.specs.Locals.{AreLocals}
 use Rattle.rl_names.specs.Names.{Names}
 use Rattle.rl_names.specs.declared.parameters.Parameter.{Parameter}
 use Rattle.rl_lower.specs.Parameters.{AreDeclaredAt}
-use Rattle.rl_lowered.specs.Named.{HasNamedPairs, KeepsNamed, declared_span}
+use Rattle.rl_lowered.specs.Named.{HasNamedPairs, declared_span}
 use Rattle.rl_runs.specs.Facts.{GrowsNames, HasSoundNames}
 use Rattle.rl_lower.proofs.Parameters.{all_at, get_behind, identifier_for, known_at, known_from, pair_found, pair_tells, pairs_from, span_given, state_with, users_of}
 use Rattle.rl_runs.proofs.FinalNames.{unpaired}
@@ -112,21 +112,6 @@ parameters_pairs s names parameters none own =
     (named_from names (s.env.identifiers ++ known_from s s.env.next_type parameters) (length s.env.identifiers) parameters
     (λ place p there. name_given s parameters place p there) own.named own.spanned)
 
--- Pairs and named identifiers stay, so each parameter has its own in the end.
-pub parameters_kept : (s : State) (parameters : List Parameter) (made : ℕ) (identifiers : List Identifier) (pairs : List Pair)
-    → s.env.pairs ≡ [] → AreApart parameters
-    → AreDeclaredAt s.semantic parameters
-    → GrowsNames (state_with s parameters).env.pairs made pairs → KeepsNamed (state_with s parameters).env.identifiers identifiers
-    → AreGiven identifiers pairs (length s.env.identifiers) s.env.next_type parameters
-parameters_kept s parameters made identifiers pairs none apart spanned g k place p there = record {
-  paired = g.kept p.symbol.0 (length s.env.identifiers + place)
-      (ap (λ (l : List Pair). identifier_of (l ++ pairs_from (length s.env.identifiers) parameters) p.symbol.0) none ∙ pair_found (length s.env.identifiers) parameters place p apart there);
-  known = k (length s.env.identifiers + place) (identifier_for s (s.env.next_type + place) p) (known_given s parameters place p there)
-      (λ never. none-some (Named p.name) (sym never))
-      ∙ ap (λ (span : Option Span). Some (fresh_identifier p.name span (s.env.next_type + place)))
-      (span_given s p (all_at (λ (x : Parameter). declared_span s.semantic x.symbol.0 ≡ Some x.declaration) parameters place p there spanned));
-}
-
 -- Pairs whose symbols are distinct.
 
 mapped_at : {X Y : Type 0} (f : X → Y) (xs : List X) (place : ℕ) (x : X) → slice_get xs place ≡ Some x
@@ -140,6 +125,37 @@ mapped_from : {X Y : Type 0} (f : X → Y) (xs : List X) (place : ℕ) (y : Y) �
 mapped_from f [] place y there = absurd (none-some y there)
 mapped_from f (x ∷ xs) zero y there = (x, refl, same_Some (f x) y there)
 mapped_from f (x ∷ xs) (suc place) y there = mapped_from f xs place y there
+
+-- Pairs stay, and identifiers keep all but their spans, which are given by `behind` in the end: so each parameter has its own there.
+pub parameters_kept : (s : State) (behind : (symbol : ℕ) → (before : Span) → Span) (parameters : List Parameter) (made : ℕ)
+    (identifiers : List Identifier) (pairs : List Pair) → s.env.pairs ≡ [] → AreApart parameters → AreDeclaredAt s.semantic parameters
+    → GrowsNames (state_with s parameters).env.pairs made pairs
+    → ((symbol identifier : ℕ) (known : Identifier) (before : Span) → identifier_of (state_with s parameters).bindings symbol ≡ Some identifier
+    → slice_get (state_with s parameters).env.identifiers identifier ≡ Some (record known { span = Some before })
+    → slice_get identifiers identifier ≡ Some (record known { span = Some (behind symbol before) }))
+    → AreGiven identifiers pairs (length s.env.identifiers) s.env.next_type
+    (map (λ (p : Parameter). record p { declaration = behind p.symbol.0 p.declaration }) parameters)
+parameters_kept s behind parameters made identifiers pairs none apart spanned g k place q there =
+    subst (λ (x : Parameter). IsGiven identifiers pairs (length s.env.identifiers + place) (s.env.next_type + place) x) from.2 (record {
+      paired = g.kept p.symbol.0 (length s.env.identifiers + place)
+          (ap (λ (l : List Pair). identifier_of (l ++ pairs_from (length s.env.identifiers) parameters) p.symbol.0) none ∙ bound);
+      known = k p.symbol.0 (length s.env.identifiers + place) (fresh_identifier p.name None (s.env.next_type + place)) p.declaration bound
+          (known_given s parameters place p from.1
+          ∙ ap (λ (span : Option Span). Some (fresh_identifier p.name span (s.env.next_type + place)))
+          (span_given s p (all_at (λ (x : Parameter). declared_span s.semantic x.symbol.0 ≡ Some x.declaration) parameters place p from.1 spanned)));
+    })
+  where
+    moved : Parameter → Parameter
+    moved p = record p { declaration = behind p.symbol.0 p.declaration }
+
+    from : (x : Parameter) × (slice_get parameters place ≡ Some x) × (moved x ≡ q)
+    from = mapped_from moved parameters place q there
+
+    p : Parameter
+    p = from.0
+
+    bound : identifier_of (pairs_from (length s.env.identifiers) parameters) p.symbol.0 ≡ Some (length s.env.identifiers + place)
+    bound = pair_found (length s.env.identifiers) parameters place p apart from.1
 
 -- Items that are distinct by one key are so by another that tells the first.
 distinct_by : {X Y : Type 0} (f : X → ℕ) (g : X → Y) (xs : List X) → AreDistinct (map f xs)

@@ -11,6 +11,7 @@ pub mod FunctionHeld
 pub mod FunctionTrees
 pub mod Functions
 pub mod GivenNames
+pub mod HeadDerivations
 pub mod HeldNodes
 pub mod Inside
 pub mod Linked
@@ -22,6 +23,7 @@ pub mod OperatorDerivations
 pub mod Parameters
 pub mod Ranges
 pub mod Resolving
+pub mod RoundDerivations
 pub mod SoundGraphs
 pub mod SoundOrders
 pub mod SpannedGraphs

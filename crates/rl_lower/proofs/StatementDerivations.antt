@@ -1,5 +1,5 @@
 -- Derivations of statements, from the moves of their lowering, and the room and the names in the holes of frames.
-use Rattle.std.proofs.Common.{◌≡◌, ℕ, ◌+◌, ◌≤◌, true, false, Bool, Some, None, Result, Ok, Err, OnOk, refl, ap, sym, ◌∙◌, subst, arith}
+use Rattle.std.proofs.Common.{◌≡◌, ℕ, ◌+◌, ◌≤◌, true, false, true≢false, Bool, List, Some, None, Result, Ok, Err, OnOk, refl, ap, sym, ◌∙◌, subst, arith}
 use Rattle.rl_base.specs.declared.span.Span.{Span}
 use Rattle.rl_base.specs.declared.stop.Stop.{Stop}
 use Rattle.rl_builder.specs.Builder.{State, completed_by, new_block, reserved}
@@ -7,7 +7,8 @@ use Rattle.rl_builder.specs.declared.blocks.WipBlock.{WipBlock}
 use Rattle.rl_builder.specs.Temporaries.{temporary, with_value}
 use Rattle.rl_frames.specs.Frames.{IfParts, if_after_consequent, if_alternate, if_at, if_consequent, if_ended, if_shut}
 use Rattle.rl_frames.specs.Parts.{if_begun}
-use Rattle.rl_grammar.specs.Grammar.{every}
+use Rattle.rl_grammar.specs.Grammar.{every, fits}
+use Rattle.rl_grammar.specs.declared.kind.Field.TheVariants as field
 use Rattle.rl_grammar.specs.declared.kind.Kind.TheVariants as sort
 use Rattle.rl_hir.specs.declared.function.BlockKind.TheVariants as blocks
 use Rattle.rl_hir.specs.declared.instruction.InstructionValue.TheVariants as values
@@ -22,6 +23,8 @@ use Rattle.rl_lowered.specs.Lowered.{Lowered, LoweredBody, LoweredStatement, Low
 use Rattle.rl_lowered.specs.Named.{IsNamed}
 use Rattle.rl_lowered.specs.Promised.{HasRoom, LowersExpression, LowersStatement, LowersStatements, share}
 use Rattle.rl_names.specs.Names.{Names}
+use Rattle.rl_promises.specs.Jumps.{Around}
+use Rattle.rl_promises.specs.Lowerable.{IsLowerableIn}
 use Rattle.rl_runs.specs.Blocks.{size_of}
 use Rattle.rl_runs.specs.Moves.{return_of, returned_from}
 use Rattle.rl_syntax.specs.declared.numbered.At.{At}
@@ -196,3 +199,9 @@ pub statements_body_ok : (names : Names) {at : At} {tree : Syntax} (s new : Stat
 statements_body_ok names {at} {tree} s new (Ok x) directives statements is texts l =
     subst (λ (t : Syntax). LoweredBody names t s new) is (lowered.Statements at directives statements s new texts l.by)
 statements_body_ok names {at} {tree} s new (Err e) directives statements is texts l = tt
+
+-- A declaration of a function is not lowered.
+pub function_unlowered : (names : Names) (around : List Around) (tree : Syntax) → fits (field.One sort.FunctionDeclaration) tree ≡ true
+    → IsLowerableIn names around None tree → ⊥
+function_unlowered names around (Node at word.Fundecl parts) fit may = true≢false (sym may.0)
+function_unlowered names around _ fit may = true≢false (sym fit)

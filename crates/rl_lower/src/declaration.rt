@@ -68,7 +68,7 @@ fn kind_of(kind: VariableKind) -> InstructionKind
 }
 
 /// The identifier of a variable that is declared.
-fn resolve_declared<U: ReadsUnit>(
+pub(crate) fn resolve_declared<U: ReadsUnit>(
     builder: &mut GraphBuilder<'_, U>,
     names: &FunctionNames<'_>,
     bind: &BindingIdentifier<'_>,

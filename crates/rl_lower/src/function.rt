@@ -29,6 +29,7 @@ ghost use Rattle.rl_promises.specs.HeldNodes.{HoldsNodes};
 ghost use Rattle.rl_model.specs.Scene.{Scene};
 ghost use Rattle.rl_lower.specs.Scenes.{IsSceneOf};
 ghost use Rattle.rl_promises.specs.Lowerable.{IsLowerableBody};
+ghost use Rattle.rl_promises.specs.Rebound.{respanned};
 ghost use Rattle.rl_promises.specs.Rows.{Records, refusals_of};
 ghost use Rattle.rl_promises.specs.SeenStops.{seen_stop};
 ghost use Rattle.rl_promises.specs.Spans.{AreSpannedIdentifiers, IsSpanOf, IsSpanned, KnowsSpans};
@@ -433,10 +434,10 @@ pub fn lower(
     ensures context { IfOk result (λ f. f.context ≡ []) }
     ensures returns { IfOk result (λ f. (f.returns.span ≡ None) × (f.returns.identifier.0 + 1 ≡ length env.new.identifiers)) }
 
-    // The identifiers of pairs are named for their symbols, and each parameter is paired with that of its place. The notation has
-    // the pairs.
+    // The identifiers of pairs are named for their symbols, and each parameter is paired with that of its place, which has the span
+    // of its last declaration. The notation has the pairs.
     ensures pairs { OnOk result (ArePairs (seen names.now) env.new.identifiers env.new.pairs) }
-    ensures given { OnOk result (AreGiven env.new.identifiers env.new.pairs (length env.old.identifiers) env.old.next_type (parameters_of (seen names.now) (seen_function_node function.entry))) }
+    ensures given { OnOk result (AreGiven env.new.identifiers env.new.pairs (length env.old.identifiers) env.old.next_type (respanned (seen names.now) (seen_function_node function.entry))) }
     ensures paired { OnOk result (AreWritablePairs env.new.pairs) }
 
     // Places name identifiers that were made, and the notation has the listing of what a small function is lowered to.

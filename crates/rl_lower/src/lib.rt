@@ -6,6 +6,7 @@ mod declaration;
 mod expression;
 pub mod function;
 mod graph_builder;
+mod heads;
 mod jumps;
 mod loops;
 mod member;

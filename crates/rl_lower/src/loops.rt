@@ -1,6 +1,6 @@
 //! Lowering of loops, and of statements with a label.
 
-ghost use Rattle.std.specs.Prelude.{◌≡◌, ◌+◌, true, map, None, Some, option_map, OnOk, IfOk, IfErr};
+ghost use Rattle.std.specs.Prelude.{◌≡◌, ◌+◌, true, false, map, None, Some, option_map, OnOk, IfOk, IfErr};
 ghost use Rattle.rl_ast.specs.StatementViews.{seen_statement};
 ghost use Rattle.rl_builder.specs.Builder.{state_of};
 ghost use Rattle.rl_grammar.specs.Fields.{maybe};
@@ -16,6 +16,7 @@ ghost use Rattle.rl_syntax.specs.Syntax.{nodes, syntax};
 use crate::declaration::lower_variables;
 use crate::expression::lower_expression;
 use crate::graph_builder::GraphBuilder;
+use crate::heads::lower_loop_head;
 use crate::shape::is_loop;
 use crate::span::span_of;
 use crate::statement::lower_statement;
@@ -30,9 +31,11 @@ use rl_base::text::Text;
 use rl_builder::unit_tables::ReadsUnit;
 use rl_frames::do_while_frame::DoWhileFrame;
 use rl_frames::for_frame::ForFrame;
+use rl_frames::for_in_frame::ForInFrame;
+use rl_frames::for_of_frame::ForOfFrame;
 use rl_frames::label_frame::LabelFrame;
 use rl_frames::while_frame::WhileFrame;
-use rl_grammar::sort::{ExpressionTree, ForInitTree, StatementTree};
+use rl_grammar::sort::{ExpressionTree, ForHeadTree, ForInitTree, StatementTree};
 use rl_hir::instruction::{InstructionValue, Place, PrimitiveValue};
 use rl_names::names::FunctionNames;
 use rl_syntax::numbered::At;
@@ -243,6 +246,93 @@ fn lower_for_plain<U: ReadsUnit>(
     Ok(())
 }
 
+/// Lowers a `for`-`in` loop: its body, its right side, and then its head, which takes a key.
+#[cycle(statements)]
+fn lower_for_in<U: ReadsUnit>(
+    alloc: Global,
+    builder: &mut GraphBuilder<'_, U>,
+    names: &FunctionNames<'_>,
+    label: Option<&Text>,
+    at: At,
+    left: ForHeadTree<'_>,
+    right: ExpressionTree<'_>,
+    body: StatementTree<'_>,
+) -> Result<(), Stop>
+    requires names { IsNamed (seen names.now) (state_of U.tables builder.old) }
+    requires may { IsLowerableIn (seen names.now) (arounds (state_of U.tables builder.old)) (option_map (λ l. l.now) label) (seen_statement (Statement.ForIn at left right body)) }
+    requires room { HasRoom (state_of U.tables builder.old) (share (nodes (seen_statement (Statement.ForIn at left right body)))) }
+    ensures same_reference { builder.new.env.ghost_name ≡ builder.old.env.ghost_name }
+    ensures lowered { OnOk result (LowersLoop (seen names.now) (option_map (λ l. l.now) label.entry) (seen_statement (Statement.ForIn at left.entry right.entry body.entry)) (state_of U.tables builder.old) (state_of U.tables builder.new)) }
+    ensures memory { IfErr result (λ e. e ≡ Stop.OutOfMemory) }
+{
+    let label = copy_label(alloc, label)?;
+    let mut frame = ForInFrame::begin(builder, at.span, label)?;
+    lower_statement(alloc, builder, names, body)?;
+    frame.body(builder, span_of(body.tree))?;
+    let collection = lower_expression(alloc, builder, names, right)?;
+    let key = frame.right(builder, span_of(left.tree), collection)?;
+    let test = lower_loop_head(alloc, builder, names, left, key)?;
+    frame.finish(builder, test)?;
+    Ok(())
+}
+
+/// Lowers a `for`-`of` loop without `await`: its body, its right side, and then its head, which takes a value.
+#[cycle(statements)]
+fn lower_for_of_plain<U: ReadsUnit>(
+    alloc: Global,
+    builder: &mut GraphBuilder<'_, U>,
+    names: &FunctionNames<'_>,
+    label: Option<&Text>,
+    at: At,
+    left: ForHeadTree<'_>,
+    right: ExpressionTree<'_>,
+    body: StatementTree<'_>,
+) -> Result<(), Stop>
+    requires names { IsNamed (seen names.now) (state_of U.tables builder.old) }
+    requires may { IsLowerableIn (seen names.now) (arounds (state_of U.tables builder.old)) (option_map (λ l. l.now) label) (seen_statement (Statement.ForOf at false left right body)) }
+    requires room { HasRoom (state_of U.tables builder.old) (share (nodes (seen_statement (Statement.ForOf at false left right body)))) }
+    ensures same_reference { builder.new.env.ghost_name ≡ builder.old.env.ghost_name }
+    ensures lowered { OnOk result (LowersLoop (seen names.now) (option_map (λ l. l.now) label.entry) (seen_statement (Statement.ForOf at false left.entry right.entry body.entry)) (state_of U.tables builder.old) (state_of U.tables builder.new)) }
+    ensures memory { IfErr result (λ e. e ≡ Stop.OutOfMemory) }
+{
+    let label = copy_label(alloc, label)?;
+    let mut frame = ForOfFrame::begin(builder, at.span, label)?;
+    lower_statement(alloc, builder, names, body)?;
+    frame.body(builder, span_of(body.tree))?;
+    let collection = lower_expression(alloc, builder, names, right)?;
+    let value = frame.right(builder, span_of(left.tree), collection)?;
+    let test = lower_loop_head(alloc, builder, names, left, value)?;
+    frame.finish(builder, test)?;
+    Ok(())
+}
+
+/// Lowers a `for`-`of` loop. One with `await` is refused without its parts.
+#[cycle(statements)]
+fn lower_for_of<U: ReadsUnit>(
+    alloc: Global,
+    builder: &mut GraphBuilder<'_, U>,
+    names: &FunctionNames<'_>,
+    label: Option<&Text>,
+    at: At,
+    is_await: bool,
+    left: ForHeadTree<'_>,
+    right: ExpressionTree<'_>,
+    body: StatementTree<'_>,
+) -> Result<(), Stop>
+    requires names { IsNamed (seen names.now) (state_of U.tables builder.old) }
+    requires may { IsLowerableIn (seen names.now) (arounds (state_of U.tables builder.old)) (option_map (λ l. l.now) label) (seen_statement (Statement.ForOf at is_await left right body)) }
+    requires room { HasRoom (state_of U.tables builder.old) (share (nodes (seen_statement (Statement.ForOf at is_await left right body)))) }
+    ensures same_reference { builder.new.env.ghost_name ≡ builder.old.env.ghost_name }
+    ensures lowered { OnOk result (LowersLoop (seen names.now) (option_map (λ l. l.now) label.entry) (seen_statement (Statement.ForOf at is_await left.entry right.entry body.entry)) (state_of U.tables builder.old) (state_of U.tables builder.new)) }
+    ensures memory { IfErr result (λ e. e ≡ Stop.OutOfMemory) }
+{
+    if is_await {
+        refuse(alloc, builder, Row::F33, at.span)?;
+        return Ok(());
+    }
+    lower_for_of_plain(alloc, builder, names, label, at, left, right, body)
+}
+
 /// Lowers a loop, with the label right in front of it if it has one.
 #[cycle(statements)]
 pub(crate) fn lower_loop<U: ReadsUnit>(
@@ -279,6 +369,21 @@ pub(crate) fn lower_loop<U: ReadsUnit>(
             ),
             None => lower_for_plain(alloc, builder, names, label, at, init, test, body),
         },
+        Statement::ForIn {
+            at,
+            left,
+            right,
+            body,
+        } => lower_for_in(alloc, builder, names, label, at, left, right, body),
+        Statement::ForOf {
+            at,
+            is_await,
+            left,
+            right,
+            body,
+        } => lower_for_of(
+            alloc, builder, names, label, at, is_await, left, right, body,
+        ),
         _ => unreachable!(),
     }
 }

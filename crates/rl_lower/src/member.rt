@@ -1,8 +1,9 @@
 //! Properties that are loaded, updated, deleted or called, behind the lowering of their parts.
 
-ghost use Rattle.std.specs.Prelude.{◌≡◌, OnOk, IfOk, IfErr};
+ghost use Rattle.std.specs.Prelude.{◌≡◌, Some, OnOk, IfOk, IfErr};
 ghost use Rattle.rl_syntax.specs.Syntax.{syntax};
 ghost use Rattle.rl_builder.specs.Builder.{state_of};
+ghost use Rattle.rl_builder.specs.Temporaries.{temporary, with_value};
 ghost use Rattle.rl_lowered.specs.Forms.{delete_of, load_of, store_of};
 ghost use Rattle.rl_lowered.specs.Lowered.{binary_of, member_result, member_stored};
 ghost use Rattle.rl_lowered.specs.Promised.{HasRoom};
@@ -191,4 +192,22 @@ pub(crate) fn update_member<U: ReadsUnit>(
         return Ok(stored);
     }
     Ok(old)
+}
+
+/// Stores `value` in the property at `at`, whose object and key were lowered. Returns the place of the store.
+pub(crate) fn store_member<U: ReadsUnit>(
+    alloc: Global,
+    builder: &mut GraphBuilder<'_, U>,
+    at: At,
+    member: LoweredMember,
+    value: Place,
+) -> Result<Place, Stop>
+    requires room { HasRoom (state_of U.tables builder.old) 4 }
+    ensures same_reference { builder.new.env.ghost_name ≡ builder.old.env.ghost_name }
+    ensures state { OnOk result (state_of U.tables builder.new ≡ with_value (state_of U.tables builder.old) (store_of member.object (key_of member.property) value) (Some at.span)) }
+    ensures place { IfOk result (λ place. place ≡ temporary (state_of U.tables builder.old) (Some at.span)) }
+    ensures memory { IfErr result (λ e. e ≡ Stop.OutOfMemory) }
+{
+    let store = store_value(alloc, member, value)?;
+    lower_value_to_temporary(builder, store, Some(at.span))
 }

@@ -184,6 +184,8 @@ pub(crate) fn lower_statement<U: ReadsUnit>(
         Statement::While { .. } => lower_loop(alloc, builder, names, None, statement),
         Statement::DoWhile { .. } => lower_loop(alloc, builder, names, None, statement),
         Statement::For { .. } => lower_loop(alloc, builder, names, None, statement),
+        Statement::ForIn { .. } => lower_loop(alloc, builder, names, None, statement),
+        Statement::ForOf { .. } => lower_loop(alloc, builder, names, None, statement),
         Statement::Labeled { at, label, body } => {
             lower_labeled(alloc, builder, names, at, label, body)
         }

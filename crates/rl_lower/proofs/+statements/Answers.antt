@@ -1,18 +1,24 @@
-use Rattle.std.proofs.Common.{rules, ◌≡◌, ℕ, ◌+◌, true, false, List, ◌∷◌, map, option_map, refl, ap, sym, ◌∙◌, subst, arith}
+use Rattle.std.proofs.Common.{rules, ◌≡◌, ℕ, ◌+◌, true, false, true≢false, List, ◌∷◌, None, map, option_map, refl, ap, sym, ◌∙◌, subst, arith}
+use Rattle.rl_ast.specs.StatementViews.{seen_statement}
+use Rattle.rl_ast.specs.declared.statement.Statement.{Statement}
+use Rattle.rl_ast.specs.declared.statement.Statement.TheVariants as statement
 use Rattle.rl_builder.specs.Builder.{State, state_of}
 use Rattle.rl_frames.specs.Frames.{ForParts, WhileParts, do_while_bodied, do_while_of, for_bodied, for_inited, for_of, for_updated, if_of}
 use Rattle.rl_frames.specs.Frames.{while_bodied, while_of}
+use Rattle.rl_builder.specs.declared.jumps.JumpScope.TheVariants as scopes
 use Rattle.rl_frames.specs.Parts.{for_begun, for_scope, label_begun, label_scope, while_begun, while_scope}
+use Rattle.rl_frames.specs.Rounds.{forin_of, forof_of}
 use Rattle.rl_grammar.specs.Fields.{maybe}
 use Rattle.rl_lowered.proofs.Arounds.{expression_arounds, statement_arounds}
 use Rattle.rl_lowered.proofs.Names.{names_same}
 use Rattle.rl_lowered.proofs.Told.{told_statements}
 use Rattle.rl_lowered.specs.Arounds.{arounds}
+use Rattle.rl_lowered.specs.Named.{IsNamed}
 use Rattle.rl_lowered.specs.Promised.{HasRoom, share}
 use Rattle.rl_model.specs.Actions.{Label}
 use Rattle.rl_names.specs.Seen.{seen}
 use Rattle.rl_promises.specs.Jumps.{Around, InLoop}
-use Rattle.rl_promises.specs.Lowerable.{AreLowerableIn}
+use Rattle.rl_promises.specs.Lowerable.{AreLowerableIn, IsLowerableIn}
 use Rattle.rl_runs.specs.Moves.{block_id}
 use Rattle.rl_syntax.specs.Syntax.{Syntax, Pieces, Then, nodes, nodes_of, pieces_of, syntax}
 use Rattle.rl_lower.proofs.Derivations.{room_after}
@@ -22,7 +28,11 @@ use Rattle.rl_lower.proofs.LoopDerivations.{for_plain_told, for_updated_arounds,
 use Rattle.rl_lower.proofs.LoopDerivations.{init_arounds, inside, inside_label, inside_loop, jump_ok, label_begun_size, labeled_loop_may}
 use Rattle.rl_lower.proofs.LoopDerivations.{labeled_loop_ok, labeled_may, labeled_told, moved_named, moved_room, opened_plain, opened_updated}
 use Rattle.rl_lower.proofs.LoopDerivations.{scope_kept, unlabeled_loop_ok, while_begun_arounds, while_begun_size, while_bodied_size, while_told}
-use Rattle.rl_lower.proofs.StatementDerivations.{block_ok, debugger_told, empty_told, expression_told}
+use Rattle.rl_lower.proofs.RoundDerivations.{await_told, bodied_room, for_in_arounds, for_in_begun_named, for_in_head_room, for_in_righted_named}
+use Rattle.rl_lower.proofs.RoundDerivations.{for_in_room, for_in_told, for_of_arounds, for_of_begun_named, for_of_head_room, for_of_may, for_of_ok}
+use Rattle.rl_lower.proofs.RoundDerivations.{for_of_righted_named, for_of_room, for_of_told, forin_head, forin_outer, forof_head, forof_outer}
+use Rattle.rl_lower.proofs.RoundDerivations.{forof_test, right_room, rounds_bodied_named}
+use Rattle.rl_lower.proofs.StatementDerivations.{block_ok, debugger_told, empty_told, expression_told, function_unlowered}
 use Rattle.rl_lower.proofs.StatementDerivations.{if_alternate_named, if_alternate_room, if_begun_named, if_begun_room}
 use Rattle.rl_lower.proofs.StatementDerivations.{if_consequent_named, if_consequent_room, if_else_told}
 use Rattle.rl_lower.proofs.StatementDerivations.{if_second_room, if_then_told, if_third_room, statements_done, statements_next}
@@ -61,6 +71,32 @@ pub statement::lower_statement-returns-in-Continue-clause-lowered : goal.stateme
 statement::lower_statement-returns-in-Continue-clause-lowered g t c =
     jump_ok (seen c.args.names.now) _ _ c.lower_continue.result c.in-Continue.ensures c.lower_continue.ensures.lowered
 
+pub statement::lower_statement-unreachable-requires : goal.statement::lower_statement-unreachable-requires
+statement::lower_statement-unreachable-requires g t c = by_kind c.statement_view.result refl c.statement_view.ensures
+  where
+    by_kind : (v : Statement) → c.statement_view.result ≡ v → seen_statement v ≡ syntax c.args.statement.tree.now → ⊥
+    by_kind (statement.Empty at) is shown = c.in_default.not-Empty at is
+    by_kind (statement.Debugger at) is shown = c.in_default.not-Debugger at is
+    by_kind (statement.Expression at e) is shown = c.in_default.not-Expression at e is
+    by_kind (statement.Return at a) is shown = c.in_default.not-Return at a is
+    by_kind (statement.Block b) is shown = c.in_default.not-Block b is
+    by_kind (statement.If at p q r) is shown = c.in_default.not-If at p q r is
+    by_kind (statement.For at i p u b) is shown = c.in_default.not-For at i p u b is
+    by_kind (statement.While at p b) is shown = c.in_default.not-While at p b is
+    by_kind (statement.DoWhile at b p) is shown = c.in_default.not-DoWhile at b p is
+    by_kind (statement.ForIn at h r b) is shown = c.in_default.not-ForIn at h r b is
+    by_kind (statement.ForOf at w h r b) is shown = c.in_default.not-ForOf at w h r b is
+    by_kind (statement.Break at l) is shown = c.in_default.not-Break at l is
+    by_kind (statement.Continue at l) is shown = c.in_default.not-Continue at l is
+    by_kind (statement.Labeled at l b) is shown = c.in_default.not-Labeled at l b is
+    by_kind (statement.Variables d) is shown = c.in_default.not-Variables d is
+    by_kind (statement.Function inner) is shown =
+        function_unlowered (seen c.args.names.now) (arounds (state_of g.U.ReadsUnit.tables c.args.builder.now)) (syntax inner.tree.now) inner.fit
+        (subst (IsLowerableIn (seen c.args.names.now) (arounds (state_of g.U.ReadsUnit.tables c.args.builder.now)) None) (sym shown) c.requires.may)
+    by_kind v is shown =
+        true≢false
+        (sym (subst (IsLowerableIn (seen c.args.names.now) (arounds (state_of g.U.ReadsUnit.tables c.args.builder.now)) None) (sym shown) c.requires.may).0)
+
 pub statement::lower_statement-returns-in-While-clause-lowered : goal.statement::lower_statement-returns-in-While-clause-lowered
 statement::lower_statement-returns-in-While-clause-lowered g t c = unlabeled_loop_ok (seen c.args.names.now) _ _ _ c.lower_loop.result c.lower_loop.ensures.lowered
 
@@ -71,6 +107,14 @@ statement::lower_statement-returns-in-DoWhile-clause-lowered g t c =
 pub statement::lower_statement-returns-in-For-clause-lowered : goal.statement::lower_statement-returns-in-For-clause-lowered
 statement::lower_statement-returns-in-For-clause-lowered g t c =
     unlabeled_loop_ok (seen c.args.names.now) _ _ _ c.lower_loop-in-For.result c.lower_loop-in-For.ensures.lowered
+
+pub statement::lower_statement-returns-in-ForIn-clause-lowered : goal.statement::lower_statement-returns-in-ForIn-clause-lowered
+statement::lower_statement-returns-in-ForIn-clause-lowered g t c =
+    unlabeled_loop_ok (seen c.args.names.now) _ _ _ c.lower_loop-in-ForIn.result c.lower_loop-in-ForIn.ensures.lowered
+
+pub statement::lower_statement-returns-in-ForOf-clause-lowered : goal.statement::lower_statement-returns-in-ForOf-clause-lowered
+statement::lower_statement-returns-in-ForOf-clause-lowered g t c =
+    unlabeled_loop_ok (seen c.args.names.now) _ _ _ c.lower_loop-in-ForOf.result c.lower_loop-in-ForOf.ensures.lowered
 
 -- Statements in order.
 
@@ -729,3 +773,293 @@ loops::lower_for_plain-returns-clause-lowered g t c =
     for_plain_told (for_of c.body.new.self) _ c.in_ok-label.ensures c.in_ok-part.ensures.span c.span_of.ensures c.in_ok-frame.ensures.frame c.in_ok-frame.ensures.state
     c.in_ok-part.ensures.lowered c.in_ok-init.ensures.state c.in_ok-init.ensures.frame
     c.in_ok-lower_statement.ensures.lowered c.in_ok-body.ensures.state c.in_ok-body.ensures.frame c.in_ok-test.ensures.lowered c.in_ok-finish.ensures.state
+
+pub loops::lower_for_in-lower_statement-requires : goal.loops::lower_for_in-lower_statement-requires
+loops::lower_for_in-lower_statement-requires g t c =
+    let head : ℕ = nodes (syntax c.args.left.tree.now) in
+    let right : ℕ = nodes (syntax c.args.right.tree.now) in
+    let body : ℕ = nodes (syntax c.args.body.tree.now) in
+    let s : State = state_of g.U.ReadsUnit.tables c.args.builder.now in
+    let b : State = state_of g.U.ReadsUnit.tables c.begin.new.b in
+    let named : IsNamed (seen c.args.names.now) b =
+    for_in_begun_named c.in_ok-label.label s b c.in_ok-frame.ensures.state c.requires.names in
+    let room : HasRoom b (share body + (share right + (share head + 60))) =
+    for_in_room head right body c.in_ok-label.label s b c.in_ok-frame.ensures.state c.requires.room in
+    λ lifetimes outlives. (
+      search rules,
+      (
+        search rules,
+        (
+          named,
+          (
+            inside_loop (seen c.args.names.now) (syntax c.args.body.tree.now) s b
+                (for_in_arounds s b c.in_ok-label.ensures c.in_ok-frame.ensures.state) c.requires.may.0,
+            omega (arith, room),
+          ),
+        ),
+      ),
+    )
+
+pub loops::lower_for_in-body-requires-clause-open : goal.loops::lower_for_in-body-requires-clause-open
+loops::lower_for_in-body-requires-clause-open g t c =
+    let s : State = state_of g.U.ReadsUnit.tables c.args.builder.now in
+    forin_outer s c.in_ok-frame.ensures.frame
+
+pub loops::lower_for_in-body-requires-clause-scope : goal.loops::lower_for_in-body-requires-clause-scope
+loops::lower_for_in-body-requires-clause-scope g t c =
+    let s : State = state_of g.U.ReadsUnit.tables c.args.builder.now in
+    let b : State = state_of g.U.ReadsUnit.tables c.begin.new.b in
+    let s2 : State = state_of g.U.ReadsUnit.tables c.lower_statement.new.builder in
+    scope_kept s b s2 (scopes.Loop c.in_ok-label.label (block_id (s.env.next_block + 1)) (block_id s.env.next_block))
+    (ap (λ (o : State). o.scopes) c.in_ok-frame.ensures.state) c.in_ok-lower_statement.ensures.lowered
+
+pub loops::lower_for_in-lower_expression-requires-clause-names : goal.loops::lower_for_in-lower_expression-requires-clause-names
+loops::lower_for_in-lower_expression-requires-clause-names g t c =
+    let s : State = state_of g.U.ReadsUnit.tables c.args.builder.now in
+    let b : State = state_of g.U.ReadsUnit.tables c.begin.new.b in
+    let s2 : State = state_of g.U.ReadsUnit.tables c.lower_statement.new.builder in
+    let b2 : State = state_of g.U.ReadsUnit.tables c.body.new.b in
+    let named : IsNamed (seen c.args.names.now) b =
+    for_in_begun_named c.in_ok-label.label s b c.in_ok-frame.ensures.state c.requires.names in
+    let named2 : IsNamed (seen c.args.names.now) b2 =
+    rounds_bodied_named (forin_of c.in_ok-frame.frame) c.span_of.result s2 b2 c.in_ok-body.ensures.state (c.in_ok-lower_statement.ensures.lowered.named named) in
+    named2
+
+pub loops::lower_for_in-lower_expression-requires-clause-room : goal.loops::lower_for_in-lower_expression-requires-clause-room
+loops::lower_for_in-lower_expression-requires-clause-room g t c =
+    let head : ℕ = nodes (syntax c.args.left.tree.now) in
+    let right : ℕ = nodes (syntax c.args.right.tree.now) in
+    let body : ℕ = nodes (syntax c.args.body.tree.now) in
+    let s : State = state_of g.U.ReadsUnit.tables c.args.builder.now in
+    let b : State = state_of g.U.ReadsUnit.tables c.begin.new.b in
+    let s2 : State = state_of g.U.ReadsUnit.tables c.lower_statement.new.builder in
+    let b2 : State = state_of g.U.ReadsUnit.tables c.body.new.b in
+    let room : HasRoom b (share body + (share right + (share head + 60))) =
+    for_in_room head right body c.in_ok-label.label s b c.in_ok-frame.ensures.state c.requires.room in
+    let room2 : HasRoom b2 (share right + (share head + 60)) =
+    bodied_room head right body (forin_of c.in_ok-frame.frame) c.span_of.result b s2 b2 c.in_ok-lower_statement.ensures.lowered.size c.in_ok-body.ensures.state room in
+    omega (arith, room2)
+
+pub loops::lower_for_in-right-requires-clause-open : goal.loops::lower_for_in-right-requires-clause-open
+loops::lower_for_in-right-requires-clause-open g t c =
+    let s : State = state_of g.U.ReadsUnit.tables c.args.builder.now in
+    forin_head s c.in_ok-frame.ensures.frame c.in_ok-body.ensures.frame
+
+pub loops::lower_for_in-right-requires-clause-room : goal.loops::lower_for_in-right-requires-clause-room
+loops::lower_for_in-right-requires-clause-room g t c =
+    let head : ℕ = nodes (syntax c.args.left.tree.now) in
+    let right : ℕ = nodes (syntax c.args.right.tree.now) in
+    let body : ℕ = nodes (syntax c.args.body.tree.now) in
+    let s : State = state_of g.U.ReadsUnit.tables c.args.builder.now in
+    let b : State = state_of g.U.ReadsUnit.tables c.begin.new.b in
+    let s2 : State = state_of g.U.ReadsUnit.tables c.lower_statement.new.builder in
+    let b2 : State = state_of g.U.ReadsUnit.tables c.body.new.b in
+    let s3 : State = state_of g.U.ReadsUnit.tables c.lower_expression.new.builder in
+    let room : HasRoom b (share body + (share right + (share head + 60))) =
+    for_in_room head right body c.in_ok-label.label s b c.in_ok-frame.ensures.state c.requires.room in
+    let room2 : HasRoom b2 (share right + (share head + 60)) =
+    bodied_room head right body (forin_of c.in_ok-frame.frame) c.span_of.result b s2 b2 c.in_ok-lower_statement.ensures.lowered.size c.in_ok-body.ensures.state room in
+    let room3 : HasRoom s3 (share head + 60) =
+    right_room head right body b2 s3 c.in_ok-collection.ensures.lowered.size room2 in
+    omega (arith, room3)
+
+pub loops::lower_for_in-lower_loop_head-requires-clause-names : goal.loops::lower_for_in-lower_loop_head-requires-clause-names
+loops::lower_for_in-lower_loop_head-requires-clause-names g t c =
+    let s : State = state_of g.U.ReadsUnit.tables c.args.builder.now in
+    let b : State = state_of g.U.ReadsUnit.tables c.begin.new.b in
+    let s2 : State = state_of g.U.ReadsUnit.tables c.lower_statement.new.builder in
+    let b2 : State = state_of g.U.ReadsUnit.tables c.body.new.b in
+    let s3 : State = state_of g.U.ReadsUnit.tables c.lower_expression.new.builder in
+    let b3 : State = state_of g.U.ReadsUnit.tables c.right.new.b in
+    let named : IsNamed (seen c.args.names.now) b =
+    for_in_begun_named c.in_ok-label.label s b c.in_ok-frame.ensures.state c.requires.names in
+    let named2 : IsNamed (seen c.args.names.now) b2 =
+    rounds_bodied_named (forin_of c.in_ok-frame.frame) c.span_of.result s2 b2 c.in_ok-body.ensures.state (c.in_ok-lower_statement.ensures.lowered.named named) in
+    for_in_righted_named (forin_of c.body.new.self) c.span_of-2.result c.in_ok-collection.collection s3 b3 c.in_ok-key.ensures.state (c.in_ok-collection.ensures.lowered.named named2)
+
+pub loops::lower_for_in-lower_loop_head-requires-clause-room : goal.loops::lower_for_in-lower_loop_head-requires-clause-room
+loops::lower_for_in-lower_loop_head-requires-clause-room g t c =
+    let head : ℕ = nodes (syntax c.args.left.tree.now) in
+    let right : ℕ = nodes (syntax c.args.right.tree.now) in
+    let body : ℕ = nodes (syntax c.args.body.tree.now) in
+    let s : State = state_of g.U.ReadsUnit.tables c.args.builder.now in
+    let b : State = state_of g.U.ReadsUnit.tables c.begin.new.b in
+    let s2 : State = state_of g.U.ReadsUnit.tables c.lower_statement.new.builder in
+    let b2 : State = state_of g.U.ReadsUnit.tables c.body.new.b in
+    let s3 : State = state_of g.U.ReadsUnit.tables c.lower_expression.new.builder in
+    let b3 : State = state_of g.U.ReadsUnit.tables c.right.new.b in
+    let room : HasRoom b (share body + (share right + (share head + 60))) =
+    for_in_room head right body c.in_ok-label.label s b c.in_ok-frame.ensures.state c.requires.room in
+    let room2 : HasRoom b2 (share right + (share head + 60)) =
+    bodied_room head right body (forin_of c.in_ok-frame.frame) c.span_of.result b s2 b2 c.in_ok-lower_statement.ensures.lowered.size c.in_ok-body.ensures.state room in
+    let room3 : HasRoom s3 (share head + 60) =
+    right_room head right body b2 s3 c.in_ok-collection.ensures.lowered.size room2 in
+    for_in_head_room head right body (forin_of c.body.new.self) c.span_of-2.result c.in_ok-collection.collection s3 b3 c.in_ok-key.ensures.state room3
+
+pub loops::lower_for_in-returns-clause-lowered : goal.loops::lower_for_in-returns-clause-lowered
+loops::lower_for_in-returns-clause-lowered g t c =
+    for_in_told (forin_of c.right.new.self) _ c.in_ok-label.ensures c.span_of.ensures c.span_of-2.ensures c.in_ok-frame.ensures.frame
+    c.in_ok-frame.ensures.state c.in_ok-lower_statement.ensures.lowered c.in_ok-body.ensures.state c.in_ok-body.ensures.frame
+    c.in_ok-collection.ensures.lowered c.in_ok-key.ensures.state c.in_ok-key.ensures.frame c.in_ok-key.ensures.place
+    c.in_ok-test.ensures.lowered c.in_ok-finish.ensures.state
+
+pub loops::lower_for_of_plain-lower_statement-requires : goal.loops::lower_for_of_plain-lower_statement-requires
+loops::lower_for_of_plain-lower_statement-requires g t c =
+    let head : ℕ = nodes (syntax c.args.left.tree.now) in
+    let right : ℕ = nodes (syntax c.args.right.tree.now) in
+    let body : ℕ = nodes (syntax c.args.body.tree.now) in
+    let s : State = state_of g.U.ReadsUnit.tables c.args.builder.now in
+    let b : State = state_of g.U.ReadsUnit.tables c.begin.new.b in
+    let named : IsNamed (seen c.args.names.now) b =
+    for_of_begun_named c.in_ok-label.label s b c.in_ok-frame.ensures.state c.requires.names in
+    let room : HasRoom b (share body + (share right + (share head + 60))) =
+    for_of_room head right body c.in_ok-label.label s b c.in_ok-frame.ensures.state c.requires.room in
+    λ lifetimes outlives. (
+      search rules,
+      (
+        search rules,
+        (
+          named,
+          (
+            inside_loop (seen c.args.names.now) (syntax c.args.body.tree.now) s b
+                (for_of_arounds s b c.in_ok-label.ensures c.in_ok-frame.ensures.state) c.requires.may.0,
+            omega (arith, room),
+          ),
+        ),
+      ),
+    )
+
+pub loops::lower_for_of_plain-body-requires-clause-open : goal.loops::lower_for_of_plain-body-requires-clause-open
+loops::lower_for_of_plain-body-requires-clause-open g t c =
+    let s : State = state_of g.U.ReadsUnit.tables c.args.builder.now in
+    forof_outer s c.in_ok-frame.ensures.frame
+
+pub loops::lower_for_of_plain-body-requires-clause-scope : goal.loops::lower_for_of_plain-body-requires-clause-scope
+loops::lower_for_of_plain-body-requires-clause-scope g t c =
+    let s : State = state_of g.U.ReadsUnit.tables c.args.builder.now in
+    let b : State = state_of g.U.ReadsUnit.tables c.begin.new.b in
+    let s2 : State = state_of g.U.ReadsUnit.tables c.lower_statement.new.builder in
+    scope_kept s b s2 (scopes.Loop c.in_ok-label.label (block_id (s.env.next_block + 1)) (block_id s.env.next_block))
+    (ap (λ (o : State). o.scopes) c.in_ok-frame.ensures.state) c.in_ok-lower_statement.ensures.lowered
+
+pub loops::lower_for_of_plain-lower_expression-requires-clause-names : goal.loops::lower_for_of_plain-lower_expression-requires-clause-names
+loops::lower_for_of_plain-lower_expression-requires-clause-names g t c =
+    let s : State = state_of g.U.ReadsUnit.tables c.args.builder.now in
+    let b : State = state_of g.U.ReadsUnit.tables c.begin.new.b in
+    let s2 : State = state_of g.U.ReadsUnit.tables c.lower_statement.new.builder in
+    let b2 : State = state_of g.U.ReadsUnit.tables c.body.new.b in
+    let named : IsNamed (seen c.args.names.now) b =
+    for_of_begun_named c.in_ok-label.label s b c.in_ok-frame.ensures.state c.requires.names in
+    let named2 : IsNamed (seen c.args.names.now) b2 =
+    rounds_bodied_named (forof_of c.in_ok-frame.frame).rounds c.span_of.result s2 b2 c.in_ok-body.ensures.state (c.in_ok-lower_statement.ensures.lowered.named named) in
+    named2
+
+pub loops::lower_for_of_plain-lower_expression-requires-clause-room : goal.loops::lower_for_of_plain-lower_expression-requires-clause-room
+loops::lower_for_of_plain-lower_expression-requires-clause-room g t c =
+    let head : ℕ = nodes (syntax c.args.left.tree.now) in
+    let right : ℕ = nodes (syntax c.args.right.tree.now) in
+    let body : ℕ = nodes (syntax c.args.body.tree.now) in
+    let s : State = state_of g.U.ReadsUnit.tables c.args.builder.now in
+    let b : State = state_of g.U.ReadsUnit.tables c.begin.new.b in
+    let s2 : State = state_of g.U.ReadsUnit.tables c.lower_statement.new.builder in
+    let b2 : State = state_of g.U.ReadsUnit.tables c.body.new.b in
+    let room : HasRoom b (share body + (share right + (share head + 60))) =
+    for_of_room head right body c.in_ok-label.label s b c.in_ok-frame.ensures.state c.requires.room in
+    let room2 : HasRoom b2 (share right + (share head + 60)) =
+    bodied_room head right body (forof_of c.in_ok-frame.frame).rounds c.span_of.result b s2 b2 c.in_ok-lower_statement.ensures.lowered.size c.in_ok-body.ensures.state room in
+    omega (arith, room2)
+
+pub loops::lower_for_of_plain-right-requires-clause-open : goal.loops::lower_for_of_plain-right-requires-clause-open
+loops::lower_for_of_plain-right-requires-clause-open g t c =
+    let s : State = state_of g.U.ReadsUnit.tables c.args.builder.now in
+    forof_head s c.in_ok-frame.ensures.frame c.in_ok-body.ensures.frame
+
+pub loops::lower_for_of_plain-right-requires-clause-tests : goal.loops::lower_for_of_plain-right-requires-clause-tests
+loops::lower_for_of_plain-right-requires-clause-tests g t c =
+    let s : State = state_of g.U.ReadsUnit.tables c.args.builder.now in
+    forof_test s c.in_ok-frame.ensures.frame c.in_ok-body.ensures.frame
+
+pub loops::lower_for_of_plain-right-requires-clause-room : goal.loops::lower_for_of_plain-right-requires-clause-room
+loops::lower_for_of_plain-right-requires-clause-room g t c =
+    let head : ℕ = nodes (syntax c.args.left.tree.now) in
+    let right : ℕ = nodes (syntax c.args.right.tree.now) in
+    let body : ℕ = nodes (syntax c.args.body.tree.now) in
+    let s : State = state_of g.U.ReadsUnit.tables c.args.builder.now in
+    let b : State = state_of g.U.ReadsUnit.tables c.begin.new.b in
+    let s2 : State = state_of g.U.ReadsUnit.tables c.lower_statement.new.builder in
+    let b2 : State = state_of g.U.ReadsUnit.tables c.body.new.b in
+    let s3 : State = state_of g.U.ReadsUnit.tables c.lower_expression.new.builder in
+    let room : HasRoom b (share body + (share right + (share head + 60))) =
+    for_of_room head right body c.in_ok-label.label s b c.in_ok-frame.ensures.state c.requires.room in
+    let room2 : HasRoom b2 (share right + (share head + 60)) =
+    bodied_room head right body (forof_of c.in_ok-frame.frame).rounds c.span_of.result b s2 b2 c.in_ok-lower_statement.ensures.lowered.size c.in_ok-body.ensures.state room in
+    let room3 : HasRoom s3 (share head + 60) =
+    right_room head right body b2 s3 c.in_ok-collection.ensures.lowered.size room2 in
+    omega (arith, room3)
+
+pub loops::lower_for_of_plain-lower_loop_head-requires-clause-names : goal.loops::lower_for_of_plain-lower_loop_head-requires-clause-names
+loops::lower_for_of_plain-lower_loop_head-requires-clause-names g t c =
+    let s : State = state_of g.U.ReadsUnit.tables c.args.builder.now in
+    let b : State = state_of g.U.ReadsUnit.tables c.begin.new.b in
+    let s2 : State = state_of g.U.ReadsUnit.tables c.lower_statement.new.builder in
+    let b2 : State = state_of g.U.ReadsUnit.tables c.body.new.b in
+    let s3 : State = state_of g.U.ReadsUnit.tables c.lower_expression.new.builder in
+    let b3 : State = state_of g.U.ReadsUnit.tables c.right.new.b in
+    let named : IsNamed (seen c.args.names.now) b =
+    for_of_begun_named c.in_ok-label.label s b c.in_ok-frame.ensures.state c.requires.names in
+    let named2 : IsNamed (seen c.args.names.now) b2 =
+    rounds_bodied_named (forof_of c.in_ok-frame.frame).rounds c.span_of.result s2 b2 c.in_ok-body.ensures.state (c.in_ok-lower_statement.ensures.lowered.named named) in
+    for_of_righted_named (forof_of c.body.new.self) c.span_of-2.result c.in_ok-collection.collection s3 b3 c.in_ok-value.ensures.state (c.in_ok-collection.ensures.lowered.named named2)
+
+pub loops::lower_for_of_plain-lower_loop_head-requires-clause-room : goal.loops::lower_for_of_plain-lower_loop_head-requires-clause-room
+loops::lower_for_of_plain-lower_loop_head-requires-clause-room g t c =
+    let head : ℕ = nodes (syntax c.args.left.tree.now) in
+    let right : ℕ = nodes (syntax c.args.right.tree.now) in
+    let body : ℕ = nodes (syntax c.args.body.tree.now) in
+    let s : State = state_of g.U.ReadsUnit.tables c.args.builder.now in
+    let b : State = state_of g.U.ReadsUnit.tables c.begin.new.b in
+    let s2 : State = state_of g.U.ReadsUnit.tables c.lower_statement.new.builder in
+    let b2 : State = state_of g.U.ReadsUnit.tables c.body.new.b in
+    let s3 : State = state_of g.U.ReadsUnit.tables c.lower_expression.new.builder in
+    let b3 : State = state_of g.U.ReadsUnit.tables c.right.new.b in
+    let room : HasRoom b (share body + (share right + (share head + 60))) =
+    for_of_room head right body c.in_ok-label.label s b c.in_ok-frame.ensures.state c.requires.room in
+    let room2 : HasRoom b2 (share right + (share head + 60)) =
+    bodied_room head right body (forof_of c.in_ok-frame.frame).rounds c.span_of.result b s2 b2 c.in_ok-lower_statement.ensures.lowered.size c.in_ok-body.ensures.state room in
+    let room3 : HasRoom s3 (share head + 60) =
+    right_room head right body b2 s3 c.in_ok-collection.ensures.lowered.size room2 in
+    for_of_head_room head right body (forof_of c.body.new.self) c.span_of-2.result c.in_ok-collection.collection s3 b3 c.in_ok-value.ensures.state room3
+
+pub loops::lower_for_of_plain-returns-clause-lowered : goal.loops::lower_for_of_plain-returns-clause-lowered
+loops::lower_for_of_plain-returns-clause-lowered g t c =
+    for_of_told (forof_of c.right.new.self) _ c.in_ok-label.ensures c.span_of.ensures c.span_of-2.ensures c.in_ok-frame.ensures.frame
+    c.in_ok-frame.ensures.state c.in_ok-lower_statement.ensures.lowered c.in_ok-body.ensures.state c.in_ok-body.ensures.frame
+    c.in_ok-collection.ensures.lowered c.in_ok-value.ensures.state c.in_ok-value.ensures.frame c.in_ok-value.ensures.place
+    c.in_ok-test.ensures.lowered c.in_ok-finish.ensures.state
+
+pub loops::lower_for_of-returns-then-is_await-clause-lowered : goal.loops::lower_for_of-returns-then-is_await-clause-lowered
+loops::lower_for_of-returns-then-is_await-clause-lowered g t c =
+    await_told c.args.is_await _ c.if-is_await.true c.in_ok-refuse.ensures.state
+
+pub loops::lower_for_of-lower_for_of_plain-requires : goal.loops::lower_for_of-lower_for_of_plain-requires
+loops::lower_for_of-lower_for_of_plain-requires g t c =
+    λ lifetimes outlives. (
+      search rules,
+      (
+        search rules,
+        (
+          c.requires.names,
+          (
+            for_of_may (seen c.args.names.now) (arounds (state_of g.U.ReadsUnit.tables c.args.builder.now)) (option_map (λ l. l.now) c.args.label) c.args.at
+                (syntax c.args.left.tree.now) (syntax c.args.right.tree.now) (syntax c.args.body.tree.now) c.args.is_await c.if-is_await.false c.requires.may,
+            c.requires.room,
+          ),
+        ),
+      ),
+    )
+
+pub loops::lower_for_of-returns-clause-lowered : goal.loops::lower_for_of-returns-clause-lowered
+loops::lower_for_of-returns-clause-lowered g t c =
+    for_of_ok (seen c.args.names.now) c.args.at (option_map (λ l. l.now) c.args.label)
+    (syntax c.args.left.tree.now) (syntax c.args.right.tree.now) (syntax c.args.body.tree.now)
+    c.args.is_await _ _ c.lower_for_of_plain.result c.if-is_await.false c.lower_for_of_plain.ensures.lowered

@@ -1,4 +1,4 @@
-use Rattle.std.proofs.Common.{◌≡◌, ◌+◌, ◌*◌, ◌≤◌, List, None, Some, map}
+use Rattle.std.proofs.Common.{◌≡◌, ◌+◌, ◌*◌, ◌≤◌, false, List, None, Some, map}
 use Rattle.rl_ast.specs.StatementViews.{seen_statement}
 use Rattle.rl_ast.specs.declared.statement.Statement.TheVariants as statement
 use Rattle.rl_builder.specs.Builder.{State, state_of}
@@ -19,7 +19,7 @@ shown trees = pieces_of (map syntax trees)
 
 -- The nodes that are left; a loop behind the statement that it is, and rows of statements below the node that they are parts of.
 abbrev pub decreases-statement::lower_statement : goal.decreases-statement::lower_statement
-decreases-statement::lower_statement g l = 5 * nodes (syntax l.statement.tree.now) + 2
+decreases-statement::lower_statement g l = 5 * nodes (syntax l.statement.tree.now) + 3
 
 abbrev pub decreases-statement::lower_if_then : goal.decreases-statement::lower_if_then
 decreases-statement::lower_if_then g l = 5 * nodes (seen_statement (statement.If l.at l.test l.consequent None))
@@ -31,7 +31,7 @@ abbrev pub decreases-loops::lower_labeled : goal.decreases-loops::lower_labeled
 decreases-loops::lower_labeled g l = 5 * nodes (seen_statement (statement.Labeled l.at l.label l.body)) + 1
 
 abbrev pub decreases-loops::lower_loop : goal.decreases-loops::lower_loop
-decreases-loops::lower_loop g l = 5 * nodes (syntax l.statement.tree.now) + 1
+decreases-loops::lower_loop g l = 5 * nodes (syntax l.statement.tree.now) + 2
 
 abbrev pub decreases-loops::lower_while : goal.decreases-loops::lower_while
 decreases-loops::lower_while g l = 5 * nodes (seen_statement (statement.While l.at l.test l.body))
@@ -45,8 +45,17 @@ decreases-loops::lower_for_updated g l = 5 * nodes (seen_statement (statement.Fo
 abbrev pub decreases-loops::lower_for_plain : goal.decreases-loops::lower_for_plain
 decreases-loops::lower_for_plain g l = 5 * nodes (seen_statement (statement.For l.at l.init l.test None l.body))
 
+abbrev pub decreases-loops::lower_for_in : goal.decreases-loops::lower_for_in
+decreases-loops::lower_for_in g l = 5 * nodes (seen_statement (statement.ForIn l.at l.left l.right l.body))
+
+abbrev pub decreases-loops::lower_for_of_plain : goal.decreases-loops::lower_for_of_plain
+decreases-loops::lower_for_of_plain g l = 5 * nodes (seen_statement (statement.ForOf l.at false l.left l.right l.body))
+
+abbrev pub decreases-loops::lower_for_of : goal.decreases-loops::lower_for_of
+decreases-loops::lower_for_of g l = 5 * nodes (seen_statement (statement.ForOf l.at l.is_await l.left l.right l.body)) + 1
+
 abbrev pub decreases-statement::lower_statements : goal.decreases-statement::lower_statements
-decreases-statement::lower_statements g l = 5 * nodes_of (shown l.statements.trees.now) + 3
+decreases-statement::lower_statements g l = 5 * nodes_of (shown l.statements.trees.now) + 4
 
 abbrev pub decreases-statement::lower_statements-statements : goal.decreases-statement::lower_statements-statements
 decreases-statement::lower_statements-statements g l = size_of (shown l.left.trees.now)

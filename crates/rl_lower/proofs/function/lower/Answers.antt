@@ -7,6 +7,7 @@ use Rattle.rl_base.specs.Reserved.{is_reserved}
 use Rattle.rl_base.specs.declared.diagnostic.Diagnostic.{Diagnostic}
 use Rattle.rl_promises.proofs.LowerableTrees.{body_lowerable, params_lowerable}
 use Rattle.rl_promises.specs.Lowerable.{IsLowerableBody}
+use Rattle.rl_promises.specs.Rebound.{respanned}
 use Rattle.rl_promises.specs.Rows.{Records, refusals_of}
 use Rattle.rl_promises.specs.Stops.{has_using, stop_of}
 use Rattle.rl_hir.specs.declared.environment.Environment.{Environment}
@@ -23,7 +24,7 @@ use Rattle.rl_lower.proofs.SpannedGraphs.{lower_spanned}
 use Rattle.rl_lower.proofs.SoundGraphs.{function_identifiers, function_listed, function_pairs, function_places}
 use Rattle.rl_promises.specs.Covered.{IsCoveredFunction}
 use Rattle.rl_promises.specs.Fields.{AreGiven, ArePairs}
-use Rattle.rl_names.specs.Functions.{body_in, parameters_of}
+use Rattle.rl_names.specs.Functions.{body_in}
 use Rattle.rl_names.specs.Locals.{AreApart}
 use Rattle.rl_promises.specs.Locals.{AreLocals}
 use Rattle.rl_names.specs.Names.{at_of}
@@ -150,12 +151,12 @@ returns-clause-pairs c =
 
 pub returns-clause-given : goal.returns-clause-given
 returns-clause-given c =
-    let given = lower_given (seen c.args.names.now) _ _ _ _ _ c.create_temporary_place.new.env _ _ _ (are_apart _ _ (c.as_slice-2.ensures ∙ c.in_ok-parameters.ensures) c.requires.locals.apart)
+    subst (λ (e : Environment). AreGiven e.identifiers e.pairs (length c.args.env.now.identifiers) c.args.env.now.next_type (respanned (seen c.args.names.now) (seen_function_node c.args.function))) (sym c.mark_using.ensures)
+    (lower_given (seen_function_node c.args.function) _ (seen c.args.names.now) _ _ _ _ c.create_temporary_place.new.env _ _ _ c.parts_of-parts.ensures.body
+    (c.as_slice-2.ensures ∙ c.in_ok-parameters.ensures) (are_apart _ _ (c.as_slice-2.ensures ∙ c.in_ok-parameters.ensures) c.requires.locals.apart)
     c.requires.fresh c.in_ok-graph.ensures.graph
     (subst (λ (l : List Parameter). AreDeclaredAt c.args.names.now.resolver.now.semantic.now l) (sym (c.as_slice-2.ensures ∙ c.in_ok-parameters.ensures)) c.requires.locals.locals.spanned)
-    c.in_ok-returns.ensures.ok in
-    subst (λ (e : Environment). AreGiven e.identifiers e.pairs (length c.args.env.now.identifiers) c.args.env.now.next_type (parameters_of (seen c.args.names.now) (seen_function_node c.args.function))) (sym c.mark_using.ensures)
-    (subst (λ (l : List Parameter). AreGiven c.create_temporary_place.new.env.identifiers c.create_temporary_place.new.env.pairs (length c.args.env.now.identifiers) c.args.env.now.next_type l) (c.as_slice-2.ensures ∙ c.in_ok-parameters.ensures) given)
+    c.in_ok-returns.ensures.ok)
 
 pub returns-clause-paired : goal.returns-clause-paired
 returns-clause-paired c =

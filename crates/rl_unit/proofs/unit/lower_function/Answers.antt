@@ -5,6 +5,7 @@ use Rattle.rl_hir.specs.declared.environment.Environment.{Environment}
 use Rattle.rl_hir.specs.declared.function.Lowered.{Lowered}
 use Rattle.rl_promises.specs.Fields.{AreGiven, HasFieldsOf, places_from}
 use Rattle.rl_promises.proofs.HeldOnce.{held_once}
+use Rattle.rl_promises.specs.Rebound.{respanned}
 use Rattle.rl_promises.specs.Rows.{Records, refusals_of}
 use Rattle.rl_promises.specs.Spans.{AreSpannedIdentifiers, IsSpanOf}
 use Rattle.rl_promises.specs.Stops.{has_using}
@@ -38,7 +39,7 @@ returns-clause-lowered c =
     let unskipped : has_using (body_in tree) ≡ false =
     sym (graph.skip ∙ ap (λ (e : Environment). e.skip || has_using (body_in tree)) c.fresh_environment-env.ensures) ∙ sym c.if-skip_compilation.ensures in
     let functions : env.functions ≡ [] = graph.functions ∙ ap (λ (e : Environment). e.functions) c.fresh_environment-env.ensures in
-    let given = subst (λ (e : Environment). AreGiven env.identifiers env.pairs (length e.identifiers) e.next_type parameters) c.fresh_environment-env.ensures graph.given in
+    let given = subst (λ (e : Environment). AreGiven env.identifiers env.pairs (length e.identifiers) e.next_type (respanned names tree)) c.fresh_environment-env.ensures graph.given in
     let params = graph.params ∙ ap (λ (e : Environment). places_from (length e.identifiers) parameters) c.fresh_environment-env.ensures in
     let known = graph.known may.small (subst (λ (e : Environment). All (λ i. IsWritable (identifier i)) e.identifiers) (sym c.fresh_environment-env.ensures) (λ k d h. absurd (omega arith))) in
     let l : Lowered = record { function = c.in-Ok.lowered; inner = env.functions; identifiers = env.identifiers; pairs = env.pairs } in
