@@ -2,7 +2,8 @@
 """Writes the inputs of bench/scopes.sh: bench/scope_units.py FOLDER.
 
 Units of about 1,000, 16,000 and 65,000 nodes of each shape: names that are looked up through many scopes, many names, one name
-that many scopes declare, and one name that is used many times."""
+that many scopes declare, one name that is used many times, functions that use a name which is declared behind them, and one name
+that is used many times before its `var`, so that the linter walks over the tree."""
 import sys
 
 NODES = (1000, 16000, 65000)
@@ -11,9 +12,9 @@ USE = '(id "x")'
 NESTED = 250
 
 
-def declared(name):
+def declared(name, kind="let"):
     """Three nodes."""
-    return f'(var "let" [(declarator (bind "{name}" -) -)])'
+    return f'(var "{kind}" [(declarator (bind "{name}" -) -)])'
 
 
 def nested(nodes):
@@ -39,7 +40,16 @@ def uses(nodes):
     return [declared("x"), f"(expr (array [{' '.join([USE] * (nodes - 11))}]))"]
 
 
-for shape in (nested, distinct, siblings, uses):
+def functions(nodes):
+    inner = f"(params [] -) (body [] [(return {USE})])"
+    return [f'(fundecl n n n (bind "name{index}" -) {inner})' for index in range((nodes - 9) // 6)] + [declared("x")]
+
+
+def hoisted(nodes):
+    return [f"(expr (array [{' '.join([USE] * (nodes - 11))}]))", declared("x", "var")]
+
+
+for shape in (nested, distinct, siblings, uses, functions, hoisted):
     for nodes in NODES:
         with open(f"{sys.argv[1]}/{shape.__name__}-{nodes}.unit", "w") as file:
             file.write(f"(unit [] (program [{' '.join([MARKED] + shape(nodes))}]))")

@@ -1,44 +1,44 @@
--- The symbol that a node declares, by the index of declarations.
-use Rattle.std.proofs.Common.{◌≡◌, ◌<◌, ℕ, Bool, true, false, if◌then◌else◌, nat_eq, Option}
-use Rattle.std.proofs.Common.{Some, None, List, [], ◌∷◌, map, refl, ap, ◌∙◌}
-use Rattle.std.proofs.lemmas.Bool.{lt-ltb}
-use Rattle.rl_ast.specs.Marked.{first}
+-- The symbol that a node declares, by a row of declarations in order.
+use Rattle.std.proofs.Common.{◌≡◌, ◌≤◌, arith, ℕ, zero, suc, ◌+◌, Bool, true, false, if◌then◌else◌}
+use Rattle.std.proofs.Common.{nat_eq, nat_le, Some, slice_get, List, [], ◌∷◌, sym, ap, ◌∙◌, leb-true, eqb-true, eq-eqb}
+use Rattle.std.proofs.lemmas.Bool.{and_parts, false_from_ne_true}
+use Rattle.std.proofs.lemmas.Option.{same_Some}
 use Rattle.rl_bindings.specs.declared.resolve.Declaration.{Declaration}
-use Rattle.rl_lint.specs.Lates.{declaration_pair}
+use Rattle.rl_lint.specs.Lates.{are_ordered}
 use Rattle.rl_lint.specs.Rules.{declared}
-use Rattle.rl_semantic.specs.Buckets.{AreFirsts, first_at, those, those_below}
 
--- A symbol that a declaration may have, if there is one.
-abbrev flat : Option (Option ℕ) → Option ℕ
-flat None = None
-flat (Some symbol) = symbol
+-- Of declarations in order, each has an id of at least `least`.
+least_first : (least : ℕ) (ds : List Declaration) (row : ℕ) (d : Declaration) → are_ordered least ds ≡ true
+    → slice_get ds row ≡ Some d → least ≤ d.node.0
+least_first least [] row d ordered is = absurd (cc)
+least_first least (e ∷ ds) zero d ordered is =
+    let le = leb-true least e.node.0 (and_parts (nat_le least e.node.0) (are_ordered (e.node.0 + 1) ds) ordered).0 in
+    let same : e.node.0 ≡ d.node.0 = ap (λ (d : Declaration). d.node.0) (same_Some e d is) in
+    omega (arith, le, same)
+least_first least (e ∷ ds) (suc row) d ordered is =
+    let parts = and_parts (nat_le least e.node.0) (are_ordered (e.node.0 + 1) ds) ordered in
+    let le = leb-true least e.node.0 parts.0 in
+    let more = least_first (e.node.0 + 1) ds row d parts.1 is in
+    omega (arith, le, more)
 
-declared_first : (ds : List Declaration) (node : ℕ) → flat (first (those node (map declaration_pair ds))) ≡ declared ds node
-declared_first [] node = refl
-declared_first (d ∷ ds) node = by_case (nat_eq d.node.0 node) (declared_first ds node)
-  where
-    by_case : (b : Bool) → flat (first (those node (map declaration_pair ds))) ≡ declared ds node
-        → flat (first (if b then d.symbol ∷ those node (map declaration_pair ds) else those node (map declaration_pair ds)))
-        ≡ (if b then d.symbol else declared ds node)
-    by_case true rest = refl
-    by_case false rest = rest
+row_declared : (least : ℕ) (ds : List Declaration) (row : ℕ) (d : Declaration) → are_ordered least ds ≡ true
+    → slice_get ds row ≡ Some d → d.symbol ≡ declared ds d.node.0
+row_declared least [] row d ordered is = absurd (cc)
+row_declared least (e ∷ ds) zero d ordered is =
+    let same : e ≡ d = same_Some e d is in
+    ap (λ (d : Declaration). d.symbol) (sym same)
+    ∙ sym (ap (λ (c : Bool). if c then e.symbol else declared ds d.node.0)
+    (eq-eqb e.node.0 d.node.0 (ap (λ (d : Declaration). d.node.0) same)))
+row_declared least (e ∷ ds) (suc row) d ordered is =
+    let parts = and_parts (nat_le least e.node.0) (are_ordered (e.node.0 + 1) ds) ordered in
+    let more = least_first (e.node.0 + 1) ds row d parts.1 is in
+    let other : nat_eq e.node.0 d.node.0 ≡ false = false_from_ne_true (nat_eq e.node.0 d.node.0)
+    (λ eq. let same = eqb-true e.node.0 d.node.0 eq in omega (arith, more, same)) in
+    row_declared (e.node.0 + 1) ds row d parts.1 is
+    ∙ sym (ap (λ (c : Bool). if c then e.symbol else declared ds d.node.0) other)
 
-below : (node : ℕ) (ds : List Declaration) → node < 4294967296
-    → those_below 4294967296 node (map declaration_pair ds) ≡ those node (map declaration_pair ds)
-below node ds within = ap (λ (b : Bool). if b then those node (map declaration_pair ds) else []) (lt-ltb node 4294967296 within)
-
-pub found_declared : (table : List (Option (Option ℕ))) (ds : List Declaration) (node : ℕ) (o : Option (Option ℕ))
-    → AreFirsts table 4294967296 (map declaration_pair ds) → node < 4294967296 → o ≡ first_at table node → flat o ≡ declared ds node
-found_declared table ds node o are within is =
-    ap flat (is ∙ are.at node ∙ ap first (below node ds within)) ∙ declared_first ds node
-
-pub some_declared : (table : List (Option (Option ℕ))) (ds : List Declaration) (node : ℕ) (symbol : Option ℕ)
-    → AreFirsts table 4294967296 (map declaration_pair ds) → node < 4294967296 → Some symbol ≡ first_at table node
-    → symbol ≡ declared ds node
-some_declared table ds node symbol are within is = found_declared table ds node (Some symbol) are within is
-
-pub none_declared : (table : List (Option (Option ℕ))) (ds : List Declaration) (node : ℕ)
-    → AreFirsts table 4294967296 (map declaration_pair ds) → node < 4294967296 → None ≡ first_at table node → None ≡ declared ds node
-none_declared table ds node are within is = found_declared table ds node None are within is
-
-pub ruleset declared_at = (some_declared, none_declared)
+-- A declaration at an index, in a list that was found to be in order.
+pub found_declared : (ds : List Declaration) (row node : ℕ) (d : Declaration) (in_order : Bool) → in_order ≡ are_ordered 0 ds
+    → in_order ≡ true → Some d ≡ slice_get ds row → d.node.0 ≡ node → d.symbol ≡ declared ds node
+found_declared ds row node d in_order told is there same =
+    row_declared 0 ds row d (sym told ∙ is) (sym there) ∙ ap (declared ds) same

@@ -1,3 +1,4 @@
+pub mod Clearing
 pub mod Declaring
 pub mod LateSymbols
 pub mod Endings
@@ -5,4 +6,5 @@ pub mod Outward
 pub mod Referring
 pub mod Walking
 pub mod Sorting
+pub mod Unlabeled
 pub mod Missing

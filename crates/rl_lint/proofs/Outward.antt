@@ -2,12 +2,16 @@
 use Rattle.std.proofs.Common.{◌≡◌, ◌<◌, ◌≤◌, arith, ℕ, zero, suc, ◌-◌, Bool, true, false}
 use Rattle.std.proofs.Common.{if◌then◌else◌, nat_le, Option, Some, None, List, [], ◌∷◌, refl, sym, ap, ◌∙◌}
 use Rattle.std.proofs.lemmas.Bool.{le-leb, leb-false, leb-true, lt-leb}
+use Rattle.std.proofs.lemmas.Slice.Eq.{bytes_eq-Decides}
+use Rattle.std.specs.Str.{bytes_eq}
 use Rattle.rl_base.specs.declared.ids.ScopeId.{ScopeId}
 use Rattle.rl_bindings.specs.Symbols.{binding, option_or, resolve}
 use Rattle.rl_bindings.specs.declared.event.Bound.{Bound}
 use Rattle.rl_bindings.specs.declared.event.ScopeEntry.{ScopeEntry}
-use Rattle.rl_lint.specs.Rules.{least, other_among, other_at}
-use Rattle.rl_resolver.specs.Around.{outward}
+use Rattle.rl_lint.specs.Rules.{least, other_among, other_at, other_named, taken_by}
+use Rattle.rl_lint.specs.Stems.{stem}
+use Rattle.rl_lint.specs.Tables.{Tables}
+use Rattle.rl_resolver.specs.Around.{ancestors, outward}
 use Rattle.rl_resolver.specs.Lookups.{scope_parent}
 
 pub out_step : (scopes : List ScopeEntry) (left : ℕ) (next : Option ScopeId) (scope : ScopeId) → 0 < left → next ≡ Some scope
@@ -96,3 +100,23 @@ module _ (symbols : List Bound) (scopes : List ScopeEntry) (own name : ℕ) wher
   least_end (suc left) next found is = absurd (omega (arith, is))
 
 pub ruleset least_steps = (least_next, least_last, least_end)
+
+-- A name that is its own stem is looked for once.
+
+least-same : (a : Option ℕ) → least a a ≡ a
+least-same None = refl
+least-same (Some x) = by_case (nat_le x x)
+  where
+    by_case : (b : Bool) → (if b then Some x else Some x) ≡ Some x
+    by_case true = refl
+    by_case false = refl
+
+pub same_stem : (b : Tables) (own : ℕ) (scope : ScopeId) (text less : List ℕ) (found : Option ℕ) → less ≡ stem text
+    → bytes_eq less text ≡ true
+    → found ≡ other_named b own (ancestors b.scopes scope) text → found ≡ taken_by b own scope text
+same_stem b own scope text less found is same e =
+    let whole : stem text ≡ text = sym is ∙ (bytes_eq-Decides less text).0 same in
+    e ∙ sym (least-same (other_named b own (ancestors b.scopes scope) text))
+    ∙ ap (λ t. least (other_named b own (ancestors b.scopes scope) text) (other_named b own (ancestors b.scopes scope) t)) (sym whole)
+
+pub ruleset by_stem = (same_stem)

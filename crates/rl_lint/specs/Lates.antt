@@ -1,5 +1,5 @@
--- Late declarations by their symbols.
-use Rattle.std.specs.Prelude.{ℕ, Option, List, [], ◌∷◌, ◌++◌}
+-- Late declarations by their symbols, and the order of declarations.
+use Rattle.std.specs.Prelude.{ℕ, ◌+◌, Bool, true, ◌&&◌, nat_le, List, [], ◌∷◌, ◌++◌}
 use Rattle.rl_bindings.specs.declared.resolve.Declaration.{Declaration}
 use Rattle.rl_lint.specs.Rules.{declared}
 use Rattle.rl_lint.specs.Tables.{Tables}
@@ -8,9 +8,10 @@ use Rattle.rl_lint.specs.declared.site.Site.{Site}
 use Rattle.rl_lint.specs.declared.site.Site.TheVariants as site
 use Rattle.rl_semantic.specs.Items.{of_item}
 
--- A declaration's node with the symbol that it declares.
-abbrev pub declaration_pair : Declaration → ℕ × Option ℕ
-declaration_pair d = (d.node.0, d.symbol)
+-- True of declarations whose nodes have larger and larger ids, from `least` on.
+abbrev pub are_ordered : (least : ℕ) → List Declaration → Bool
+are_ordered least [] = true
+are_ordered least (d ∷ ds) = nat_le least d.node.0 && are_ordered (d.node.0 + 1) ds
 
 abbrev pub late_pair : Tables → Site → List (ℕ × LateSite)
 late_pair b (site.Late d) = of_item [] (λ symbol. (symbol, d) ∷ []) (declared b.declarations d.bind.0)

@@ -1,3 +1,4 @@
+pub mod Clear
 pub mod Findings
 pub mod Labels
 pub mod Lates

@@ -16,16 +16,18 @@ use rl_bindings::event::Bound;
 use rl_semantic::buckets::{bucket, buckets};
 use std::alloc::Global;
 
-/// Appends a late declaration at the symbol that it declares; nothing at any other site. On `OutOfMemory`, an allocation failed.
+/// Appends a late declaration at the symbol that it declares, which is looked for from the index `row` on; nothing at any other site. On
+/// `OutOfMemory`, an allocation failed.
 fn push_late(
     pairs: &mut List<(usize, LateSite)>,
     names: &UnitNames<'_>,
+    row: &mut usize,
     site: &Site,
 ) -> Result<(), OutOfMemory>
     ensures { OnOk result (pairs.new ≡ pairs.old ++ late_pair (tables names.now.bindings.now) site.now) }
 {
     match site {
-        Site::Late(late) => match names.declared(late.bind) {
+        Site::Late(late) => match names.declared(row, late.bind) {
             Some(symbol) => {
                 pairs.push((symbol, *late))?;
                 Ok(())
@@ -46,8 +48,9 @@ fn late_pairs(
     ensures { IfOk result (λ pairs. pairs ≡ late_pairs (tables names.now.bindings.now) sites.now) }
 {
     let mut pairs = List::new(alloc);
+    let mut row = 0;
     'sites: for site in sites {
-        push_late(&mut pairs, names, site)?;
+        push_late(&mut pairs, names, &mut row, site)?;
     }
     Ok(pairs)
 }

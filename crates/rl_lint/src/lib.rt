@@ -2,8 +2,10 @@
 //! definition in `specs/Rules.antt`.
 #![tactic(auto)]
 
+mod clear;
 mod early;
 pub mod finding;
+mod hints;
 mod labels;
 pub mod lint;
 mod names;

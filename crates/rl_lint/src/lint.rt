@@ -6,6 +6,7 @@ ghost use Rattle.rl_lint.specs.Rules.{findings};
 ghost use Rattle.rl_lint.specs.Tables.{tables};
 ghost use Rattle.rl_syntax.specs.Syntax.{syntax};
 
+use crate::clear::is_clear;
 use crate::early::push_all_early;
 use crate::finding::{Finding, place_of};
 use crate::labels::push_unused_labels;
@@ -17,23 +18,24 @@ use rl_ast::unit::Unit;
 use rl_base::error::OutOfMemory;
 use rl_bindings::bindings::Bindings;
 use rl_semantic::semantic::Semantic;
-use rl_syntax::numbered::Numbered;
 use std::alloc::Global;
 
 /// The findings of all rules in a unit, one rule behind the other. On `OutOfMemory`, an allocation failed.
-fn find_all(
-    alloc: Global,
-    tree: &Numbered,
-    bindings: &Bindings,
-) -> Result<Vec<Finding>, OutOfMemory>
-    ensures { IfOk result (λ found. found.items ≡ findings (tables bindings.now) (syntax tree.now)) }
+#[tactic(auto, using(crate::proofs::Unlabeled::in_clear))]
+fn find_all(alloc: Global, unit: &Unit, bindings: &Bindings) -> Result<Vec<Finding>, OutOfMemory>
+    ensures { IfOk result (λ found. found.items ≡ findings (tables bindings.now) (syntax unit.now.tree)) }
 {
     let mut found = Vec::new(alloc);
-    let sites = sites_of(alloc, tree)?;
-    let names = UnitNames::new(alloc, bindings)?;
+    if is_clear(alloc, unit, bindings)? {
+        push_all_shadowing(alloc, &mut found, bindings)?;
+        push_unused_labels(alloc, &mut found, unit)?;
+        return Ok(found);
+    }
+    let sites = sites_of(alloc, &unit.tree)?;
+    let names = UnitNames::new(bindings);
     push_all_early(alloc, &mut found, &names, sites.as_slice())?;
     push_all_shadowing(alloc, &mut found, bindings)?;
-    push_unused_labels(alloc, &mut found, tree)?;
+    push_unused_labels(alloc, &mut found, unit)?;
     push_all_taken(alloc, &mut found, &names, sites.as_slice())?;
     Ok(found)
 }
@@ -56,7 +58,7 @@ pub fn lint(
 ) -> Result<Vec<Finding>, OutOfMemory>
     ensures { IfOk result (λ listed. spec.Lists (findings (tables semantic.now.bindings) (syntax unit.now.tree)) listed.items) }
 {
-    let mut found = find_all(alloc, &unit.tree, &semantic.bindings)?;
+    let mut found = find_all(alloc, unit, &semantic.bindings)?;
     sort(&mut found)?;
     Ok(found)
 }

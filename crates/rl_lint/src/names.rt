@@ -1,67 +1,90 @@
 //! Look-ups in the tables of a unit's names.
 
-ghost use Rattle.std.specs.Prelude.{◌≡◌, Some, map, slice_get, IfOk};
+ghost use Rattle.std.specs.Prelude.{◌≡◌, Some, slice_get};
 ghost use Rattle.std.specs.Option.{option_copied};
-ghost use Rattle.rl_lint.specs.Lates.{declaration_pair};
+ghost use Rattle.rl_lint.specs.Lates as lists;
 ghost use Rattle.rl_lint.specs.Rules as spec;
 ghost use Rattle.rl_resolver.specs.Around.{ancestors, outward};
 ghost use Rattle.rl_resolver.specs.Lookups as lookups;
-ghost use Rattle.rl_semantic.specs.Buckets.{AreFirsts};
 
-use rl_base::error::OutOfMemory;
 use rl_base::ids::{NodeId, ReferenceId, ScopeId};
-use rl_base::list::List;
 use rl_bindings::bindings::Bindings;
 use rl_bindings::event::{Bound, ScopeEntry};
 use rl_bindings::resolve::Declaration;
-use rl_semantic::buckets::{first_at, firsts};
-use std::alloc::Global;
 
-/// Number of the ids that nodes may have.
-const IDS: usize = 4_294_967_296;
-
-/// The declarations, each at its node, with the symbol that it declares. On `OutOfMemory`, an allocation failed.
-fn declaring(
-    alloc: Global,
-    declarations: &[Declaration],
-) -> Result<List<(usize, Option<usize>)>, OutOfMemory>
-    ensures { IfOk result (λ pairs. pairs ≡ map declaration_pair declarations.now) }
+/// True of declarations whose nodes have larger and larger ids.
+fn are_ordered(declarations: &[Declaration]) -> bool
+    ensures { result ≡ lists.are_ordered 0 declarations.now }
 {
-    let mut pairs = List::with_capacity(alloc, declarations.len())?;
+    let mut least = 0;
     'declarations: for declaration in declarations {
-        pairs.push((declaration.node.0 as usize, declaration.symbol))?;
+        let node = declaration.node.0 as usize;
+        if node < least {
+            return false;
+        }
+        least = node + 1;
     }
-    Ok(pairs)
+    true
 }
 
-/// The tables of a unit's names, with an index of the declarations by their nodes.
+/// Index of the first declaration from an index on whose node has no smaller id. The number of declarations if there is none.
+fn next_row(declarations: &[Declaration], start: usize, node: NodeId) -> usize {
+    let mut row = start;
+    'rows: while row < declarations.len() {
+        if node.0 <= declarations[row].node.0 {
+            return row;
+        }
+        row += 1;
+    }
+    row
+}
+
+/// The number of the symbol that a `bind` node declares, by the first of declarations of that node. `None` without one.
+fn declared_among(declarations: &[Declaration], node: NodeId) -> Option<usize>
+    ensures { result ≡ spec.declared declarations.now node.0 }
+{
+    'declarations: for declaration in declarations {
+        if declaration.node.0 == node.0 {
+            return declaration.symbol;
+        }
+    }
+    None
+}
+
+/// The tables of a unit's names, and what is known of the order of its declarations.
 #[derive(Drop)]
 pub(crate) struct UnitNames<'s> {
     /// The tables.
     pub(crate) bindings: &'s Bindings,
-    declared: List<Option<Option<usize>>>,
-    ghost declared_are: { AreFirsts declared 4294967296 (map declaration_pair bindings.now.declarations) },
+    /// True of declarations whose nodes have larger and larger ids.
+    in_order: bool,
+    ghost ordered: { in_order ≡ lists.are_ordered 0 bindings.now.declarations },
 }
 
 impl<'s> UnitNames<'s> {
-    /// The tables with their index. On `OutOfMemory`, an allocation failed.
-    pub(crate) fn new(alloc: Global, bindings: &'s Bindings) -> Result<UnitNames<'s>, OutOfMemory>
-        ensures { IfOk result (λ names. names.bindings.now ≡ bindings.now) }
+    /// The tables of a unit's names.
+    pub(crate) fn new(bindings: &'s Bindings) -> UnitNames<'s>
+        ensures { result.bindings.now ≡ bindings.now }
     {
-        let pairs = declaring(alloc, bindings.declarations.as_slice())?;
-        let declared = firsts(alloc, IDS, pairs.as_slice())?;
-        Ok(UnitNames { bindings, declared })
+        let in_order = are_ordered(bindings.declarations.as_slice());
+        UnitNames { bindings, in_order }
     }
 
-    /// The number of the symbol that a `bind` node declares. `None` at any other node.
-    #[tactic(auto, using(crate::proofs::Declaring::declared_at))]
-    pub(crate) fn declared(&self, node: NodeId) -> Option<usize>
+    /// The number of the symbol that a `bind` node declares. `None` at any other node. The search begins at the index `row` of the
+    /// declarations and moves it on: for nodes in order, it takes time that is linear in the declarations for all of them together.
+    pub(crate) fn declared(&self, row: &mut usize, node: NodeId) -> Option<usize>
         ensures { result ≡ spec.declared self.now.bindings.now.declarations node.0 }
     {
-        match first_at(&self.declared, node.0 as usize) {
-            Some(symbol) => symbol,
-            None => None,
+        let declarations = self.bindings.declarations.as_slice();
+        *row = next_row(declarations, *row, node);
+        if self.in_order {
+            if let Some(declaration) = self.bindings.declarations.get(*row) {
+                if declaration.node.0 == node.0 {
+                    return declaration.symbol;
+                }
+            }
         }
+        declared_among(declarations, node)
     }
 }
 

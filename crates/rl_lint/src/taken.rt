@@ -86,10 +86,14 @@ fn other_named(bindings: &Bindings, own: usize, scope: ScopeId, text: &str) -> O
 }
 
 /// The least number of a symbol with this text or its stem as its name in a scope or in one around it, `own` aside.
-fn taken_by(bindings: &Bindings, own: usize, scope: ScopeId, text: &str) -> Option<usize>
+#[tactic(auto, using(crate::proofs::Outward::by_stem))]
+pub(crate) fn taken_by(bindings: &Bindings, own: usize, scope: ScopeId, text: &str) -> Option<usize>
     ensures { result ≡ spec.taken_by (tables bindings.now) own scope text.now }
 {
     let named = other_named(bindings, own, scope, text);
+    if stem(text) == text {
+        return named;
+    }
     let stemmed = other_named(bindings, own, scope, stem(text));
     least(named, stemmed)
 }
@@ -125,17 +129,19 @@ fn push_taken(
     }
 }
 
-/// Appends the finding of L4 at a function declaration. On `OutOfMemory`, an allocation failed.
+/// Appends the finding of L4 at a function declaration, whose symbol is looked for from the index `row` on. On `OutOfMemory`, an allocation
+/// failed.
 fn push_name(
     alloc: Global,
     found: &mut Vec<Finding>,
     names: &UnitNames<'_>,
+    row: &mut usize,
     site: &NamedSite,
 ) -> Result<(), OutOfMemory>
     ensures { OnOk result (found.new.items ≡ found.old.items ++ spec.taken_name (tables names.now.bindings.now) site.now) }
 {
     let bindings = names.bindings;
-    match names.declared(site.bind.id) {
+    match names.declared(row, site.bind.id) {
         Some(own) => match symbol_at(bindings, own) {
             Some(first) => {
                 push_taken(alloc, found, bindings, site, own, first)?;
@@ -157,9 +163,10 @@ pub(crate) fn push_all_taken(
 ) -> Result<(), OutOfMemory>
     ensures { OnOk result (found.new.items ≡ found.old.items ++ spec.taken (tables names.now.bindings.now) sites.now) }
 {
+    let mut row = 0;
     'sites: for site in sites {
         if let Site::Named(site) = site {
-            push_name(alloc, found, names, site)?;
+            push_name(alloc, found, names, &mut row, site)?;
         }
     }
     Ok(())

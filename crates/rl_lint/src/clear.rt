@@ -1,0 +1,169 @@
+//! Units in which L1 and L4 find nothing, as their tables tell: most units, and no walk over their trees is needed.
+
+ghost use Rattle.std.specs.Prelude.{◌≡◌, true, IfOk};
+ghost use Rattle.rl_lint.specs.Clear as spec;
+ghost use Rattle.rl_lint.specs.Tables.{tables};
+ghost use Rattle.rl_syntax.specs.Syntax.{syntax};
+
+use crate::hints::{Hints, LastBind, function_at, function_inside, hints_of, named_scope};
+use crate::names::{name_text, symbol_at, used};
+use crate::taken::taken_by;
+use rl_ast::unit::Unit;
+use rl_base::error::OutOfMemory;
+use rl_base::ids::{NodeId, ScopeId};
+use rl_bindings::bindings::Bindings;
+use rl_bindings::resolve::Declaration;
+use rl_syntax::nodes::NodeEntry;
+use rl_syntax::numbered::{At, is_reference};
+use std::alloc::Global;
+
+/// True of a symbol whose name, declared by a function that makes a scope, is that of no other symbol around, nor its stem.
+fn is_clear_name(bindings: &Bindings, own: usize, scope: ScopeId) -> bool
+    ensures { result ≡ spec.is_clear_name (tables bindings.now) own scope }
+{
+    match symbol_at(bindings, own) {
+        Some(first) => taken_by(bindings, own, scope, name_text(bindings, first.name)).is_none(),
+        None => true,
+    }
+}
+
+/// True of a declaration that is not behind the last one of its symbol, nor in another function.
+fn is_up_to(hints: &Hints, node: NodeId, last: &LastBind) -> bool
+    ensures { result ≡ spec.is_up_to hints.now node.0 last.now }
+{
+    node.0 <= last.node.0 && function_at(hints.functions.as_slice(), node).0 == last.function.0
+}
+
+/// True of a declaration of a symbol that the hints know.
+fn is_hinted(hints: &Hints, node: NodeId, symbol: usize) -> bool
+    ensures { result ≡ spec.is_hinted hints.now node.0 symbol }
+{
+    match hints.lasts.get(symbol) {
+        Some(last) => is_up_to(hints, node, last),
+        None => true,
+    }
+}
+
+/// True of a declaration of a symbol that L4 finds nothing at, or that the hints know.
+fn is_clear_bind(
+    nodes: &[NodeEntry],
+    hints: &Hints,
+    bindings: &Bindings,
+    node: NodeId,
+    symbol: usize,
+) -> bool
+    ensures { result ≡ spec.is_clear_bind nodes.now hints.now (tables bindings.now) node.0 symbol }
+{
+    match named_scope(nodes, node) {
+        Some(scope) => is_clear_name(bindings, symbol, scope),
+        None => is_hinted(hints, node, symbol),
+    }
+}
+
+/// True of a declaration that L4 finds nothing at, or that the hints know.
+fn is_clear_declaration(
+    nodes: &[NodeEntry],
+    hints: &Hints,
+    bindings: &Bindings,
+    declaration: &Declaration,
+) -> bool
+    ensures { result ≡ spec.is_clear_declaration nodes.now hints.now (tables bindings.now) declaration.now }
+{
+    match declaration.symbol {
+        Some(symbol) => is_clear_bind(nodes, hints, bindings, declaration.node, symbol),
+        None => true,
+    }
+}
+
+/// True of declarations that are all clear.
+fn are_clear_declarations(nodes: &[NodeEntry], hints: &Hints, bindings: &Bindings) -> bool
+    ensures { result ≡ spec.are_clear_declarations nodes.now hints.now (tables bindings.now) bindings.now.declarations }
+{
+    'declarations: for declaration in bindings.declarations.as_slice() {
+        if !is_clear_declaration(nodes, hints, bindings, declaration) {
+            return false;
+        }
+    }
+    true
+}
+
+/// True of a use before the last declaration of its symbol, in the same function.
+fn is_before(hints: &Hints, node: NodeId, last: &LastBind) -> bool
+    ensures { result ≡ spec.is_before hints.now node.0 last.now }
+{
+    node.0 < last.node.0 && function_at(hints.functions.as_slice(), node).0 == last.function.0
+}
+
+/// True of a use of a symbol that stands behind all declarations in its function, as far as the hints know them.
+fn is_behind_last(hints: &Hints, node: NodeId, symbol: usize) -> bool
+    ensures { result ≡ spec.is_behind_last hints.now node.0 symbol }
+{
+    match hints.lasts.get(symbol) {
+        Some(last) => !is_before(hints, node, last),
+        None => false,
+    }
+}
+
+/// True of a use that L1 finds nothing at.
+fn is_clear_use(hints: &Hints, bindings: &Bindings, at: &At) -> bool
+    ensures { result ≡ spec.is_clear_use hints.now (tables bindings.now) at.now }
+{
+    match used(bindings, at.reference) {
+        Some(symbol) => is_behind_last(hints, at.id, symbol),
+        None => true,
+    }
+}
+
+/// True of a node whose parent, if it has one, has a smaller id.
+fn is_inside(parent: Option<NodeId>, node: NodeId) -> bool
+    ensures { result ≡ spec.is_inside parent node.0 }
+{
+    match parent {
+        Some(parent) => parent.0 < node.0,
+        None => true,
+    }
+}
+
+/// True of a node for which the hints have the right function.
+fn is_known(functions: &[NodeId], node: &NodeEntry) -> bool
+    ensures { result ≡ spec.is_known functions.now node.now }
+{
+    is_inside(node.parent, node.at.id)
+        && function_at(functions, node.at.id).0 == function_inside(functions, node).0
+}
+
+/// True of a node that the hints know, and that is no use or one that L1 finds nothing at.
+fn is_clear_node(hints: &Hints, bindings: &Bindings, node: &NodeEntry) -> bool
+    ensures { result ≡ spec.is_clear_node hints.now (tables bindings.now) node.now }
+{
+    is_known(hints.functions.as_slice(), node)
+        && (!is_reference(node.word) || is_clear_use(hints, bindings, &node.at))
+}
+
+/// True of nodes that are all clear, each with its index as its id.
+fn are_clear_nodes(nodes: &[NodeEntry], hints: &Hints, bindings: &Bindings) -> bool
+    ensures { result ≡ spec.are_clear_from hints.now (tables bindings.now) 0 nodes.now }
+{
+    'nodes: for (index, node) in nodes.iter().enumerate() {
+        if node.at.id.0 as usize != index {
+            return false;
+        }
+        if !is_clear_node(hints, bindings, node) {
+            return false;
+        }
+    }
+    true
+}
+
+/// True of a unit in which L1 and L4 find nothing, as its tables tell. Where they do not, there may be findings, or none. On
+/// `OutOfMemory`, an allocation failed.
+pub(crate) fn is_clear(alloc: Global, unit: &Unit, bindings: &Bindings) -> Result<bool, OutOfMemory>
+    ensures { IfOk result (λ clear. clear ≡ true → spec.FindsNone (tables bindings.now) (syntax unit.now.tree)) }
+{
+    let nodes = unit.nodes.as_slice();
+    let hints = hints_of(alloc, nodes, bindings)?;
+    if are_clear_declarations(nodes, &hints, bindings) {
+        return Ok(are_clear_nodes(nodes, &hints, bindings));
+    }
+    Ok(false)
+}
