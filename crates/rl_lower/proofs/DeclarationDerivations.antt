@@ -27,7 +27,7 @@ use Rattle.rl_runs.specs.Blocks.{size_of}
 use Rattle.rl_syntax.specs.declared.numbered.At.{At}
 use Rattle.rl_syntax.specs.declared.word.Word.TheVariants as word
 use Rattle.rl_syntax.specs.Syntax.{Syntax, Node, Listed, Said, Count, Flag, Absent, Pieces, End, Then, nodes}
-use Rattle.rl_lower.proofs.MemberDerivations.{grown}
+use Rattle.rl_lower_expressions.proofs.MemberDerivations.{grown}
 
 -- A type that stands there, or none.
 

@@ -20,8 +20,8 @@ use Rattle.rl_hir.specs.declared.instruction.InstructionValue.TheVariants as val
 use Rattle.rl_hir.specs.declared.instruction.NonLocalBinding.{NonLocalBinding}
 use Rattle.rl_hir.specs.declared.instruction.Place.{Place}
 use Rattle.rl_lower.specs.Declarators.{IsDeclared}
-use Rattle.rl_lower.specs.Members.{LowersMember, key_of}
-use Rattle.rl_lower.specs.declared.member.LoweredMember.{LoweredMember}
+use Rattle.rl_lower_expressions.specs.Members.{LowersMember, key_of}
+use Rattle.rl_lower_expressions.specs.declared.member.LoweredMember.{LoweredMember}
 use Rattle.rl_lowered.proofs.Redeclared.{size_redeclared}
 use Rattle.rl_lowered.proofs.Told.{told_head}
 use Rattle.rl_lowered.specs.Forms.{IsAnnotation, store_of}

@@ -1,11 +1,8 @@
 pub mod Answering
 pub mod Building
 pub mod Builds
-pub mod CallDerivations
 pub mod Closings
 pub mod DeclarationDerivations
-pub mod Derivations
-pub mod FrameDerivations
 pub mod FunctionGraphs
 pub mod FunctionHeld
 pub mod FunctionTrees
@@ -13,13 +10,8 @@ pub mod Functions
 pub mod GivenNames
 pub mod HeadDerivations
 pub mod HeldNodes
-pub mod Inside
 pub mod Linked
 pub mod LoopDerivations
-pub mod MemberDerivations
-pub mod NameDerivations
-pub mod OperandDerivations
-pub mod OperatorDerivations
 pub mod Parameters
 pub mod Ranges
 pub mod Resolving

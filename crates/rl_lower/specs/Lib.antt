@@ -1,9 +1,6 @@
 pub mod Begun
 pub mod Declarators
 pub mod Endings
-pub mod Groups
-pub mod Keys
-pub mod Members
 pub mod Parameters
 pub mod Rooms
 pub mod Scenes

@@ -12,10 +12,6 @@ ghost use Rattle.rl_lowered.specs.Promised.{HasRoom, LowersInit, LowersStatement
 ghost use Rattle.rl_promises.specs.Lowerable.{AreLowerable, DeclaresFree, IsLowerable};
 ghost use Rattle.rl_names.specs.Seen.{seen};
 
-use crate::expression::lower_expression;
-use crate::graph_builder::GraphBuilder;
-use crate::name::resolve_variable;
-use crate::temporary::{lower_value_to_temporary, refuse};
 use rl_ast::binding::{
     BindingIdentifier, BindingPattern, binding_identifier_view, binding_pattern_view,
 };
@@ -31,6 +27,10 @@ use rl_grammar::sort::{
     ExpressionTree, VariableDeclarationTree, VariableDeclaratorTree, VariableDeclaratorTrees,
 };
 use rl_hir::instruction::{InstructionKind, InstructionValue, Place};
+use rl_lower_expressions::expression::lower_expression;
+use rl_lower_expressions::graph_builder::GraphBuilder;
+use rl_lower_expressions::name::resolve_variable;
+use rl_lower_expressions::temporary::{lower_value_to_temporary, refuse};
 use rl_names::names::FunctionNames;
 use rl_syntax::word::Word;
 use std::alloc::Global;

@@ -16,12 +16,7 @@ ghost use Rattle.rl_names.specs.Seen.{seen};
 ghost use Rattle.rl_names.specs.declared.names.Meaning.TheVariants.{Local};
 ghost use Rattle.rl_base.specs.Reserved.{is_reserved};
 
-use crate::access::{lower_computed, lower_static};
 use crate::declaration::resolve_declared;
-use crate::graph_builder::GraphBuilder;
-use crate::member::store_member;
-use crate::name::resolve_variable;
-use crate::temporary::{lower_value_to_temporary, refuse};
 use rl_ast::binding::{
     BindingIdentifier, BindingPattern, IdentifierReference, binding_identifier_view,
     binding_pattern_view, identifier_reference_view,
@@ -37,6 +32,11 @@ use rl_base::stop::Stop;
 use rl_builder::unit_tables::ReadsUnit;
 use rl_grammar::sort::{AssignmentTargetTree, ForHeadTree, VariableDeclarationTree};
 use rl_hir::instruction::{InstructionKind, InstructionValue, Place};
+use rl_lower_expressions::access::{lower_computed, lower_static};
+use rl_lower_expressions::graph_builder::GraphBuilder;
+use rl_lower_expressions::member::store_member;
+use rl_lower_expressions::name::resolve_variable;
+use rl_lower_expressions::temporary::{lower_value_to_temporary, refuse};
 use rl_names::names::{FunctionNames, Meaning};
 use rl_syntax::numbered::At;
 use rl_syntax::word::Word;

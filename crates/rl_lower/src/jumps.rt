@@ -10,7 +10,6 @@ ghost use Rattle.rl_promises.specs.Jumps.{stop_of_break, stop_of_continue};
 ghost use Rattle.rl_runs.specs.Moves.{next_hole};
 ghost use Rattle.rl_syntax.specs.Syntax.{nodes};
 
-use crate::graph_builder::GraphBuilder;
 use rl_ast::statement::Statement;
 use rl_base::ids::{BlockId, EvaluationOrder};
 use rl_base::span::Span;
@@ -19,6 +18,7 @@ use rl_base::text::Text;
 use rl_builder::unit_tables::ReadsUnit;
 use rl_hir::function::BlockKind;
 use rl_hir::terminal::{GotoVariant, Terminal, TerminalKind};
+use rl_lower_expressions::graph_builder::GraphBuilder;
 use rl_syntax::numbered::At;
 
 /// The text of a label, if there is one.

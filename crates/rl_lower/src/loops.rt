@@ -14,13 +14,8 @@ ghost use Rattle.rl_promises.specs.Lowerable.{IsLowerable, IsLowerableIn};
 ghost use Rattle.rl_syntax.specs.Syntax.{nodes, syntax};
 
 use crate::declaration::lower_variables;
-use crate::expression::lower_expression;
-use crate::graph_builder::GraphBuilder;
 use crate::heads::lower_loop_head;
-use crate::shape::is_loop;
-use crate::span::span_of;
 use crate::statement::lower_statement;
-use crate::temporary::{lower_undefined, lower_value_to_temporary, refuse};
 use rl_ast::statement::{Statement, statement_view};
 use rl_ast::statement_part::{ForInit, for_init_view};
 use rl_base::error::OutOfMemory;
@@ -37,9 +32,36 @@ use rl_frames::label_frame::LabelFrame;
 use rl_frames::while_frame::WhileFrame;
 use rl_grammar::sort::{ExpressionTree, ForHeadTree, ForInitTree, StatementTree};
 use rl_hir::instruction::{InstructionValue, Place, PrimitiveValue};
+use rl_lower_expressions::expression::lower_expression;
+use rl_lower_expressions::graph_builder::GraphBuilder;
+use rl_lower_expressions::span::span_of;
+use rl_lower_expressions::temporary::{lower_undefined, lower_value_to_temporary, refuse};
 use rl_names::names::FunctionNames;
-use rl_syntax::numbered::At;
+use rl_syntax::numbered::{At, Numbered};
+use rl_syntax::word::Word;
 use std::alloc::Global;
+
+/// True of a loop.
+#[tactic(auto, using(rl_syntax::proofs::Layers::by_layer))]
+fn is_loop(tree: &Numbered) -> bool
+    ensures { result ≡ is_loop (syntax tree.now) }
+{
+    match tree {
+        Numbered::Node(_, word, _) => match word {
+            Word::While => true,
+            Word::Dowhile => true,
+            Word::For => true,
+            Word::Forin => true,
+            Word::Forof => true,
+            _ => false,
+        },
+        Numbered::List(_) => false,
+        Numbered::Text(_) => false,
+        Numbered::Number(_) => false,
+        Numbered::Flag(_) => false,
+        Numbered::Absent => false,
+    }
+}
 
 /// A copy of the label of a loop, if it has one.
 fn copy_label(alloc: Global, label: Option<&Text>) -> Result<Option<Text>, OutOfMemory>

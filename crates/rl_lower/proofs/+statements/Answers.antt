@@ -21,7 +21,7 @@ use Rattle.rl_promises.specs.Jumps.{Around, InLoop}
 use Rattle.rl_promises.specs.Lowerable.{AreLowerableIn, IsLowerableIn}
 use Rattle.rl_runs.specs.Moves.{block_id}
 use Rattle.rl_syntax.specs.Syntax.{Syntax, Pieces, Then, nodes, nodes_of, pieces_of, syntax}
-use Rattle.rl_lower.proofs.Derivations.{room_after}
+use Rattle.rl_lower_expressions.proofs.Derivations.{room_after}
 use Rattle.rl_lower.proofs.LoopDerivations.{break_may, continue_may, do_while_bodied_size, do_while_told, for_begun_arounds, for_begun_size}
 use Rattle.rl_lower.proofs.LoopDerivations.{for_bodied_size, for_inited_arounds, for_inited_names, for_inited_size, for_plain_arounds}
 use Rattle.rl_lower.proofs.LoopDerivations.{for_plain_told, for_updated_arounds, for_updated_size, for_updated_told, if_consequent_arounds}

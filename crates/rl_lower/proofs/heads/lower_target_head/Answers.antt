@@ -1,7 +1,7 @@
 use Rattle.std.proofs.Common.{refl}
 use Rattle.rl_builder.specs.Builder.{state_of}
 use Rattle.rl_names.specs.Seen.{seen}
-use Rattle.rl_lower.proofs.Derivations.{index_told, member_told}
+use Rattle.rl_lower_expressions.proofs.Derivations.{index_told, member_told}
 use Rattle.rl_lower.proofs.HeadDerivations.{lost_ok, shown_may, stored_member_ok}
 use Rattle.rl_lower.proofs.heads.lower_target_head.Goals as goal
 

@@ -1,0 +1,9 @@
+pub mod CallDerivations
+pub mod Derivations
+pub mod FrameDerivations
+pub mod Inside
+pub mod MemberDerivations
+pub mod NameDerivations
+pub mod OperandDerivations
+pub mod OperatorDerivations
+pub mod ParsedNumbers

@@ -1,0 +1,247 @@
+-- Derivations of properties that are loaded, updated, deleted or called.
+use Rattle.std.proofs.Common.{◌≡◌, ℕ, ◌+◌, ◌≤◌, true, false, ◌&&◌, not, Bool, List, [], ◌∷◌, Option, Some, None, Result, Ok, Err, OnOk, IfOk}
+use Rattle.std.proofs.Common.{refl, ap, sym, ◌∙◌, subst, arith}
+use Rattle.std.specs.Prelude.{codes}
+use Rattle.std.specs.Str.{bytes_eq}
+use Rattle.rl_base.specs.Operators.{unary_text, update_text}
+use Rattle.rl_base.specs.declared.operator.UnaryOperator.{UnaryOperator}
+use Rattle.rl_base.specs.declared.operator.UpdateOperator.{UpdateOperator}
+use Rattle.rl_base.specs.declared.row.Row.TheVariants as row
+use Rattle.rl_base.specs.declared.span.Span.{Span}
+use Rattle.rl_base.specs.declared.stop.Stop.{Stop}
+use Rattle.rl_builder.specs.Builder.{State}
+use Rattle.rl_builder.specs.Temporaries.{temporary, with_value}
+use Rattle.rl_hir.specs.Pieces.{Piece, Gives, argument_pieces, gathered}
+use Rattle.rl_hir.specs.declared.instruction.InstructionValue.{InstructionValue}
+use Rattle.rl_hir.specs.declared.instruction.InstructionValue.TheVariants as values
+use Rattle.rl_hir.specs.declared.instruction.MethodCall.{MethodCall}
+use Rattle.rl_hir.specs.declared.instruction.Place.{Place}
+use Rattle.rl_hir.specs.declared.instruction.PlaceOrSpread.{PlaceOrSpread}
+use Rattle.rl_hir.specs.declared.instruction.PropertyLiteral.{PropertyLiteral}
+use Rattle.rl_hir.specs.declared.instruction.PropertyLiteral.TheVariants as keys
+use Rattle.rl_lower_expressions.specs.declared.member.LoweredMember.{LoweredMember}
+use Rattle.rl_lower_expressions.specs.declared.member.MemberProperty.TheVariants as properties
+use Rattle.rl_lowered.specs.Forms.{Fixed, IsForm, IsInside, IsMember, IsPrivate, IsRefused, delete_of, is_number_key, load_of}
+use Rattle.rl_lowered.specs.Forms as forms
+use Rattle.rl_lowered.specs.Lowered.{Lowered, LoweredAll, member_result, member_stored}
+use Rattle.rl_lowered.specs.Lowered as lowered
+use Rattle.rl_lowered.specs.Promised.{LowersAll, LowersExpression, share}
+use Rattle.rl_model.specs.Applied.{deletes}
+use Rattle.rl_model.specs.Shapes.{is_link}
+use Rattle.rl_names.specs.Names.{Names}
+use Rattle.rl_promises.specs.Lowerable.{IsLowerable, Where}
+use Rattle.rl_promises.specs.Outs.{is_lost_delete, is_wrapped}
+use Rattle.rl_runs.proofs.Sizes.{size_value}
+use Rattle.rl_runs.specs.Blocks.{size_of}
+use Rattle.rl_syntax.specs.declared.numbered.At.{At}
+use Rattle.rl_syntax.specs.declared.word.Word.{Word}
+use Rattle.rl_syntax.specs.declared.word.Word.TheVariants as word
+use Rattle.rl_syntax.specs.Syntax.{Syntax, Node, Listed, Said, Flag, Pieces, End, Then, nodes, nodes_of}
+use Rattle.rl_text.specs.Numeral.{number_of}
+use Rattle.rl_lower_expressions.proofs.ParsedNumbers.{parsed_none, parsed_some}
+use Rattle.rl_lower_expressions.proofs.Derivations.{asked_ok, derived, inner_ok, next, nothing, private_told}
+use Rattle.rl_lower_expressions.specs.Groups.{key_number}
+use Rattle.rl_lower_expressions.specs.Members.{LowersMember, key_of}
+
+-- A value makes at most four things.
+pub grown : (s t : State) (v : InstructionValue) (span : Option Span) → t ≡ with_value s v span → size_of t ≤ size_of s + 4
+grown s t v span moved =
+    let size : size_of (with_value s v span) ≤ size_of s + 4 = size_value s v span in
+    let same : size_of t ≡ size_of (with_value s v span) = ap size_of moved in
+    omega (arith, size, same)
+
+-- The parts of a property.
+
+pub static_parts : {names : Names} {object : Syntax} {text : List ℕ} {s t : State} {p : Place} (copy : List ℕ) → copy ≡ text
+    → LowersExpression names object s t p
+    → LowersMember names word.Member (Then (Flag false) (Then object (Then (Said text) End))) s t
+    (record { object = p; property = properties.Literal (keys.String copy) })
+static_parts {names} {object} {text} {s} {t} {p} copy same l = record {
+  parts = Then object End;
+  pieces = Gives p ∷ [];
+  member =
+      subst (λ (k : List ℕ). IsMember word.Member (Then (Flag false) (Then object (Then (Said text) End))) (Then object End) (Gives p ∷ []) p
+      (Fixed (keys.String k))) (sym same) forms.Static;
+  by = next l nothing;
+  named = l.named;
+  size = let few : size_of t ≤ size_of s + share (nodes object) = l.size in omega (arith, few);
+}
+
+-- A key in brackets that is a numeral.
+numbered_member : {object : Syntax} {p : Place} (key : Syntax) (number whole : ℕ) → whole ≡ number → Some number ≡ key_number key
+    → IsMember word.Index (Then (Flag false) (Then object (Then key End))) (Then object End) (Gives p ∷ []) p (Fixed (keys.Number whole))
+numbered_member {object} {p} (Node at word.Num (Then (Said text) End)) number whole same found =
+    let told = parsed_some text text number refl found in
+    subst (λ (k : ℕ). IsMember word.Index (Then (Flag false) (Then object (Then (Node at word.Num (Then (Said text) End)) End)))
+    (Then object End) (Gives p ∷ []) p (Fixed (keys.Number k))) (sym (same ∙ told.1)) (forms.Numbered told.0)
+numbered_member _ number whole same found = absurd (let never : Some number ≡ None = found in cc)
+
+pub numbered_parts : {names : Names} {object key : Syntax} {s t : State} {p : Place} (number whole : ℕ) → whole ≡ number
+    → Some number ≡ key_number key → LowersExpression names object s t p
+    → LowersMember names word.Index (Then (Flag false) (Then object (Then key End))) s t
+    (record { object = p; property = properties.Literal (keys.Number whole) })
+numbered_parts {names} {object} {key} {s} {t} {p} number whole same found l = record {
+  parts = Then object End;
+  pieces = Gives p ∷ [];
+  member = numbered_member key number whole same found;
+  by = next l nothing;
+  named = l.named;
+  size = let few : size_of t ≤ size_of s + share (nodes object) = l.size in omega (arith, few);
+}
+
+-- A key in brackets that is no numeral.
+computed_key : (key : Syntax) → None ≡ key_number key → is_number_key key ≡ false
+computed_key (Node at word.Num (Then (Said text) End)) found = parsed_none text text refl found
+computed_key _ found = refl
+
+pub computed_parts : {names : Names} {object key : Syntax} {s t u : State} {p q : Place} → None ≡ key_number key
+    → LowersExpression names object s t p → LowersExpression names key t u q
+    → LowersMember names word.Index (Then (Flag false) (Then object (Then key End))) s u (record { object = p; property = properties.Computed q })
+computed_parts {names} {object} {key} {s} {t} {u} {p} {q} found l m = record {
+  parts = Then object (Then key End);
+  pieces = Gives p ∷ Gives q ∷ [];
+  member = forms.Indexed (computed_key key found);
+  by = next l (next m nothing);
+  named = λ n. m.named (l.named n);
+  size =
+      let first : size_of t ≤ size_of s + share (nodes object) = l.size in
+      let second : size_of u ≤ size_of t + share (nodes key) = m.size in
+      omega (arith, first, second);
+}
+
+-- A load.
+pub loaded_ok : {names : Names} {tree : Syntax} {at : At} {w : Word} {fields : Pieces} {s t : State} {value : InstructionValue}
+    (m : LoweredMember) (r : Result Place Stop) (new : State)
+    → Node at w fields ≡ tree → value ≡ load_of m.object (key_of m.property) → LowersMember names w fields s t m
+    → OnOk r (new ≡ with_value t value (Some at.span)) → IfOk r (λ place. place ≡ temporary t (Some at.span))
+    → IfOk r (λ place. LowersExpression names tree s new place)
+loaded_ok {names} {tree} {at} {w} {fields} {s} {t} {value} m r new is same l moved placed =
+    asked_ok r new is (subst (IsForm w fields l.parts l.pieces) (sym same) (forms.Load l.member)) l.by moved placed
+
+-- A call of a method.
+pub method_ok : {names : Names} {es : Pieces} {given : List PlaceOrSpread} {loaded u : State} {p : Place} {load : InstructionValue}
+    {call : MethodCall} (s : State) (at there : At) (m : LoweredMember) (r : Result Place Stop) (new : State)
+    → load ≡ load_of m.object (key_of m.property) → loaded ≡ with_value s load (Some there.span) → p ≡ temporary s (Some there.span)
+    → LowersAll names es loaded u (gathered argument_pieces given)
+    → call ≡ record { receiver = m.object; property = p; arguments = given }
+    → OnOk r (new ≡ with_value u (values.MethodCall call) (Some at.span)) → IfOk r (λ place. place ≡ temporary u (Some at.span))
+    → IfOk r (λ place. (w : Word) (fields : Pieces) (old : State) → LowersMember names w fields old s m
+    → LowersExpression names (Node at word.Call (Then (Flag false) (Then (Node there w fields) (Then (Listed es) End)))) old new place)
+method_ok {names} {es} {given} {loaded} {u} {p} {load} {call} s at there m (Ok place) new same begun at_place l calls moved placed =
+    λ w fields old parts.
+    let tree : Syntax = Node at word.Call (Then (Flag false) (Then (Node there w fields) (Then (Listed es) End))) in
+    derived tree tree old _ new _ place refl
+    (moved ∙ ap (λ (k : MethodCall). with_value u (values.MethodCall k) (Some at.span))
+    (calls ∙ ap (λ (q : Place). record { receiver = m.object; property = q; arguments = given }) at_place))
+    placed
+    (lowered.Method at there w fields parts.parts es parts.pieces _ m.object (key_of m.property) given old s u parts.member parts.by
+    (subst (λ (o : State). LoweredAll names es o u (gathered argument_pieces given))
+    (begun ∙ ap (λ (v : InstructionValue). with_value s v (Some there.span)) same) l.by) refl)
+method_ok s at there m (Err e) new same begun at_place l calls moved placed = tt
+
+-- The call of a callee that is a property.
+pub called_ok : {names : Names} (at : At) {there : At} {callee : Syntax} {w : Word} {fields : Pieces} (es : Pieces) {old s : State} (new : State) (m : LoweredMember)
+    (r : Result Place Stop)
+    → Node there w fields ≡ callee → LowersMember names w fields old s m
+    → IfOk r (λ place. (w : Word) (fields : Pieces) (old : State) → LowersMember names w fields old s m
+    → LowersExpression names (Node at word.Call (Then (Flag false) (Then (Node there w fields) (Then (Listed es) End)))) old new place)
+    → IfOk r (λ place. LowersExpression names (Node at word.Call (Then (Flag false) (Then callee (Then (Listed es) End)))) old new place)
+called_ok {names} at {there} {callee} {w} {fields} es {old} {s} new m (Ok place) is parts calls =
+    subst (λ (n : Syntax). LowersExpression names (Node at word.Call (Then (Flag false) (Then n (Then (Listed es) End)))) old new place) is
+    (calls w fields old parts)
+called_ok at es new m (Err e) is parts calls = tt
+
+-- An update of a property.
+pub updated_ok : {names : Names} (at : At) {there : At} {target : Syntax} {w : Word} {fields : Pieces} (operator : UpdateOperator)
+    (prefix : Bool) {s t : State} (m : LoweredMember) (r : Result Place Stop) (new : State)
+    → Node there w fields ≡ target → LowersMember names w fields s t m
+    → OnOk r (new ≡ member_stored t m.object (key_of m.property) operator there.span)
+    → IfOk r (λ place. place ≡ member_result t m.object (key_of m.property) operator prefix there.span)
+    → IfOk r (λ place. LowersExpression names
+    (Node at word.Update (Then (Said (update_text operator)) (Then (Flag prefix) (Then target End)))) s new place)
+updated_ok {names} at {there} {target} {w} {fields} operator prefix {s} {t} m (Ok place) new is l moved placed =
+    derived (Node at word.Update (Then (Said (update_text operator)) (Then (Flag prefix) (Then target End))))
+    (Node at word.Update (Then (Said (update_text operator)) (Then (Flag prefix) (Then (Node there w fields) End)))) s _ new _ place
+    (ap (λ (n : Syntax). Node at word.Update (Then (Said (update_text operator)) (Then (Flag prefix) (Then n End)))) is) moved placed
+    (lowered.UpdatedMember at there w fields l.parts l.pieces m.object (key_of m.property) operator prefix s t l.member l.by)
+updated_ok at operator prefix m (Err e) new is l moved placed = tt
+
+-- The target of an update that is not wrapped is lowerable.
+pub update_may : (names : Names) (at : At) (operator prefix target : Syntax) → is_wrapped target ≡ false
+    → IsLowerable names (Node at word.Update (Then operator (Then prefix (Then target End)))) → IsLowerable names target
+update_may names at operator prefix target bare may = subst (λ (b : Bool). Where (not b) (IsLowerable names target)) bare may
+
+-- The update of a private name.
+pub private_update_ok : (names : Names) (at : At) {there : At} {target object : Syntax} (operator prefix : Syntax) {name : List ℕ} (s new : State)
+    (optional : Bool)
+    (r : Result Place Stop)
+    → Node there word.Privatemember (Then (Flag optional) (Then object (Then (Said name) End))) ≡ target → IsLowerable names target
+    → IfOk r (λ place. (name : List ℕ)
+    → LowersExpression names (Node there word.Privatemember (Then (Flag false) (Then object (Then (Said name) End)))) s new place)
+    → IfOk r (λ place. LowersExpression names (Node at word.Update (Then operator (Then prefix (Then target End)))) s new place)
+private_update_ok names at {there} {target} {object} operator prefix {name} s new optional (Ok place) is may l =
+    inner_ok names s new (Ok place)
+    (ap (λ (n : Syntax). Node at word.Update (Then operator (Then prefix (Then n End)))) (private_told names optional is may))
+    forms.PrivateUpdate (l name)
+private_update_ok names at operator prefix s new optional (Err e) is may l = tt
+
+-- Operands of `delete`.
+
+-- The operand of a `delete` that is not refused is lowerable, and so is what stands in its parentheses.
+pub inside_may : (names : Names) {e inner : Syntax} → IsInside e inner → IsLowerable names e → IsLowerable names inner
+inside_may names forms.Bare may = may
+inside_may names (forms.Around inside) may = inside_may names inside may.1.0
+
+pub delete_may : (names : Names) (at : At) (operator : List ℕ) {e inner : Syntax} → IsInside e inner → deletes e ≡ is_link inner
+    → is_link inner ≡ true → bytes_eq operator (codes "delete") ≡ true
+    → IsLowerable names (Node at word.Unary (Then (Said operator) (Then e End))) → IsLowerable names inner
+delete_may names at operator {e} {inner} inside same link deletes_it may =
+    inside_may names inside
+    (subst (λ (b : Bool). Where (not b) (IsLowerable names e)) (kept (bytes_eq operator (codes "delete")) (deletes e) (same ∙ link)) may)
+  where
+    kept : (b d : Bool) → d ≡ true → (b && not d) ≡ false
+    kept true true there = refl
+    kept false true there = refl
+    kept b false there = absurd (cc)
+
+-- The operand of another operator is.
+pub unary_may : (names : Names) (at : At) (operator : List ℕ) (e : Syntax) → bytes_eq operator (codes "delete") ≡ false
+    → IsLowerable names (Node at word.Unary (Then (Said operator) (Then e End))) → IsLowerable names e
+unary_may names at operator e other may =
+    subst (λ (b : Bool). Where (not (b && not (deletes e))) (IsLowerable names e)) other may
+
+-- A `delete` of what is no property.
+pub lost_delete : {names : Names} (operator : UnaryOperator) {e : Syntax} (inner : Syntax) → deletes e ≡ is_link inner → is_link inner ≡ false
+    → bytes_eq (unary_text operator) (codes "delete") ≡ true
+    → IsRefused names word.Unary (Then (Said (unary_text operator)) (Then e End)) row.F12
+lost_delete {names} operator {e} inner same other deletes_it =
+    forms.LostDelete operator (lost (bytes_eq (unary_text operator) (codes "delete")) (deletes e) deletes_it (same ∙ other))
+  where
+    lost : (b d : Bool) → b ≡ true → d ≡ false → (b && not d) ≡ true
+    lost true false there none = refl
+    lost true true there none = absurd (cc)
+    lost false d there none = absurd (cc)
+
+pub deleted_ok : {names : Names} (at : At) {there : At} {e inner : Syntax} (operator : UnaryOperator) {w : Word} {fields : Pieces} {s t : State}
+    {value : InstructionValue} (m : LoweredMember) (r : Result Place Stop) (new : State)
+    → Node there w fields ≡ inner → IsInside e inner → bytes_eq (unary_text operator) (codes "delete") ≡ true
+    → value ≡ delete_of m.object (key_of m.property) → LowersMember names w fields s t m
+    → OnOk r (new ≡ with_value t value (Some at.span)) → IfOk r (λ place. place ≡ temporary t (Some at.span))
+    → IfOk r (λ place. LowersExpression names (Node at word.Unary (Then (Said (unary_text operator)) (Then e End))) s new place)
+deleted_ok {names} at {there} {e} {inner} operator {w} {fields} {s} {t} {value} m r new is inside deletes_it same l moved placed =
+    asked_ok r new refl
+    (subst (IsForm word.Unary (Then (Said (unary_text operator)) (Then e End)) l.parts l.pieces) (sym same)
+    (forms.Delete operator deletes_it (subst (IsInside e) (sym is) inside) l.member)) l.by moved placed
+
+-- The `delete` of a private name.
+pub private_delete_ok : (names : Names) (at : At) {there : At} {e inner object : Syntax} (operator : UnaryOperator) {name : List ℕ} (s new : State)
+    (optional : Bool) (r : Result Place Stop)
+    → Node there word.Privatemember (Then (Flag optional) (Then object (Then (Said name) End))) ≡ inner → IsLowerable names inner
+    → IsInside e inner → bytes_eq (unary_text operator) (codes "delete") ≡ true
+    → IfOk r (λ place. (name : List ℕ)
+    → LowersExpression names (Node there word.Privatemember (Then (Flag false) (Then object (Then (Said name) End)))) s new place)
+    → IfOk r (λ place. LowersExpression names (Node at word.Unary (Then (Said (unary_text operator)) (Then e End))) s new place)
+private_delete_ok names at {there} {e} {inner} {object} operator {name} s new optional (Ok place) is may inside deletes_it l =
+    inner_ok names s new (Ok place) refl
+    (forms.PrivateDelete operator deletes_it (subst (IsInside e) (sym (private_told names optional is may)) inside)) (l name)
+private_delete_ok names at operator s new optional (Err e) is may inside deletes_it l = tt
