@@ -6,7 +6,7 @@ use Rattle.rl_dead.proofs.Covering.{adds_both, adds_swapped}
 use Rattle.rl_dead.proofs.Pairs.{first_of, second_of}
 use Rattle.rl_dead.proofs.Statements.{calm}
 use Rattle.rl_dead.specs.Jumps.{breaks, continues, name_of, takes}
-use Rattle.rl_dead.specs.Parts.{For, body_of_each, both, for_parts, second_of_two, third_of_three}
+use Rattle.rl_dead.specs.Parts.{For, body_of_each, both, for_parts, init_acts, second_of_two, third_of_three}
 use Rattle.rl_dead.specs.Ranges.{Adds}
 use Rattle.rl_dead.specs.Walks.{Walked, WalkedBody, WalkedFor, WalkedLoop, WalkedNode, for_acts}
 use Rattle.rl_dead.specs.declared.flow.Flow.{Flow}
@@ -16,6 +16,7 @@ use Rattle.rl_dead.specs.declared.jumps.Target.TheVariants as target
 use Rattle.rl_dead.specs.declared.ranges.Range.{Range}
 use Rattle.rl_dead.specs.declared.walk.Body.{Body}
 use Rattle.rl_model.specs.Actions.{Label, is_own}
+use Rattle.rl_model.specs.Dead as dead
 use Rattle.rl_model.specs.Dead.{dead_in, goes_on, is_unlabeled, lives, parts_if}
 use Rattle.rl_model.specs.Shapes as shapes
 use Rattle.rl_syntax.specs.Forms as forms
@@ -98,13 +99,18 @@ absent_alike Absent = refl
 parts_alike : (d e : List Range) (a b : Bool) (p : Syntax) → a ≡ b → Adds d e (parts_if (not a) p) → Adds d e (parts_if (not b) p)
 parts_alike d e a b p same q = subst (λ x. Adds d e (parts_if (not x) p)) same q
 
+init_alike : (t : Syntax) → init_acts t ≡ dead.init_acts t
+init_alike Absent = refl
+init_alike (Node at word.Var parts) = refl
+init_alike _ = refl
+
 acts_alike : (p : For) (r : Body)
     → for_acts p r
-    ≡ (not (shapes.is_absent p.init) || not (shapes.is_absent p.condition) || r.acts || (not (shapes.is_absent p.update) && r.goes_on))
+    ≡ (dead.init_acts p.init || not (shapes.is_absent p.condition) || r.acts || (not (shapes.is_absent p.update) && r.goes_on))
 acts_alike p r =
-    ap (λ x. not x || not (forms.is_absent p.condition) || r.acts || (not (forms.is_absent p.update) && r.goes_on)) (absent_alike p.init)
-    ∙ ap (λ x. not (shapes.is_absent p.init) || not x || r.acts || (not (forms.is_absent p.update) && r.goes_on)) (absent_alike p.condition)
-    ∙ ap (λ x. not (shapes.is_absent p.init) || not (shapes.is_absent p.condition) || r.acts || (not x && r.goes_on)) (absent_alike p.update)
+    ap (λ x. x || not (forms.is_absent p.condition) || r.acts || (not (forms.is_absent p.update) && r.goes_on)) (init_alike p.init)
+    ∙ ap (λ x. dead.init_acts p.init || not x || r.acts || (not (forms.is_absent p.update) && r.goes_on)) (absent_alike p.condition)
+    ∙ ap (λ x. dead.init_acts p.init || not (shapes.is_absent p.condition) || r.acts || (not x && r.goes_on)) (absent_alike p.update)
 
 for_node : (j k : Jumps) (d e g : List Range) (f : Flow) (r : Body) (own : Label) (p : For) → WalkedBody j k d e r own p.body
     → Adds e g (parts_if (not r.goes_on) p.update) → f.falls ≡ true → f.acts ≡ for_acts p r
@@ -113,8 +119,8 @@ for_node j k d e g f r own p q adds falls acts = record {
   node = λ at. record {
     falls = falls;
     acts =
-        acts ∙ acts_alike p r ∙ ap (λ x. not (shapes.is_absent p.init) || not (shapes.is_absent p.condition) || x || (not (shapes.is_absent p.update) && r.goes_on)) q.acts
-        ∙ ap (λ x. not (shapes.is_absent p.init) || not (shapes.is_absent p.condition) || (lives None p.body).acts || (not (shapes.is_absent p.update) && x)) q.goes_on;
+        acts ∙ acts_alike p r ∙ ap (λ x. dead.init_acts p.init || not (shapes.is_absent p.condition) || x || (not (shapes.is_absent p.update) && r.goes_on)) q.acts
+        ∙ ap (λ x. dead.init_acts p.init || not (shapes.is_absent p.condition) || (lives None p.body).acts || (not (shapes.is_absent p.update) && x)) q.goes_on;
     broken = q.broken;
     continued = q.continued;
     dead = adds_swapped d e g _ _ q.dead (parts_alike e g r.goes_on _ p.update q.goes_on adds);

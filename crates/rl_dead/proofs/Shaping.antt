@@ -1,8 +1,8 @@
 -- Parts that do not have the form wanted, and defaults.
 use Rattle.std.proofs.Common.{◌≡◌, true≢false, true, false, ◌||◌, None, Some, ℕ, List, refl, sym, ap, ◌∙◌}
 use Rattle.rl_dead.proofs.Pairs.{first_of, second_of}
-use Rattle.rl_dead.specs.Parts.{both, is_default, labeled_of, only_list}
-use Rattle.rl_model.specs.Dead.{has_default}
+use Rattle.rl_dead.specs.Parts.{both, is_default, labeled_of, only_list, second_list}
+use Rattle.rl_model.specs.Dead.{declares, has_default}
 use Rattle.rl_syntax.specs.Shapes.{is_list, is_text}
 use Rattle.rl_syntax.specs.Syntax.{Syntax, Node, Listed, Said, Absent, Pieces, End, Then}
 use Rattle.rl_syntax.specs.declared.word.Word.TheVariants as word
@@ -27,6 +27,23 @@ some_text (Then c (Then body End)) a b label is text =
 some_text _ a b label is text = absurd (cc)
 
 pub ruleset labels = (no_both, no_text, some_text)
+
+-- Declarations with and without declarators.
+pub some_declared : (parts items rest : Pieces) (a : Syntax) → Some items ≡ second_list parts → items ≡ Then a rest → true ≡ declares parts
+some_declared (Then kind (Then (Listed End) End)) items rest a is more = absurd (cc)
+some_declared _ items rest a is more = refl
+
+pub none_declared : (parts items : Pieces) → Some items ≡ second_list parts → items ≡ End → false ≡ declares parts
+none_declared (Then kind (Then (Listed End) End)) items is none = refl
+none_declared (Then kind (Then (Listed (Then item more)) End)) items is none = absurd (cc)
+none_declared (Then kind (Then (Listed declarators) (Then another others))) items is none = absurd (cc)
+none_declared _ items is none = absurd (cc)
+
+pub no_declarators : (parts : Pieces) → None ≡ second_list parts → true ≡ declares parts
+no_declarators (Then kind (Then (Listed End) End)) none = absurd (cc)
+no_declarators _ none = refl
+
+pub ruleset declarators = (some_declared, none_declared, no_declarators)
 
 -- A default stands first, or behind the first case.
 pub default_behind : (c : Syntax) (rest : Pieces) → has_default (Then c rest) ≡ (is_default c || has_default rest)

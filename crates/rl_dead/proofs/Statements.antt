@@ -12,7 +12,7 @@ use Rattle.rl_dead.specs.declared.jumps.Jumps.{Jumps}
 use Rattle.rl_dead.specs.declared.ranges.Range.{Range}
 use Rattle.rl_model.specs.Actions.{Label}
 use Rattle.rl_model.specs.Code.{is_no_code}
-use Rattle.rl_model.specs.Dead.{Lives, dead_among, dead_in, either, falling, lives, lives_all, quiet}
+use Rattle.rl_model.specs.Dead.{Lives, dead_among, dead_in, declares, either, falling, lives, lives_all, quiet}
 use Rattle.rl_syntax.specs.Syntax.{Syntax, Node, Listed, Said, Count, Flag, Absent, Pieces, End, Then, pieces_of, syntax}
 use Rattle.rl_syntax.specs.declared.numbered.At.{At}
 use Rattle.rl_syntax.specs.declared.numbered.Numbered.{Numbered}
@@ -119,10 +119,6 @@ pub expr_node : (j : Jumps) (d : List Range) (f : Flow) (own : Label) (parts : P
     → WalkedNode j j d d f own word.Expr parts
 expr_node j d f own parts falls acts = record { node = λ at. still j d f _ falls acts refl refl }
 
-pub var_node : (j : Jumps) (d : List Range) (f : Flow) (own : Label) (parts : Pieces) → f.falls ≡ true → f.acts ≡ true
-    → WalkedNode j j d d f own word.Var parts
-var_node j d f own parts falls acts = record { node = λ at. still j d f _ falls acts refl refl }
-
 pub debugger_node : (j : Jumps) (d : List Range) (f : Flow) (own : Label) (parts : Pieces) → f.falls ≡ true → f.acts ≡ true
     → WalkedNode j j d d f own word.Debugger parts
 debugger_node j d f own parts falls acts = record { node = λ at. still j d f _ falls acts refl refl }
@@ -138,11 +134,16 @@ pub ok_jump : {E : Type 0} (j k : Jumps) (d : List Range) (r : Result Flow E) (o
 ok_jump j k d (Ok f) own w parts q = (q.node d).node own
 ok_jump j k d (Err x) own w parts q = q
 
-pub ruleset simple = (ok_plain, ok_jump, plain_node, jump_node, still_node, return_node, throw_node, expr_node, var_node, debugger_node)
+pub ruleset simple = (ok_plain, ok_jump, plain_node, jump_node, still_node, return_node, throw_node, expr_node, debugger_node)
 
 calm_plain : (j : Jumps) (d : List Range) (f : Flow) (w : Word) (parts : Pieces)
     → ((own : Label) (at : At) → Walked j j d d f (lives own (Node at w parts)) (dead_in own (Node at w parts))) → WalkedPlain j j d d f w parts
 calm_plain j d f w parts q = record { node = λ own. record { node = λ at. q own at } }
+
+-- Declarations of variables.
+pub variables_still : (f : Flow) (parts : Pieces) → f.falls ≡ true → f.acts ≡ declares parts → WalkedStill f word.Var parts
+variables_still f parts falls acts =
+    record { node = λ j. record { node = λ d. calm_plain j d f word.Var _ (λ own at. still j d f _ falls acts refl refl) } }
 
 -- Function declarations.
 pub bodiless_still : (f : Flow) (parts : Pieces) → is_no_code word.Fundecl parts ≡ true → f.falls ≡ true → f.acts ≡ false

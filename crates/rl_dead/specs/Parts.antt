@@ -1,7 +1,8 @@
 -- Parts of statements, by their number and form.
-use Rattle.std.specs.Prelude.{ℕ, Bool, false, if◌then◌else◌, not, Option, Some, None, option_map, List}
+use Rattle.std.specs.Prelude.{ℕ, Bool, true, false, if◌then◌else◌, not, Option, Some, None, option_map, List}
 use Rattle.rl_dead.specs.declared.parts.ForParts.{ForParts}
 use Rattle.rl_model.specs.Actions.{Label}
+use Rattle.rl_model.specs.Dead.{declares}
 use Rattle.rl_syntax.specs.Forms.{is_absent}
 use Rattle.rl_syntax.specs.Syntax.{Syntax, Node, Listed, Said, Flag, Absent, Pieces, End, Then, syntax}
 use Rattle.rl_syntax.specs.declared.word.Word.{Word}
@@ -72,6 +73,16 @@ pub record For : Type 0 where
 
 abbrev pub seen_for : ForParts → For
 seen_for p = record { init = syntax p.init.now; condition = syntax p.condition.now; update = syntax p.update.now; body = syntax p.body.now }
+
+-- True of what stands ahead of a `for` loop, by the word and the parts of a node, as far as it may be an event.
+abbrev pub init_acts_by : Word → Pieces → Bool
+init_acts_by word.Var parts = declares parts
+init_acts_by _ parts = true
+
+abbrev pub init_acts : Syntax → Bool
+init_acts Absent = false
+init_acts (Node at w parts) = init_acts_by w parts
+init_acts _ = true
 
 -- The parts of a `for` loop.
 abbrev pub for_parts : Pieces → Option For

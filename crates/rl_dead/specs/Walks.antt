@@ -9,7 +9,7 @@ use Rattle.rl_dead.specs.declared.jumps.Jumps.{Jumps}
 use Rattle.rl_dead.specs.declared.ranges.Range.{Range}
 use Rattle.rl_dead.specs.declared.walk.Body.{Body}
 use Rattle.rl_model.specs.Actions.{Label, is_own}
-use Rattle.rl_dead.specs.Parts.{For}
+use Rattle.rl_dead.specs.Parts.{For, init_acts}
 use Rattle.rl_model.specs.Dead.{Lives, acting, loop_outs, dead_among, dead_in, dead_in_cases, goes_on, is_broken, is_unlabeled, lives, lives_all, lives_cases}
 use Rattle.rl_model.specs.Supported.{is_among}
 use Rattle.rl_syntax.specs.Forms.{is_absent}
@@ -94,7 +94,7 @@ pub record WalkedCases (j k : Jumps) (d e : List Range) (flow : Flow) (cases : P
 
 -- True of a `for` loop in which something live, but for its jumps, may throw.
 abbrev pub for_acts : For → Body → Bool
-for_acts p body = not (is_absent p.init) || not (is_absent p.condition) || body.acts || (not (is_absent p.update) && body.goes_on)
+for_acts p body = init_acts p.init || not (is_absent p.condition) || body.acts || (not (is_absent p.update) && body.goes_on)
 
 -- The walk over a `switch`, whatever its discriminant.
 pub record WalkedSwitch (j k : Jumps) (d e : List Range) (flow : Flow) (cases : Pieces) : Type 0 where

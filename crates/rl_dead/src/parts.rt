@@ -155,6 +155,45 @@ pub fn for_parts(parts: &[Numbered]) -> Option<ForParts<'_>>
     }
 }
 
+/// True of a declaration of variables, by its parts, unless it is without declarators.
+#[tactic(auto, using(crate::proofs::Shaping::declarators))]
+pub fn declares(parts: &[Numbered]) -> bool
+    ensures { result ≡ model.declares (pieces_of (map syntax parts.now)) }
+{
+    match second_list(parts) {
+        Some(declarators) => match split_first(declarators) {
+            Some(_) => true,
+            None => false,
+        },
+        None => true,
+    }
+}
+
+/// As `init_acts`, by the word and the parts of a node.
+fn init_acts_by(word: Word, parts: &[Numbered]) -> bool
+    ensures { result ≡ spec.init_acts_by word (pieces_of (map syntax parts.now)) }
+{
+    match word {
+        Word::Var => declares(parts),
+        _ => true,
+    }
+}
+
+/// True of what stands ahead of a `for` loop, as far as it may throw to a `catch` around it.
+#[tactic(auto, using(rl_syntax::proofs::Layers::by_layer))]
+pub fn init_acts(tree: &Numbered) -> bool
+    ensures { result ≡ spec.init_acts (syntax tree.now) }
+{
+    match tree {
+        Numbered::Node(_, word, parts) => init_acts_by(*word, parts.as_slice()),
+        Numbered::Absent => false,
+        Numbered::List(_) => true,
+        Numbered::Text(_) => true,
+        Numbered::Number(_) => true,
+        Numbered::Flag(_) => true,
+    }
+}
+
 /// The body of a `catch`. `None` of any other tree.
 #[tactic(auto, using(rl_syntax::proofs::Layers::by_layer))]
 pub fn catch_body(tree: &Numbered) -> Option<&Numbered>

@@ -11,8 +11,9 @@ ghost use Rattle.rl_syntax.specs.declared.word.Word.TheVariants as words;
 use crate::flow::{ACTS, Flow, JUMPS, LEAVES, QUIET};
 use crate::jumps::{Jumps, Label, Target, UNLABELED, push_jump, push_others, takes_any};
 use crate::parts::{
-    ForParts, body_of_each, both, case_statements, for_parts, has_default, jump_of, labeled_of,
-    last_two, only_list, second_list, second_of_two, third_of_three, try_parts,
+    ForParts, body_of_each, both, case_statements, declares, for_parts, has_default, init_acts,
+    jump_of, labeled_of, last_two, only_list, second_list, second_of_two, third_of_three,
+    try_parts,
 };
 use crate::ranges::{Range, push_if, push_range};
 use rl_base::error::OutOfMemory;
@@ -76,7 +77,7 @@ fn walk_node<'t>(
         Word::Return => Ok(LEAVES),
         Word::Throw => Ok(LEAVES),
         Word::Expr => Ok(ACTS),
-        Word::Var => Ok(ACTS),
+        Word::Var => Ok(variables(parts)),
         Word::Debugger => Ok(ACTS),
         Word::Fundecl => Ok(declaration(parts)),
         Word::Break => walk_break(jumps, parts),
@@ -104,6 +105,17 @@ fn declaration(parts: &[Numbered]) -> Flow
         return QUIET;
     }
     ACTS
+}
+
+/// The summary of a declaration of variables, by its parts.
+#[tactic(auto, using(crate::proofs::Statements::variables_still))]
+fn variables(parts: &[Numbered]) -> Flow
+    ensures { spec.WalkedStill result words.Var (pieces_of (map syntax parts.now)) }
+{
+    Flow {
+        falls: true,
+        acts: declares(parts),
+    }
 }
 
 /// As `walk_node`, of a `break`. On `OutOfMemory`, an allocation failed.
@@ -565,7 +577,7 @@ fn switch_falls(last: bool, cases: &[Numbered], is_broken: bool) -> bool
 fn for_acts(found: ForParts<'_>, body: Body) -> bool
     ensures { result ≡ spec.for_acts (seen_for found.entry) body }
 {
-    !is_absent(found.init)
+    init_acts(found.init)
         || !is_absent(found.condition)
         || body.acts
         || (!is_absent(found.update) && body.goes_on)

@@ -69,6 +69,17 @@ has_default (Then (Node at word.Case (Then Absent parts)) cases) = true
 has_default (Then part cases) = has_default cases
 has_default End = false
 
+-- False of a declaration of variables, by its parts, without declarators.
+abbrev pub declares : Pieces → Bool
+declares (Then kind (Then (Listed End) End)) = false
+declares parts = true
+
+-- True of what stands ahead of a `for` loop, as far as it may be an event.
+abbrev pub init_acts : Syntax → Bool
+init_acts Absent = false
+init_acts (Node at word.Var parts) = declares parts
+init_acts init = true
+
 -- Of what a statement consists, as far as something in it may be an event: what makes a `catch` live.
 pub record Lives : Type 0 where
   pub outs : Outs
@@ -110,7 +121,7 @@ abbrev mutual
       record {
         outs = loop_outs own true (lives None body).outs;
         acts =
-            not (is_absent init) || not (is_absent condition) || (lives None body).acts
+            init_acts init || not (is_absent condition) || (lives None body).acts
             || (not (is_absent update) && goes_on own (lives None body).outs);
       }
   lives own (Node at word.Forin (Then head (Then right (Then body End)))) = acting (loop_outs own true (lives None body).outs)
@@ -131,7 +142,7 @@ abbrev mutual
       quiet falling
   lives own (Node at word.Fundecl parts) = acting falling
   lives own (Node at word.Expr parts) = acting falling
-  lives own (Node at word.Var parts) = acting falling
+  lives own (Node at word.Var parts) = record { outs = falling; acts = declares parts }
   lives own (Node at word.Debugger parts) = acting falling
   lives own _ = quiet falling
 
