@@ -61,3 +61,7 @@ names_of_symbols = refl
 -- The name of the function is declared around it: it is no local variable.
 pub declared : map (λ p. names.declared p) (3 ∷ 6 ∷ 8 ∷ 9 ∷ []) ≡ Some (record { 0 = 0 }) ∷ Some (record { 0 = 1 }) ∷ Some (record { 0 = 2 }) ∷ None ∷ []
 declared = refl
+
+-- The parameter's name is declared below the program's scope; the function's own name in it, and the last one nowhere.
+in_module : map names.is_module (0 ∷ 1 ∷ 2 ∷ []) ≡ false ∷ true ∷ true ∷ []
+in_module = refl

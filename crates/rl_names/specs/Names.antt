@@ -45,6 +45,8 @@ pub record Names : Type 0 where
   pub declaration : (symbol : ℕ) → Option Span
   -- True of a symbol that is declared as a constant.
   pub is_const : (symbol : ℕ) → Bool
+  -- True of an `id` node, by its reference number, whose name is not declared below the program's scope.
+  pub is_module : (reference : ℕ) → Bool
 
 -- The local variable of a meaning. None of any other name.
 abbrev pub local_of : Meaning → Option SymbolId
@@ -109,6 +111,7 @@ names_by at nodes imports names scopes symbols declarations references = record 
   name = λ symbol. symbol_name names symbols symbol;
   declaration = λ symbol. option_map (λ b. b.span) (declaration_ident symbols symbol);
   is_const = λ symbol. of_item false (λ b. is_const_kind b.kind) (slice_get symbols symbol);
+  is_module = λ reference. of_item true (λ s. is_program_scope (symbol_scope symbols s.0)) (symbol_of_reference references reference);
 }
 
 -- The ids of no node.

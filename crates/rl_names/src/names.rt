@@ -279,6 +279,16 @@ impl<'s> FunctionNames<'s> {
         }
     }
 
+    /// True of a reference to no symbol, or to one of the program's scope.
+    pub fn is_module(&self, reference: ReferenceId) -> bool
+        ensures { result ≡ (seen self.now).is_module reference.0 }
+    {
+        match self.resolver.symbol_of_reference(reference) {
+            Some(symbol) => self.resolver.symbol_scope(symbol).0 == 0,
+            None => true,
+        }
+    }
+
     /// The name of a symbol. Empty for a number that is no symbol's.
     pub fn name(&self, symbol: SymbolId) -> &'s str
         ensures { result.now ≡ (seen self.now).name symbol.0 }

@@ -5,7 +5,8 @@ use Rattle.rl_base.specs.declared.ids.SymbolId.{SymbolId}
 use Rattle.rl_machine.specs.Traces.{truthy}
 use Rattle.rl_machine.specs.declared.trace.Value.{Value}
 use Rattle.rl_machine.specs.declared.trace.Value.TheVariants as value
-use Rattle.rl_promises.proofs.OrderlyCalls.{LendAlike, LendsAlike, LendsFirst, lends_at}
+use Rattle.rl_promises.proofs.OrderlyCalls as orderly
+use Rattle.rl_promises.proofs.OrderlyCalls.{lends_at}
 use Rattle.rl_model.specs.Actions.{Action, ◌>>=◌, ◌>>◌, ask, give, no_meaning, test}
 use Rattle.rl_model.specs.Events as events
 use Rattle.rl_model.specs.Expressions.{call_kind, callee, called, delete_property, eval, eval_last, key_in, needs_right, one_value, place, property_key, read, unless_nullish, update_name, update_property, values, values_of}
@@ -36,9 +37,18 @@ abbrev pub as_ported : Scene → (stored : ℕ → Option SymbolId) → (early :
 as_ported t stored early = record t { stored = stored; ported = true; takes_early = early }
 
 -- `s` runs as the port does, `t` as the function is written.
-module _ (t : Scene) (stored : ℕ → Option SymbolId) (early : Bool → ℕ → Bool) where
+module _ (t : Scene) (stored : ℕ → Option SymbolId) (early : Bool → ℕ → Bool) (assigned : List ℕ) where
   abbrev s : Scene
   s = as_ported t stored early
+
+  abbrev LendsAlike : Syntax → Type 0
+  LendsAlike = orderly.LendsAlike t.names assigned
+
+  abbrev LendAlike : Pieces → Type 0
+  LendAlike = orderly.LendAlike t.names assigned
+
+  abbrev LendsFirst : Pieces → Type 0
+  LendsFirst = orderly.LendsFirst t.names assigned
 
   -- The values of a callee or a tag: behind the object that it lends, if it does.
   abbrev head_of : Scene → (lends : Bool) → Syntax → Action (List Value)
@@ -174,6 +184,12 @@ module _ (t : Scene) (stored : ℕ → Option SymbolId) (early : Bool → ℕ �
     eval_alike (Node at word.Break parts) covered = refl
     eval_alike (Node at word.Continue parts) covered = refl
     eval_alike (Node at word.Labeled parts) covered = refl
+    eval_alike (Node at word.Switch parts) covered = refl
+    eval_alike (Node at word.Case parts) covered = refl
+    eval_alike (Node at word.Try parts) covered = refl
+    eval_alike (Node at word.Catch parts) covered = refl
+    eval_alike (Node at word.Throw parts) covered = refl
+    eval_alike (Node at word.With parts) covered = refl
     eval_alike (Node at word.Block parts) covered = refl
     eval_alike (Node at word.Params parts) covered = refl
     eval_alike (Node at word.Param parts) covered = refl
@@ -211,7 +227,7 @@ module _ (t : Scene) (stored : ℕ → Option SymbolId) (early : Bool → ℕ �
     eval_alike (Node at word.Assert parts) covered = assert_alike at parts covered.2
     eval_alike (Node at word.Instantiate parts) covered = instantiate_alike at parts covered.2
     eval_alike (Node at word.Template parts) covered = template_alike at parts covered.2
-    eval_alike (Node at word.Tagged parts) covered = tagged_alike at parts covered.1 covered.2
+    eval_alike (Node at word.Tagged parts) covered = tagged_alike at parts covered.1.lends covered.2
     eval_alike (Node at word.Object parts) covered = object_alike at parts covered.2
     eval_alike (Node at word.Array parts) covered = array_alike at parts covered.2
     eval_alike (Node at word.Unary parts) covered = unary_alike at parts covered.2
@@ -223,7 +239,7 @@ module _ (t : Scene) (stored : ℕ → Option SymbolId) (early : Bool → ℕ �
     eval_alike (Node at word.Await parts) covered = await_alike at parts covered.2
     eval_alike (Node at word.Member parts) covered = member_alike at parts covered.2
     eval_alike (Node at word.Index parts) covered = index_alike at parts covered.2
-    eval_alike (Node at word.Call parts) covered = call_alike at parts covered.1 covered.2
+    eval_alike (Node at word.Call parts) covered = call_alike at parts covered.1.lends covered.2
     eval_alike (Node at word.New parts) covered = new_alike at parts covered.2
     eval_alike (Listed parts) covered = refl
     eval_alike (Said text) covered = refl

@@ -1,18 +1,18 @@
 -- Each counted node of a covered function is one that a run may reach, or a node of a dead part.
-use Rattle.std.proofs.Common.{◌≡◌, ◌⊎◌, inl, inr, ℕ, Bool, true, false, true≢false, not, if◌then◌else◌, Option, Some, None, List, [], ◌++◌, All, Contains, refl, sym, ap, ◌∙◌, subst, arith, append-nil, append_assoc}
+use Rattle.std.proofs.Common.{◌≡◌, ◌⊎◌, inl, inr, ℕ, Bool, true, false, true≢false, not, if◌then◌else◌, Option, Some, None, List, [], ◌∷◌, ◌++◌, All, Contains, refl, sym, ap, ◌∙◌, subst, arith, append-nil, append_assoc}
 use Rattle.std.specs.List.{AllByRecursion}
 use Rattle.std.proofs.lemmas.List.Elements.{All-contains_itself, All-from_recursion, Contains-append_left, Contains-append_right, recursion_from_All}
 use Rattle.rl_ast.specs.FunctionTrees.{is_function as fits_function}
 use Rattle.rl_model.specs.Actions.{Label}
 use Rattle.rl_model.specs.Code.{code, code_among, code_of, flat, is_function, is_instantiate, is_no_code, name_code}
 use Rattle.rl_model.specs.Counted.{Counted, counted_at, counted_in, method_at}
-use Rattle.rl_model.specs.Dead.{dead_among, dead_in, dead_parts, goes_on, lives, parts_if}
+use Rattle.rl_model.specs.Dead.{dead_among, dead_in, dead_in_cases, dead_parts, goes_on, lives, parts_if}
 use Rattle.rl_names.specs.Functions.{body_in, params_in}
 use Rattle.rl_promises.proofs.CountedCode.{HasTexts, IsOwn, IsParted, by_tests, each_append, each_both, each_weaker, flat_append, own_counted, parted}
 use Rattle.rl_promises.proofs.CoveredWorlds.{body_covered, plain_word}
 use Rattle.rl_promises.specs.Covered.{AreCovered, IsCovered, IsCoveredFunction}
 use Rattle.rl_promises.specs.Held.{dead_nodes}
-use Rattle.rl_promises.specs.Live.{Held, LivesOn, held_among, held_as, held_at, held_in, live_all, live_in, live_in_body}
+use Rattle.rl_promises.specs.Live.{Held, LivesOn, held_among, held_as, held_at, held_in, live_all, live_cases, live_in, live_in_body}
 use Rattle.rl_promises.specs.Tallies.{held_word, is_among}
 use Rattle.rl_syntax.specs.Syntax.{Syntax, Node, Listed, Said, Count, Flag, Absent, Pieces, End, Then}
 use Rattle.rl_syntax.specs.declared.numbered.At.{At}
@@ -147,6 +147,18 @@ module _ (methods : List ℕ) where
         (in_two (held_in init) (held_in condition) (code init) (code condition) begun test) updated)
         (at_end (live_in None body) (code body) turn))
 
+    -- A `catch` that is dead unless something in its block acts.
+    catch_lives : (acts : Bool) (there : At) (param body : Syntax) → AreEither (held_in param) (code param)
+        → (AreDead (dead_in None body) → AreEither (live_in None body) (code body))
+        → AreDead (if acts then dead_in None body else Node there word.Catch (Then param (Then body End)) ∷ [])
+        → AreEither (if acts then held_in param ++ live_in None body else []) (code (Node there word.Catch (Then param (Then body End))))
+    catch_lives true there param body declared turn dead =
+        in_two (held_in param) (live_in None body) (code param) (code body ++ []) declared (at_end (live_in None body) (code body) (turn dead))
+    catch_lives false there param body declared turn dead =
+        let handler : Syntax = Node there word.Catch (Then param (Then body End)) in
+        each_weaker D (IsEither D []) (λ key d. inl d) (keys_of (code handler))
+        (subst (λ (l : List Syntax). AllByRecursion D (keys_of l)) (append-nil (code handler)) dead)
+
     mutual
       statement_lives : (own : Label) (s : Syntax) → IsCovered s → AreDead (dead_in own s) → AreEither (live_in own s) (code s)
       statement_lives own (Node at word.Block (Then (Listed statements) End)) covered dead =
@@ -177,6 +189,18 @@ module _ (methods : List ℕ) where
       statement_lives own (Node at word.Forof (Then (Flag false) (Then head (Then right (Then body End))))) covered dead =
           in_three (held_in head) (held_in right) (live_in None body) (code head) (code right) (code body) (held_either head covered.1.1.0)
           (held_either right covered.1.1.1.0) (statement_lives None body covered.1.1.1.1.0 dead)
+      statement_lives own (Node at word.Switch (Then discriminant (Then (Listed cases) End))) covered dead =
+          in_two (held_in discriminant) (live_cases cases) (code discriminant) (code_among cases ++ []) (held_either discriminant covered.1.0)
+          (at_end (live_cases cases) (code_among cases) (cases_live cases covered.1.1.0 dead))
+      statement_lives own (Node at word.Try (Then block (Then (Node there word.Catch (Then param (Then body End))) (Then finalizer End))))
+          covered dead =
+          let handler : Syntax = Node there word.Catch (Then param (Then body End)) in
+          let acts : Bool = (lives None block).acts in
+          let apart = dead_apart (dead_in None block) (if acts then dead_in None body else handler ∷ []) dead in
+          in_three (live_in None block) (if acts then held_in param ++ live_in None body else []) (held_in finalizer) (code block)
+          (code handler) (code finalizer) (statement_lives None block covered.1.0 apart.0)
+          (catch_lives acts there param body (held_either param covered.1.1.0.1.0) (statement_lives None body covered.1.1.0.1.1.0) apart.1)
+          (held_either finalizer covered.1.1.1.0)
       statement_lives own (Node at word.Labeled (Then (Said label) (Then body End))) covered dead =
           at_end (live_in (Some label) body) (code body) (statement_lives (Some label) body covered.1.1.0 dead)
       statement_lives own s covered dead = held_either s covered
@@ -198,6 +222,20 @@ module _ (methods : List ℕ) where
           by_end live true dead = live dead
           by_end live false dead = each_weaker D (IsEither D []) (λ key d. inl d) (keys_of (code_among statements))
               (subst (λ (l : List Syntax). AllByRecursion D (keys_of l)) (dead_code statements) dead)
+
+      -- The cases of a `switch`.
+      cases_live : (cases : Pieces) → AreCovered cases → AreDead (dead_in_cases cases) → AreEither (live_cases cases) (code_among cases)
+      cases_live (Then (Node at word.Case (Then condition (Then (Listed statements) End))) cases) covered dead =
+          let apart = dead_apart (dead_among true statements) (dead_in_cases cases) dead in
+          in_two (held_in condition ++ live_all statements) (live_cases cases)
+          (code (Node at word.Case (Then condition (Then (Listed statements) End)))) (code_among cases)
+          (in_two (held_in condition) (live_all statements) (code condition) (code_among statements ++ [])
+          (held_either condition covered.0.1.0)
+          (at_end (live_all statements) (code_among statements) (statements_live statements covered.0.1.1.0 apart.0)))
+          (cases_live cases covered.1 apart.1)
+      cases_live cases covered dead =
+          each_weaker (LivesOn (held_among cases)) (IsEither D (held_among cases)) (λ key l. inr l) (keys_of (code_among cases))
+          (all_held_among cases covered)
 
     body_lives : (body : Syntax) → IsCovered body → HasTexts body → AreDead (dead_parts body) → AreEither (live_in_body body) (code body)
     body_lives (Node at word.Body (Then directives (Then (Listed statements) End))) covered texts dead =

@@ -1,11 +1,11 @@
--- The names of covered trees: each `bind` node stands in parameters or in a declarator.
+-- The names of covered trees: each `bind` node stands in parameters, in a declarator or in a `catch`.
 use Rattle.std.proofs.Common.{◌≡◌, Bool, true, false, true≢false, ◌&&◌, Option, Some, None, List, [], ◌∷◌, refl, sym}
 use Rattle.std.proofs.lemmas.Bool.{and_parts}
 use Rattle.rl_syntax.specs.Syntax.{Syntax, Node, Listed, Said, Count, Flag, Absent, Pieces, End, Then}
 use Rattle.rl_syntax.specs.declared.word.Word.{Word}
 use Rattle.rl_syntax.specs.declared.word.Word.TheVariants as word
 use Rattle.rl_grammar.specs.Grammar.{fits, each, every}
-use Rattle.rl_grammar.specs.Rules.{rule, argument_rule, array_element_rule, arrow_body_rule, assignment_target_rule, binding_identifier_rule, binding_pattern_rule, binding_rest_element_rule, expression_rule, for_head_rule, for_init_rule, formal_parameter_rule, formal_parameters_rule, function_body_rule, identifier_reference_rule, object_property_rule, property_key_rule, statement_rule, template_element_rule, template_literal_rule, type_annotation_rule, variable_declarator_rule}
+use Rattle.rl_grammar.specs.Rules.{rule, argument_rule, array_element_rule, arrow_body_rule, assignment_target_rule, binding_identifier_rule, binding_pattern_rule, binding_rest_element_rule, block_statement_rule, catch_clause_rule, expression_rule, for_head_rule, for_init_rule, formal_parameter_rule, formal_parameters_rule, function_body_rule, identifier_reference_rule, object_property_rule, property_key_rule, statement_rule, switch_case_rule, template_element_rule, template_literal_rule, type_annotation_rule, variable_declarator_rule}
 use Rattle.rl_grammar.specs.declared.kind.Field.{Field}
 use Rattle.rl_grammar.specs.declared.kind.Field.TheVariants as field
 use Rattle.rl_grammar.specs.declared.kind.Kind.{Kind}
@@ -25,6 +25,9 @@ is_inner named kind.Statement = true
 is_inner named kind.Expression = true
 is_inner named kind.ForInit = true
 is_inner named kind.ForHead = true
+is_inner named kind.SwitchCase = true
+is_inner named kind.BlockStatement = true
+is_inner named kind.CatchClause = true
 is_inner named kind.Argument = true
 is_inner named kind.ArrowBody = true
 is_inner named kind.FunctionBody = true
@@ -83,8 +86,6 @@ module _ (named : Bool) where
 
   statement_inner : (w : Word) (ps : Pieces) → covers w ps ≡ true → each (statement_rule w) ps ≡ true → IsInner named w (statement_rule w)
   statement_inner word.Bind ps covered h = absurd (none_fits ps h)
-  statement_inner word.Switch ps covered h = never covered
-  statement_inner word.Try ps covered h = never covered
   statement_inner word.Fundecl ps covered h = never covered
   statement_inner word.Classdecl ps covered h = never covered
   statement_inner word.Typealias ps covered h = never covered
@@ -146,6 +147,18 @@ module _ (named : Bool) where
   params_inner word.Params ps h = record { stands = refl; fields = refl }
   params_inner _ ps h = absurd (none_fits ps h)
 
+  case_inner : (w : Word) (ps : Pieces) → each (switch_case_rule w) ps ≡ true → IsInner named w (switch_case_rule w)
+  case_inner word.Case ps h = record { stands = refl; fields = refl }
+  case_inner _ ps h = absurd (none_fits ps h)
+
+  block_inner : (w : Word) (ps : Pieces) → each (block_statement_rule w) ps ≡ true → IsInner named w (block_statement_rule w)
+  block_inner word.Block ps h = record { stands = refl; fields = refl }
+  block_inner _ ps h = absurd (none_fits ps h)
+
+  catch_inner : (w : Word) (ps : Pieces) → each (catch_clause_rule w) ps ≡ true → IsInner named w (catch_clause_rule w)
+  catch_inner word.Catch ps h = record { stands = refl; fields = refl }
+  catch_inner _ ps h = absurd (none_fits ps h)
+
   literal_inner : (w : Word) (ps : Pieces) → each (template_literal_rule w) ps ≡ true → IsInner named w (template_literal_rule w)
   literal_inner word.Template ps h = record { stands = refl; fields = refl }
   literal_inner _ ps h = absurd (none_fits ps h)
@@ -202,6 +215,9 @@ node_inner named kind.Statement w ps inner covered h = statement_inner named w p
 node_inner named kind.Expression w ps inner covered h = expression_inner named w ps covered h
 node_inner named kind.ForInit w ps inner covered h = init_inner named w ps covered h
 node_inner named kind.ForHead w ps inner covered h = head_inner named w ps covered h
+node_inner named kind.SwitchCase w ps inner covered h = case_inner named w ps h
+node_inner named kind.BlockStatement w ps inner covered h = block_inner named w ps h
+node_inner named kind.CatchClause w ps inner covered h = catch_inner named w ps h
 node_inner named kind.Argument w ps inner covered h = argument_inner named w ps covered h
 node_inner named kind.ArrowBody w ps inner covered h = arrow_body_inner named w ps covered h
 node_inner named kind.FunctionBody w ps inner covered h = body_inner named w ps h

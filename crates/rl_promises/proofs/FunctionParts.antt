@@ -252,7 +252,7 @@ six_form : (ps : Pieces) → is_six ps ≡ true
 six_form (Then a (Then b (Then c (Then d (Then e (Then f End)))))) h = (a, b, c, d, e, f, refl)
 six_form _ h = absurd (cc)
 
-flag_form : (t : Syntax) → fits flag t ≡ true → (b : Bool) × (t ≡ Flag b)
+pub flag_form : (t : Syntax) → fits flag t ≡ true → (b : Bool) × (t ≡ Flag b)
 flag_form (Flag b) h = (b, refl)
 flag_form (Node at w ps) h = absurd (none_fits ps h)
 flag_form _ h = never h

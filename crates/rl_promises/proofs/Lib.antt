@@ -1,6 +1,8 @@
 pub mod Alike
 pub mod AlikeExpressions
 pub mod BodyStopping
+pub mod CaseStopping
+pub mod CaseTests
 pub mod CountedCode
 pub mod CountedLives
 pub mod CountedOnce
@@ -16,6 +18,7 @@ pub mod FunctionParts
 mod HeadExamples
 pub mod HeldOnce
 pub mod InnerScopes
+pub mod KeptVariables
 pub mod Least
 pub mod LeavingOut
 pub mod LocalVariables
@@ -28,6 +31,8 @@ mod RowExamples
 pub mod Shaping
 pub mod Skipping
 pub mod SmallNames
+pub mod SteadyTests
 pub mod Stopping
+mod SwitchExamples
 pub mod Unheld
 pub mod VariableTrees

@@ -15,11 +15,11 @@ use Rattle.rl_promises.proofs.LoopHeads.{plain_in_front}
 use Rattle.rl_promises.specs.Conditions.{is_plain_head}
 use Rattle.rl_promises.specs.Covered.{AreCovered, IsCovered, IsCoveredFunction}
 use Rattle.rl_promises.proofs.CoveredWorlds.{body_covered, params_covered}
-use Rattle.rl_promises.specs.Jumps.{Around, InLoop, own_label, within_label}
+use Rattle.rl_promises.specs.Jumps.{Around, InLoop, InSwitch, own_label, within_label}
 use Rattle.rl_promises.specs.Locals.{DeclareIn, DeclaresIn, DeclaresVariable, HasLocals}
-use Rattle.rl_promises.specs.Lowerable.{AreLowerable, AreLowerableIn, DeclaresFree, IsFree, IsLowerable, IsLowerableBody, IsLowerableHead, IsLowerableIn, Where}
+use Rattle.rl_promises.specs.Lowerable.{AreLowerable, AreLowerableCases, AreLowerableIn, DeclaresFree, IsFree, IsLowerable, IsLowerableBody, IsLowerableCase, IsLowerableHead, IsLowerableIn, Where}
 use Rattle.rl_promises.specs.Outs.{is_known_key, is_lost_delete, is_lost_head, is_wrapped}
-use Rattle.rl_promises.specs.Stops.{first_among, first_stop, stop_among, stop_at_head, stop_in, stop_in_body, stop_of, stop_of_local}
+use Rattle.rl_promises.specs.Stops.{first_among, first_stop, stop_among, stop_at_head, stop_in, stop_in_body, stop_in_case, stop_in_cases, stop_of, stop_of_local}
 use Rattle.rl_syntax.specs.Syntax.{Syntax, Node, Listed, Said, Count, Flag, Absent, Pieces, End, Then}
 use Rattle.rl_syntax.specs.declared.word.Word.TheVariants as word
 
@@ -195,6 +195,21 @@ mutual
         lowerable names right covered.1.1.1.0 declares.1.1.0 others.0,
         head_lowerable names head covered.0 covered.1.1.0 declares.1.0 others.1,
       ))
+  lowerable_in names around own (Node at word.Switch (Then discriminant (Then (Listed cases) End))) covered declares none =
+      let both = none_both (stop_in_cases names (InSwitch own ∷ around) cases) (first_stop names discriminant) none in (
+        cases_lowerable names (InSwitch own ∷ around) cases covered.1.1.0 declares.1.0 both.0,
+        lowerable names discriminant covered.1.0 declares.0 both.1,
+      )
+  lowerable_in names around own
+      (Node at word.Try (Then block (Then (Node there word.Catch (Then param (Then body End))) (Then finalizer End)))) covered declares none =
+      let first = none_both (first_stop names param) (option_or (stop_in names around None body) (stop_in names around None block)) none in
+      let others = none_both (stop_in names around None body) (stop_in names around None block) first.1 in (
+        lowerable names param covered.1.1.0.1.0 declares.1.0.0 first.0,
+        lowerable_in names around None body covered.1.1.0.1.1.0 declares.1.0.1.0 others.0,
+        lowerable_in names around None block covered.1.0 declares.0 others.1,
+      )
+  lowerable_in names around own (Node at word.Try parts) covered declares none = tt
+  lowerable_in names around own (Node at word.With parts) covered declares none = tt
   lowerable_in names around own (Node at word.Labeled (Then (Said label) (Then body End))) covered declares none =
       lowerable_in names (within_label label body around) (own_label label body) body covered.1.1.0 declares.1.0 none
   lowerable_in names around own s covered declares none = lowerable names s covered declares none
@@ -206,6 +221,24 @@ mutual
   all_lowerable_in names around (Then s ss) covered declares none =
       let both = none_both (stop_in names around None s) (stop_among names around ss) none in
       (lowerable_in names around None s covered.0 declares.0 both.0, all_lowerable_in names around ss covered.1 declares.1 both.1)
+
+  -- As `lowerable_in`, for a case of a `switch`.
+  case_lowerable : (names : Names) (around : List Around) (case : Syntax) → IsCovered case → DeclaresIn names case
+      → stop_in_case names around case ≡ None → IsLowerableCase names around case
+  case_lowerable names around (Node at word.Case (Then condition (Then (Listed statements) End))) covered declares none =
+      let both = none_both (stop_among names around statements) (first_stop names condition) none in (
+        all_lowerable_in names around statements covered.1.1.0 declares.1.0 both.0,
+        lowerable names condition covered.1.0 declares.0 both.1,
+      )
+  case_lowerable names around _ covered declares none = tt
+
+  -- As `case_lowerable`, for cases in a row.
+  cases_lowerable : (names : Names) (around : List Around) (cases : Pieces) → AreCovered cases → DeclareIn names cases
+      → stop_in_cases names around cases ≡ None → AreLowerableCases names around cases
+  cases_lowerable names around End covered declares none = tt
+  cases_lowerable names around (Then case cases) covered declares none =
+      let both = none_both (stop_in_cases names around cases) (stop_in_case names around case) none in
+      (case_lowerable names around case covered.0 declares.0 both.1, cases_lowerable names around cases covered.1 declares.1 both.0)
 
 -- As `lowerable`, for a body.
 lowerable_body : (names : Names) (b : Syntax) → IsCovered b → DeclaresIn names b → stop_in_body names b ≡ None → IsLowerableBody names b

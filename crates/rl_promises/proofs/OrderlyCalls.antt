@@ -1,15 +1,17 @@
 -- Calls and tagged templates of a covered function that is orderly: as it is written and as it is ported they lend one receiver.
-use Rattle.std.proofs.Common.{◌≡◌, ℕ, Bool, true, false, true≢false, ◌&&◌, ◌||◌, not, None, List, refl, sym, ap, ◌∙◌}
+use Rattle.std.proofs.Common.{◌≡◌, ℕ, Bool, true, false, true≢false, ◌&&◌, ◌||◌, nat_eq, not, None, List, [], ◌∷◌, ◌++◌, refl, sym, ap, ◌∙◌}
 use Rattle.std.proofs.lemmas.List.Folds.{list_all-append}
-use Rattle.std.specs.List.{list_all}
-use Rattle.rl_model.specs.Code.{assigned_in, code, code_among, code_of, first_code, flat, lowered_functions}
+use Rattle.std.specs.List.{AllByRecursion, list_all}
+use Rattle.rl_model.specs.Code.{assigned_at, assigned_in, code, code_among, code_of, contains, first_code, flat, inner_functions, lowered_functions}
 use Rattle.rl_model.specs.Marked.{marked}
 use Rattle.rl_model.specs.Orderly.{is_link_inside, is_orderly_node}
 use Rattle.rl_model.specs.Shapes.{is_link, lends}
 use Rattle.rl_model.specs.Source.{is_orderly}
 use Rattle.rl_model.specs.Units.{names_of}
+use Rattle.rl_names.proofs.Items.{each_left, each_right}
 use Rattle.rl_names.specs.Functions.{body_in, params_in}
 use Rattle.rl_names.specs.Names.{Names}
+use Rattle.rl_promises.proofs.CaseTests.{HasTest, HasTests, HaveTests}
 use Rattle.rl_promises.proofs.CoveredWorlds.{body_covered}
 use Rattle.rl_promises.specs.Covered.{AreCovered, IsCovered, IsCoveredFunction, covers}
 use Rattle.rl_syntax.specs.Syntax.{Syntax, Node, Listed, Said, Count, Flag, Absent, Pieces, End, Then}
@@ -29,25 +31,35 @@ Within word.Type first all = Unit {0}
 Within word.Instantiate first all = first
 Within _ first all = all
 
-abbrev mutual
-  -- Every node of the tree that is code is covered, and lends one receiver, as it is written and as it is ported.
-  pub LendsAlike : Syntax → Type 0
-  LendsAlike (Node at w parts) = (covers w parts ≡ true) × (lends_at w parts ≡ false) × Within w (LendsFirst parts) (LendAlike parts)
-  LendsAlike (Listed parts) = LendAlike parts
-  LendsAlike (Said text) = Unit {0}
-  LendsAlike (Count number) = Unit {0}
-  LendsAlike (Flag flag) = Unit {0}
-  LendsAlike Absent = Unit {0}
+-- Facts of a node by itself: it lends one receiver, as it is written and as it is ported, it is orderly, no function assigns a variable
+-- beside those `assigned` that it assigns, and the test of a case is an expression.
+pub record IsOrderlyAt (names : Names) (assigned : List ℕ) (at : At) (w : Word) (parts : Pieces) : Type 0 where
+  pub lends : lends_at w parts ≡ false
+  pub orderly : is_orderly_node names assigned (Node at w parts) ≡ true
+  pub assigns : (symbol : ℕ) → contains (assigned_at names (Node at w parts)) symbol ≡ true → contains assigned symbol ≡ true
+  pub formed : HasTest w parts
 
-  -- As `LendsAlike`, for parts in a row.
-  pub LendAlike : Pieces → Type 0
-  LendAlike End = Unit {0}
-  LendAlike (Then piece pieces) = LendsAlike piece × LendAlike pieces
+module _ (names : Names) (assigned : List ℕ) where
+  abbrev mutual
+    -- Every node of the tree that is code is covered, and has these facts.
+    pub LendsAlike : Syntax → Type 0
+    LendsAlike (Node at w parts) =
+        (covers w parts ≡ true) × IsOrderlyAt names assigned at w parts × Within w (LendsFirst parts) (LendAlike parts)
+    LendsAlike (Listed parts) = LendAlike parts
+    LendsAlike (Said text) = Unit {0}
+    LendsAlike (Count number) = Unit {0}
+    LendsAlike (Flag flag) = Unit {0}
+    LendsAlike Absent = Unit {0}
 
-  -- As `LendsAlike`, for the first of some parts.
-  pub LendsFirst : Pieces → Type 0
-  LendsFirst End = Unit {0}
-  LendsFirst (Then piece pieces) = LendsAlike piece
+    -- As `LendsAlike`, for parts in a row.
+    pub LendAlike : Pieces → Type 0
+    LendAlike End = Unit {0}
+    LendAlike (Then piece pieces) = LendsAlike piece × LendAlike pieces
+
+    -- As `LendsAlike`, for the first of some parts.
+    pub LendsFirst : Pieces → Type 0
+    LendsFirst End = Unit {0}
+    LendsFirst (Then piece pieces) = LendsAlike piece
 
 -- A callee that is no property or chain inside parentheses and types lends no object.
 lends_none : (e : Syntax) → is_link_inside e ≡ false → lends e ≡ false
@@ -89,65 +101,130 @@ both_true : (a b : Bool) → a && b ≡ true → (a ≡ true) × (b ≡ true)
 both_true true b h = (refl, h)
 both_true false b h = absurd (true≢false (sym h))
 
+or_either : (a b c : Bool) → (b ≡ true → c ≡ true) → a || b ≡ true → a || c ≡ true
+or_either true b c more h = refl
+or_either false b c more h = more h
+
+or_second : (a b : Bool) → b ≡ true → a || b ≡ true
+or_second true b h = refl
+or_second false b h = h
+
+-- The nodes of some code assign no other variables.
+abbrev AreAssigning : Names → (assigned : List ℕ) → List Syntax → Type 0
+AreAssigning names assigned nodes =
+    AllByRecursion (λ (node : Syntax). (symbol : ℕ) → contains (assigned_at names node) symbol ≡ true → contains assigned symbol ≡ true) nodes
+
+contains_left : (xs ys : List ℕ) (symbol : ℕ) → contains xs symbol ≡ true → contains (xs ++ ys) symbol ≡ true
+contains_left [] ys symbol there = absurd (true≢false (sym there))
+contains_left (x ∷ xs) ys symbol there = or_either (nat_eq symbol x) (contains xs symbol) (contains (xs ++ ys) symbol) (contains_left xs ys symbol) there
+
+contains_right : (xs ys : List ℕ) (symbol : ℕ) → contains ys symbol ≡ true → contains (xs ++ ys) symbol ≡ true
+contains_right [] ys symbol there = there
+contains_right (x ∷ xs) ys symbol there = or_second (nat_eq symbol x) (contains (xs ++ ys) symbol) (contains_right xs ys symbol there)
+
+assigning : (names : Names) (assigned : List ℕ) (nodes : List Syntax)
+    → ((symbol : ℕ) → contains (flat (assigned_at names) nodes) symbol ≡ true → contains assigned symbol ≡ true)
+    → AreAssigning names assigned nodes
+assigning names assigned [] among = tt
+assigning names assigned (node ∷ nodes) among = (
+  (λ symbol there. among symbol (contains_left (assigned_at names node) (flat (assigned_at names) nodes) symbol there)),
+  assigning names assigned nodes
+      (λ symbol there. among symbol (contains_right (assigned_at names node) (flat (assigned_at names) nodes) symbol there)),
+)
+
 module _ (names : Names) (assigned : List ℕ) where
   abbrev orderly_node : Syntax → Bool
   orderly_node = is_orderly_node names assigned
 
+  abbrev Assigning : List Syntax → Type 0
+  Assigning = AreAssigning names assigned
+
+  abbrev Lends : Syntax → Type 0
+  Lends = LendsAlike names assigned
+
   -- A covered node by itself.
-  node_lends : (at : At) (w : Word) (parts : Pieces) → list_all orderly_node (code (Node at w parts)) ≡ true → lends_at w parts ≡ false
-  node_lends at word.Call parts orderly =
-      call_lends names assigned at parts
-      (both_true (orderly_node (Node at word.Call parts)) (list_all orderly_node (code_among parts)) orderly).0
-  node_lends at word.Tagged parts orderly =
-      tag_lends names assigned at parts
-      (both_true (orderly_node (Node at word.Tagged parts)) (list_all orderly_node (code_among parts)) orderly).0
+  node_lends : (at : At) (w : Word) (parts : Pieces) → is_orderly_node names assigned (Node at w parts) ≡ true → lends_at w parts ≡ false
+  node_lends at word.Call parts orderly = call_lends names assigned at parts orderly
+  node_lends at word.Tagged parts orderly = tag_lends names assigned at parts orderly
   node_lends at _ parts orderly = refl
+
+  -- A covered node is code, but for a type: itself, and then its parts.
+  itself : (at : At) (w : Word) (parts : Pieces) → covers w parts ≡ true → list_all orderly_node (code (Node at w parts)) ≡ true
+      → Assigning (code (Node at w parts)) → HasTest w parts → IsOrderlyAt names assigned at w parts
+  itself at word.Type parts covered orderly assigns formed = record {
+    lends = refl;
+    orderly = refl;
+    assigns = λ symbol there. absurd (true≢false (sym there));
+    formed = formed;
+  }
+  itself at word.Classdecl parts covered orderly assigns formed = absurd (true≢false (sym covered))
+  itself at word.Classexpr parts covered orderly assigns formed = absurd (true≢false (sym covered))
+  itself at word.Fundecl parts covered orderly assigns formed = absurd (true≢false (sym covered))
+  itself at w parts covered orderly assigns formed =
+      let own = (both_true (orderly_node (Node at w parts)) _ orderly).0 in
+      record { lends = node_lends at w parts own; orderly = own; assigns = assigns.0; formed = formed }
 
   -- The code of the parts of a covered node, which is no function.
   within : (at : At) (w : Word) (parts : Pieces) (First All : Type 0) → covers w parts ≡ true
-      → list_all orderly_node (code (Node at w parts)) ≡ true → (list_all orderly_node (first_code parts) ≡ true → First)
-      → (list_all orderly_node (code_among parts) ≡ true → All) → Within w First All
-  within at word.Type parts First All covered orderly one each = tt
-  within at word.Instantiate parts First All covered orderly one each =
-      one (both_true (orderly_node (Node at word.Instantiate parts)) (list_all orderly_node (first_code parts)) orderly).1
-  within at word.Arrow parts First All covered orderly one each = absurd (true≢false (sym covered))
-  within at word.Funexpr parts First All covered orderly one each = absurd (true≢false (sym covered))
-  within at word.Fundecl parts First All covered orderly one each = absurd (true≢false (sym covered))
-  within at word.Classdecl parts First All covered orderly one each = absurd (true≢false (sym covered))
-  within at word.Classexpr parts First All covered orderly one each = absurd (true≢false (sym covered))
-  within at w parts First All covered orderly one each =
-      each (both_true (orderly_node (Node at w parts)) (list_all orderly_node (code_among parts)) orderly).1
+      → list_all orderly_node (code (Node at w parts)) ≡ true → Assigning (code (Node at w parts))
+      → (list_all orderly_node (first_code parts) ≡ true → Assigning (first_code parts) → First)
+      → (list_all orderly_node (code_among parts) ≡ true → Assigning (code_among parts) → All) → Within w First All
+  within at word.Type parts First All covered orderly assigns one each = tt
+  within at word.Instantiate parts First All covered orderly assigns one each =
+      one (both_true (orderly_node (Node at word.Instantiate parts)) (list_all orderly_node (first_code parts)) orderly).1 assigns.1
+  within at word.Arrow parts First All covered orderly assigns one each = absurd (true≢false (sym covered))
+  within at word.Funexpr parts First All covered orderly assigns one each = absurd (true≢false (sym covered))
+  within at word.Fundecl parts First All covered orderly assigns one each = absurd (true≢false (sym covered))
+  within at word.Classdecl parts First All covered orderly assigns one each = absurd (true≢false (sym covered))
+  within at word.Classexpr parts First All covered orderly assigns one each = absurd (true≢false (sym covered))
+  within at w parts First All covered orderly assigns one each =
+      each (both_true (orderly_node (Node at w parts)) (list_all orderly_node (code_among parts)) orderly).1 assigns.1
 
   mutual
-    lends_in : (e : Syntax) → IsCovered e → list_all orderly_node (code e) ≡ true → LendsAlike e
-    lends_in (Node at w parts) covered orderly = (
+    lends_in : (e : Syntax) → IsCovered e → list_all orderly_node (code e) ≡ true → Assigning (code e) → HasTests e → Lends e
+    lends_in (Node at w parts) covered orderly assigns formed = (
       covered.0,
-      node_lends at w parts orderly,
-      within at w parts (LendsFirst parts) (LendAlike parts) covered.0 orderly (lends_first parts covered.1) (lends_among parts covered.1),
+      itself at w parts covered.0 orderly assigns formed.0,
+      within at w parts (LendsFirst names assigned parts) (LendAlike names assigned parts) covered.0 orderly assigns
+          (λ o a. lends_first parts covered.1 o a formed.1) (λ o a. lends_among parts covered.1 o a formed.1),
     )
-    lends_in (Listed parts) covered orderly = lends_among parts covered orderly
-    lends_in (Said text) covered orderly = tt
-    lends_in (Count number) covered orderly = tt
-    lends_in (Flag flag) covered orderly = tt
-    lends_in Absent covered orderly = tt
+    lends_in (Listed parts) covered orderly assigns formed = lends_among parts covered orderly assigns formed
+    lends_in (Said text) covered orderly assigns formed = tt
+    lends_in (Count number) covered orderly assigns formed = tt
+    lends_in (Flag flag) covered orderly assigns formed = tt
+    lends_in Absent covered orderly assigns formed = tt
 
-    lends_first : (parts : Pieces) → AreCovered parts → list_all orderly_node (first_code parts) ≡ true → LendsFirst parts
-    lends_first End covered orderly = tt
-    lends_first (Then part parts) covered orderly = lends_in part covered.0 orderly
+    lends_first : (parts : Pieces) → AreCovered parts → list_all orderly_node (first_code parts) ≡ true → Assigning (first_code parts)
+        → HaveTests parts
+        → LendsFirst names assigned parts
+    lends_first End covered orderly assigns formed = tt
+    lends_first (Then part parts) covered orderly assigns formed = lends_in part covered.0 orderly assigns formed.0
 
-    lends_among : (parts : Pieces) → AreCovered parts → list_all orderly_node (code_among parts) ≡ true → LendAlike parts
-    lends_among End covered orderly = tt
-    lends_among (Then part parts) covered orderly =
+    lends_among : (parts : Pieces) → AreCovered parts → list_all orderly_node (code_among parts) ≡ true → Assigning (code_among parts)
+        → HaveTests parts
+        → LendAlike names assigned parts
+    lends_among End covered orderly assigns formed = tt
+    lends_among (Then part parts) covered orderly assigns formed =
         let both = both_true (list_all orderly_node (code part)) (list_all orderly_node (code_among parts))
-        (sym (list_all-append orderly_node (code part) (code_among parts)) ∙ orderly) in
-        (lends_in part covered.0 both.0, lends_among parts covered.1 both.1)
+        (sym (list_all-append orderly_node (code part) (code_among parts)) ∙ orderly) in (
+          lends_in part covered.0 both.0 (each_left _ (code part) (code_among parts) assigns) formed.0,
+          lends_among parts covered.1 both.1 (each_right _ (code part) (code_among parts) assigns) formed.1,
+        )
+
+-- The variables that the lowered functions of a unit assign.
+abbrev pub assigned_of : (u : Syntax) → List ℕ
+assigned_of u = flat (assigned_in (names_of u)) (lowered_functions (marked u))
 
 -- The body of the marked function lends one receiver to each call and tag, as it is written and as it is ported, if it is covered and
 -- orderly.
-pub body_lends : (u : Syntax) → IsCoveredFunction (marked u) → is_orderly u None ≡ true → LendsAlike (body_in (marked u))
-body_lends u covered orderly =
+pub body_lends : (u : Syntax) → IsCoveredFunction (marked u) → HasTests (body_in (marked u)) → is_orderly u None ≡ true
+    → LendsAlike (names_of u) (assigned_of u) (body_in (marked u))
+body_lends u covered formed orderly =
     let names : Names = names_of u in
-    let assigned : List ℕ = flat (assigned_in names) (lowered_functions (marked u)) in
+    let assigned : List ℕ = assigned_of u in
     let nodes : list_all (is_orderly_node names assigned) (code_of (marked u)) ≡ true = (both_true _ _ (both_true _ _ orderly).0).0 in
     let both = both_true _ _ (sym (list_all-append (is_orderly_node names assigned) (code (params_in (marked u))) (code (body_in (marked u)))) ∙ nodes) in
+    let assigns = assigning names assigned (code_of (marked u))
+    (contains_left (assigned_in names (marked u)) (flat (assigned_in names) (inner_functions (marked u)))) in
     lends_in names assigned (body_in (marked u)) (body_covered (marked u) covered) both.1
+    (each_right _ (code (params_in (marked u))) (code (body_in (marked u))) assigns) formed

@@ -329,14 +329,16 @@ callee_covered = refl
 callee_not_orderly : is_orderly parenthesized None ≡ false
 callee_not_orderly = refl
 
--- Nodes outside the marked function are free. Inside it a `throw` statement is not covered, nor is a function, nor a pattern, nor a call or
--- a property that is optional, nor a sequence without expressions; the least id is given.
-outside : pending (unit (node 2 word.Throw (node 3 word.Null [] ∷ []) ∷ node 4 word.Expr (arrow [] covered_body ∷ []) ∷ [])) ≡ None
+-- Nodes outside the marked function are free. Inside it a class is not covered, nor is a function, nor a pattern, nor a call or a property
+-- that is optional, nor a sequence without expressions; the least id is given.
+abbrev class_at : (start : ℕ) → Syntax
+class_at start = node start word.Classdecl (Absent ∷ Absent ∷ Listed End ∷ [])
+
+outside : pending (unit (class_at 2 ∷ node 4 word.Expr (arrow [] covered_body ∷ []) ∷ [])) ≡ None
 outside = refl
 
-throw_statement : pending (unit_of (function [] (
-    node 11 word.Throw (node 12 word.Null [] ∷ []) ∷ node 13 word.Throw (node 14 word.Null [] ∷ []) ∷ []))) ≡ Some 6
-throw_statement = refl
+inside : pending (unit_of (function [] (class_at 11 ∷ class_at 12 ∷ []))) ≡ Some 6
+inside = refl
 
 pattern : pending (unit_of (function [] (node 11 word.Var (Said (codes "let") ∷ Listed (pieces_of (
     node 12 word.Declarator (node 13 word.Arraypat (Listed End ∷ Absent ∷ []) ∷ node 14 word.Null [] ∷ []) ∷ [])) ∷ []) ∷ []))) ≡ Some 8

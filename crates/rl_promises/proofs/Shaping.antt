@@ -1,6 +1,6 @@
 -- Parts that do not have the form wanted.
-use Rattle.std.proofs.Common.{◌≡◌, false, None, refl}
-use Rattle.rl_promises.specs.PartForms.{is_flag_and_three, is_flag_and_trees, is_text_ahead, is_text_alone, is_text_and_tree, jump_label, list_alone, second_list, two_lists}
+use Rattle.std.proofs.Common.{◌≡◌, false, Some, None, ap, refl, sym}
+use Rattle.rl_promises.specs.PartForms.{is_flag_and_three, is_flag_and_trees, is_text_ahead, is_text_alone, is_text_and_tree, jump_label, list_alone, second_list, tree_and_list, two_lists, two_trees}
 use Rattle.rl_syntax.specs.Shapes.{is_flag, is_four, is_list, is_one, is_text, is_three, is_two}
 use Rattle.rl_syntax.specs.Syntax.{Syntax, Listed, Said, Flag, Pieces, End, Then}
 
@@ -76,3 +76,22 @@ no_list_behind (Then first (Then (Listed items) End)) a b is none = absurd (cc)
 no_list_behind _ a b is none = refl
 
 pub ruleset seconds = (not_two_parts, no_list_behind)
+
+pub not_tree_and_list : (ps : Pieces) → is_two ps ≡ false → None ≡ tree_and_list ps
+not_tree_and_list (Then tree (Then (Listed items) End)) none = absurd (cc)
+not_tree_and_list _ none = refl
+
+pub no_list_behind_tree : (ps : Pieces) (a b : Syntax) → ps ≡ Then a (Then b End) → is_list b ≡ false → None ≡ tree_and_list ps
+no_list_behind_tree (Then tree (Then (Listed items) End)) a b is none = absurd (cc)
+no_list_behind_tree _ a b is none = refl
+
+pub ruleset behind = (not_tree_and_list, no_list_behind_tree)
+
+pub not_two_trees : (ps : Pieces) → is_two ps ≡ false → None ≡ two_trees ps
+not_two_trees (Then tree (Then another End)) none = absurd (cc)
+not_two_trees _ none = refl
+
+pub two_are_trees : (ps : Pieces) (a b : Syntax) → ps ≡ Then a (Then b End) → Some (a, b) ≡ two_trees ps
+two_are_trees ps a b is = ap two_trees (sym is)
+
+pub ruleset caught = (not_two_trees, two_are_trees)

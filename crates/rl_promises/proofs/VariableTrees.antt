@@ -1,4 +1,4 @@
--- Trees that declare variables alone: each name that is declared is that of a parameter or of a declarator.
+-- Trees that declare variables alone: each name that is declared is that of a parameter, of a declarator or of a `catch`.
 use Rattle.std.proofs.Common.{◌≡◌, ℕ, zero, suc, Bool, true, false, true≢false, if◌then◌else◌, Option, Some, List, [], ◌∷◌, codes, inl, inr, refl, sym, subst}
 use Rattle.std.specs.List.{AllByRecursion}
 use Rattle.std.specs.Str.{bytes_eq}
@@ -26,21 +26,22 @@ use Rattle.rl_syntax.specs.declared.numbered.At.{At}
 use Rattle.rl_syntax.specs.declared.word.Word.{Word}
 use Rattle.rl_syntax.specs.declared.word.Word.TheVariants as word
 
--- True of the words of nodes that may stand in parameters and declarators, or elsewhere: a `bind` node only there.
+-- True of the words of nodes that may stand in parameters, declarators and `catch` clauses, or elsewhere: a `bind` node only there.
 abbrev pub may_stand : (named : Bool) → Word → Bool
 may_stand named word.Bind = named
 may_stand named _ = true
 
--- True of the parts of parameters and of declarators.
+-- True of the parts of parameters, of declarators and of `catch` clauses.
 abbrev pub is_named : (named : Bool) → Word → Bool
 is_named named word.Var = true
 is_named named word.Params = true
+is_named named word.Catch = true
 is_named named word.Declarator = named
 is_named named word.Param = named
 is_named named _ = false
 
 abbrev mutual
-  -- Each `bind` node of the tree stands in parameters or in a declarator; `named` is true of the parts of these.
+  -- Each `bind` node of the tree stands in parameters, in a declarator or in a `catch`; `named` is true of the parts of these.
   pub HasVariables : (named : Bool) → Syntax → Type 0
   HasVariables named (Node at w parts) = (may_stand named w ≡ true) × HaveVariables (is_named named w) parts
   HasVariables named (Listed parts) = HaveVariables named parts
@@ -75,6 +76,7 @@ below_value : (named : Bool) (w : Word) (a : Above) (at : At) (ps : Pieces) → 
     → is_type (below a at w ps).kind ≡ false
 below_value named word.Var a at ps given is = texts_value (said ps)
 below_value named word.Params a at ps given is = refl
+below_value named word.Catch a at ps given is = refl
 below_value named word.Declarator a at ps given is = given is
 below_value named word.Param a at ps given is = given is
 below_value named _ a at ps given is = absurd (true≢false (sym is))

@@ -9,6 +9,7 @@ pub mod Jumps
 pub mod Live
 pub mod Locals
 pub mod Lowerable
+pub mod Moved
 pub mod Outs
 pub mod PartForms
 pub mod Rebound

@@ -53,6 +53,9 @@ abbrev mutual
   live_in own (Node at word.Forin (Then head (Then right (Then body End)))) = held_in head ++ held_in right ++ live_in None body
   live_in own (Node at word.Forof (Then (Flag false) (Then head (Then right (Then body End))))) =
       held_in head ++ held_in right ++ live_in None body
+  live_in own (Node at word.Switch (Then discriminant (Then (Listed cases) End))) = held_in discriminant ++ live_cases cases
+  live_in own (Node at word.Try (Then block (Then (Node there word.Catch (Then param (Then body End))) (Then finalizer End)))) =
+      live_in None block ++ (if (lives None block).acts then held_in param ++ live_in None body else []) ++ held_in finalizer
   live_in own (Node at word.Labeled (Then (Said label) (Then body End))) = live_in (Some label) body
   live_in own statement = held_in statement
 
@@ -60,6 +63,12 @@ abbrev mutual
   pub live_all : Pieces → List Held
   live_all End = []
   live_all (Then statement statements) = live_in None statement ++ (if (lives None statement).outs.falls then live_all statements else [])
+
+  -- As `live_in`, for the cases of a `switch`, which are all reached.
+  pub live_cases : Pieces → List Held
+  live_cases (Then (Node at word.Case (Then condition (Then (Listed statements) End))) cases) =
+      held_in condition ++ live_all statements ++ live_cases cases
+  live_cases cases = held_among cases
 
 -- As `live_in`, for a body.
 abbrev pub live_in_body : Syntax → List Held

@@ -7,7 +7,7 @@ use Rattle.rl_model.specs.Shapes.{are_raw}
 use Rattle.rl_names.specs.Names.{Names, local_of}
 use Rattle.rl_promises.specs.Conditions.{is_plain_head}
 use Rattle.rl_promises.specs.CoveredWords.{covers}
-use Rattle.rl_promises.specs.Jumps.{Around, InLoop, own_label, stop_of_break, stop_of_continue, within_label}
+use Rattle.rl_promises.specs.Jumps.{Around, InLoop, InSwitch, own_label, stop_of_break, stop_of_continue, within_label}
 use Rattle.rl_promises.specs.Locals.{IsVariable}
 use Rattle.rl_promises.specs.Outs.{is_known_key, is_lost_delete, is_lost_head, is_wrapped}
 use Rattle.rl_syntax.specs.Syntax.{Syntax, Node, Listed, Said, Count, Flag, Absent, Pieces, End, Then}
@@ -85,6 +85,13 @@ abbrev mutual
       IsLowerableIn names (InLoop own ∷ around) None body × IsLowerable names right × IsLowerableHead names head
   IsLowerableIn names around own (Node at word.Forof (Then (Flag is_await) (Then head (Then right (Then body End))))) =
       Where (not is_await) (IsLowerableIn names (InLoop own ∷ around) None body × IsLowerable names right × IsLowerableHead names head)
+  IsLowerableIn names around own (Node at word.Switch (Then discriminant (Then (Listed cases) End))) =
+      AreLowerableCases names (InSwitch own ∷ around) cases × IsLowerable names discriminant
+  IsLowerableIn names around own
+      (Node at word.Try (Then block (Then (Node there word.Catch (Then param (Then body End))) (Then finalizer End)))) =
+      IsLowerable names param × IsLowerableIn names around None body × IsLowerableIn names around None block
+  IsLowerableIn names around own (Node at word.Try parts) = Unit {0}
+  IsLowerableIn names around own (Node at word.With parts) = Unit {0}
   IsLowerableIn names around own (Node at word.Labeled (Then (Said label) (Then body End))) =
       IsLowerableIn names (within_label label body around) (own_label label body) body
   IsLowerableIn names around own statement = IsLowerable names statement
@@ -94,6 +101,17 @@ abbrev mutual
   AreLowerableIn names around End = Unit {0}
   AreLowerableIn names around (Then statement statements) =
       IsLowerableIn names around None statement × AreLowerableIn names around statements
+
+  -- As `IsLowerableIn`, for a case of a `switch`.
+  pub IsLowerableCase : Names → List Around → Syntax → Type 0
+  IsLowerableCase names around (Node at word.Case (Then condition (Then (Listed statements) End))) =
+      AreLowerableIn names around statements × IsLowerable names condition
+  IsLowerableCase names around case = Unit {0}
+
+  -- As `IsLowerableCase`, for cases in a row.
+  pub AreLowerableCases : Names → List Around → Pieces → Type 0
+  AreLowerableCases names around End = Unit {0}
+  AreLowerableCases names around (Then case cases) = IsLowerableCase names around case × AreLowerableCases names around cases
 
 -- As `IsLowerable`, for a body.
 abbrev pub IsLowerableBody : Names → Syntax → Type 0

@@ -78,6 +78,36 @@ abbrev pub body_statements : Syntax → Option Pieces
 body_statements (Node at w parts) = body_parts w parts
 body_statements _ = None
 
+-- A tree, and the list behind it, that are the parts.
+abbrev pub tree_and_list : Pieces → Option (Syntax × Pieces)
+tree_and_list (Then tree (Then (Listed items) End)) = Some (tree, items)
+tree_and_list _ = None
+
+-- The test and the statements of a case, by its word and parts.
+abbrev pub case_parts : Word → Pieces → Option (Syntax × Pieces)
+case_parts word.Case parts = tree_and_list parts
+case_parts _ parts = None
+
+-- As `case_parts`, of a tree.
+abbrev pub case_in : Syntax → Option (Syntax × Pieces)
+case_in (Node at w parts) = case_parts w parts
+case_in _ = None
+
+-- Two trees that are the parts.
+abbrev pub two_trees : Pieces → Option (Syntax × Syntax)
+two_trees (Then tree (Then another End)) = Some (tree, another)
+two_trees _ = None
+
+-- The parameter and the body of a `catch`, by its word and parts.
+abbrev pub catch_parts : Word → Pieces → Option (Syntax × Syntax)
+catch_parts word.Catch parts = two_trees parts
+catch_parts _ parts = None
+
+-- As `catch_parts`, of a tree.
+abbrev pub catch_in : Syntax → Option (Syntax × Syntax)
+catch_in (Node at w parts) = catch_parts w parts
+catch_in _ = None
+
 -- True of the word of a loop.
 abbrev pub loops : Word → Bool
 loops word.While = true

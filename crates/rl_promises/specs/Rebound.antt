@@ -35,6 +35,11 @@ abbrev mutual
       span_at_head names symbol head (span_behind names symbol body before)
   span_behind names symbol (Node at word.Forof (Then (Flag is_await) (Then head (Then right (Then body End))))) before =
       if is_await then before else span_at_head names symbol head (span_behind names symbol body before)
+  span_behind names symbol (Node at word.Switch (Then discriminant (Then (Listed cases) End))) before =
+      span_behind_cases names symbol cases before
+  span_behind names symbol
+      (Node at word.Try (Then block (Then (Node there word.Catch (Then param (Then body End))) (Then finalizer End)))) before =
+      span_behind names symbol block (span_behind names symbol body before)
   span_behind names symbol (Node at word.Labeled (Then (Said label) (Then body End))) before = span_behind names symbol body before
   span_behind names symbol statement before = before
 
@@ -43,6 +48,12 @@ abbrev mutual
   span_behind_all names symbol End before = before
   span_behind_all names symbol (Then statement statements) before =
       span_behind_all names symbol statements (span_behind names symbol statement before)
+
+  -- As `span_behind`, for the cases of a `switch`, from the last to the first.
+  pub span_behind_cases : Names → (symbol : ℕ) → (cases : Pieces) → (before : Span) → Span
+  span_behind_cases names symbol (Then (Node at word.Case (Then condition (Then (Listed statements) End))) cases) before =
+      span_behind_all names symbol statements (span_behind_cases names symbol cases before)
+  span_behind_cases names symbol _ before = before
 
 -- As `span_behind`, for a body.
 abbrev pub span_behind_body : Names → (symbol : ℕ) → (body : Syntax) → (before : Span) → Span

@@ -1,5 +1,5 @@
 -- The rows of refusals by node: the nodes of a tree that are refused, and their diagnostics.
-use Rattle.std.specs.Prelude.{◌≡◌, ℕ, Bool, false, if◌then◌else◌, None, unwrap_or, List, [], ◌∷◌, ◌++◌, codes}
+use Rattle.std.specs.Prelude.{◌≡◌, ℕ, Bool, true, false, if◌then◌else◌, None, unwrap_or, List, [], ◌∷◌, ◌++◌, codes}
 use Rattle.std.specs.Str.{bytes_eq}
 use Rattle.rl_base.specs.Diagnostics.{diagnostic_at}
 use Rattle.rl_base.specs.declared.diagnostic.Diagnostic.{Diagnostic}
@@ -15,11 +15,12 @@ use Rattle.rl_hir.specs.declared.instruction.NonLocalBinding.{NonLocalBinding}
 use Rattle.rl_hir.specs.declared.instruction.NonLocalBinding.TheVariants as binding
 use Rattle.rl_names.specs.Functions.{body_in, params_in}
 use Rattle.rl_names.specs.Names.{Names}
+use Rattle.rl_promises.specs.Moved.{said_of_moved}
 use Rattle.rl_promises.specs.Outs.{is_known_key, is_lost_delete, is_lost_head, is_wrapped}
 use Rattle.rl_promises.specs.Stops.{has_using, stop_of}
 use Rattle.rl_names.specs.declared.names.Meaning.{Meaning}
 use Rattle.rl_names.specs.declared.names.Meaning.TheVariants.{Local, Outer}
-use Rattle.rl_model.specs.Shapes.{are_raw}
+use Rattle.rl_model.specs.Shapes.{are_raw, is_absent}
 use Rattle.rl_semantic.specs.Items.{of_item}
 
 -- The text is the given word.
@@ -112,23 +113,13 @@ said_of_test at Absent = refusal row.F32 at ∷ []
 said_of_test at condition = []
 
 abbrev mutual
-  -- The diagnostics of a tree, in the order in which the lowering meets the nodes: a node by itself, and then its parts from left to
-  -- right. Blocks of branches and bodies of loops are lowered before the test that leads to them, a variable is declared behind its
-  -- initializer, and a private name is met behind its object. Types, the argument of a `yield`, and what a row leaves out are not lowered.
+  -- The diagnostics of a tree without statements in it, in the order in which the lowering meets the nodes: a node by itself, and then its
+  -- parts from left to right. Branches are lowered before the test that leads to them, a variable is declared behind its initializer, and
+  -- a private name is met behind its object. Types, the argument of a `yield`, and what a row leaves out are not lowered.
   pub refusals : Names → Syntax → List Diagnostic
-  refusals names (Node at word.If (Then condition (Then consequent (Then alternate End)))) =
-      refusals names consequent ++ refusals names alternate ++ refusals names condition
   refusals names (Node at word.Cond (Then condition (Then consequent (Then alternate End)))) =
       refusals names consequent ++ refusals names alternate ++ refusals names condition
   refusals names (Node at word.Logical (Then operator (Then left (Then right End)))) = refusals names right ++ refusals names left
-  refusals names (Node at word.While (Then condition (Then body End))) = refusals names body ++ refusals names condition
-  refusals names (Node at word.For (Then init (Then condition (Then update (Then body End))))) =
-      said_of_init at.span init ++ refusals names init ++ refusals names update ++ refusals names body
-      ++ said_of_test at.span condition ++ refusals names condition
-  refusals names (Node at word.Forin (Then head (Then right (Then body End)))) =
-      refusals names body ++ refusals names right ++ refusals_at_head names head
-  refusals names (Node at word.Forof (Then (Flag is_await) (Then head (Then right (Then body End))))) =
-      if is_await then refusal row.F33 at.span ∷ [] else refusals names body ++ refusals names right ++ refusals_at_head names head
   refusals names (Node at word.Var (Then (Said kind) (Then declarators End))) =
       (if bytes_eq kind (codes "var") then refusal row.F39 at.span ∷ [] else []) ++ refusals names declarators
   refusals names (Node at word.Declarator (Then pattern (Then init End))) = refusals names init ++ refusals names pattern
@@ -149,21 +140,79 @@ abbrev mutual
   refusals names (Listed parts) = refusals_in names parts
   refusals names _ = []
 
-  -- As `refusals`, for the head of a `for`-`in` or `for`-`of` loop, which may declare by `var`.
-  pub refusals_at_head : Names → Syntax → List Diagnostic
-  refusals_at_head names (Node at word.Id (Then (Said name) End)) = said_of_stored names at.span (names.meaning at.reference.0 name)
-  refusals_at_head names (Node at w parts) =
-      if is_lost_head (Node at w parts) then refusal (row_of_head w) at.span ∷ [] else refusals_in names parts
-  refusals_at_head names _ = []
-
   -- As `refusals`, for parts in a row.
   pub refusals_in : Names → Pieces → List Diagnostic
   refusals_in names End = []
   refusals_in names (Then piece pieces) = refusals names piece ++ refusals_in names pieces
 
+-- As `refusals`, for the head of a `for`-`in` or `for`-`of` loop, which may declare by `var`.
+abbrev pub refusals_at_head : Names → Syntax → List Diagnostic
+refusals_at_head names (Node at word.Id (Then (Said name) End)) = said_of_stored names at.span (names.meaning at.reference.0 name)
+refusals_at_head names (Node at w parts) =
+    if is_lost_head (Node at w parts) then refusal (row_of_head w) at.span ∷ [] else refusals_in names parts
+refusals_at_head names _ = []
+
+-- The diagnostics of a `throw` at `at`: F30 in the block of a `try`.
+abbrev pub said_of_throw : (tried : Bool) → (at : Span) → List Diagnostic
+said_of_throw tried at = if tried then refusal row.F30 at ∷ [] else []
+
+-- The diagnostics of a `try` at `at` by its finalizer, which is left out: F35.
+abbrev pub said_of_finalizer : (at : Span) → (finalizer : Syntax) → List Diagnostic
+said_of_finalizer at finalizer = if is_absent finalizer then [] else refusal row.F35 at ∷ []
+
+abbrev mutual
+  -- As `refusals`, for a statement; `tried` is true of one in the block of a `try`. Blocks of branches and bodies of loops are lowered
+  -- before the test that leads to them, the cases of a `switch` from the last to the first, each before its test, and a `catch` before
+  -- the block.
+  pub refusals_at : Names → (tried : Bool) → Syntax → List Diagnostic
+  refusals_at names tried (Node at word.Throw (Then argument End)) = refusals names argument ++ said_of_throw tried at.span
+  refusals_at names tried (Node at word.Block (Then (Listed statements) End)) = refusals_among names tried statements
+  refusals_at names tried (Node at word.If (Then condition (Then consequent (Then alternate End)))) =
+      refusals_at names tried consequent ++ refusals_at names tried alternate ++ refusals names condition
+  refusals_at names tried (Node at word.While (Then condition (Then body End))) = refusals_at names tried body ++ refusals names condition
+  refusals_at names tried (Node at word.Dowhile (Then body (Then condition End))) = refusals_at names tried body ++ refusals names condition
+  refusals_at names tried (Node at word.For (Then init (Then condition (Then update (Then body End))))) =
+      said_of_init at.span init ++ refusals names init ++ refusals names update ++ refusals_at names tried body
+      ++ said_of_test at.span condition ++ refusals names condition
+  refusals_at names tried (Node at word.Forin (Then head (Then right (Then body End)))) =
+      refusals_at names tried body ++ refusals names right ++ refusals_at_head names head
+  refusals_at names tried (Node at word.Forof (Then (Flag is_await) (Then head (Then right (Then body End))))) =
+      if is_await then refusal row.F33 at.span ∷ []
+      else refusals_at names tried body ++ refusals names right ++ refusals_at_head names head
+  refusals_at names tried (Node at word.Switch (Then discriminant (Then (Listed cases) End))) =
+      refusals_in_cases names tried cases ++ refusals names discriminant
+  refusals_at names tried
+      (Node at word.Try (Then block (Then (Node there word.Catch (Then param (Then body End))) (Then finalizer End)))) =
+      said_of_finalizer at.span finalizer ++ refusals names param ++ refusals_at names tried body ++ refusals_at names true block
+  refusals_at names tried (Node at word.Try parts) = refusal row.F34 at.span ∷ []
+  refusals_at names tried (Node at word.With parts) = refusal row.F36 at.span ∷ []
+  refusals_at names tried (Node at word.Labeled (Then label (Then body End))) = refusals_at names tried body
+  refusals_at names tried statement = refusals names statement
+
+  -- As `refusals_at`, for statements in a row.
+  pub refusals_among : Names → (tried : Bool) → Pieces → List Diagnostic
+  refusals_among names tried End = []
+  refusals_among names tried (Then statement statements) = refusals_at names tried statement ++ refusals_among names tried statements
+
+  -- As `refusals_at`, for a case of a `switch`.
+  pub refusals_in_case : Names → (tried : Bool) → Syntax → List Diagnostic
+  refusals_in_case names tried (Node at word.Case (Then condition (Then (Listed statements) End))) =
+      refusals_among names tried statements ++ said_of_moved names condition ++ refusals names condition
+  refusals_in_case names tried case = refusals names case
+
+  -- As `refusals_in_case`, for cases in a row, from the last to the first.
+  pub refusals_in_cases : Names → (tried : Bool) → Pieces → List Diagnostic
+  refusals_in_cases names tried End = []
+  refusals_in_cases names tried (Then case cases) = refusals_in_cases names tried cases ++ refusals_in_case names tried case
+
+-- As `refusals`, for a body.
+abbrev pub refusals_in_body : Names → Syntax → List Diagnostic
+refusals_in_body names (Node at word.Body (Then directives (Then (Listed statements) End))) = refusals_among names false statements
+refusals_in_body names body = refusals names body
+
 -- The refusals of a function: those of its parameters and of its body.
 abbrev pub refusals_of : Names → Syntax → List Diagnostic
-refusals_of names function = refusals names (params_in function) ++ refusals names (body_in function)
+refusals_of names function = refusals names (params_in function) ++ refusals_in_body names (body_in function)
 
 -- The diagnostics that are recorded for a tree are those of `refusals` in their order, but that some of row F40 may lack: the lowering
 -- refuses a variable `fbt` that got another name where it is resolved first, and not again.

@@ -6,7 +6,7 @@ use Rattle.rl_base.specs.declared.diagnostic.Diagnostic.{Diagnostic}
 use Rattle.rl_base.specs.declared.row.Row.TheVariants as row
 use Rattle.rl_names.specs.Names.{Names}
 use Rattle.rl_promises.specs.Jumps as jumps
-use Rattle.rl_promises.specs.declared.around.Around.{Around, Nothing, Loop', Labeled'}
+use Rattle.rl_promises.specs.declared.around.Around.{Around, Nothing, Loop', Labeled', Switch'}
 use Rattle.rl_promises.specs.declared.found_stop.FoundStop.{FoundStop}
 use Rattle.rl_promises.specs.declared.found_stop.FoundStop.TheVariants as stop
 
@@ -21,4 +21,5 @@ seen_stop names (stop.ContinueOfNoLoop span) = diagnostic_at row.S7 (codes "labe
 abbrev pub seen_around : Around → List jumps.Around
 seen_around Nothing = []
 seen_around (Loop' label at outer) = jumps.InLoop (option_map (λ l. l.now) label) ∷ seen_around outer
+seen_around (Switch' label at outer) = jumps.InSwitch (option_map (λ l. l.now) label) ∷ seen_around outer
 seen_around (Labeled' label at outer) = jumps.InLabeled label.now ∷ seen_around outer

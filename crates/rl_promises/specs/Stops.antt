@@ -15,7 +15,7 @@ use Rattle.rl_model.specs.Statements.{is_using}
 use Rattle.rl_names.specs.Functions.{body_in, params_in, parameters_of}
 use Rattle.rl_names.specs.Names.{Names, local_of}
 use Rattle.rl_names.specs.declared.parameters.Parameter.{Parameter}
-use Rattle.rl_promises.specs.Jumps.{Around, InLoop, own_label, stop_of_break, stop_of_continue, within_label}
+use Rattle.rl_promises.specs.Jumps.{Around, InLoop, InSwitch, own_label, stop_of_break, stop_of_continue, within_label}
 use Rattle.rl_promises.specs.Outs.{is_known_key, is_lost_delete, is_lost_head, is_wrapped}
 use Rattle.rl_syntax.specs.Syntax.{Syntax, Node, Listed, Said, Flag, Absent, Pieces, End, Then}
 use Rattle.rl_syntax.specs.declared.word.Word.TheVariants as word
@@ -85,6 +85,13 @@ abbrev mutual
   stop_in names around own (Node at word.Forof (Then (Flag is_await) (Then head (Then right (Then body End))))) =
       if is_await then None
       else option_or (stop_in names (InLoop own ∷ around) None body) (option_or (first_stop names right) (stop_at_head names head))
+  stop_in names around own (Node at word.Switch (Then discriminant (Then (Listed cases) End))) =
+      option_or (stop_in_cases names (InSwitch own ∷ around) cases) (first_stop names discriminant)
+  stop_in names around own
+      (Node at word.Try (Then block (Then (Node there word.Catch (Then param (Then body End))) (Then finalizer End)))) =
+      option_or (first_stop names param) (option_or (stop_in names around None body) (stop_in names around None block))
+  stop_in names around own (Node at word.Try parts) = None
+  stop_in names around own (Node at word.With parts) = None
   stop_in names around own (Node at word.Labeled (Then (Said label) (Then body End))) =
       stop_in names (within_label label body around) (own_label label body) body
   stop_in names around own statement = first_stop names statement
@@ -93,6 +100,17 @@ abbrev mutual
   pub stop_among : Names → List Around → Pieces → Option Diagnostic
   stop_among names around End = None
   stop_among names around (Then statement statements) = option_or (stop_in names around None statement) (stop_among names around statements)
+
+  -- As `stop_in`, for a case of a `switch`: its statements come before its test.
+  pub stop_in_case : Names → List Around → Syntax → Option Diagnostic
+  stop_in_case names around (Node at word.Case (Then condition (Then (Listed statements) End))) =
+      option_or (stop_among names around statements) (first_stop names condition)
+  stop_in_case names around case = None
+
+  -- As `stop_in_case`, for cases in a row, from the last to the first.
+  pub stop_in_cases : Names → List Around → Pieces → Option Diagnostic
+  stop_in_cases names around End = None
+  stop_in_cases names around (Then case cases) = option_or (stop_in_cases names around cases) (stop_in_case names around case)
 
 -- As `first_stop`, for a body.
 abbrev pub stop_in_body : Names → Syntax → Option Diagnostic

@@ -28,6 +28,13 @@ pub(crate) enum Around<'a> {
         /// The statements around it.
         outer: &'a Around<'a>,
     },
+    /// A `switch`.
+    Switch {
+        /// The label right in front of it, if it has one.
+        label: Option<&'a Text>,
+        /// The statements around the `switch`.
+        outer: &'a Around<'a>,
+    },
 }
 
 /// True if the statement's label is that of the jump.
@@ -62,6 +69,26 @@ fn ends_at_label(jump: Option<&Text>, label: &Text) -> bool
     }
 }
 
+/// True of a `switch` that takes a `break`: one of the jump's label, or any where the jump has none.
+fn breaks_at_switch(jump: Option<&Text>, label: Option<&Text>) -> bool
+    ensures { result ≡ spec.breaks_out (option_map (λ l. l.now) jump.entry) (spec.InSwitch (option_map (λ l. l.now) label.entry)) }
+{
+    match jump {
+        Some(jump) => has_label(jump, label),
+        None => true,
+    }
+}
+
+/// True of a `switch` that decides on a `continue`: one of the jump's label.
+fn continues_at_switch(jump: Option<&Text>, label: Option<&Text>) -> bool
+    ensures { result ≡ spec.continues_in (option_map (λ l. l.now) jump.entry) (spec.InSwitch (option_map (λ l. l.now) label.entry)) }
+{
+    match jump {
+        Some(jump) => has_label(jump, label),
+        None => false,
+    }
+}
+
 /// The stop of a `break` at `span`. `None` if one of the statements takes it.
 pub(crate) fn stop_of_break(
     jump: Option<&Text>,
@@ -81,6 +108,13 @@ pub(crate) fn stop_of_break(
         }
         Around::Labeled { label, outer } => {
             if ends_at_label(jump, label) {
+                None
+            } else {
+                stop_of_break(jump, span, outer)
+            }
+        }
+        Around::Switch { label, outer } => {
+            if breaks_at_switch(jump, *label) {
                 None
             } else {
                 stop_of_break(jump, span, outer)
@@ -108,6 +142,13 @@ pub(crate) fn stop_of_continue(
         }
         Around::Labeled { label, outer } => {
             if ends_at_label(jump, label) {
+                Some(FoundStop::ContinueOfNoLoop { span })
+            } else {
+                stop_of_continue(jump, span, outer)
+            }
+        }
+        Around::Switch { label, outer } => {
+            if continues_at_switch(jump, *label) {
                 Some(FoundStop::ContinueOfNoLoop { span })
             } else {
                 stop_of_continue(jump, span, outer)

@@ -13,7 +13,8 @@ use crate::around::{Around, stop_of_break, stop_of_continue};
 use crate::found_stop::FoundStop;
 use crate::outs::is_lost_head;
 use crate::part_forms::{
-    body_statements, flag_and_three, four, jump_label, list_alone, text_and_tree, three, two,
+    body_statements, case_in, catch_in, flag_and_three, four, jump_label, list_alone,
+    text_and_tree, three, tree_and_list, two,
 };
 use crate::stops::{first_among, first_stop, stop_in_node};
 use rl_base::text::Text;
@@ -75,7 +76,7 @@ fn stop_in(
 
 /// As `stop_in`, of a node.
 #[cycle(stopping_in)]
-#[tactic(auto, using(crate::proofs::BodyStopping::statements, crate::proofs::BodyStopping::smaller))]
+#[tactic(auto, using(crate::proofs::BodyStopping::statements, crate::proofs::CaseStopping::switches, crate::proofs::BodyStopping::smaller))]
 fn stop_in_statement(
     names: &FunctionNames<'_>,
     around: &Around<'_>,
@@ -133,6 +134,20 @@ fn stop_in_statement(
             }
             None => stop_in_node(names, at, word, parts),
         },
+        Word::Switch => match tree_and_list(parts) {
+            Some((discriminant, cases)) => {
+                stop_in_switch(names, around, own, discriminant, cases)
+            }
+            None => stop_in_node(names, at, word, parts),
+        },
+        Word::Try => match three(parts) {
+            Some((block, handler, _finalizer)) => match catch_in(handler) {
+                Some((param, body)) => stop_in_try(names, around, block, param, body),
+                None => None,
+            },
+            None => None,
+        },
+        Word::With => None,
         Word::Labeled => match text_and_tree(parts) {
             Some((label, body)) => stop_in_labeled(names, around, label, body),
             None => stop_in_node(names, at, word, parts),
@@ -240,6 +255,87 @@ fn stop_in_values(
         None => match first_stop(names, right) {
             Some(found) => Some(found),
             None => stop_at_head(names, head),
+        },
+    }
+}
+
+/// As `stop_in`, of a case of a `switch`.
+#[cycle(stopping_in)]
+#[tactic(auto, using(crate::proofs::CaseStopping::one_case, crate::proofs::Stopping::in_order))]
+fn stop_in_case(
+    names: &FunctionNames<'_>,
+    around: &Around<'_>,
+    case: &Numbered,
+) -> Option<FoundStop>
+    ensures { option_map (seen_stop (seen names.now)) result ≡ spec.stop_in_case (seen names.now) (seen_around around.now) (syntax case.now) }
+{
+    match case_in(case) {
+        Some((condition, statements)) => match stop_among(names, around, statements) {
+            Some(found) => Some(found),
+            None => first_stop(names, condition),
+        },
+        None => None,
+    }
+}
+
+/// As `stop_in`, of the cases of a `switch`, of which the last comes first.
+#[cycle(stopping_in)]
+#[tactic(auto, using(crate::proofs::CaseStopping::in_cases))]
+fn stop_in_cases(
+    names: &FunctionNames<'_>,
+    around: &Around<'_>,
+    cases: &[Numbered],
+) -> Option<FoundStop>
+    ensures { option_map (seen_stop (seen names.now)) result ≡ spec.stop_in_cases (seen names.now) (seen_around around.now) (pieces_of (map syntax cases.now)) }
+{
+    let mut last = None;
+    'cases: for case in cases {
+        if let Some(found) = stop_in_case(names, around, case) {
+            last = Some(found);
+        }
+    }
+    last
+}
+
+/// As `stop_in`, of the parts of a `switch`.
+#[cycle(stopping_in)]
+#[tactic(auto, using(crate::proofs::Stopping::in_order))]
+fn stop_in_switch(
+    names: &FunctionNames<'_>,
+    around: &Around<'_>,
+    own: Option<&Text>,
+    discriminant: &Numbered,
+    cases: &[Numbered],
+) -> Option<FoundStop>
+    ensures { option_map (seen_stop (seen names.now)) result ≡ option_or (spec.stop_in_cases (seen names.now) (jumps.InSwitch (option_map (λ l. l.now) own.entry) ∷ seen_around around.now) (pieces_of (map syntax cases.now))) (spec.first_stop (seen names.now) (syntax discriminant.now)) }
+{
+    let inside = Around::Switch {
+        label: own,
+        outer: &*around,
+    };
+    match stop_in_cases(names, &inside, cases) {
+        Some(found) => Some(found),
+        None => first_stop(names, discriminant),
+    }
+}
+
+/// As `stop_in`, of the parts of a `try` with a `catch`.
+#[cycle(stopping_in)]
+#[tactic(auto, using(crate::proofs::Stopping::in_order))]
+fn stop_in_try(
+    names: &FunctionNames<'_>,
+    around: &Around<'_>,
+    block: &Numbered,
+    param: &Numbered,
+    body: &Numbered,
+) -> Option<FoundStop>
+    ensures { option_map (seen_stop (seen names.now)) result ≡ option_or (spec.first_stop (seen names.now) (syntax param.now)) (option_or (spec.stop_in (seen names.now) (seen_around around.now) None (syntax body.now)) (spec.stop_in (seen names.now) (seen_around around.now) None (syntax block.now))) }
+{
+    match first_stop(names, param) {
+        Some(found) => Some(found),
+        None => match stop_in(names, around, None, body) {
+            Some(found) => Some(found),
+            None => stop_in(names, around, None, block),
         },
     }
 }

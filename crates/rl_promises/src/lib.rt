@@ -7,6 +7,7 @@ mod conditions;
 pub mod covered;
 mod covered_words;
 pub mod found_stop;
+pub mod moved;
 pub mod outs;
 mod part_forms;
 pub mod skips;

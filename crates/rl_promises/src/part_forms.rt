@@ -270,3 +270,71 @@ pub(crate) fn body_statements(tree: &Numbered) -> Option<&[Numbered]>
         Numbered::Absent => None,
     }
 }
+
+/// The two parts, of which the second is a list. `None` of parts of another form.
+#[tactic(auto, using(crate::proofs::Shaping::behind))]
+pub(crate) fn tree_and_list(parts: &[Numbered]) -> Option<(&Numbered, &[Numbered])>
+    ensures { option_map (λ p. (syntax p.0.now, pieces_of (map syntax p.1.now))) result ≡ spec.tree_and_list (pieces_of (map syntax parts.now)) }
+{
+    match two(parts) {
+        Some((first, list)) => match as_items(list) {
+            Some(items) => Some((first, items)),
+            None => None,
+        },
+        None => None,
+    }
+}
+
+/// The test and the statements of a case, by its word and parts. `None` of any other node.
+fn case_parts(word: Word, parts: &[Numbered]) -> Option<(&Numbered, &[Numbered])>
+    ensures { option_map (λ p. (syntax p.0.now, pieces_of (map syntax p.1.now))) result ≡ spec.case_parts word (pieces_of (map syntax parts.now)) }
+{
+    match word {
+        Word::Case => tree_and_list(parts),
+        _ => None,
+    }
+}
+
+/// The test and the statements of a case. `None` of any other tree.
+#[tactic(auto, using(rl_syntax::proofs::Layers::by_layer))]
+pub(crate) fn case_in(tree: &Numbered) -> Option<(&Numbered, &[Numbered])>
+    ensures { option_map (λ p. (syntax p.0.now, pieces_of (map syntax p.1.now))) result ≡ spec.case_in (syntax tree.now) }
+{
+    match tree {
+        Numbered::Node(_, word, parts) => case_parts(*word, parts.as_slice()),
+        Numbered::List(_) => None,
+        Numbered::Text(_) => None,
+        Numbered::Number(_) => None,
+        Numbered::Flag(_) => None,
+        Numbered::Absent => None,
+    }
+}
+
+/// The parameter and the body of a `catch`, by its word and parts. `None` of any other node.
+#[tactic(auto, using(crate::proofs::Shaping::caught))]
+fn catch_parts(word: Word, parts: &[Numbered]) -> Option<(&Numbered, &Numbered)>
+    ensures { option_map (λ p. (syntax p.0.now, syntax p.1.now)) result ≡ spec.catch_parts word (pieces_of (map syntax parts.now)) }
+{
+    match word {
+        Word::Catch => match two(parts) {
+            Some((param, body)) => Some((param, body)),
+            None => None,
+        },
+        _ => None,
+    }
+}
+
+/// The parameter and the body of a `catch`. `None` of any other tree.
+#[tactic(auto, using(rl_syntax::proofs::Layers::by_layer))]
+pub(crate) fn catch_in(tree: &Numbered) -> Option<(&Numbered, &Numbered)>
+    ensures { option_map (λ p. (syntax p.0.now, syntax p.1.now)) result ≡ spec.catch_in (syntax tree.now) }
+{
+    match tree {
+        Numbered::Node(_, word, parts) => catch_parts(*word, parts.as_slice()),
+        Numbered::List(_) => None,
+        Numbered::Text(_) => None,
+        Numbered::Number(_) => None,
+        Numbered::Flag(_) => None,
+        Numbered::Absent => None,
+    }
+}

@@ -433,7 +433,7 @@ fn object_is_module_path<F: RowFacts>(facts: &F, parts: &[Numbered]) -> bool
 /// True of an expression that may be evaluated in another place; `locals` is true where local names may stand in it.
 #[cycle(ordering)]
 #[tactic(auto, using(crate::proofs::Ordered::order_form, rl_syntax::proofs::Layers::by_layer))]
-fn is_reorderable<F: RowFacts>(facts: &F, locals: bool, tree: &Numbered) -> bool
+pub fn is_reorderable<F: RowFacts>(facts: &F, locals: bool, tree: &Numbered) -> bool
     ensures { result ≡ model.is_reorderable (F.facts facts.now) locals (syntax tree.now) }
 {
     match tree {

@@ -1,7 +1,8 @@
-use Rattle.std.proofs.Common.{◌≡◌, ◌+◌, ◌*◌, ◌≤◌, map, drop}
+use Rattle.std.proofs.Common.{◌≡◌, ◌+◌, ◌*◌, ◌≤◌, map, option_map, drop}
+use Rattle.std.specs.Option.{option_or}
 use Rattle.rl_names.specs.Seen.{seen}
-use Rattle.rl_promises.specs.SeenStops.{seen_around}
-use Rattle.rl_promises.specs.Stops.{stop_among}
+use Rattle.rl_promises.specs.SeenStops.{seen_around, seen_stop}
+use Rattle.rl_promises.specs.Stops.{stop_among, stop_in_cases}
 use Rattle.rl_syntax.specs.Sizes.{size, size_of}
 use Rattle.rl_syntax.specs.Syntax.{pieces_of, syntax}
 use Rattle.rl_promises.proofs.body_stops.+stopping_in.Given as goal
@@ -23,6 +24,26 @@ decreases-stop_in_for l = 3 * size (syntax l.body.now) + 2
 
 abbrev pub decreases-stop_in_values : goal.decreases-stop_in_values
 decreases-stop_in_values l = 3 * size (syntax l.body.now) + 1
+
+abbrev pub decreases-stop_in_case : goal.decreases-stop_in_case
+decreases-stop_in_case l = 3 * size (syntax l.case.now)
+
+abbrev pub decreases-stop_in_cases : goal.decreases-stop_in_cases
+decreases-stop_in_cases l = 3 * size_of (pieces_of (map syntax l.cases.now)) + 1
+
+abbrev pub invariant-stop_in_cases-cases : goal.invariant-stop_in_cases-cases
+invariant-stop_in_cases-cases l = record {
+  same : option_or (stop_in_cases (seen l.names) (seen_around l.around) (pieces_of (map syntax (drop l.case-index l.cases))))
+      (option_map (seen_stop (seen l.names)) l.last)
+      ≡ stop_in_cases (seen l.names) (seen_around l.around) (pieces_of (map syntax l.cases));
+  fewer : size_of (pieces_of (map syntax (drop l.case-index l.cases))) ≤ size_of (pieces_of (map syntax l.cases));
+}
+
+abbrev pub decreases-stop_in_switch : goal.decreases-stop_in_switch
+decreases-stop_in_switch l = 3 * size_of (pieces_of (map syntax l.cases.now)) + 2
+
+abbrev pub decreases-stop_in_try : goal.decreases-stop_in_try
+decreases-stop_in_try l = 3 * (size (syntax l.block.now) + size (syntax l.body.now)) + 1
 
 abbrev pub decreases-stop_in_labeled : goal.decreases-stop_in_labeled
 decreases-stop_in_labeled l = 3 * size (syntax l.body.now) + 1
