@@ -1,6 +1,6 @@
 -- The blocks of a `try` statement.
-use Rattle.std.proofs.Common.{◌≡◌, ℕ, ◌+◌, ◌-◌, ◌<◌, ◌≤◌, ◌⊎◌, inl, inr, ◌++◌, Bool, true, false, List, [], ◌∷◌, length, take}
-use Rattle.std.proofs.Common.{Option, Some, None, refl, sym, ap, ◌∙◌, subst, arith}
+use Rattle.std.proofs.Common.{◌≡◌, ℕ, ◌+◌, ◌-◌, ◌<◌, ◌≤◌, ◌⊎◌, inl, inr, ◌++◌, Bool, true, false, List, [], ◌∷◌, length, take, All, Option}
+use Rattle.std.proofs.Common.{Some, None, refl, sym, ap, ◌∙◌, subst, arith}
 use Rattle.std.proofs.lemmas.List.Elements.{All-append}
 use Rattle.rl_base.specs.declared.ids.BlockId.{BlockId}
 use Rattle.rl_base.specs.declared.span.Span.{Span}
@@ -20,9 +20,11 @@ use Rattle.rl_machine.proofs.Silence.{settles_goes}
 use Rattle.rl_machine.specs.Ends.{Catches, Straight, bound, choice, leaving}
 use Rattle.rl_machine.specs.Machine.{Code}
 use Rattle.rl_machine.specs.Silence.{LeavesStraight, Settles}
+use Rattle.rl_model.specs.Dead.{Outs, either}
 use Rattle.rl_order.proofs.Ordering.{or_left, same_self}
 use Rattle.rl_runs.proofs.BlockIds.{IsFree, free_aside, free_fresh, free_then, ids_aside, ids_counted, ids_ended, ids_fresh, ids_then}
 use Rattle.rl_runs.proofs.Holes.{contained_hole, contained_stacked, last_added}
+use Rattle.rl_runs.proofs.Leaving.{BreakLeads, ContinueLeads, leaves_both}
 use Rattle.rl_runs.proofs.Moves.{contained_before, extends_completed, extends_refl, extends_reserved, terminal_met}
 use Rattle.rl_runs.proofs.Naming.{named_ended, named_goto, named_more, named_then, named_three, same_targets}
 use Rattle.rl_runs.proofs.Passing.{passes_pushed, passes_refl}
@@ -31,17 +33,17 @@ use Rattle.rl_runs.proofs.Preserving.{blocks_refl, blocks_value}
 use Rattle.rl_runs.proofs.Steps.{added_cases}
 use Rattle.rl_runs.proofs.Used.{below_or, ended_there, ends_more, looped_ended, notes_back, still_there, straight_below, straight_ended}
 use Rattle.rl_runs.proofs.Used.{straight_fresh, straight_then}
-use Rattle.rl_runs.specs.Blocks.{AreUsed, ByBreak, ByContinue, ByHandler, IsLedTo, IsNameSince, IsTarget, JumpsSettle, Leads}
-use Rattle.rl_runs.specs.Blocks.{Lives, NamesSince, Passes, PointsSettle, PreservesBlocks, PreservesIds, PreservesUniqueIds, Settling}
-use Rattle.rl_runs.specs.Blocks.{Stands, StraightBelow, StraightSince, UniqueIds}
+use Rattle.rl_runs.specs.Blocks.{AreUsed, ByBreak, ByContinue, ByHandler, IsLedTo, IsNameSince, IsTarget, JumpsSettle, Leads, Leaves, Lives}
+use Rattle.rl_runs.specs.Blocks.{NamesSince, Passes, PointsSettle, PreservesBlocks, PreservesIds, PreservesUniqueIds, Settling, Stands}
+use Rattle.rl_runs.specs.Blocks.{StraightBelow, StraightSince, UniqueIds}
 use Rattle.rl_runs.specs.Facts.{Extends, IsContainedIn, IsCurrentOrCompleted}
 use Rattle.rl_runs.specs.Moves.{block_id, goto, last_hole, without_handler}
 
-bound_blocks : (x : State) (binding : Option Place) → PreservesBlocks x (try_bound x binding)
+pub bound_blocks : (x : State) (binding : Option Place) → PreservesBlocks x (try_bound x binding)
 bound_blocks x None = blocks_refl x
 bound_blocks x (Some place) = blocks_value x (values.DeclareLocal variables.Catch place) place.span
 
-bound_passes : (x : State) (binding : Option Place) → Passes x (try_bound x binding)
+pub bound_passes : (x : State) (binding : Option Place) → Passes x (try_bound x binding)
 bound_passes x None = passes_refl x
 bound_passes x (Some place) =
     passes_pushed (with_temporary x place.span) (unordered (temporary x place.span) (values.DeclareLocal variables.Catch place) place.span)
@@ -235,10 +237,10 @@ module _ (s s2 s4 : State) (binding : Option Place) (span part other : Span) whe
         contained_before (extends_reserved (last_hole s2 f gotos.Break part s1.current))
         (contained_before (block_extends s s s2 s4 binding span part other (extends_refl s) bh.extends bb.extends) (cover5 c cover))
 
-    cover2 : (c : Code) → IsContainedIn last c → IsContainedIn s2 c
+    pub cover2 : (c : Code) → IsContainedIn last c → IsContainedIn s2 c
     cover2 c cover = contained_hole s2 f gotos.Break part s1.current c (cover_a c cover)
 
-    cover4 : (c : Code) → IsContainedIn last c → IsContainedIn s4 c
+    pub cover4 : (c : Code) → IsContainedIn last c → IsContainedIn s4 c
     cover4 c cover =
         contained_stacked s4 s4.scopes (take (length s4.handlers - 1) s4.handlers) c
         (λ none. let never : None ≡ Some (block_id hd) = sym none ∙ top in absurd (cc))
@@ -333,31 +335,65 @@ module _ (s s2 s4 : State) (binding : Option Place) (span part other : Span) whe
           (bh.looped c (cover2 c cover) entry (one.looped c (cover1 c cover) entry old)))));
     }
 
+    -- The block is reached where the statement is.
+    pub at_body : (c : Code) → IsContainedIn last c → (entry : ℕ) → IsLedTo c entry s.current.id.0 → IsLedTo c entry s2.env.next_block
+    at_body c cover entry led =
+        Leads s1.current.id.0 (length s1.current.instructions) (try_end f hd body binding span) (block_id body)
+        (bound_passes (reserved s) binding c (cover1 c cover) entry led)
+        (terminal_met s5 (try_end f hd body binding span) (new_block f block.Block) c cover)
+        (or_left (same_id (block_id body) (block_id body)) false (same_self (block_id body)))
+
+    -- A block that completes leads behind the statement, and so does a handler.
+    pub block_comes : Passes (try_handler s2 s.env.next_block (try_bound (reserved s) binding).env.next_block part) s4 → (c : Code)
+        → IsContainedIn last c → (entry : ℕ) → IsLedTo c entry s2.env.next_block → IsLedTo c entry s.env.next_block
+    block_comes passes c cover entry led =
+        Leads s4.current.id.0 (length s4.current.instructions) (goto f gotos.Try other) (block_id f) (passes c (cover4 c cover) entry led)
+        (terminal_met (without_handler s4) (goto f gotos.Try other) s1.current c (cover5 c cover))
+        (or_left (same_id (block_id f) (block_id f)) false (same_self (block_id f)))
+
+    pub handler_comes : Passes (try_started s binding) s2 → (c : Code) → IsContainedIn last c → (entry : ℕ)
+        → IsLedTo c entry (try_bound (reserved s) binding).env.next_block → IsLedTo c entry s.env.next_block
+    handler_comes passes c cover entry led =
+        Leads s2.current.id.0 (length s2.current.instructions) (goto f gotos.Break part) (block_id f)
+        (passes c (cover2 c cover) entry led)
+        (terminal_met s2 (goto f gotos.Break part) s1.current c (cover_a c cover))
+        (or_left (same_id (block_id f) (block_id f)) false (same_self (block_id f)))
+
+    -- The exits of the block, and those of a handler to which throws come.
+
+    pub try_leaves_calm : (block : Outs)
+        → Leaves block (try_handler s2 s.env.next_block (try_bound (reserved s) binding).env.next_block part) s4
+        → Leaves block s last
+    try_leaves_calm block lb = record {
+      breaks = λ c cover entry led. subst (λ (l : List JumpScope). All (BreakLeads (IsLedTo c entry) l) block.breaks) to_scopes
+          (lb.breaks c (cover4 c cover) entry (at_body c cover entry led));
+      continues = λ c cover entry led. subst (λ (l : List JumpScope). All (ContinueLeads (IsLedTo c entry) l) block.continues) to_scopes
+          (lb.continues c (cover4 c cover) entry (at_body c cover entry led));
+    }
+      where
+        to_scopes : s3.scopes ≡ s.scopes
+        to_scopes = bh.extends.scopes ∙ one.extends.scopes
+
+    pub try_leaves : (block handler : Outs)
+        → ((c : Code) → IsContainedIn last c → (entry : ℕ) → IsLedTo c entry s2.env.next_block
+        → IsLedTo c entry (try_bound (reserved s) binding).env.next_block)
+        → Leaves block (try_handler s2 s.env.next_block (try_bound (reserved s) binding).env.next_block part) s4
+        → Leaves handler (try_started s binding) s2
+        → Leaves (either block handler) s last
+    try_leaves block handler caught lb lh = leaves_both block handler s last (try_leaves_calm block lb) in_handler
+      where
+        in_handler : Leaves handler s last
+        in_handler = record {
+          breaks = λ c cover entry led.
+              subst (λ (l : List JumpScope). All (BreakLeads (IsLedTo c entry) l) handler.breaks) one.extends.scopes
+              (lh.breaks c (cover2 c cover) entry (caught c cover entry (at_body c cover entry led)));
+          continues = λ c cover entry led.
+              subst (λ (l : List JumpScope). All (ContinueLeads (IsLedTo c entry) l) handler.continues) one.extends.scopes
+              (lh.continues c (cover2 c cover) entry (caught c cover entry (at_body c cover entry led)));
+        }
+
     -- Live instructions.
     module _ {K : Type 0} (key_of : Instruction → Option K) where
-      at_body : (c : Code) → IsContainedIn last c → (entry : ℕ) → IsLedTo c entry s.current.id.0 → IsLedTo c entry body
-      at_body c cover entry led =
-          Leads s1.current.id.0 (length s1.current.instructions) (try_end f hd body binding span) (block_id body)
-          (bound_passes (reserved s) binding c (cover1 c cover) entry led)
-          (terminal_met s5 (try_end f hd body binding span) (new_block f block.Block) c cover)
-          (or_left (same_id (block_id body) (block_id body)) false (same_self (block_id body)))
-
-      -- A block that completes leads behind the statement, and so does a handler.
-      pub block_comes : Passes (try_handler s2 s.env.next_block (try_bound (reserved s) binding).env.next_block part) s4 → (c : Code)
-          → IsContainedIn last c → (entry : ℕ) → IsLedTo c entry s2.env.next_block → IsLedTo c entry s.env.next_block
-      block_comes passes c cover entry led =
-          Leads s4.current.id.0 (length s4.current.instructions) (goto f gotos.Try other) (block_id f) (passes c (cover4 c cover) entry led)
-          (terminal_met (without_handler s4) (goto f gotos.Try other) s1.current c (cover5 c cover))
-          (or_left (same_id (block_id f) (block_id f)) false (same_self (block_id f)))
-
-      pub handler_comes : Passes (try_started s binding) s2 → (c : Code) → IsContainedIn last c → (entry : ℕ)
-          → IsLedTo c entry (try_bound (reserved s) binding).env.next_block → IsLedTo c entry s.env.next_block
-      handler_comes passes c cover entry led =
-          Leads s2.current.id.0 (length s2.current.instructions) (goto f gotos.Break part) (block_id f)
-          (passes c (cover2 c cover) entry led)
-          (terminal_met s2 (goto f gotos.Break part) s1.current c (cover_a c cover))
-          (or_left (same_id (block_id f) (block_id f)) false (same_self (block_id f)))
-
       -- With a handler to which throws come.
       pub try_lives : (in_block in_handler : List K) (first second left : Bool)
           → ((c : Code) → IsContainedIn last c → (entry : ℕ) → IsLedTo c entry s2.env.next_block

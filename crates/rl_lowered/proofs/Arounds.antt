@@ -1,29 +1,34 @@
 -- Jumps have targets where nothing stops them, and the statements around a place by the scopes there.
-use Rattle.std.proofs.Common.{◌≡◌, ℕ, ◌+◌, ◌++◌, Bool, true, false, if◌then◌else◌, Option, List, [], ◌∷◌, Some, None, Ok}
-use Rattle.std.proofs.Common.{map, reverse, codes}
-use Rattle.std.proofs.Common.{refl, sym, ap, ◌∙◌}
+use Rattle.std.proofs.Common.{◌≡◌, ℕ, ◌+◌, ◌++◌, Bool, true, false, if◌then◌else◌, Option, List, [], ◌∷◌, Some, None, Ok, map, reverse}
+use Rattle.std.proofs.Common.{codes, refl, sym, ap, ◌∙◌}
 use Rattle.std.proofs.lemmas.List.{reverse-append}
-use Rattle.rl_base.specs.Diagnostics.{diagnostic_at}
 use Rattle.rl_base.specs.declared.diagnostic.Diagnostic.{Diagnostic}
 use Rattle.rl_base.specs.declared.ids.BlockId.{BlockId}
+use Rattle.rl_base.specs.declared.ids.SymbolId.{SymbolId}
 use Rattle.rl_base.specs.declared.row.Row.TheVariants as row
 use Rattle.rl_base.specs.declared.span.Span.{Span}
-use Rattle.rl_builder.specs.Builder.{State}
+use Rattle.rl_base.specs.Diagnostics.{diagnostic_at}
+use Rattle.rl_builder.specs.Builder.{State, reserved}
 use Rattle.rl_builder.specs.declared.jumps.JumpScope.{JumpScope}
 use Rattle.rl_builder.specs.declared.jumps.JumpScope.TheVariants as scopes
 use Rattle.rl_builder.specs.Jumps.{break_block_of, break_target, continue_block_of, continue_target, lookup_break, lookup_continue}
 use Rattle.rl_builder.specs.Jumps.{takes_break, takes_continue}
 use Rattle.rl_frames.specs.Parts.{forin_begun, forof_begun, label_begun, label_scope, while_begun, while_scope}
-use Rattle.rl_lowered.proofs.Blocks.{expression_blocks, statement_blocks, statements_blocks}
-use Rattle.rl_lowered.specs.Arounds.{around_of, arounds}
-use Rattle.rl_lowered.specs.Lowered.{Lowered, LoweredStatement, LoweredStatements}
+use Rattle.rl_frames.specs.SwitchParts.{case_begun}
 use Rattle.rl_hir.specs.declared.instruction.Place.{Place}
+use Rattle.rl_hir.specs.declared.terminal.Case.{Case}
+use Rattle.rl_lowered.proofs.Blocks.{blocks_caught, cases_blocks, expression_blocks, statement_blocks, statements_blocks}
+use Rattle.rl_lowered.proofs.Catches.{declares_caught}
+use Rattle.rl_lowered.specs.Arounds.{around_of, arounds}
+use Rattle.rl_lowered.specs.Lowered.{Lowered, LoweredCases, LoweredStatement, LoweredStatements, catch_begun, catch_bound, promoted}
+use Rattle.rl_lowered.specs.Named.{IsFound}
 use Rattle.rl_model.specs.Actions.{Label}
 use Rattle.rl_names.specs.Names.{Names}
-use Rattle.rl_promises.specs.Jumps.{InLabeled, InLoop, breaks_out, continues_in, is_in_loop, stop_of_break, stop_of_continue}
+use Rattle.rl_promises.specs.Jumps.{InLabeled, InLoop, InSwitch, breaks_out, continues_in, is_in_loop, stop_of_break, stop_of_continue}
+use Rattle.rl_runs.proofs.Moves.{extends_value}
 use Rattle.rl_runs.specs.Blocks.{PreservesBlocks}
 use Rattle.rl_runs.specs.Moves.{block_id}
-use Rattle.rl_syntax.specs.Syntax.{Syntax, Pieces}
+use Rattle.rl_syntax.specs.Syntax.{Pieces, Syntax}
 
 -- A scope takes a jump as the statement does that it stands for.
 
@@ -99,7 +104,7 @@ pub continue_found : (s : State) (jump : Label) (at : Span) → stop_of_continue
     → (target : BlockId) × (lookup_continue s.scopes jump ≡ Ok target)
 continue_found s jump at none = continue_among (reverse s.scopes) jump at none
 
--- One more scope is one more statement around.
+-- A further scope is a further statement around.
 pub arounds_in : (s t : State) (scope : JumpScope) → t.scopes ≡ s.scopes ++ scope ∷ [] → arounds t ≡ around_of scope ∷ arounds s
 arounds_in s t scope is =
     ap (λ (l : List JumpScope). map around_of (reverse l)) is
@@ -135,3 +140,20 @@ statement_arounds {s = s} {t = t} d = arounds_kept s t (statement_blocks d)
 
 pub statements_arounds : {names : Names} {es : Pieces} {s t : State} → LoweredStatements names es s t → arounds t ≡ arounds s
 statements_arounds {s = s} {t = t} d = arounds_kept s t (statements_blocks d)
+
+-- In a case of a `switch`, and behind the cases that were lowered before it.
+
+pub arounds_in_case : (s x : State) → arounds (case_begun x None s.env.next_block) ≡ InSwitch None ∷ arounds x
+arounds_in_case s x = arounds_in x (case_begun x None s.env.next_block) (scopes.Switch None (block_id s.env.next_block)) refl
+
+pub cases_arounds : {names : Names} {s : State} {es : Pieces} {ks : List Case} {t : State} → LoweredCases names s es ks t
+    → arounds t ≡ arounds s
+cases_arounds {s = s} {t = t} d = arounds_same s t (cases_blocks d).extends.scopes
+
+-- In front of the body of a `catch` with a parameter.
+pub arounds_in_catch : {names : Names} (s : State) (symbol : SymbolId) (identifier : ℕ) (param : Span)
+    → IsFound names (catch_begun s param) symbol param identifier → arounds (catch_bound names s symbol identifier param) ≡ arounds s
+arounds_in_catch {names} s symbol identifier param f =
+    arounds_same s (catch_bound names s symbol identifier param)
+    ((blocks_caught names s symbol identifier param f).extends.scopes
+    ∙ (extends_value (reserved (promoted s param)) (declares_caught s param) (Some param)).scopes)

@@ -1,7 +1,5 @@
 -- The lowering preserves the blocks, and what is lowered of an expression completes, refused or not.
-use Rattle.std.proofs.Common.{◌≡◌, ℕ, ◌+◌, ◌<◌, inl, inr, Bool, true, false, List, [], Option, Some, None, refl, arith}
-use Rattle.rl_base.specs.VariableKinds.{variable_text}
-use Rattle.rl_base.specs.Diagnostics.{diagnostic_at}
+use Rattle.std.proofs.Common.{◌≡◌, ℕ, ◌+◌, ◌<◌, inl, inr, Bool, true, false, List, [], ◌∷◌, Option, Some, None, refl, arith}
 use Rattle.rl_base.specs.declared.diagnostic.Diagnostic.{Diagnostic}
 use Rattle.rl_base.specs.declared.ids.SymbolId.{SymbolId}
 use Rattle.rl_base.specs.declared.operator.UpdateOperator.{UpdateOperator}
@@ -11,6 +9,8 @@ use Rattle.rl_base.specs.declared.type_kind.TypeKind.{TypeKind}
 use Rattle.rl_base.specs.declared.type_kind.TypeKind.TheVariants as types
 use Rattle.rl_base.specs.declared.variable_kind.VariableKind.{VariableKind}
 use Rattle.rl_base.specs.declared.variable_kind.VariableKind.TheVariants as kinds
+use Rattle.rl_base.specs.Diagnostics.{diagnostic_at}
+use Rattle.rl_base.specs.VariableKinds.{variable_text}
 use Rattle.rl_builder.specs.Builder.{State, completed_by, ended_by, new_block, recorded, reserved, with_temporary}
 use Rattle.rl_builder.specs.Temporaries.{temporary, unordered, with_value}
 use Rattle.rl_frames.proofs.EnumerationBlocks.{forin_blocks}
@@ -19,9 +19,12 @@ use Rattle.rl_frames.proofs.IfThenBlocks.{if_then_blocks}
 use Rattle.rl_frames.proofs.IterationBlocks.{forof_blocks}
 use Rattle.rl_frames.proofs.LabelFrames.{label_blocks}
 use Rattle.rl_frames.proofs.Sequences.{sequence_blocks}
+use Rattle.rl_frames.proofs.SwitchBlocks.{cases_more, cases_then, switch_begun_cases, switch_blocks}
+use Rattle.rl_frames.proofs.TryBlocks.{try_blocks}
 use Rattle.rl_frames.proofs.ValueFrames.{logical_blocks, ternary_blocks}
 use Rattle.rl_frames.proofs.Wholes.{do_while_blocks, if_blocks, while_blocks}
-use Rattle.rl_hir.specs.Pieces.{Piece}
+use Rattle.rl_frames.specs.SwitchCases.{PreservesCases}
+use Rattle.rl_frames.specs.SwitchParts.{case_ended, fall_of}
 use Rattle.rl_hir.specs.declared.function.BlockKind.{BlockKind}
 use Rattle.rl_hir.specs.declared.function.BlockKind.TheVariants as blocks
 use Rattle.rl_hir.specs.declared.instruction.Instruction.{Instruction}
@@ -31,39 +34,44 @@ use Rattle.rl_hir.specs.declared.instruction.InstructionValue.{InstructionValue}
 use Rattle.rl_hir.specs.declared.instruction.InstructionValue.TheVariants as values
 use Rattle.rl_hir.specs.declared.instruction.Place.{Place}
 use Rattle.rl_hir.specs.declared.instruction.PrimitiveValue.TheVariants as primitives
+use Rattle.rl_hir.specs.declared.terminal.Case.{Case}
 use Rattle.rl_hir.specs.declared.terminal.GotoVariant.TheVariants as gotos
 use Rattle.rl_hir.specs.declared.terminal.ReturnVariant.{ReturnVariant}
 use Rattle.rl_hir.specs.declared.terminal.ReturnVariant.TheVariants as returns
 use Rattle.rl_hir.specs.declared.terminal.Terminal.{Terminal}
+use Rattle.rl_hir.specs.Pieces.{Piece}
+use Rattle.rl_lowered.proofs.Catches.{blocks_promoted, blocks_throwing, stores_caught}
 use Rattle.rl_lowered.proofs.LiveFrames.{logical_lives, sequence_lives, ternary_lives}
 use Rattle.rl_lowered.proofs.Names.{found_within}
 use Rattle.rl_lowered.proofs.Redeclared.{blocks_redeclared}
 use Rattle.rl_lowered.specs.Forms.{MemberKey, load_of, store_of, type_of, typed}
-use Rattle.rl_lowered.specs.Lowered.{Lowered, LoweredBody, LoweredDeclarators, LoweredHead, LoweredInit, LoweredLast, LoweredLoop}
-use Rattle.rl_lowered.specs.Lowered.{LoweredParts, LoweredStatement, LoweredStatements, LoweredTest, declaring, found_again, kind_of}
-use Rattle.rl_lowered.specs.Lowered.{member_loaded, member_one, member_stored, member_updated, part_span, update_of, value_span}
+use Rattle.rl_lowered.specs.Lowered.{Lowered, LoweredBody, LoweredCaseTest, LoweredCases, LoweredDeclarators, LoweredHead, LoweredInit}
+use Rattle.rl_lowered.specs.Lowered.{LoweredLast, LoweredLoop, LoweredParts, LoweredStatement, LoweredStatements, LoweredTest}
+use Rattle.rl_lowered.specs.Lowered.{catch_begun, catch_bound, caught, declaring, found_again, kind_of, member_loaded, member_one}
+use Rattle.rl_lowered.specs.Lowered.{member_stored, member_updated, part_span, promoted, throwing, update_of, value_span}
 use Rattle.rl_lowered.specs.Lowered as lowered
 use Rattle.rl_lowered.specs.Named.{IsFound, found}
 use Rattle.rl_model.specs.Actions.{Label}
 use Rattle.rl_names.specs.Names.{Names}
 use Rattle.rl_promises.specs.Jumps.{is_loop}
+use Rattle.rl_promises.specs.Moved.{type_name}
 use Rattle.rl_promises.specs.Rows.{refusal, row_of_head}
-use Rattle.rl_runs.proofs.Living.{lives_none}
 use Rattle.rl_runs.proofs.BlockIds.{free_fresh, free_then, ids_counted, ids_ended, ids_then}
+use Rattle.rl_runs.proofs.Living.{lives_none}
 use Rattle.rl_runs.proofs.Moves.{contained_before, extends_completed, extends_reserved, extends_then, extends_value}
 use Rattle.rl_runs.proofs.Naming.{named_ended, named_none, named_then}
 use Rattle.rl_runs.proofs.Passing.{passes_pushed, passes_refl, passes_then}
 use Rattle.rl_runs.proofs.Points.{settle_returned}
 use Rattle.rl_runs.proofs.Preserving.{blocks_broken, blocks_continued, blocks_recorded, blocks_refl, blocks_resolved, blocks_returned}
-use Rattle.rl_runs.proofs.Preserving.{blocks_then, blocks_value}
+use Rattle.rl_runs.proofs.Preserving.{blocks_then, blocks_threw, blocks_value}
 use Rattle.rl_runs.proofs.Types.{blocks_typed}
 use Rattle.rl_runs.proofs.Used.{below_or, ended_there, ends_more, looped_ended, notes_back, straight_ended, straight_then}
 use Rattle.rl_runs.specs.Blocks.{AreUsed, IsLedTo, Lives, Passes, PreservesBlocks, StraightBelow, StraightSince}
 use Rattle.rl_runs.specs.Facts.{Extends}
-use Rattle.rl_runs.specs.Moves.{return_of}
+use Rattle.rl_runs.specs.Moves.{block_id, return_of}
 use Rattle.rl_syntax.specs.declared.numbered.At.{At}
 use Rattle.rl_syntax.specs.declared.word.Word.TheVariants as word
-use Rattle.rl_syntax.specs.Syntax.{Syntax, Node, Listed, Said, Pieces, End, Then, span_of}
+use Rattle.rl_syntax.specs.Syntax.{End, Listed, Node, Pieces, Said, Syntax, Then, span_of}
 
 -- A value that is returned, behind which a block goes on that was reserved before.
 module _ (s t : State) (span : Option Span) (variant : ReturnVariant) (place : Place) (kind : BlockKind)
@@ -125,7 +133,7 @@ blocks_found_value : (names : Names) (s : State) (symbol : SymbolId) (at : Span)
 blocks_found_value names s symbol at identifier v span f =
     blocks_then s (found names s symbol at) _ (blocks_found names s symbol at identifier f) (blocks_value (found names s symbol at) v span)
 
-blocks_noted_value : (s : State) (d : Diagnostic) (v : InstructionValue) (span : Option Span)
+pub blocks_noted_value : (s : State) (d : Diagnostic) (v : InstructionValue) (span : Option Span)
     → PreservesBlocks s (with_value (recorded s d) v span)
 blocks_noted_value s d v span = blocks_then s (recorded s d) _ (blocks_recorded s d) (blocks_value (recorded s d) v span)
 
@@ -422,6 +430,26 @@ test_blocks {at} (lowered.NoTest s) =
     blocks_noted_value s (refusal row.F32 at) (values.Primitive (primitives.Boolean true)) (Some at)
 test_blocks (lowered.Tested e s t p d) = expression_blocks d
 
+pub case_test_blocks : {names : Names} {e : Syntax} {s t : State} {p : Option Place} → LoweredCaseTest names e s t p → PreservesBlocks s t
+case_test_blocks (lowered.NoCaseTest s) = blocks_refl s
+case_test_blocks (lowered.CaseTested e s t p is d) = expression_blocks d
+case_test_blocks (lowered.CaseMoved at w fields s t p is d) =
+    let noted : Diagnostic = diagnostic_at row.F29 (type_name w) at.span in
+    blocks_then s (recorded s noted) t (blocks_recorded s noted) (expression_blocks d)
+
+-- A test that may be evaluated in another place completes, as one does that may not.
+pub case_test_passes : {names : Names} {e : Syntax} {s t : State} {p : Option Place} → LoweredCaseTest names e s t p → Passes s t
+case_test_passes (lowered.NoCaseTest s) = passes_refl s
+case_test_passes (lowered.CaseTested e s t p is d) = expression_passes d
+case_test_passes (lowered.CaseMoved at w fields s t p is d) = expression_passes d
+
+-- The variable of a `catch` takes the caught value.
+pub blocks_caught : (names : Names) (s : State) (symbol : SymbolId) (identifier : ℕ) (param : Span)
+    → IsFound names (catch_begun s param) symbol param identifier
+    → PreservesBlocks (catch_begun s param) (catch_bound names s symbol identifier param)
+blocks_caught names s symbol identifier param f =
+    blocks_found_value names (catch_begun s param) symbol param identifier (stores_caught s identifier param) (Some param) f
+
 mutual
   pub statement_blocks : {names : Names} {e : Syntax} {s t : State} → LoweredStatement names e s t → PreservesBlocks s t
   statement_blocks (lowered.Empty at s) = blocks_refl s
@@ -446,6 +474,31 @@ mutual
   statement_blocks (lowered.Labeled at label body s s2 other d) = label_blocks s s2 label at.span (span_of body) (statement_blocks d)
   statement_blocks (lowered.Break at label target s is) = blocks_broken s label target gotos.Break at.span blocks.Block is
   statement_blocks (lowered.Continue at label target s is) = blocks_continued s label target gotos.Continue at.span blocks.Block is
+  statement_blocks (lowered.Throw at e s t p d) =
+      blocks_then s t _ (expression_blocks d)
+      (blocks_then t (throwing t at.span) _ (blocks_throwing t at.span) (blocks_threw (throwing t at.span) at.span p blocks.Block))
+  statement_blocks (lowered.Switch at value cases ks s t u p all d) =
+      switch_blocks s u ks p at.span (cases_then s t u ks (cases_blocks all) (expression_blocks d))
+  statement_blocks (lowered.TryPlain at there block body s s2 s3 first second) =
+      try_blocks s s2 s3 None at.span there.span (span_of block) (statement_blocks first) (statement_blocks second)
+  statement_blocks {names} (lowered.TryBound at there bind name type block body symbol identifier s s2 s3 annotated is f first second) =
+      blocks_then s (promoted s bind.span) _ (blocks_promoted s bind.span)
+      (try_blocks (promoted s bind.span) s2 s3 (Some (caught s bind.span)) at.span there.span (span_of block)
+      (blocks_then (catch_begun s bind.span) (catch_bound names s symbol identifier bind.span) s2
+      (blocks_caught names s symbol identifier bind.span f) (statement_blocks first))
+      (statement_blocks second))
+  statement_blocks (lowered.Finalized at there block param body finalizer s t is d) =
+      blocks_then s (recorded s (refusal row.F35 at.span)) t (blocks_recorded s (refusal row.F35 at.span)) (statement_blocks d)
+  statement_blocks (lowered.Uncaught at block finalizer s) = blocks_recorded s (refusal row.F34 at.span)
+  statement_blocks (lowered.With at fields s) = blocks_recorded s (refusal row.F36 at.span)
+
+  pub cases_blocks : {names : Names} {s : State} {es : Pieces} {ks : List Case} {t : State} → LoweredCases names s es ks t
+      → PreservesCases s ks t
+  cases_blocks (lowered.NoCase s) = switch_begun_cases s
+  cases_blocks (lowered.NextCase at test statements cases ks s x y z p all d tested) =
+      cases_then s (case_ended y (fall_of s.env.next_block ks) x.current at.span) z
+      (record { test = p; block = block_id x.env.next_block } ∷ ks)
+      (cases_more s x y None ks at.span p (cases_blocks all) (statements_blocks d)) (case_test_blocks tested)
 
   pub loop_blocks : {names : Names} {own : Label} {e : Syntax} {s t : State} → LoweredLoop names own e s t → PreservesBlocks s t
   loop_blocks {own} (lowered.While at test body s s2 s3 p d dt) =

@@ -1,30 +1,32 @@
 -- Nodes without refusals: their parts have none, and a kind that is refused is none of them.
-use Rattle.std.proofs.Common.{◌≡◌, ℕ, ◌++◌, Bool, true, false, List, [], ◌∷◌, Some, sym, ◌∙◌}
-use Rattle.rl_base.specs.Diagnostics.{diagnostic_at}
+use Rattle.std.proofs.Common.{◌≡◌, ℕ, ◌++◌, Bool, true, false, if◌then◌else◌, List, [], ◌∷◌, Some, refl, sym, ap, ◌∙◌}
 use Rattle.rl_base.specs.declared.diagnostic.Diagnostic.{Diagnostic}
 use Rattle.rl_base.specs.declared.ids.SymbolId.{SymbolId}
 use Rattle.rl_base.specs.declared.row.Row.{Row}
 use Rattle.rl_base.specs.declared.row.Row.TheVariants as row
 use Rattle.rl_base.specs.declared.span.Span.{Span}
-use Rattle.rl_hir.specs.Pieces.{Piece}
+use Rattle.rl_base.specs.Diagnostics.{diagnostic_at}
 use Rattle.rl_hir.specs.declared.instruction.InstructionValue.{InstructionValue}
 use Rattle.rl_hir.specs.declared.instruction.NonLocalBinding.{NonLocalBinding}
 use Rattle.rl_hir.specs.declared.instruction.Place.{Place}
-use Rattle.rl_lowered.proofs.Refusals.{cast_refuses, computed_refuses, constant_refuses, form_refuses, fraction_refuses, member_refuses, method_refuses, outer_refuses}
-use Rattle.rl_lowered.proofs.Refusals.{lost_head_refuses, member_head_refuses, stored_head_refuses}
-use Rattle.rl_lowered.proofs.Refusals.{private_refuses, property_refuses, refused_refuses, refusing_refuses, unknown_refuses}
-use Rattle.rl_lowered.proofs.Refusals.{updated_member_refuses, wrapper_refuses}
+use Rattle.rl_hir.specs.Pieces.{Piece}
+use Rattle.rl_lowered.proofs.Refusals.{cast_refuses, computed_refuses, constant_refuses, form_refuses, fraction_refuses}
+use Rattle.rl_lowered.proofs.Refusals.{lost_head_refuses, member_head_refuses, member_refuses, method_refuses, outer_refuses}
+use Rattle.rl_lowered.proofs.Refusals.{private_refuses, property_refuses, refused_refuses, refusing_refuses, stored_head_refuses}
+use Rattle.rl_lowered.proofs.Refusals.{unknown_refuses, updated_member_refuses, wrapper_refuses}
 use Rattle.rl_lowered.specs.Forms.{IsCast, IsForm, IsMember, IsPrivate, IsRefused, IsRefusing, IsWrapper, MemberKey}
-use Rattle.rl_model.specs.Shapes.{key_text}
-use Rattle.rl_names.specs.Names.{Names}
+use Rattle.rl_model.specs.Shapes.{is_absent, key_text}
 use Rattle.rl_names.specs.declared.names.Meaning.TheVariants.{Local, Outer}
+use Rattle.rl_names.specs.Names.{Names}
 use Rattle.rl_promises.proofs.Covering.{none_in}
+use Rattle.rl_promises.specs.Moved.{may_move, said_of_moved, type_name}
 use Rattle.rl_promises.specs.Outs.{is_known_key, is_lost_head}
-use Rattle.rl_promises.specs.Rows.{is_eval, label_of, refusals, refusals_at_head, refusals_in, said_of_init, said_of_local, said_of_test}
-use Rattle.rl_syntax.specs.Syntax.{Syntax, Node, Listed, Said, Flag, Pieces, End, Then}
+use Rattle.rl_promises.specs.Rows.{is_eval, label_of, refusal, refusals, refusals_among, refusals_at, refusals_at_head, refusals_in}
+use Rattle.rl_promises.specs.Rows.{refusals_in_cases, said_of_finalizer, said_of_init, said_of_local, said_of_test, said_of_throw}
 use Rattle.rl_syntax.specs.declared.numbered.At.{At}
 use Rattle.rl_syntax.specs.declared.word.Word.{Word}
 use Rattle.rl_syntax.specs.declared.word.Word.TheVariants as word
+use Rattle.rl_syntax.specs.Syntax.{End, Flag, Listed, Node, Pieces, Said, Syntax, Then}
 use Rattle.rl_text.specs.Numeral.{is_numeral}
 
 -- Two lists without an element together.
@@ -49,34 +51,37 @@ branches_clean names consequent alternate test none =
     let front = none_in (refusals names consequent) (refusals names alternate) (first_none _ (refusals names test) none) in
     (front.0, front.1, second_none (refusals names consequent ++ refusals names alternate) (refusals names test) none)
 
--- Loops.
+-- Branches and loops, in the block of a `try` or outside of one.
 
-pub while_clean : (names : Names) (test body : Syntax) → refusals names body ++ refusals names test ≡ []
-    → (refusals names body ≡ []) × (refusals names test ≡ [])
-while_clean names test body none = none_in (refusals names body) (refusals names test) none
+pub branches_clean_at : (names : Names) (tried : Bool) (consequent alternate test : Syntax)
+    → refusals_at names tried consequent ++ refusals_at names tried alternate ++ refusals names test ≡ []
+    → (refusals_at names tried consequent ≡ []) × (refusals_at names tried alternate ≡ []) × (refusals names test ≡ [])
+branches_clean_at names tried consequent alternate test none =
+    let both = none_in (refusals_at names tried consequent ++ refusals_at names tried alternate) (refusals names test) none in
+    let front = none_in (refusals_at names tried consequent) (refusals_at names tried alternate) both.0 in
+    (front.0, front.1, both.1)
 
-pub do_while_clean : (names : Names) (test body : Syntax) → refusals names body ++ (refusals names test ++ []) ≡ []
-    → (refusals names body ≡ []) × (refusals names test ≡ [])
-do_while_clean names test body none =
-    let parts = none_in (refusals names body) (refusals names test ++ []) none in (parts.0, first_none (refusals names test) [] parts.1)
+pub while_clean : (names : Names) (tried : Bool) (test body : Syntax) → refusals_at names tried body ++ refusals names test ≡ []
+    → (refusals_at names tried body ≡ []) × (refusals names test ≡ [])
+while_clean names tried test body none = none_in (refusals_at names tried body) (refusals names test) none
 
 -- The parts of a `for` loop have none, and its head is none that is refused.
-pub record IsCleanFor (names : Names) (at : Span) (front condition behind inside : Syntax) : Type 0 where
+pub record IsCleanFor (names : Names) (tried : Bool) (at : Span) (front condition behind inside : Syntax) : Type 0 where
   pub init_said : said_of_init at front ≡ []
   pub init : refusals names front ≡ []
   pub update : refusals names behind ≡ []
-  pub body : refusals names inside ≡ []
+  pub body : refusals_at names tried inside ≡ []
   pub test_said : said_of_test at condition ≡ []
   pub test : refusals names condition ≡ []
 
-pub for_clean : (names : Names) (at : Span) (init test update body : Syntax)
-    → said_of_init at init ++ refusals names init ++ refusals names update ++ refusals names body ++ said_of_test at test
+pub for_clean : (names : Names) (tried : Bool) (at : Span) (init test update body : Syntax)
+    → said_of_init at init ++ refusals names init ++ refusals names update ++ refusals_at names tried body ++ said_of_test at test
     ++ refusals names test ≡ []
-    → IsCleanFor names at init test update body
-for_clean names at init test update body none =
+    → IsCleanFor names tried at init test update body
+for_clean names tried at init test update body none =
     let five = none_in _ (refusals names test) none in
     let four = none_in _ (said_of_test at test) five.0 in
-    let three = none_in _ (refusals names body) four.0 in
+    let three = none_in _ (refusals_at names tried body) four.0 in
     let two = none_in _ (refusals names update) three.0 in
     let one = none_in (said_of_init at init) (refusals names init) two.0 in record {
       init_said = one.0;
@@ -89,12 +94,81 @@ for_clean names at init test update body none =
 
 -- Loops over keys or values, and their heads.
 
-pub rounds_clean : (names : Names) (head right body : Syntax)
-    → refusals names body ++ refusals names right ++ refusals_at_head names head ≡ []
-    → (refusals names body ≡ []) × (refusals names right ≡ []) × (refusals_at_head names head ≡ [])
-rounds_clean names head right body none =
-    let front = none_in (refusals names body) (refusals names right) (first_none _ (refusals_at_head names head) none) in
-    (front.0, front.1, second_none (refusals names body ++ refusals names right) (refusals_at_head names head) none)
+pub rounds_clean : (names : Names) (tried : Bool) (head right body : Syntax)
+    → refusals_at names tried body ++ refusals names right ++ refusals_at_head names head ≡ []
+    → (refusals_at names tried body ≡ []) × (refusals names right ≡ []) × (refusals_at_head names head ≡ [])
+rounds_clean names tried head right body none =
+    let both = none_in (refusals_at names tried body ++ refusals names right) (refusals_at_head names head) none in
+    let front = none_in (refusals_at names tried body) (refusals names right) both.0 in
+    (front.0, front.1, both.1)
+
+-- Statements in a row.
+pub among_clean : (names : Names) (tried : Bool) (e : Syntax) (es : Pieces) → refusals_among names tried (Then e es) ≡ []
+    → (refusals_at names tried e ≡ []) × (refusals_among names tried es ≡ [])
+among_clean names tried e es none = none_in (refusals_at names tried e) (refusals_among names tried es) none
+
+-- A `throw` is refused in the block of a `try`.
+
+untried : (tried : Bool) (at : Span) → said_of_throw tried at ≡ [] → tried ≡ false
+untried true at none = absurd (never none)
+untried false at none = refl
+
+pub throw_clean : (names : Names) (tried : Bool) (at : Span) (e : Syntax) → refusals names e ++ said_of_throw tried at ≡ []
+    → (refusals names e ≡ []) × (tried ≡ false)
+throw_clean names tried at e none =
+    let both = none_in (refusals names e) (said_of_throw tried at) none in (both.0, untried tried at both.1)
+
+-- The cases of a `switch`, and their tests.
+
+pub switch_clean : (names : Names) (tried : Bool) (value : Syntax) (cases : Pieces)
+    → refusals_in_cases names tried cases ++ refusals names value ≡ []
+    → (refusals_in_cases names tried cases ≡ []) × (refusals names value ≡ [])
+switch_clean names tried value cases none = none_in (refusals_in_cases names tried cases) (refusals names value) none
+
+-- The parts of a case, and the cases behind it, have none.
+pub record IsCleanCase (names : Names) (tried : Bool) (test : Syntax) (statements cases : Pieces) : Type 0 where
+  pub behind : refusals_in_cases names tried cases ≡ []
+  pub body : refusals_among names tried statements ≡ []
+  pub moved : said_of_moved names test ≡ []
+  pub condition : refusals names test ≡ []
+
+pub case_clean : (names : Names) (tried : Bool) (test : Syntax) (statements cases : Pieces)
+    → refusals_in_cases names tried cases
+    ++ (refusals_among names tried statements ++ said_of_moved names test ++ refusals names test) ≡ []
+    → IsCleanCase names tried test statements cases
+case_clean names tried test statements cases none =
+    let two = none_in (refusals_in_cases names tried cases) _ none in
+    let own = none_in (refusals_among names tried statements ++ said_of_moved names test) (refusals names test) two.1 in
+    let first = none_in (refusals_among names tried statements) (said_of_moved names test) own.0 in
+    record { behind = two.0; body = first.0; moved = first.1; condition = own.1 }
+
+pub moved_never : (names : Names) (at : At) (w : Word) (fields : Pieces) → may_move names (Node at w fields) ≡ false
+    → said_of_moved names (Node at w fields) ≡ [] → ⊥
+moved_never names at w fields is none =
+    never (sym (ap (λ (b : Bool). if b then [] else diagnostic_at row.F29 (type_name w) at.span ∷ []) is) ∙ none)
+
+-- A `try` statement with a `catch`, without a finalizer and with one.
+
+pub try_clean : (names : Names) (tried : Bool) (param body block : Syntax)
+    → refusals names param ++ refusals_at names tried body ++ refusals_at names true block ≡ []
+    → (refusals names param ≡ []) × (refusals_at names tried body ≡ []) × (refusals_at names true block ≡ [])
+try_clean names tried param body block none =
+    let both = none_in (refusals names param ++ refusals_at names tried body) (refusals_at names true block) none in
+    let front = none_in (refusals names param) (refusals_at names tried body) both.0 in
+    (front.0, front.1, both.1)
+
+pub finalizer_said : (at : Span) (finalizer : Syntax) → is_absent finalizer ≡ false
+    → said_of_finalizer at finalizer ≡ refusal row.F35 at ∷ []
+finalizer_said at finalizer is = ap (λ (b : Bool). if b then [] else refusal row.F35 at ∷ []) is
+
+pub finalizer_never : (names : Names) (tried : Bool) (at there : At) (block param body finalizer : Syntax) → is_absent finalizer ≡ false
+    → refusals_at names tried
+    (Node at word.Try (Then block (Then (Node there word.Catch (Then param (Then body End))) (Then finalizer End)))) ≡ [] → ⊥
+finalizer_never names tried at there block param body finalizer is none =
+    let whole = none_in (said_of_finalizer at.span finalizer ++ refusals names param ++ refusals_at names tried body)
+    (refusals_at names true block) none in
+    let two = none_in (said_of_finalizer at.span finalizer ++ refusals names param) (refusals_at names tried body) whole.0 in
+    never (sym (finalizer_said at.span finalizer is) ∙ first_none (said_of_finalizer at.span finalizer) (refusals names param) two.0)
 
 pub constant_head_never : (names : Names) (at : At) (name : List ℕ) (symbol : SymbolId)
     → names.meaning at.reference.0 name ≡ Local symbol → names.is_const symbol.0 ≡ true

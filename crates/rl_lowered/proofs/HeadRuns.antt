@@ -65,7 +65,7 @@ pattern_same world old new identifier {d} {m} same r = record {
 }
 
 -- A variable takes the value, behind its look-up.
-variable_pattern : (world : World) (s mid : State) (symbol : ℕ) (kind : InstructionKind) (p value : Place) (span : Option Span)
+pub variable_pattern : (world : World) (s mid : State) (symbol : ℕ) (kind : InstructionKind) (p value : Place) (span : Option Span)
     → Extends s mid → mid.current ≡ s.current → identifier_of mid.bindings symbol ≡ Some p.identifier.0
     → RunsPattern world (λ v. assign symbol v) s (with_value mid (values.StoreLocal kind p value) span) value.identifier.0
 variable_pattern world s mid symbol kind p value span g same bound = record {

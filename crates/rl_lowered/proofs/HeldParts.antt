@@ -1,12 +1,12 @@
 -- The counted nodes of what is lowered, from those of its parts.
 use Rattle.std.proofs.Common.{◌≡◌, ℕ, ◌++◌, Bool, true, false, List, [], ◌∷◌, Option, Some, None, codes, refl, ap, ◌∙◌, append-nil}
-use Rattle.rl_hir.specs.Pieces.{Piece}
-use Rattle.rl_hir.specs.Written.{value_word}
 use Rattle.rl_hir.specs.declared.instruction.InstructionValue.{InstructionValue}
 use Rattle.rl_hir.specs.declared.instruction.InstructionValue.TheVariants as values
 use Rattle.rl_hir.specs.declared.instruction.Place.{Place}
 use Rattle.rl_hir.specs.declared.instruction.PrimitiveValue.{PrimitiveValue}
 use Rattle.rl_hir.specs.declared.instruction.TemplateQuasi.{TemplateQuasi}
+use Rattle.rl_hir.specs.Pieces.{Piece}
+use Rattle.rl_hir.specs.Written.{value_word}
 use Rattle.rl_lowered.proofs.Keys.{HasText, Name, has_text}
 use Rattle.rl_lowered.specs.Forms.{AreQuasis, IsAnnotation, IsCast, IsForm, IsInside, IsLiteral, IsMember, IsWrapper, MemberKey}
 use Rattle.rl_lowered.specs.Forms as forms
@@ -15,10 +15,10 @@ use Rattle.rl_promises.proofs.Unheld.{names_unheld, type_unheld}
 use Rattle.rl_promises.specs.Held.{is_counted}
 use Rattle.rl_promises.specs.Live.{Held, held_among, held_in}
 use Rattle.rl_promises.specs.Tallies.{held_word}
-use Rattle.rl_syntax.specs.Syntax.{Syntax, Node, Listed, Said, Flag, Absent, Pieces, End, Then}
 use Rattle.rl_syntax.specs.declared.numbered.At.{At}
 use Rattle.rl_syntax.specs.declared.word.Word.{Word}
 use Rattle.rl_syntax.specs.declared.word.Word.TheVariants as word
+use Rattle.rl_syntax.specs.Syntax.{Absent, End, Flag, Listed, Node, Pieces, Said, Syntax, Then}
 
 -- True of a value whose instruction is counted.
 abbrev pub is_held : InstructionValue → Bool
@@ -164,3 +164,8 @@ pub declared_head_held : (at there bind : At) (kind name : List ℕ) (type : Syn
     ≡ []
 declared_head_held at there bind kind name type fit =
     ap (λ (l : List Held). (l ++ []) ++ []) (declarator_held there bind name type Absent fit)
+
+-- The parameter of a `catch` that is a variable.
+pub param_held : (bind : At) (name : List ℕ) (type : Syntax) → IsAnnotation type
+    → held_in (Node bind word.Bind (Then (Said name) (Then type End))) ≡ []
+param_held bind name type fit = ap (λ (l : List Held). l ++ []) (type_unheld type fit)

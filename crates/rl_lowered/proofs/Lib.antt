@@ -1,6 +1,8 @@
 pub mod Arounds
 pub mod Blocks
 pub mod Bodies
+pub mod CatchRuns
+pub mod Catches
 pub mod Clean
 pub mod Forms
 pub mod HeadRuns
@@ -8,6 +10,7 @@ pub mod HeldParts
 pub mod Keys
 pub mod Listed
 pub mod Listing
+pub mod ListingMoves
 pub mod LiveFrames
 pub mod Living
 pub mod Meant
@@ -21,6 +24,7 @@ pub mod Respanned
 pub mod Runs
 pub mod Sizes
 pub mod Sound
+pub mod SoundCatches
 pub mod SoundForms
 pub mod SoundFrames
 pub mod SoundHeads
@@ -36,10 +40,13 @@ pub mod SpannedForms
 pub mod SpannedFrames
 pub mod SpannedMoves
 pub mod SpannedTrees
+pub mod StatementLives
 pub mod StatementRuns
 pub mod StepMoves
 pub mod Stepless
 pub mod Steps
 pub mod Tallies
+pub mod Throws
 pub mod Told
 pub mod Unread
+pub mod UnreadMoves

@@ -1,9 +1,5 @@
 -- The instructions that blocks list since the lowering of a part began: each that was made is listed once more.
-use Rattle.std.proofs.Common.{◌≡◌, ℕ, ◌+◌, ◌<◌, ◌≤◌, ◌++◌, Bool, true, false}
-use Rattle.std.proofs.Common.{List, [], ◌∷◌, All, length, length-append, append-nil, Option, Some, None}
-use Rattle.std.proofs.Common.{refl, sym, ap, ◌∙◌, subst, arith}
-use Rattle.std.proofs.lemmas.List.Elements.{All-append, All-cons, All-head, All-nil, All-push, All-tail}
-use Rattle.rl_base.specs.Diagnostics.{diagnostic_at}
+use Rattle.std.proofs.Common.{◌≡◌, ℕ, ◌+◌, Bool, true, false, List, Option, Some, None, refl}
 use Rattle.rl_base.specs.declared.diagnostic.Diagnostic.{Diagnostic}
 use Rattle.rl_base.specs.declared.ids.BlockId.{BlockId}
 use Rattle.rl_base.specs.declared.ids.InstructionId.{InstructionId}
@@ -15,355 +11,53 @@ use Rattle.rl_base.specs.declared.type_kind.TypeKind.{TypeKind}
 use Rattle.rl_base.specs.declared.type_kind.TypeKind.TheVariants as types
 use Rattle.rl_base.specs.declared.variable_kind.VariableKind.{VariableKind}
 use Rattle.rl_base.specs.declared.variable_kind.VariableKind.TheVariants as declared
-use Rattle.rl_builder.specs.Builder.{State, completed_by, ended_by, innermost, maybe_throw, new_block, plainly_pushed, pushed, pushed_under}
-use Rattle.rl_builder.specs.Builder.{recorded, reserved, with_temporary, with_type}
-use Rattle.rl_builder.specs.declared.blocks.WipBlock.{WipBlock}
+use Rattle.rl_base.specs.Diagnostics.{diagnostic_at}
+use Rattle.rl_builder.specs.Builder.{State, completed_by, innermost, new_block, recorded, reserved, with_type}
 use Rattle.rl_builder.specs.Dropped.{is_function_expression}
-use Rattle.rl_builder.specs.Temporaries.{temporary, unordered, with_value}
-use Rattle.rl_frames.specs.Frames.{ForParts, for_after_init, for_after_update, for_again, for_aside, for_at, for_bodied, for_inited}
-use Rattle.rl_frames.specs.Frames.{for_opened, for_updated}
-use Rattle.rl_frames.specs.Frames.{LabelParts, WhileParts, do_while_bodied, label_at, while_aside, while_at, while_bodied}
-use Rattle.rl_frames.specs.Frames.{IfParts, if_after_consequent, if_alternate, if_at, if_consequent, if_ended, if_shut}
-use Rattle.rl_frames.specs.Frames.{LogicalParts, aside_of, logical_after, logical_at, logical_ended, logical_righted}
-use Rattle.rl_frames.specs.Frames.{SequenceParts, sequence_at, sequence_ended}
-use Rattle.rl_frames.specs.Frames.{TernaryParts, ternary_after, ternary_aside, ternary_at, ternary_ended, ternary_parted}
-use Rattle.rl_frames.specs.Frames.{ternary_alternated, ternary_consequent}
-use Rattle.rl_frames.specs.Parts.{for_begun, for_end, forin_begun, forin_end, forof_begun, forof_end, label_begun, while_begun}
-use Rattle.rl_frames.specs.Parts.{if_begun, if_end, loads, logical_begun, logical_entered, logical_left, logical_place}
-use Rattle.rl_frames.specs.Parts.{sequence_begun, ternary_begun}
+use Rattle.rl_builder.specs.Temporaries.{temporary, with_value}
+use Rattle.rl_frames.specs.Frames.{ForParts, IfParts, LabelParts, LogicalParts, TernaryParts, WhileParts, do_while_bodied, for_after_init}
+use Rattle.rl_frames.specs.Frames.{for_after_update, for_again, for_aside, for_at, for_bodied, for_inited, for_updated, if_after_consequent}
+use Rattle.rl_frames.specs.Frames.{if_alternate, if_at, if_consequent, if_shut, label_at, logical_after, logical_at, logical_righted}
+use Rattle.rl_frames.specs.Frames.{sequence_at, ternary_after, ternary_alternated, ternary_at, ternary_consequent, ternary_ended}
+use Rattle.rl_frames.specs.Frames.{ternary_parted, while_aside, while_at, while_bodied}
+use Rattle.rl_frames.specs.Parts.{for_begun, for_end, forin_begun, forin_end, forof_begun, forof_end, if_begun, label_begun, logical_begun}
+use Rattle.rl_frames.specs.Parts.{sequence_begun, ternary_begun, try_begun, try_end, try_handler, while_begun}
 use Rattle.rl_frames.specs.Rounds.{ForOfParts, RoundsParts, forin_at, forin_headed, forin_righted, forof_at, forof_bodied, forof_headed}
 use Rattle.rl_frames.specs.Rounds.{forof_iterator, forof_righted, forof_shut, forof_tested, rounds_bodied, rounds_shut}
-use Rattle.rl_hir.specs.Blocks.{Pair as BlockPair}
-use Rattle.rl_hir.specs.Pieces.{Piece}
-use Rattle.rl_hir.specs.declared.function.BlockKind.{BlockKind}
+use Rattle.rl_frames.specs.SwitchParts.{case_begun, case_ended, fall_of, switch_begun, switch_end}
 use Rattle.rl_hir.specs.declared.function.BlockKind.TheVariants as blocks
 use Rattle.rl_hir.specs.declared.instruction.InstructionKind.{InstructionKind}
-use Rattle.rl_hir.specs.declared.instruction.InstructionKind.TheVariants as variables
+use Rattle.rl_hir.specs.declared.instruction.InstructionValue.{InstructionValue}
 use Rattle.rl_hir.specs.declared.instruction.InstructionValue.TheVariants as values
 use Rattle.rl_hir.specs.declared.instruction.Place.{Place}
 use Rattle.rl_hir.specs.declared.instruction.PrimitiveValue.TheVariants as primitives
-use Rattle.rl_hir.specs.declared.terminal.GotoVariant.{GotoVariant}
+use Rattle.rl_hir.specs.declared.terminal.Case.{Case}
 use Rattle.rl_hir.specs.declared.terminal.GotoVariant.TheVariants as gotos
 use Rattle.rl_hir.specs.declared.terminal.ReturnVariant.TheVariants as returns
-use Rattle.rl_hir.specs.declared.terminal.TerminalKind.TheVariants as kinds
-use Rattle.rl_hir.specs.Numbered.{listed_in}
-use Rattle.rl_hir.specs.declared.instruction.Instruction.{Instruction}
-use Rattle.rl_hir.specs.declared.instruction.InstructionValue.{InstructionValue}
 use Rattle.rl_hir.specs.declared.terminal.Terminal.{Terminal}
-use Rattle.rl_lowered.proofs.Occurring.{occurs_append, occurs_blocks, occurs_numbers, within_last, within_none, within_then}
+use Rattle.rl_hir.specs.declared.terminal.TerminalKind.TheVariants as kinds
+use Rattle.rl_hir.specs.Pieces.{Piece}
+use Rattle.rl_lowered.proofs.Catches.{catch_declared, declares_caught, stores_caught}
+use Rattle.rl_lowered.proofs.ListingMoves.{beside, lists_beside, lists_completed, lists_entered, lists_for_opened, lists_if_ended}
+use Rattle.rl_lowered.proofs.ListingMoves.{lists_last, lists_logical_begun, lists_logical_ended, lists_logical_righted, lists_next}
+use Rattle.rl_lowered.proofs.ListingMoves.{lists_refl, lists_same, lists_scope_ended, lists_scope_left, lists_sequence_ended}
+use Rattle.rl_lowered.proofs.ListingMoves.{lists_ternary_alternated, lists_ternary_consequent, lists_then, lists_value}
 use Rattle.rl_lowered.specs.Forms.{IsForm, MemberKey, delete_of, load_of, store_of, typed}
 use Rattle.rl_lowered.specs.Forms as forms
-use Rattle.rl_lowered.specs.Lowered.{Lowered, LoweredBody, LoweredDeclarators, LoweredHead, LoweredInit, LoweredLast, LoweredLoop}
-use Rattle.rl_lowered.specs.Lowered.{LoweredParts, LoweredStatement, LoweredStatements, LoweredTest, declaring, found_again, member_loaded}
-use Rattle.rl_lowered.specs.Lowered.{member_one, member_stored, member_updated, part_span, update_of, value_span}
+use Rattle.rl_lowered.specs.Listing.{ListsSince}
+use Rattle.rl_lowered.specs.Lowered.{Lowered, LoweredBody, LoweredCaseTest, LoweredCases, LoweredDeclarators, LoweredHead, LoweredInit}
+use Rattle.rl_lowered.specs.Lowered.{LoweredLast, LoweredLoop, LoweredParts, LoweredStatement, LoweredStatements, LoweredTest, catch_begun}
+use Rattle.rl_lowered.specs.Lowered.{catch_bound, caught, declaring, found_again, member_loaded, member_one, member_stored, member_updated}
+use Rattle.rl_lowered.specs.Lowered.{part_span, promoted, throwing, throwing_under, update_of, value_span}
 use Rattle.rl_lowered.specs.Lowered as lowered
-use Rattle.rl_lowered.specs.Listing.{ListsSince, ListsTable, all_listed, occurrences, one_within}
 use Rattle.rl_lowered.specs.Named.{found}
 use Rattle.rl_model.specs.Actions.{Label}
 use Rattle.rl_names.specs.Names.{Names}
-use Rattle.rl_order.specs.Numbering.{orders_of}
+use Rattle.rl_promises.specs.Moved.{type_name}
 use Rattle.rl_promises.specs.Rows.{refusal, row_of_head}
-use Rattle.rl_runs.proofs.Listed.{ListsBelow, numbers, orders_append}
-use Rattle.rl_runs.specs.Listed.{AreBelow}
-use Rattle.rl_runs.specs.Moves.{branch, ends_by, goto, last_hole, next_hole, return_of, returned_from, stored_in, without_scope}
-use Rattle.rl_syntax.specs.Syntax.{Syntax, Pieces, span_of}
+use Rattle.rl_runs.specs.Moves.{branch, ends_by, goto, last_hole, next_hole, return_of, returned_from, threw_from, without_handler}
 use Rattle.rl_syntax.specs.declared.word.Word.{Word}
-
-left_all : {X : Type 0} (P : X → Type 0) (xs ys : List X) → All P (xs ++ ys) → All P xs
-left_all P [] ys all = All-nil P
-left_all P (x ∷ xs) ys all = All-cons P x xs (All-head P x (xs ++ ys) all) (left_all P xs ys (All-tail P x (xs ++ ys) all))
-
-right_all : {X : Type 0} (P : X → Type 0) (xs ys : List X) → All P (xs ++ ys) → All P ys
-right_all P [] ys all = all
-right_all P (x ∷ xs) ys all = right_all P xs ys (All-tail P x (xs ++ ys) all)
-
-below_more : (bound later : ℕ) (ids : List InstructionId) → bound ≤ later → AreBelow bound ids → AreBelow later ids
-below_more bound later ids le below place default inside = omega (arith, le, below place default inside)
-
--- Parts one behind the other.
-
-pub lists_then : (a b c : State) → ListsSince a b → ListsSince b c → ListsSince a c
-lists_then a b c j k = record {
-  longer = omega (arith, j.longer, k.longer);
-  within = λ l. k.within (j.within l);
-  once = λ n. omega (arith, j.once n, k.once n, within_then (length a.table) (length b.table) (length c.table) n j.longer k.longer);
-  counted = omega (arith, j.counted, k.counted);
-  unordered = λ all. k.unordered (j.unordered all);
-  no_functions = λ all. k.no_functions (j.no_functions all);
-  predecessors = λ all. k.predecessors (j.predecessors all);
-}
-
--- All of a state that the listing speaks of.
-record Lists : Type 0 where
-  pub completed : List BlockPair
-  pub listed : List InstructionId
-  pub table : List Instruction
-
-abbrev lists_of : State → Lists
-lists_of s = record { completed = s.completed; listed = s.current.instructions; table = s.table }
-
--- A move that changes none of it.
-lists_same : (s t : State) → lists_of s ≡ lists_of t → ListsSince s t
-lists_same s t same = record {
-  longer = (let longer : length s.table ≡ length t.table = ap (λ (v : Lists). length v.table) same in omega (arith, longer));
-  within = λ l. record {
-    completed = subst (λ (v : Lists). All (ListsBelow (length v.table)) v.completed) same l.completed;
-    current = subst (λ (v : Lists). AreBelow (length v.table) v.listed) same l.current;
-  };
-  once = λ n.
-      let none : occurrences n (all_listed s) ≡ occurrences n (all_listed s) + one_within (length s.table) (length s.table) n =
-      omega (arith, within_none (length s.table) n) in
-      subst
-      (λ (v : Lists). occurrences n (listed_in v.completed ++ numbers v.listed)
-      ≡ occurrences n (all_listed s) + one_within (length s.table) (length v.table) n) same none;
-  counted = subst
-      (λ (v : Lists). orders_of v.completed + length v.listed + (length s.table + length s.completed)
-      ≡ orders_of s.completed + length s.current.instructions + (length v.table + length v.completed)) same refl;
-  unordered = λ all. subst (λ (v : Lists). All (λ (i : Instruction). i.order.0 ≡ 0) v.table) same all;
-  no_functions = λ all. subst (λ (v : Lists). All (λ (i : Instruction). is_function_expression i.value ≡ false) v.table) same all;
-  predecessors = λ all. subst (λ (v : Lists). All (λ (b : BlockPair). b.1.preds ≡ []) v.completed) same all;
-}
-
-pub lists_refl : (s : State) → ListsSince s s
-lists_refl s = lists_same s s refl
-
--- The indices that an outer block lists, which was set aside, in front of those of the current block.
-abbrev pub beside : List InstructionId → State → State
-beside outer s = record s { current = record s.current { instructions = outer ++ s.current.instructions } }
-
-occurs_beside : (n : ℕ) (outer : List InstructionId) (s : State)
-    → occurrences n (all_listed (beside outer s)) ≡ occurrences n (numbers outer) + occurrences n (all_listed s)
-occurs_beside n outer s =
-    let with_both = occurs_append n (listed_in s.completed) (numbers (outer ++ s.current.instructions)) in
-    let alone = occurs_append n (listed_in s.completed) (numbers s.current.instructions) in
-    omega (arith, with_both, alone, occurs_numbers n outer s.current.instructions)
-
--- A part in a block of its own lists the same beside the outer block.
-pub lists_beside : (outer : List InstructionId) (a b : State) → ListsSince a b → ListsSince (beside outer a) (beside outer b)
-lists_beside outer a b k = record {
-  longer = k.longer;
-  within = λ l.
-      let own : AreBelow (length a.table) outer =
-      left_all (λ (id : InstructionId). id.0 < length a.table) outer a.current.instructions l.current in
-      let before : ListsTable a = record {
-        completed = l.completed;
-        current = right_all (λ (id : InstructionId). id.0 < length a.table) outer a.current.instructions l.current;
-      } in
-      let behind : ListsTable b = k.within before in record {
-        completed = behind.completed;
-        current = All-append (λ (id : InstructionId). id.0 < length b.table) outer b.current.instructions
-            (below_more (length a.table) (length b.table) outer k.longer own) behind.current;
-      };
-  once = λ n. omega (arith, k.once n, occurs_beside n outer a, occurs_beside n outer b);
-  counted = omega (arith, k.counted, length-append outer a.current.instructions, length-append outer b.current.instructions);
-  unordered = k.unordered;
-  no_functions = k.no_functions;
-  predecessors = k.predecessors;
-}
-
--- The current block is complete, and the block goes on that was set aside.
-pub lists_left : (s : State) (t : Terminal) (outer : WipBlock)
-    → ListsSince (beside outer.instructions s) (completed_by s t outer)
-lists_left s t outer = record {
-  longer = omega arith;
-  within = λ l. record {
-    completed = All-push (ListsBelow (length s.table)) s.completed ended l.completed
-        (right_all (λ (id : InstructionId). id.0 < length s.table) outer.instructions s.current.instructions l.current);
-    current = left_all (λ (id : InstructionId). id.0 < length s.table) outer.instructions s.current.instructions l.current;
-  };
-  once = λ n.
-      let one : occurrences n (listed_in (ended ∷ [])) ≡ occurrences n (numbers s.current.instructions) =
-      ap (occurrences n) (append-nil (numbers s.current.instructions)) in
-      let behind = occurs_append n (listed_in (s.completed ++ ended ∷ [])) (numbers outer.instructions) in
-      let before = occurs_append n (listed_in s.completed) (numbers s.current.instructions) in
-      let blocks = occurs_blocks n s.completed (ended ∷ []) in
-      omega (arith, one, behind, before, blocks, occurs_beside n outer.instructions s, within_none (length s.table) n);
-  counted =
-      let more : length (s.completed ++ ended ∷ []) ≡ length s.completed + 1 = length-append s.completed (ended ∷ []) in
-      omega (arith, more, orders_append s.completed (ended ∷ []), length-append outer.instructions s.current.instructions);
-  unordered = λ all. all;
-  no_functions = λ all. all;
-  predecessors = λ all. All-push (λ (b : BlockPair). b.1.preds ≡ []) s.completed ended all refl;
-}
-  where
-    ended : BlockPair
-    ended = ended_by s.current t
-
--- A fresh block goes on.
-pub lists_completed : (s : State) (t : Terminal) (next : WipBlock) → next.instructions ≡ []
-    → ListsSince s (completed_by s t next)
-lists_completed s t next none =
-    lists_then s (beside next.instructions s) (completed_by s t next)
-    (lists_same s (beside next.instructions s) (ap (λ (ids : List InstructionId). lists_of (beside ids s)) (sym none)))
-    (lists_left s t next)
-
--- A fresh block is entered, and the current one is set aside.
-pub lists_entered : (s t : State) → t.completed ≡ s.completed → t.current.instructions ≡ [] → t.table ≡ s.table
-    → ListsSince s (beside s.current.instructions t)
-lists_entered s t completed none table = lists_same s (beside s.current.instructions t) same
-  where
-    here : Lists
-    here = lists_of (beside s.current.instructions t)
-
-    same : lists_of s ≡ here
-    same =
-        ap (λ (ids : List InstructionId). record (lists_of s) { listed = ids }) (sym (append-nil s.current.instructions))
-        ∙ ap (λ (ids : List InstructionId). record (lists_of s) { listed = s.current.instructions ++ ids }) (sym none)
-        ∙ ap (λ (done : List BlockPair). record here { completed = done; table = s.table }) (sym completed)
-        ∙ ap (λ (rows : List Instruction). record here { table = rows }) (sym table)
-
--- Instructions.
-
-lists_plain : (s : State) (i : Instruction) → i.order.0 ≡ 0 → is_function_expression i.value ≡ false
-    → ListsSince s (plainly_pushed s i)
-lists_plain s i fresh plain = record {
-  longer = omega (arith, longer);
-  within = λ l. record {
-    completed = λ place default inside.
-        below_more (length s.table) (length (s.table ++ i ∷ [])) _ grows (l.completed place default inside);
-    current = All-append (λ (id : InstructionId). id.0 < length (s.table ++ i ∷ [])) s.current.instructions (next ∷ [])
-        (below_more (length s.table) (length (s.table ++ i ∷ [])) s.current.instructions grows l.current)
-        (All-cons (λ (id : InstructionId). id.0 < length (s.table ++ i ∷ [])) next [] (omega (arith, longer))
-        (All-nil (λ (id : InstructionId). id.0 < length (s.table ++ i ∷ []))));
-  };
-  once = λ n.
-      let here : one_within (length s.table) (length (s.table ++ i ∷ [])) n ≡ occurrences n (length s.table ∷ []) =
-      ap (λ (end : ℕ). one_within (length s.table) end n) longer ∙ within_last (length s.table) n in
-      let behind = occurs_append n (listed_in s.completed) (numbers (s.current.instructions ++ next ∷ [])) in
-      let before = occurs_append n (listed_in s.completed) (numbers s.current.instructions) in
-      omega (arith, here, behind, before, occurs_numbers n s.current.instructions (next ∷ []));
-  counted = omega (arith, longer, length-append s.current.instructions (next ∷ []));
-  unordered = λ all. All-push (λ (j : Instruction). j.order.0 ≡ 0) s.table i all fresh;
-  no_functions = λ all. All-push (λ (j : Instruction). is_function_expression j.value ≡ false) s.table i all plain;
-  predecessors = λ all. all;
-}
-  where
-    next : InstructionId
-    next = record { 0 = length s.table }
-
-    longer : length (s.table ++ i ∷ []) ≡ length s.table + 1
-    longer = length-append s.table (i ∷ [])
-
-    grows : length s.table ≤ length (s.table ++ i ∷ [])
-    grows = omega (arith, longer)
-
--- Under a handler the block ends behind it.
-lists_under : (o : Option BlockId) (s : State) (i : Instruction) → i.order.0 ≡ 0 → is_function_expression i.value ≡ false
-    → ListsSince s (pushed_under o s i)
-lists_under None s i fresh plain = lists_plain s i fresh plain
-lists_under (Some handler) s i fresh plain =
-    let on : State = reserved (plainly_pushed s i) in
-    lists_then s (plainly_pushed s i) (pushed_under (Some handler) s i) (lists_plain s i fresh plain)
-    (lists_then (plainly_pushed s i) on (pushed_under (Some handler) s i) (lists_same (plainly_pushed s i) on refl)
-    (lists_completed on (maybe_throw s.env.next_block handler i.span) (new_block s.env.next_block s.current.kind) refl))
-
-pub lists_pushed : (s : State) (i : Instruction) → i.order.0 ≡ 0 → is_function_expression i.value ≡ false → ListsSince s (pushed s i)
-lists_pushed s i fresh plain = lists_under (innermost s.handlers) s i fresh plain
-
-pub lists_value : (s : State) (v : InstructionValue) (span : Option Span) → is_function_expression v ≡ false
-    → ListsSince s (with_value s v span)
-lists_value s v span plain =
-    lists_then s (with_temporary s span) (with_value s v span) (lists_same s (with_temporary s span) refl)
-    (lists_pushed (with_temporary s span) (unordered (temporary s span) v span) refl plain)
-
-lists_stored : (s : State) (place value : Place) (part : Span) → ListsSince s (stored_in s place value part)
-lists_stored s place value part = lists_value s (values.StoreLocal variables.Const place value) (Some part) refl
-
--- Between holes.
-
-lists_next : (s : State) (behind : ℕ) (variant : GotoVariant) (part : Span) (kind : BlockKind)
-    → ListsSince s (next_hole s behind variant part kind)
-lists_next s behind variant part kind =
-    lists_then s (reserved s) (next_hole s behind variant part kind) (lists_same s (reserved s) refl)
-    (lists_completed (reserved s) (goto behind variant part) (new_block s.env.next_block kind) refl)
-
-lists_last : (s : State) (behind : ℕ) (variant : GotoVariant) (part : Span) (outer : WipBlock)
-    → ListsSince (beside outer.instructions s) (last_hole s behind variant part outer)
-lists_last s behind variant part outer = lists_left s (goto behind variant part) outer
-
--- The hole ends with its value.
-lists_stored_last : (s : State) (place value : Place) (span part : Span) (behind : ℕ) (outer : WipBlock)
-    → ListsSince (beside outer.instructions s) (last_hole (stored_in s place value span) behind gotos.Break part outer)
-lists_stored_last s place value span part behind outer =
-    let stored : State = stored_in s place value span in
-    lists_then (beside outer.instructions s) (beside outer.instructions stored) (last_hole stored behind gotos.Break part outer)
-    (lists_beside outer.instructions s stored (lists_stored s place value span)) (lists_last stored behind gotos.Break part outer)
-
--- The body of a loop or of a labelled statement ends.
-lists_scope_left : (s : State) (behind : ℕ) (variant : GotoVariant) (part : Span) (outer : WipBlock)
-    → ListsSince (beside outer.instructions s) (last_hole (without_scope s) behind variant part outer)
-lists_scope_left s behind variant part outer =
-    let ids : List InstructionId = outer.instructions in
-    let left : State = without_scope s in
-    lists_then (beside ids s) (beside ids left) (last_hole left behind variant part outer)
-    (lists_same (beside ids s) (beside ids left) refl)
-    (lists_last left behind variant part outer)
-
--- Behind it the block ends that was set aside, with the terminal `end`.
-lists_scope_ended : (s : State) (behind : ℕ) (variant : GotoVariant) (part : Span) (outer : WipBlock) (end : Terminal) (next : WipBlock)
-    → next.instructions ≡ []
-    → ListsSince (beside outer.instructions s) (completed_by (last_hole (without_scope s) behind variant part outer) end next)
-lists_scope_ended s behind variant part outer end next none =
-    let gone : State = last_hole (without_scope s) behind variant part outer in
-    lists_then (beside outer.instructions s) gone (completed_by gone end next) (lists_scope_left s behind variant part outer)
-    (lists_completed gone end next none)
-
--- The part in front of a loop's body ends, and the body's hole opens.
-lists_for_opened : (f : ForParts) (s : State) (part : Span) → ListsSince s (for_opened f s part)
-lists_for_opened f s part =
-    let next : State = next_hole s f.test gotos.Break part blocks.Block in
-    lists_then s next (for_opened f s part) (lists_next s f.test gotos.Break part blocks.Block) (lists_same next (for_opened f s part) refl)
-
-lists_logical_begun : (s : State) (span left : Span) → ListsSince s (beside s.current.instructions (logical_begun s span left))
-lists_logical_begun s span left =
-    let outer : List InstructionId = s.current.instructions in
-    let entry : State = logical_entered s span left in
-    let stored : State = stored_in entry (logical_place s span) (logical_left s left) left in
-    lists_then s (beside outer entry) (beside outer (logical_begun s span left)) (lists_entered s entry refl refl refl)
-    (lists_beside outer entry (logical_begun s span left)
-    (lists_then entry stored (logical_begun s span left) (lists_stored entry (logical_place s span) (logical_left s left) left)
-    (lists_next stored s.env.next_block gotos.Break left blocks.Value)))
-
-lists_logical_righted : (f : LogicalParts) (s : State) (value : Place) (part : Span) → (aside_of f).1.instructions ≡ []
-    → ListsSince (beside (aside_of f).0.instructions s) (logical_righted f s value part)
-lists_logical_righted f s value part none =
-    let gone : State = last_hole (stored_in s f.place value part) f.behind.id.0 gotos.Break part (aside_of f).0 in
-    lists_then (beside (aside_of f).0.instructions s) gone (logical_righted f s value part)
-    (lists_stored_last s f.place value part part f.behind.id.0 (aside_of f).0)
-    (lists_completed gone (ends_by (kinds.Logical f.operator (aside_of f).1.id f.behind.id) (Some f.span)) (aside_of f).1 none)
-
-lists_logical_ended : (f : LogicalParts) (s : State) (value : Place) → f.behind.instructions ≡ []
-    → ListsSince s (logical_ended f s value)
-lists_logical_ended f s value none =
-    let loaded : State = pushed s (loads f.left value f.span) in
-    lists_then s loaded (logical_ended f s value) (lists_pushed s (loads f.left value f.span) refl refl)
-    (lists_completed loaded (branch f.left f.consequent f.alternate f.behind.id.0 f.span) f.behind none)
-
-lists_ternary_consequent : (f : TernaryParts) (s : State) (value : Place) (part : Span)
-    → ListsSince s (ternary_consequent f s value part)
-lists_ternary_consequent f s value part =
-    let stored : State = stored_in s f.place value f.span in
-    lists_then s stored (ternary_consequent f s value part) (lists_stored s f.place value f.span)
-    (lists_next stored f.behind.id.0 gotos.Break part blocks.Value)
-
-lists_ternary_alternated : (f : TernaryParts) (s : State) (value : Place) (part : Span) → (ternary_aside f).1.instructions ≡ []
-    → ListsSince (beside (ternary_aside f).0.instructions s) (ternary_alternated f s value part)
-lists_ternary_alternated f s value part none =
-    let gone : State = last_hole (stored_in s f.place value f.span) f.behind.id.0 gotos.Break part (ternary_aside f).0 in
-    lists_then (beside (ternary_aside f).0.instructions s) gone (ternary_alternated f s value part)
-    (lists_stored_last s f.place value f.span part f.behind.id.0 (ternary_aside f).0)
-    (lists_completed gone (ends_by (kinds.Ternary (ternary_aside f).1.id f.behind.id) (Some f.span)) (ternary_aside f).1 none)
-
-lists_sequence_ended : (f : SequenceParts) (s : State) (value : Place) (part : Span) → f.behind.instructions ≡ []
-    → ListsSince (beside f.outer.instructions s) (sequence_ended f s value part)
-lists_sequence_ended f s value part none =
-    let gone : State = last_hole (stored_in s f.place value part) f.behind.id.0 gotos.Break part f.outer in
-    lists_then (beside f.outer.instructions s) gone (sequence_ended f s value part)
-    (lists_stored_last s f.place value part part f.behind.id.0 f.outer)
-    (lists_completed gone (ends_by (kinds.Sequence (record { 0 = f.block }) f.behind.id) (Some f.span)) f.behind none)
-
-lists_if_ended : (f : IfParts) (s : State) (test : Place) → f.behind.instructions ≡ [] → ListsSince s (if_ended f s test)
-lists_if_ended f s test none = lists_completed s (if_end f.behind.id.0 f.consequent f.alternate test f.span) f.behind none
+use Rattle.rl_syntax.specs.Syntax.{Pieces, Syntax, span_of}
 
 -- No value that an expression leaves makes a function.
 
@@ -544,6 +238,47 @@ test_lists {at} (lowered.NoTest s) =
     lists_noted_value s (refusal row.F32 at) (values.Primitive (primitives.Boolean true)) (Some at) refl
 test_lists (lowered.Tested e s t p l) = expression_lists l
 
+case_test_lists : {names : Names} {e : Syntax} {s t : State} {p : Option Place} → LoweredCaseTest names e s t p → ListsSince s t
+case_test_lists (lowered.NoCaseTest s) = lists_refl s
+case_test_lists (lowered.CaseTested e s t p is l) = expression_lists l
+case_test_lists (lowered.CaseMoved at w fields s t p is l) =
+    let noted : Diagnostic = diagnostic_at row.F29 (type_name w) at.span in
+    lists_then s (recorded s noted) t (lists_noted s noted) (expression_lists l)
+
+-- A throw.
+
+lists_throwing_under : (handler : Option BlockId) (s : State) (at : Span) → ListsSince s (throwing_under handler s at)
+lists_throwing_under None s at = lists_refl s
+lists_throwing_under (Some handler) s at = lists_noted s (refusal row.F30 at)
+
+lists_throwing : (s : State) (at : Span) → ListsSince s (throwing s at)
+lists_throwing s at = lists_throwing_under (innermost s.handlers) s at
+
+lists_threw : (s : State) (span : Span) (place : Place) → ListsSince s (threw_from s span place blocks.Block)
+lists_threw s span place =
+    lists_then s (reserved s) _ (lists_same s (reserved s) refl)
+    (lists_completed (reserved s) (ends_by (kinds.Throw place) (Some span)) (new_block s.env.next_block blocks.Block) refl)
+
+-- A `try` statement, from in front of its handler's block.
+lists_tried : (d s2 s3 : State) (behind : ℕ) (part other : Span) (end : Terminal) → ListsSince (try_begun d) s2
+    → ListsSince (try_handler s2 behind d.env.next_block part) s3
+    → ListsSince d (completed_by (last_hole (without_handler s3) behind gotos.Try other d.current) end (new_block behind blocks.Block))
+lists_tried d s2 s3 behind part other end first second =
+    let outer : List InstructionId = d.current.instructions in
+    let next : State = next_hole s2 behind gotos.Break part blocks.Block in
+    let handled : State = try_handler s2 behind d.env.next_block part in
+    let left : State = without_handler s3 in
+    let gone : State = last_hole left behind gotos.Try other d.current in
+    lists_then d (beside outer (try_begun d)) _ (lists_entered d (try_begun d) refl refl refl)
+    (lists_then (beside outer (try_begun d)) (beside outer s2) _ (lists_beside outer (try_begun d) s2 first)
+    (lists_then (beside outer s2) (beside outer handled) _
+    (lists_beside outer s2 handled
+    (lists_then s2 next handled (lists_next s2 behind gotos.Break part blocks.Block) (lists_same next handled refl)))
+    (lists_then (beside outer handled) (beside outer s3) _ (lists_beside outer handled s3 second)
+    (lists_then (beside outer s3) (beside outer left) _ (lists_same (beside outer s3) (beside outer left) refl)
+    (lists_then (beside outer left) gone _ (lists_last left behind gotos.Try other d.current)
+    (lists_completed gone end (new_block behind blocks.Block) refl))))))
+
 -- The head of a loop over keys or values.
 head_lists : {names : Names} {value : Place} {e : Syntax} {s t : State} {p : Place} → LoweredHead names value e s t p → ListsSince s t
 head_lists {names} (lowered.Declared at there bind kind name type symbol identifier s annotated is f) =
@@ -606,6 +341,47 @@ mutual
       (ends_by (kinds.Label (record { 0 = f.block }) f.behind.id) (Some f.span)) f.behind refl))
   statement_lists (lowered.Break at label target s is) = lists_next s target.0 gotos.Break at.span blocks.Block
   statement_lists (lowered.Continue at label target s is) = lists_next s target.0 gotos.Continue at.span blocks.Block
+  statement_lists (lowered.Throw at e s t p l) =
+      let thrown : State = throwing t at.span in
+      lists_then s t _ (expression_lists l) (lists_then t thrown _ (lists_throwing t at.span) (lists_threw thrown at.span p))
+  statement_lists (lowered.Switch at value cases ks s t u p all l) =
+      lists_then s (switch_begun s) _ (lists_same s (switch_begun s) refl)
+      (lists_then (switch_begun s) t _ (cases_lists all)
+      (lists_then t u _ (expression_lists l)
+      (lists_completed u (switch_end s.env.next_block ks p at.span) (new_block s.env.next_block blocks.Block) refl)))
+  statement_lists (lowered.TryPlain at there block body s s2 s3 first second) =
+      lists_then s (reserved s) _ (lists_same s (reserved s) refl)
+      (lists_tried (reserved s) s2 s3 s.env.next_block there.span (span_of block)
+      (try_end s.env.next_block (reserved s).env.next_block s2.env.next_block None at.span) (statement_lists first)
+      (statement_lists second))
+  statement_lists {names} (lowered.TryBound at there bind name type block body symbol identifier s s2 s3 annotated is f first second) =
+      let numbered : State = reserved (promoted s bind.span) in
+      let declared : State = catch_declared s bind.span in
+      let begun : State = catch_begun s bind.span in
+      lists_then s numbered _ (lists_same s numbered refl)
+      (lists_then numbered declared _ (lists_value numbered (declares_caught s bind.span) (Some bind.span) refl)
+      (lists_tried declared s2 s3 s.env.next_block there.span (span_of block)
+      (try_end s.env.next_block declared.env.next_block s2.env.next_block (Some (caught s bind.span)) at.span)
+      (lists_then begun (catch_bound names s symbol identifier bind.span) s2
+      (lists_found_value names begun symbol bind.span (stores_caught s identifier bind.span) (Some bind.span) refl) (statement_lists first))
+      (statement_lists second)))
+  statement_lists (lowered.Finalized at there block param body finalizer s t is l) =
+      lists_then s (recorded s (refusal row.F35 at.span)) t (lists_noted s (refusal row.F35 at.span)) (statement_lists l)
+  statement_lists (lowered.Uncaught at block finalizer s) = lists_noted s (refusal row.F34 at.span)
+  statement_lists (lowered.With at fields s) = lists_noted s (refusal row.F36 at.span)
+
+  cases_lists : {names : Names} {s : State} {es : Pieces} {ks : List Case} {t : State} → LoweredCases names s es ks t
+      → ListsSince (switch_begun s) t
+  cases_lists (lowered.NoCase s) = lists_refl (switch_begun s)
+  cases_lists (lowered.NextCase at test statements cases ks s x y z p all l tested) =
+      let outer : List InstructionId = x.current.instructions in
+      let begun : State = case_begun x None s.env.next_block in
+      let shut : State = case_ended y (fall_of s.env.next_block ks) x.current at.span in
+      lists_then (switch_begun s) x z (cases_lists all)
+      (lists_then x (beside outer begun) z (lists_entered x begun refl refl refl)
+      (lists_then (beside outer begun) (beside outer y) z (lists_beside outer begun y (statements_lists l))
+      (lists_then (beside outer y) shut z
+      (lists_scope_left y (fall_of s.env.next_block ks) gotos.Break at.span x.current) (case_test_lists tested))))
 
   pub loop_lists : {names : Names} {own : Label} {e : Syntax} {s t : State} → LoweredLoop names own e s t → ListsSince s t
   loop_lists {own} (lowered.While at test body s s2 s3 p second first) =

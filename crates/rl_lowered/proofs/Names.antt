@@ -1,6 +1,6 @@
 -- The names that the lowering of a part keeps: identifiers that have a name, pairs, and functions.
-use Rattle.std.proofs.Common.{◌≡◌, ◌≢◌, ℕ, ◌++◌, ◌&&◌, Bool, true, false, if◌then◌else◌, nat_eq, List, [], ◌∷◌, All, length, Option, Some, None}
-use Rattle.std.proofs.Common.{slice_get, ◌+◌, ◌<◌, length-append, arith, refl, sym, ap, ◌∙◌, subst}
+use Rattle.std.proofs.Common.{◌≡◌, ◌≢◌, ℕ, ◌++◌, ◌&&◌, Bool, true, false, if◌then◌else◌, nat_eq, List, [], ◌∷◌, All, length, Option, Some}
+use Rattle.std.proofs.Common.{None, slice_get, ◌+◌, ◌<◌, length-append, arith, refl, sym, ap, ◌∙◌, subst}
 use Rattle.std.proofs.lemmas.Bool.{eqb-true}
 use Rattle.std.proofs.lemmas.Cmp.{nat_list_eq_equiv}
 use Rattle.std.proofs.lemmas.List.Elements.{All-push}
@@ -8,7 +8,6 @@ use Rattle.std.proofs.lemmas.Option.{cond_some, same_Some}
 use Rattle.std.specs.Str.{bytes_eq}
 use Rattle.rl_base.specs.declared.diagnostic.Diagnostic.{Diagnostic}
 use Rattle.rl_base.specs.declared.ids.BlockId.{BlockId}
-use Rattle.rl_base.specs.Diagnostics.{diagnostic_at}
 use Rattle.rl_base.specs.declared.ids.SymbolId.{SymbolId}
 use Rattle.rl_base.specs.declared.operator.UpdateOperator.{UpdateOperator}
 use Rattle.rl_base.specs.declared.row.Row.TheVariants as row
@@ -17,30 +16,28 @@ use Rattle.rl_base.specs.declared.type_kind.TypeKind.{TypeKind}
 use Rattle.rl_base.specs.declared.type_kind.TypeKind.TheVariants as types
 use Rattle.rl_base.specs.declared.variable_kind.VariableKind.{VariableKind}
 use Rattle.rl_base.specs.declared.variable_kind.VariableKind.TheVariants as kinds
-use Rattle.rl_builder.specs.Builder.{State, completed_by, new_block, pushed, pushed_under, innermost, recorded, reserved, with_temporary}
+use Rattle.rl_base.specs.Diagnostics.{diagnostic_at}
+use Rattle.rl_builder.specs.Builder.{State, completed_by, innermost, new_block, pushed, pushed_under, recorded, reserved, with_temporary}
 use Rattle.rl_builder.specs.Names.{fbt_label, fresh_identifier, resolved_by}
 use Rattle.rl_builder.specs.Temporaries.{temporary, unordered, with_value}
-use Rattle.rl_frames.specs.Frames.{IfParts, if_after_consequent, if_alternate, if_at, if_consequent, if_ended, if_shut}
-use Rattle.rl_frames.specs.Frames.{ForParts, for_after, for_after_init, for_after_update, for_at, for_bodied, for_ended, for_inited}
-use Rattle.rl_frames.specs.Frames.{for_updated}
-use Rattle.rl_frames.specs.Frames.{do_while_bodied, label_at, label_ended, while_after, while_at, while_bodied, while_ended}
-use Rattle.rl_frames.specs.Frames.{LogicalParts, logical_after, logical_at, logical_ended, logical_righted}
-use Rattle.rl_frames.specs.Frames.{SequenceParts, sequence_at, sequence_ended}
-use Rattle.rl_frames.specs.Frames.{TernaryParts, ternary_after, ternary_at, ternary_ended, ternary_parted}
-use Rattle.rl_frames.specs.Frames.{ternary_alternated, ternary_consequent}
+use Rattle.rl_frames.specs.Frames.{ForParts, IfParts, LogicalParts, SequenceParts, TernaryParts, TryParts, do_while_bodied, for_after}
+use Rattle.rl_frames.specs.Frames.{for_after_init, for_after_update, for_at, for_bodied, for_ended, for_inited, for_updated}
+use Rattle.rl_frames.specs.Frames.{if_after_consequent, if_alternate, if_at, if_consequent, if_ended, if_shut, label_at, label_ended}
+use Rattle.rl_frames.specs.Frames.{logical_after, logical_at, logical_ended, logical_righted, sequence_at, sequence_ended, ternary_after}
+use Rattle.rl_frames.specs.Frames.{ternary_alternated, ternary_at, ternary_consequent, ternary_ended, ternary_parted, try_after, try_at}
+use Rattle.rl_frames.specs.Frames.{try_caught, try_ended, while_after, while_at, while_bodied, while_ended}
 use Rattle.rl_frames.specs.Parts.{for_begun, forin_begun, forof_begun, if_begun, label_begun, loads, logical_begun, logical_entered}
-use Rattle.rl_frames.specs.Parts.{logical_left, logical_place, sequence_begun, ternary_begun, while_begun}
+use Rattle.rl_frames.specs.Parts.{logical_left, logical_place, sequence_begun, ternary_begun, try_started, while_begun}
 use Rattle.rl_frames.specs.Rounds.{ForOfParts, RoundsParts, forin_at, forin_headed, forin_righted, forof_after, forof_at, forof_bodied}
 use Rattle.rl_frames.specs.Rounds.{forof_ended, forof_headed, forof_iterator, forof_righted, forof_shut, forof_tested, rounds_bodied}
 use Rattle.rl_frames.specs.Rounds.{rounds_ended, rounds_opened, rounds_shut}
-use Rattle.rl_hir.specs.Pairs.{identifier_of, pair}
-use Rattle.rl_hir.specs.Pieces.{Piece}
+use Rattle.rl_frames.specs.SwitchParts.{case_begun, case_ended, fall_of, switch_begun, switch_finished}
+use Rattle.rl_hir.specs.declared.function.BlockKind.TheVariants as blocks
 use Rattle.rl_hir.specs.declared.function.Identifier.{Identifier}
 use Rattle.rl_hir.specs.declared.function.IdentifierName.TheVariants.{Named}
 use Rattle.rl_hir.specs.declared.function.InnerFunction.{InnerFunction}
 use Rattle.rl_hir.specs.declared.function.Pair.{Pair}
 use Rattle.rl_hir.specs.declared.function.ReactFunctionType.{ReactFunctionType}
-use Rattle.rl_hir.specs.declared.function.BlockKind.TheVariants as blocks
 use Rattle.rl_hir.specs.declared.instruction.Instruction.{Instruction}
 use Rattle.rl_hir.specs.declared.instruction.InstructionKind.{InstructionKind}
 use Rattle.rl_hir.specs.declared.instruction.InstructionKind.TheVariants as variables
@@ -48,26 +45,32 @@ use Rattle.rl_hir.specs.declared.instruction.InstructionValue.{InstructionValue}
 use Rattle.rl_hir.specs.declared.instruction.InstructionValue.TheVariants as values
 use Rattle.rl_hir.specs.declared.instruction.Place.{Place}
 use Rattle.rl_hir.specs.declared.instruction.PrimitiveValue.TheVariants as primitives
+use Rattle.rl_hir.specs.declared.terminal.Case.{Case}
 use Rattle.rl_hir.specs.declared.terminal.GotoVariant.TheVariants as gotos
 use Rattle.rl_hir.specs.declared.terminal.ReturnVariant.TheVariants as returns
+use Rattle.rl_hir.specs.Pairs.{identifier_of, pair}
+use Rattle.rl_hir.specs.Pieces.{Piece}
+use Rattle.rl_lowered.proofs.Catches.{catch_declared, declares_caught, length_promoted, stores_caught}
 use Rattle.rl_lowered.proofs.Redeclared.{names_redeclared}
 use Rattle.rl_lowered.specs.Forms.{MemberKey, load_of, store_of, typed}
-use Rattle.rl_lowered.specs.Lowered.{Lowered, LoweredBody, LoweredDeclarators, LoweredHead, LoweredInit, LoweredLast, LoweredLoop}
-use Rattle.rl_lowered.specs.Lowered.{LoweredParts, LoweredStatement, LoweredStatements, LoweredTest, declaring, found_again, member_loaded}
-use Rattle.rl_lowered.specs.Lowered.{member_one, member_stored, member_updated, part_span, value_span}
+use Rattle.rl_lowered.specs.Lowered.{Lowered, LoweredBody, LoweredCaseTest, LoweredCases, LoweredDeclarators, LoweredHead, LoweredInit}
+use Rattle.rl_lowered.specs.Lowered.{LoweredLast, LoweredLoop, LoweredParts, LoweredStatement, LoweredStatements, LoweredTest, catch_at}
+use Rattle.rl_lowered.specs.Lowered.{catch_begun, catch_bound, declaring, found_again, member_loaded, member_one, member_stored}
+use Rattle.rl_lowered.specs.Lowered.{member_updated, part_span, promoted, throwing, throwing_under, value_span}
 use Rattle.rl_lowered.specs.Lowered as lowered
 use Rattle.rl_lowered.specs.Named.{IsFound, IsNamed, KeepsNames, declared_span, found}
 use Rattle.rl_model.specs.Actions.{Label}
 use Rattle.rl_names.specs.Names.{Names}
-use Rattle.rl_used_names.specs.Candidates.{candidate}
 use Rattle.rl_promises.specs.Fields.{IsNamedPair, name_at}
 use Rattle.rl_promises.specs.Locals.{IsVariable}
+use Rattle.rl_promises.specs.Moved.{type_name}
 use Rattle.rl_promises.specs.Rows.{refusal, row_of_head}
 use Rattle.rl_runs.proofs.Steps.{get_more}
-use Rattle.rl_runs.specs.Moves.{next_hole, return_of, returned_from, stored_in}
+use Rattle.rl_runs.specs.Moves.{next_hole, return_of, returned_from, stored_in, threw_from}
 use Rattle.rl_semantic.specs.declared.semantic.Semantic.{Semantic}
-use Rattle.rl_syntax.specs.Syntax.{Syntax, Pieces, span_of}
+use Rattle.rl_syntax.specs.Syntax.{Pieces, Syntax, span_of}
 use Rattle.rl_used_names.proofs.NameLaws.{identifier_of-append_none, identifier_of-append_some, name_of-append, name_of-last}
+use Rattle.rl_used_names.specs.Candidates.{candidate}
 use Rattle.rl_used_names.specs.Choosing.{chosen, free_place}
 use Rattle.rl_used_names.specs.IdentifierNames.{fbt, fbt_diagnostic}
 use Rattle.rl_used_names.specs.UsedName.{UsedName}
@@ -401,6 +404,44 @@ names_forof_righted f s left collection =
     (names_then opened tested _ (names_same opened tested refl)
     (names_value tested (values.IteratorNext (forof_iterator f s collection) collection) (Some left))))
 
+-- A `throw`, and the front of a `try` statement whose `catch` has a parameter.
+
+names_throwing_under : {names : Names} (handler : Option BlockId) (s : State) (at : Span)
+    → KeepsNames names s (throwing_under handler s at)
+names_throwing_under None s at = names_refl s
+names_throwing_under (Some handler) s at = names_recorded s (refusal row.F30 at)
+
+pub names_throwing : {names : Names} (s : State) (at : Span) → KeepsNames names s (throwing s at)
+names_throwing s at = names_throwing_under (innermost s.handlers) s at
+
+pub names_promoted : {names : Names} (s : State) (span : Span) → KeepsNames names s (promoted s span)
+names_promoted {names} s span = record {
+  named = λ n. record {
+    knows = n.knows;
+    declared = n.declared;
+    made = λ symbol identifier is.
+        let below = n.made symbol identifier is in
+        omega (arith, below, length_promoted s span);
+    noted = n.noted;
+  };
+  identifiers = λ identifier known is named.
+      record { span = known.span; is = get_more s.env.identifiers _ identifier known is };
+  pairs = λ p. named_pairs names s.env.identifiers _ s.env.pairs p;
+  functions = refl;
+  fn_type = refl;
+  skip = refl;
+}
+
+pub names_catch_begun : {names : Names} (s : State) (param : Span) → KeepsNames names s (catch_begun s param)
+names_catch_begun s param =
+    let made : State = promoted s param in
+    let numbered : State = reserved made in
+    let declared : State = catch_declared s param in
+    names_then s made _ (names_promoted s param)
+    (names_then made numbered _ (names_same made numbered refl)
+    (names_then numbered declared _ (names_value numbered (declares_caught s param) (Some param))
+    (names_same declared (catch_begun s param) refl)))
+
 mutual
   pub expression_names : {names : Names} {e : Syntax} {s t : State} {p : Place} → Lowered names e s t p → KeepsNames names s t
   expression_names (lowered.Literal at w fields p s is) = names_value s (values.Primitive p) (Some at.span)
@@ -522,6 +563,13 @@ head_names {value} (lowered.StoredMember at w fields parts pieces object key s t
     names_then s t _ (all_names l) (names_value t (store_of object key value) (Some at.span))
 head_names (lowered.Lost at w fields s is) = names_recorded s (refusal (row_of_head w) at.span)
 
+pub case_test_names : {names : Names} {e : Syntax} {s t : State} {p : Option Place} → LoweredCaseTest names e s t p → KeepsNames names s t
+case_test_names (lowered.NoCaseTest s) = names_refl s
+case_test_names (lowered.CaseTested e s t p is l) = expression_names l
+case_test_names (lowered.CaseMoved at w fields s t p is l) =
+    let noted : Diagnostic = diagnostic_at row.F29 (type_name w) at.span in
+    names_then s (recorded s noted) t (names_recorded s noted) (expression_names l)
+
 mutual
   pub statement_names : {names : Names} {e : Syntax} {s t : State} → LoweredStatement names e s t → KeepsNames names s t
   statement_names (lowered.Empty at s) = names_refl s
@@ -562,6 +610,50 @@ mutual
       (names_same s2 (label_ended (label_at s at.span) s2 (span_of body)) refl))
   statement_names (lowered.Break at label target s is) = names_same s (next_hole s target.0 gotos.Break at.span blocks.Block) refl
   statement_names (lowered.Continue at label target s is) = names_same s (next_hole s target.0 gotos.Continue at.span blocks.Block) refl
+  statement_names (lowered.Throw at e s t p l) =
+      let thrown : State = throwing t at.span in
+      names_then s t _ (expression_names l)
+      (names_then t thrown _ (names_throwing t at.span) (names_same thrown (threw_from thrown at.span p blocks.Block) refl))
+  statement_names (lowered.Switch at value cases ks s t u p all l) =
+      names_then s (switch_begun s) _ (names_same s (switch_begun s) refl)
+      (names_then (switch_begun s) t _ (cases_names all)
+      (names_then t u _ (expression_names l) (names_same u (switch_finished u s.env.next_block ks p at.span) refl)))
+  statement_names (lowered.TryPlain at there block body s s2 s3 first second) =
+      let f : TryParts = try_at s at.span None in
+      let begun : State = try_started s None in
+      let handled : State = try_caught f s2 there.span in
+      names_then s begun _ (names_same s begun refl)
+      (names_then begun s2 _ (statement_names first)
+      (names_then s2 handled _ (names_same s2 handled refl)
+      (names_then handled s3 _ (statement_names second) (names_same s3 (try_ended (try_after f s2) s3 (span_of block)) refl))))
+  statement_names {names} (lowered.TryBound at there bind name type block body symbol identifier s s2 s3 annotated is f first second) =
+      let parts : TryParts = catch_at s at.span bind.span in
+      let begun : State = catch_begun s bind.span in
+      let stored : State = catch_bound names s symbol identifier bind.span in
+      let handled : State = try_caught parts s2 there.span in
+      names_then s begun _ (names_catch_begun s bind.span)
+      (names_then begun stored _
+      (names_found_value begun symbol bind.span identifier (stores_caught s identifier bind.span) (Some bind.span) f)
+      (names_then stored s2 _ (statement_names first)
+      (names_then s2 handled _ (names_same s2 handled refl)
+      (names_then handled s3 _ (statement_names second) (names_same s3 (try_ended (try_after parts s2) s3 (span_of block)) refl)))))
+  statement_names (lowered.Finalized at there block param body finalizer s t is l) =
+      let noted : State = recorded s (refusal row.F35 at.span) in
+      names_then s noted t (names_recorded s (refusal row.F35 at.span)) (statement_names l)
+  statement_names (lowered.Uncaught at block finalizer s) = names_recorded s (refusal row.F34 at.span)
+  statement_names (lowered.With at fields s) = names_recorded s (refusal row.F36 at.span)
+
+  -- From behind the block that was numbered for what follows the statement.
+  pub cases_names : {names : Names} {s : State} {es : Pieces} {ks : List Case} {t : State} → LoweredCases names s es ks t
+      → KeepsNames names (switch_begun s) t
+  cases_names (lowered.NoCase s) = names_refl (switch_begun s)
+  cases_names (lowered.NextCase at test statements cases ks s x y z p all l tested) =
+      let begun : State = case_begun x None s.env.next_block in
+      let shut : State = case_ended y (fall_of s.env.next_block ks) x.current at.span in
+      names_then (switch_begun s) x z (cases_names all)
+      (names_then x begun z (names_same x begun refl)
+      (names_then begun y z (statements_names l)
+      (names_then y shut z (names_same y shut refl) (case_test_names tested))))
 
   pub loop_names : {names : Names} {own : Label} {e : Syntax} {s t : State} → LoweredLoop names own e s t → KeepsNames names s t
   loop_names {own} (lowered.While at test body s s2 s3 p second first) =

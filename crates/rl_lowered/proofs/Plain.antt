@@ -9,14 +9,15 @@ use Rattle.rl_hir.specs.declared.instruction.Place.{Place}
 use Rattle.rl_hir.specs.declared.instruction.PrimitiveValue.{PrimitiveValue}
 use Rattle.rl_hir.specs.declared.terminal.ReturnVariant.TheVariants as returns
 use Rattle.rl_hir.specs.Pieces.{Piece, texts}
-use Rattle.rl_lowered.proofs.Clean.{computed_row_clean, fraction_row_never, property_row_clean, row_clean, spread_row_clean, unknown_row_never}
+use Rattle.rl_lowered.proofs.Clean.{computed_row_clean, fraction_row_never, property_row_clean, row_clean, spread_row_clean}
+use Rattle.rl_lowered.proofs.Clean.{unknown_row_never}
 use Rattle.rl_lowered.specs.Forms.{IsCast, IsForm, IsLiteral, IsMember, IsPrivate, IsRefused, IsRefusing, IsWrapper, MemberKey}
 use Rattle.rl_lowered.specs.Forms as forms
 use Rattle.rl_lowered.specs.Lowered.{Lowered, LoweredParts, part_span}
 use Rattle.rl_lowered.specs.Lowered as lowered
 use Rattle.rl_lowered.specs.Promised.{body_falls, exec_before_end}
 use Rattle.rl_machine.specs.declared.trace.Value.{Value}
-use Rattle.rl_model.specs.Actions.{Action, ◌>>=◌, give, return_with}
+use Rattle.rl_model.specs.Actions.{Action, give, return_with, ◌>>=◌}
 use Rattle.rl_model.specs.Expressions.{eval, one_value, values, values_of}
 use Rattle.rl_model.specs.Scene.{Scene}
 use Rattle.rl_model.specs.Shapes.{is_absent, is_computed, key_text, shape_of, shapes}
@@ -25,11 +26,11 @@ use Rattle.rl_names.specs.Names.{Names}
 use Rattle.rl_promises.specs.Live.{held_in, live_in_body}
 use Rattle.rl_promises.specs.Outs.{is_known_key}
 use Rattle.rl_promises.specs.Rebound.{span_behind_body}
-use Rattle.rl_promises.specs.Rows.{refusal, refusals_in, said_of_init, said_of_test}
+use Rattle.rl_promises.specs.Rows.{refusal, refusals, refusals_in, refusals_in_body, said_of_init, said_of_test}
 use Rattle.rl_syntax.specs.declared.numbered.At.{At}
 use Rattle.rl_syntax.specs.declared.word.Word.{Word}
 use Rattle.rl_syntax.specs.declared.word.Word.TheVariants as word
-use Rattle.rl_syntax.specs.Syntax.{Syntax, Node, Listed, Said, Count, Flag, Absent, Pieces, End, Then, span_of}
+use Rattle.rl_syntax.specs.Syntax.{Absent, Count, End, Flag, Listed, Node, Pieces, Said, Syntax, Then, span_of}
 
 -- True of a node that is no declaration.
 abbrev pub is_operand : Syntax → Bool
@@ -48,6 +49,7 @@ pub record IsPlain (e : Syntax) : Type 0 where
   pub ends : body_falls e ≡ false
   pub node : is_operand e ≡ true
   pub spans : (names : Names) (symbol : ℕ) (before : Span) → span_behind_body names symbol e before ≡ before
+  pub refused : (names : Names) → refusals_in_body names e ≡ refusals names e
 
 literal_plain : {w : Word} {fields : Pieces} {p : PrimitiveValue} → IsLiteral w fields p → (at : At) → IsPlain (Node at w fields)
 literal_plain forms.Null at =
@@ -60,6 +62,7 @@ literal_plain forms.Null at =
       ends = refl;
       node = refl;
       spans = λ names symbol before. refl;
+      refused = λ names. refl;
     }
 literal_plain _ at =
     record {
@@ -71,6 +74,7 @@ literal_plain _ at =
       ends = refl;
       node = refl;
       spans = λ names symbol before. refl;
+      refused = λ names. refl;
     }
 
 refused_plain : {names : Names} {w : Word} {fields : Pieces} {r : Row} → IsRefused names w fields r → (at : At) → IsPlain (Node at w fields)
@@ -84,6 +88,7 @@ refused_plain forms.Super at =
       ends = refl;
       node = refl;
       spans = λ names symbol before. refl;
+      refused = λ names. refl;
     }
 refused_plain _ at =
     record {
@@ -95,6 +100,7 @@ refused_plain _ at =
       ends = refl;
       node = refl;
       spans = λ names symbol before. refl;
+      refused = λ names. refl;
     }
 
 refusing_plain : {w : Word} {fields parts : Pieces} {r : Row} → IsRefusing w fields parts r → (at : At) → IsPlain (Node at w fields)
@@ -108,6 +114,7 @@ refusing_plain forms.PrivateIn at =
       ends = refl;
       node = refl;
       spans = λ names symbol before. refl;
+      refused = λ names. refl;
     }
 refusing_plain _ at =
     record {
@@ -119,6 +126,7 @@ refusing_plain _ at =
       ends = refl;
       node = refl;
       spans = λ names symbol before. refl;
+      refused = λ names. refl;
     }
 
 private_plain : {w : Word} {fields : Pieces} {e : Syntax} → IsPrivate w fields e → (at : At) → IsPlain (Node at w fields)
@@ -132,6 +140,7 @@ private_plain forms.PrivateUpdate at =
       ends = refl;
       node = refl;
       spans = λ names symbol before. refl;
+      refused = λ names. refl;
     }
 private_plain _ at =
     record {
@@ -143,6 +152,7 @@ private_plain _ at =
       ends = refl;
       node = refl;
       spans = λ names symbol before. refl;
+      refused = λ names. refl;
     }
 
 wrapper_plain : {w : Word} {fields : Pieces} {e : Syntax} → IsWrapper w fields e → (at : At) → IsPlain (Node at w fields)
@@ -156,6 +166,7 @@ wrapper_plain forms.Parenthesized at =
       ends = refl;
       node = refl;
       spans = λ names symbol before. refl;
+      refused = λ names. refl;
     }
 wrapper_plain _ at =
     record {
@@ -167,6 +178,7 @@ wrapper_plain _ at =
       ends = refl;
       node = refl;
       spans = λ names symbol before. refl;
+      refused = λ names. refl;
     }
 
 cast_plain : {w : Word} {fields : Pieces} {e type : Syntax} → IsCast w fields e type → (at : At) → IsPlain (Node at w fields)
@@ -180,6 +192,7 @@ cast_plain forms.As at =
       ends = refl;
       node = refl;
       spans = λ names symbol before. refl;
+      refused = λ names. refl;
     }
 cast_plain _ at =
     record {
@@ -191,6 +204,7 @@ cast_plain _ at =
       ends = refl;
       node = refl;
       spans = λ names symbol before. refl;
+      refused = λ names. refl;
     }
 
 member_plain : {w : Word} {fields parts : Pieces} {pieces : List Piece} {object : Place} {key : MemberKey}
@@ -205,6 +219,7 @@ member_plain forms.Static at =
       ends = refl;
       node = refl;
       spans = λ names symbol before. refl;
+      refused = λ names. refl;
     }
 member_plain _ at =
     record {
@@ -216,6 +231,7 @@ member_plain _ at =
       ends = refl;
       node = refl;
       spans = λ names symbol before. refl;
+      refused = λ names. refl;
     }
 
 form_plain : {w : Word} {fields parts : Pieces} {pieces : List Piece} {v : InstructionValue} → IsForm w fields parts pieces v → (at : At)
@@ -231,6 +247,7 @@ form_plain _ at =
       ends = refl;
       node = refl;
       spans = λ names symbol before. refl;
+      refused = λ names. refl;
     }
 
 pub lowered_plain : {names : Names} {e : Syntax} {s t : State} {p : Place} → Lowered names e s t p → IsPlain e
@@ -251,6 +268,7 @@ lowered_plain _ =
       ends = refl;
       node = refl;
       spans = λ names symbol before. refl;
+      refused = λ names. refl;
     }
 
 -- As a part of the head of a `for` loop: in front it is refused, and as a test it is not.

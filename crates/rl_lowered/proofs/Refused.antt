@@ -1,12 +1,9 @@
 -- The diagnostics that the lowering of a part records: the part's refusals, in the order of the walk.
 use Rattle.std.proofs.Common.{◌≡◌, ◌≢◌, ℕ, ◌&&◌, ◌++◌, Bool, true, false, if◌then◌else◌, List, [], ◌∷◌, Option, Some, None, codes}
-use Rattle.std.proofs.Common.{append-nil, append_assoc, refl, sym, ap, ◌∙◌, subst, unwrap_or}
+use Rattle.std.proofs.Common.{append-nil, append_assoc, refl, sym, ap, ◌∙◌, subst, unwrap_or, is_some}
 use Rattle.std.proofs.lemmas.Slice.Eq.{bytes_eq-Decides}
 use Rattle.std.specs.Option.{option_map, option_map_or}
 use Rattle.std.specs.Str.{bytes_eq}
-use Rattle.rl_base.specs.Diagnostics.{diagnostic_at}
-use Rattle.rl_base.specs.Operators.{update_text}
-use Rattle.rl_base.specs.VariableKinds.{variable_text}
 use Rattle.rl_base.specs.declared.diagnostic.Diagnostic.{Diagnostic}
 use Rattle.rl_base.specs.declared.ids.BlockId.{BlockId}
 use Rattle.rl_base.specs.declared.ids.SymbolId.{SymbolId}
@@ -17,17 +14,17 @@ use Rattle.rl_base.specs.declared.type_kind.TypeKind.{TypeKind}
 use Rattle.rl_base.specs.declared.type_kind.TypeKind.TheVariants as types
 use Rattle.rl_base.specs.declared.variable_kind.VariableKind.{VariableKind}
 use Rattle.rl_base.specs.declared.variable_kind.VariableKind.TheVariants as kinds
-use Rattle.rl_builder.specs.Builder.{State, innermost, pushed, pushed_under, recorded, with_temporary}
+use Rattle.rl_base.specs.Diagnostics.{diagnostic_at}
+use Rattle.rl_base.specs.Operators.{update_text}
+use Rattle.rl_base.specs.VariableKinds.{variable_text}
+use Rattle.rl_bindings.specs.declared.event.Bound.{Bound}
+use Rattle.rl_builder.specs.Builder.{State, innermost, pushed, pushed_under, recorded, reserved, with_temporary}
 use Rattle.rl_builder.specs.Names.{fbt_label, resolved_by}
 use Rattle.rl_builder.specs.Temporaries.{temporary, unordered, with_value}
-use Rattle.rl_frames.specs.Frames.{LogicalParts, logical_at}
-use Rattle.rl_frames.specs.Frames.{sequence_at}
-use Rattle.rl_frames.specs.Frames.{TernaryParts, ternary_at}
-use Rattle.rl_frames.specs.Parts.{loads, logical_begun, logical_entered, logical_left, logical_place}
+use Rattle.rl_frames.specs.Frames.{LogicalParts, TernaryParts, logical_at, sequence_at, ternary_at}
+use Rattle.rl_frames.specs.Parts.{loads, logical_begun, logical_entered, logical_left, logical_place, try_handler}
 use Rattle.rl_frames.specs.Rounds.{ForOfParts, RoundsParts, forin_at, forin_headed, forof_at, forof_headed, forof_iterator, forof_shut}
 use Rattle.rl_frames.specs.Rounds.{forof_tested, rounds_shut}
-use Rattle.rl_hir.specs.Pairs.{identifier_of}
-use Rattle.rl_hir.specs.Pieces.{Piece}
 use Rattle.rl_hir.specs.declared.instruction.Instruction.{Instruction}
 use Rattle.rl_hir.specs.declared.instruction.InstructionKind.{InstructionKind}
 use Rattle.rl_hir.specs.declared.instruction.InstructionKind.TheVariants as variables
@@ -35,28 +32,40 @@ use Rattle.rl_hir.specs.declared.instruction.InstructionValue.{InstructionValue}
 use Rattle.rl_hir.specs.declared.instruction.InstructionValue.TheVariants as values
 use Rattle.rl_hir.specs.declared.instruction.Place.{Place}
 use Rattle.rl_hir.specs.declared.instruction.PrimitiveValue.TheVariants as primitives
+use Rattle.rl_hir.specs.declared.terminal.Case.{Case}
+use Rattle.rl_hir.specs.Pairs.{identifier_of}
+use Rattle.rl_hir.specs.Pieces.{Piece}
+use Rattle.rl_lowered.proofs.Blocks.{blocks_caught, cases_blocks, declares_of, expression_blocks, init_blocks, statement_blocks}
+use Rattle.rl_lowered.proofs.Catches.{catch_declared, declares_caught, stores_caught}
+use Rattle.rl_lowered.proofs.Clean.{finalizer_said}
 use Rattle.rl_lowered.proofs.Plain.{init_said, lowered_plain, test_unsaid}
 use Rattle.rl_lowered.proofs.Refusals.{bind_refuses, cast_refuses, computed_refuses, constant_refuses, declared_head_refuses}
 use Rattle.rl_lowered.proofs.Refusals.{form_refuses, fraction_refuses, literal_refuses, lost_head_refuses, member_head_refuses}
 use Rattle.rl_lowered.proofs.Refusals.{method_refuses, name_refuses, outer_head_refuses, outer_refuses, private_refuses, property_refuses}
-use Rattle.rl_lowered.proofs.Refusals.{refused_refuses, refusing_refuses, stored_head_refuses, texts_refuse, unknown_refuses}
-use Rattle.rl_lowered.proofs.Refusals.{update_refuses, updated_member_refuses, wrapper_refuses}
-use Rattle.rl_lowered.specs.Forms.{MemberKey, load_of, store_of, typed}
-use Rattle.rl_lowered.specs.Lowered.{Lowered, LoweredBody, LoweredDeclarators, LoweredHead, LoweredInit, LoweredLast, LoweredLoop}
-use Rattle.rl_lowered.specs.Lowered.{LoweredParts, LoweredStatement, LoweredStatements, LoweredTest, declaring, found_again, label_part}
-use Rattle.rl_lowered.specs.Lowered.{member_loaded, member_one, member_stored, member_updated, value_span}
+use Rattle.rl_lowered.proofs.Refusals.{refused_refuses, refusing_refuses, stored_head_refuses, unknown_refuses, update_refuses}
+use Rattle.rl_lowered.proofs.Refusals.{updated_member_refuses, wrapper_refuses}
+use Rattle.rl_lowered.specs.Forms.{IsAnnotation, MemberKey, load_of, store_of, typed}
+use Rattle.rl_lowered.specs.Lowered.{Lowered, LoweredBody, LoweredCaseTest, LoweredCases, LoweredDeclarators, LoweredHead, LoweredInit}
+use Rattle.rl_lowered.specs.Lowered.{LoweredLast, LoweredLoop, LoweredParts, LoweredStatement, LoweredStatements, LoweredTest}
+use Rattle.rl_lowered.specs.Lowered.{catch_begun, catch_bound, declaring, found_again, label_part, member_loaded, member_one}
+use Rattle.rl_lowered.specs.Lowered.{member_stored, member_updated, promoted, throwing, throwing_under, value_span}
 use Rattle.rl_lowered.specs.Lowered as lowered
 use Rattle.rl_lowered.specs.Named.{IsFound, TellDeclarations, found}
 use Rattle.rl_model.specs.Actions.{Label}
-use Rattle.rl_names.specs.Names.{Names}
 use Rattle.rl_names.specs.declared.names.Meaning.TheVariants.{Local}
+use Rattle.rl_names.specs.Names.{Names}
 use Rattle.rl_promises.proofs.Covering.{none_in}
-use Rattle.rl_promises.specs.Rows.{IsTold, Nothing, Records, Renamed, Told, label_of, refusal, refusals, refusals_at_head, refusals_in}
-use Rattle.rl_promises.specs.Rows.{row_of_head, said_of_init, said_of_local, said_of_test}
+use Rattle.rl_promises.specs.Moved.{may_move, said_of_moved, type_name}
+use Rattle.rl_promises.specs.Rows.{IsTold, Nothing, Records, Renamed, Told, label_of, refusal, refusals, refusals_among, refusals_at}
+use Rattle.rl_promises.specs.Rows.{refusals_at_head, refusals_in, refusals_in_body, refusals_in_cases, row_of_head, said_of_init}
+use Rattle.rl_promises.specs.Rows.{said_of_local, said_of_test, said_of_throw}
 use Rattle.rl_resolver.specs.Lookups.{declaration_ident}
-use Rattle.rl_runs.specs.Moves.{stored_in}
-use Rattle.rl_bindings.specs.declared.event.Bound.{Bound}
-use Rattle.rl_syntax.specs.Syntax.{Syntax, Said, Flag, Pieces, Then, span_of}
+use Rattle.rl_runs.proofs.Holes.{last_added}
+use Rattle.rl_runs.proofs.Moves.{extends_value}
+use Rattle.rl_runs.specs.Moves.{block_id, stored_in}
+use Rattle.rl_syntax.specs.declared.numbered.At.{At}
+use Rattle.rl_syntax.specs.declared.word.Word.TheVariants as word
+use Rattle.rl_syntax.specs.Syntax.{End, Flag, Node, Pieces, Said, Syntax, Then, span_of}
 use Rattle.rl_used_names.specs.IdentifierNames.{fbt, fbt_diagnostic, is_named, name_of}
 
 -- The diagnostics so far.
@@ -370,97 +379,213 @@ jump_refuses : (names : Names) (label : Label) → refusals names (label_part la
 jump_refuses names None = refl
 jump_refuses names (Some label) = refl
 
+-- In the block of a `try`, and nowhere else, a handler is open.
+abbrev pub IsTried : (tried : Bool) → State → Type 0
+IsTried tried s = is_some (innermost s.handlers) ≡ tried
+
+pub tried_on : {tried : Bool} (s t : State) → t.handlers ≡ s.handlers → IsTried tried s → IsTried tried t
+tried_on s t same is = ap (λ (l : List BlockId). is_some (innermost l)) same ∙ is
+
+pub tried_none : (s : State) → s.handlers ≡ [] → IsTried false s
+tried_none s none = ap (λ (l : List BlockId). is_some (innermost l)) none
+
+pub tried_in : (s : State) (behind handler : ℕ) (part : Span) → IsTried true (try_handler s behind handler part)
+tried_in s behind handler part = ap (λ (o : Option BlockId). is_some o) (last_added s.handlers (block_id handler))
+
+-- In front of the handler of a `try` statement, and behind the variable of its `catch`, the handlers are those in front of the statement.
+
+pub caught_handlers : (s : State) (param : Span) → (catch_begun s param).handlers ≡ s.handlers
+caught_handlers s param = (extends_value (reserved (promoted s param)) (declares_caught s param) (Some param)).handlers
+
+pub bound_handlers : {names : Names} (s : State) (symbol : SymbolId) (identifier : ℕ) (param : Span)
+    → IsFound names (catch_begun s param) symbol param identifier → (catch_bound names s symbol identifier param).handlers ≡ s.handlers
+bound_handlers {names} s symbol identifier param f =
+    (blocks_caught names s symbol identifier param f).extends.handlers ∙ caught_handlers s param
+
+-- A `throw`.
+
+throwing_said_by : (o : Option BlockId) (s : State) (at : Span)
+    → Records (said_of_throw (is_some o) at) (said s) (said (throwing_under o s at))
+throwing_said_by None s at = records_none [] (said s) (said s) refl refl
+throwing_said_by (Some handler) s at = records_all (refusal row.F30 at ∷ []) (said s) _ refl
+
+throwing_said : (s : State) (at : Span) (tried : Bool) → IsTried tried s → Records (said_of_throw tried at) (said s) (said (throwing s at))
+throwing_said s at tried is =
+    subst (λ (b : Bool). Records (said_of_throw b at) (said s) (said (throwing s at))) is (throwing_said_by (innermost s.handlers) s at)
+
+-- The test of a case.
+
+pub moved_unsaid : (names : Names) (e : Syntax) → may_move names e ≡ true → said_of_moved names e ≡ []
+moved_unsaid names (Node at w fields) is =
+    ap (λ (b : Bool). if b then [] else diagnostic_at row.F29 (type_name w) at.span ∷ []) is
+moved_unsaid names _ is = refl
+
+case_test_refused : {names : Names} {e : Syntax} {s t : State} {p : Option Place} → LoweredCaseTest names e s t p
+    → Records (said_of_moved names e ++ refusals names e) (said s) (said t)
+case_test_refused (lowered.NoCaseTest s) = records_none [] (said s) (said s) refl refl
+case_test_refused {names} (lowered.CaseTested e s t p is l) =
+    records_same _ _ (said s) (said t) (ap (λ (ds : List Diagnostic). ds ++ refusals names e) (moved_unsaid names e is))
+    (expression_refused l)
+case_test_refused {names} (lowered.CaseMoved at w fields s t p is l) =
+    let d : Diagnostic = diagnostic_at row.F29 (type_name w) at.span in
+    records_same _ _ (said s) (said t)
+    (ap (λ (b : Bool). (if b then [] else d ∷ []) ++ refusals names (Node at w fields)) is)
+    (records_then (d ∷ []) (refusals names (Node at w fields)) (said s) (said (recorded s d)) (said t)
+    (records_all (d ∷ []) (said s) _ refl) (expression_refused l))
+
+-- The front of a `catch` with a parameter records what the look-up of its variable does.
+catch_said : {names : Names} (s : State) (bind : At) (name : List ℕ) (type : Syntax) (symbol : SymbolId) (identifier : ℕ)
+    → IsAnnotation type → names.declared bind.id.0 ≡ Some symbol → IsFound names (catch_begun s bind.span) symbol bind.span identifier
+    → Records (refusals names (Node bind word.Bind (Then (Said name) (Then type End)))) (said s)
+    (said (catch_bound names s symbol identifier bind.span))
+catch_said {names} s bind name type symbol identifier annotated is f =
+    records_before _ (said s) _ _
+    (value_said (reserved (promoted s bind.span)) (declares_caught s bind.span) (Some bind.span))
+    (records_same _ _ (said (catch_begun s bind.span)) _ (bind_refuses names bind name type symbol annotated is)
+    (found_value_said names (catch_begun s bind.span) symbol bind.span identifier (stores_caught s identifier bind.span) (Some bind.span)
+    f))
+
+init_refused : {names : Names} {at : Span} {e : Syntax} {s t : State} → LoweredInit names at e s t
+    → Records (said_of_init at e ++ refusals names e) (said s) (said t)
+init_refused {at} (lowered.NoInit s) =
+    records_none [] (said s) _ refl (value_said s (values.Primitive primitives.Undefined) (Some at))
+init_refused {names} (lowered.DeclaredInit there fields s t l) =
+    let v = declares_of l in
+    subst (λ (f : Pieces). Records (refusals names (Node there word.Var f)) (said s) (said t)) v.are
+    (records_then _ (refusals_in names v.declarators) (said s) (said (declaring s v.kind there.span)) (said t)
+    (declaring_said s v.kind there.span) (declarators_refused v.by))
+init_refused {names} {at} (lowered.RefusedInit e s t p l) =
+    records_same _ _ (said s) (said t)
+    (ap (λ (ds : List Diagnostic). ds ++ refusals names e) (init_said e (lowered_plain l).node at))
+    (records_then (refusal row.F31 at ∷ []) (refusals names e) (said s) (said (recorded s (refusal row.F31 at))) (said t)
+    (records_all (refusal row.F31 at ∷ []) (said s) _ refl) (expression_refused l))
+
 mutual
-  pub statement_refused : {names : Names} {e : Syntax} {s t : State} → LoweredStatement names e s t
-      → Records (refusals names e) (said s) (said t)
-  statement_refused (lowered.Empty at s) = records_none [] (said s) (said s) refl refl
-  statement_refused {names} (lowered.Expression at e s t p l) =
+  pub statement_refused : {names : Names} {e : Syntax} {s t : State} → LoweredStatement names e s t → (tried : Bool) → IsTried tried s
+      → Records (refusals_at names tried e) (said s) (said t)
+  statement_refused (lowered.Empty at s) tried h = records_none [] (said s) (said s) refl refl
+  statement_refused {names} (lowered.Expression at e s t p l) tried h =
       records_unit (refusals names e) (said s) (said t) (expression_refused l)
-  statement_refused {names} (lowered.Debugger at s) = records_none [] (said s) _ refl (value_said s values.Debugger (Some at.span))
-  statement_refused {names} (lowered.Variables at k declarators s t l) =
+  statement_refused {names} (lowered.Debugger at s) tried h = records_none [] (said s) _ refl (value_said s values.Debugger (Some at.span))
+  statement_refused {names} (lowered.Variables at k declarators s t l) tried h =
       records_then _ (refusals_in names declarators) (said s) (said (declaring s k at.span)) (said t) (declaring_said s k at.span)
       (declarators_refused l)
-  statement_refused {names} (lowered.ReturnNothing at s) =
+  statement_refused {names} (lowered.ReturnNothing at s) tried h =
       records_none [] (said s) _ refl (value_said s (values.Primitive primitives.Undefined) None)
-  statement_refused {names} (lowered.Return at e s t p l) =
+  statement_refused {names} (lowered.Return at e s t p l) tried h =
       records_unit (refusals names e) (said s) (said t) (expression_refused l)
-  statement_refused {names} (lowered.Block at statements s t l) =
-      records_unit (refusals_in names statements) (said s) (said t) (statements_refused l)
-  statement_refused {names} (lowered.IfThen at test consequent s s2 s3 p second first) =
-      records_then (refusals names consequent ++ []) (refusals names test) (said s) (said s2) (said s3)
-      (records_unit (refusals names consequent) (said s) (said s2) (statement_refused second)) (expression_refused first)
-  statement_refused {names} (lowered.IfElse at test consequent alternate s s2 s3 s4 p second third first) =
-      records_then (refusals names consequent ++ refusals names alternate) (refusals names test) (said s) (said s3) (said s4)
-      (records_then (refusals names consequent) (refusals names alternate) (said s) (said s2) (said s3) (statement_refused second)
-      (statement_refused third)) (expression_refused first)
-  statement_refused (lowered.Unlabeled loop s t l) = loop_refused l
-  statement_refused {names} (lowered.LabeledLoop at label loop s t l) =
-      records_unit (refusals names loop) (said s) (said t) (loop_refused l)
-  statement_refused {names} (lowered.Labeled at label body s s2 other l) =
-      records_unit (refusals names body) (said s) (said s2) (statement_refused l)
-  statement_refused {names} (lowered.Break at label target s is) = records_none _ (said s) _ (jump_refuses names label) refl
-  statement_refused {names} (lowered.Continue at label target s is) = records_none _ (said s) _ (jump_refuses names label) refl
+  statement_refused {names} (lowered.Block at statements s t l) tried h =
+      statements_refused l tried h
+  statement_refused {names} (lowered.IfThen at test consequent s s2 s3 p second first) tried h =
+      records_then (refusals_at names tried consequent ++ []) (refusals names test) (said s) (said s2) (said s3)
+      (records_unit (refusals_at names tried consequent) (said s) (said s2) (statement_refused second tried h)) (expression_refused first)
+  statement_refused {names} (lowered.IfElse at test consequent alternate s s2 s3 s4 p second third first) tried h =
+      records_then (refusals_at names tried consequent ++ refusals_at names tried alternate) (refusals names test) (said s) (said s3)
+      (said s4)
+      (records_then (refusals_at names tried consequent) (refusals_at names tried alternate) (said s) (said s2) (said s3)
+      (statement_refused second tried h)
+      (statement_refused third tried (tried_on s s2 (statement_blocks second).extends.handlers h))) (expression_refused first)
+  statement_refused (lowered.Unlabeled loop s t l) tried h = loop_refused l tried h
+  statement_refused {names} (lowered.LabeledLoop at label loop s t l) tried h =
+      loop_refused l tried h
+  statement_refused {names} (lowered.Labeled at label body s s2 other l) tried h =
+      statement_refused l tried h
+  statement_refused {names} (lowered.Break at label target s is) tried h = records_none _ (said s) _ (jump_refuses names label) refl
+  statement_refused {names} (lowered.Continue at label target s is) tried h = records_none _ (said s) _ (jump_refuses names label) refl
+  statement_refused {names} (lowered.Throw at e s t p l) tried h =
+      records_then (refusals names e) (said_of_throw tried at.span) (said s) (said t) (said (throwing t at.span)) (expression_refused l)
+      (throwing_said t at.span tried (tried_on s t (expression_blocks l).extends.handlers h))
+  statement_refused {names} (lowered.Switch at value cases ks s t u p all l) tried h =
+      records_then (refusals_in_cases names tried cases) (refusals names value) (said s) (said t) (said u) (cases_refused all tried h)
+      (expression_refused l)
+  statement_refused {names} (lowered.TryPlain at there block body s s2 s3 first second) tried h =
+      records_then (refusals_at names tried body) (refusals_at names true block) (said s) (said s2) (said s3)
+      (statement_refused first tried h)
+      (statement_refused second true (tried_in s2 s.env.next_block (reserved s).env.next_block there.span))
+  statement_refused {names} (lowered.TryBound at there bind name type block body symbol identifier s s2 s3 annotated is f first second)
+      tried h =
+      let param : Syntax = Node bind word.Bind (Then (Said name) (Then type End)) in
+      records_then (refusals names param ++ refusals_at names tried body) (refusals_at names true block) (said s) (said s2) (said s3)
+      (records_then (refusals names param) (refusals_at names tried body) (said s)
+      (said (catch_bound names s symbol identifier bind.span)) (said s2)
+      (catch_said s bind name type symbol identifier annotated is f)
+      (statement_refused first tried
+      (tried_on s (catch_bound names s symbol identifier bind.span) (bound_handlers s symbol identifier bind.span f) h)))
+      (statement_refused second true (tried_in s2 s.env.next_block (catch_declared s bind.span).env.next_block there.span))
+  statement_refused {names} (lowered.Finalized at there block param body finalizer s t is l) tried h =
+      let d : Diagnostic = refusal row.F35 at.span in
+      let inner : List Diagnostic = refusals names param ++ refusals_at names tried body ++ refusals_at names true block in
+      records_same _ (d ∷ inner) (said s) (said t)
+      (ap (λ (ds : List Diagnostic). ds ++ refusals names param ++ refusals_at names tried body ++ refusals_at names true block)
+      (finalizer_said at.span finalizer is))
+      (records_then (d ∷ []) inner (said s) (said (recorded s d)) (said t) (records_all (d ∷ []) (said s) _ refl)
+      (statement_refused l tried h))
+  statement_refused (lowered.Uncaught at block finalizer s) tried h = records_all (refusal row.F34 at.span ∷ []) (said s) _ refl
+  statement_refused (lowered.With at fields s) tried h = records_all (refusal row.F36 at.span ∷ []) (said s) _ refl
 
-  pub loop_refused : {names : Names} {own : Label} {e : Syntax} {s t : State} → LoweredLoop names own e s t
-      → Records (refusals names e) (said s) (said t)
-  loop_refused {names} (lowered.While at test body s s2 s3 p second first) =
-      records_then (refusals names body) (refusals names test) (said s) (said s2) (said s3) (statement_refused second)
+  cases_refused : {names : Names} {s : State} {es : Pieces} {ks : List Case} {t : State} → LoweredCases names s es ks t → (tried : Bool)
+      → IsTried tried s → Records (refusals_in_cases names tried es) (said s) (said t)
+  cases_refused (lowered.NoCase s) tried h = records_none [] (said s) (said s) refl refl
+  cases_refused {names} (lowered.NextCase at test statements cases ks s x y z p all l tested) tried h =
+      let inside : List Diagnostic = refusals_among names tried statements in
+      records_then (refusals_in_cases names tried cases) (inside ++ said_of_moved names test ++ refusals names test) (said s) (said x)
+      (said z) (cases_refused all tried h)
+      (records_same _ _ (said x) (said z) (append_assoc inside (said_of_moved names test) (refusals names test))
+      (records_then inside (said_of_moved names test ++ refusals names test) (said x) (said y) (said z)
+      (statements_refused l tried (tried_on s x (cases_blocks all).extends.handlers h)) (case_test_refused tested)))
+
+  pub loop_refused : {names : Names} {own : Label} {e : Syntax} {s t : State} → LoweredLoop names own e s t → (tried : Bool)
+      → IsTried tried s → Records (refusals_at names tried e) (said s) (said t)
+  loop_refused {names} (lowered.While at test body s s2 s3 p second first) tried h =
+      records_then (refusals_at names tried body) (refusals names test) (said s) (said s2) (said s3) (statement_refused second tried h)
       (expression_refused first)
-  loop_refused {names} (lowered.DoWhile at test body s s2 s3 p first second) =
-      records_then (refusals names body) (refusals names test ++ []) (said s) (said s2) (said s3) (statement_refused first)
-      (records_unit (refusals names test) (said s2) (said s3) (expression_refused second))
-  loop_refused {names} (lowered.ForUpdated at init test update body s s2 s3 s4 s5 u p first third fourth second) =
+  loop_refused {names} (lowered.DoWhile at test body s s2 s3 p first second) tried h =
+      records_then (refusals_at names tried body) (refusals names test) (said s) (said s2) (said s3) (statement_refused first tried h)
+      (expression_refused second)
+  loop_refused {names} (lowered.ForUpdated at init test update body s s2 s3 s4 s5 u p first third fourth second) tried h =
       let front : List Diagnostic = said_of_init at.span init ++ refusals names init in
       records_same _ _ (said s) (said s5)
-      (append_assoc (front ++ refusals names update ++ refusals names body) (said_of_test at.span test) (refusals names test))
-      (records_then (front ++ refusals names update ++ refusals names body) _ (said s) (said s4) (said s5)
-      (records_then (front ++ refusals names update) (refusals names body) (said s) (said s3) (said s4)
+      (append_assoc (front ++ refusals names update ++ refusals_at names tried body) (said_of_test at.span test) (refusals names test))
+      (records_then (front ++ refusals names update ++ refusals_at names tried body) _ (said s) (said s4) (said s5)
+      (records_then (front ++ refusals names update) (refusals_at names tried body) (said s) (said s3) (said s4)
       (records_then front (refusals names update) (said s) (said s2) (said s3) (init_refused first) (expression_refused third))
-      (statement_refused fourth)) (test_refused second))
-  loop_refused {names} (lowered.ForPlain at init test body s s2 s3 s4 p first third second) =
+      (statement_refused fourth tried
+      (tried_on s s3 ((expression_blocks third).extends.handlers ∙ (init_blocks first).extends.handlers) h))) (test_refused second))
+  loop_refused {names} (lowered.ForPlain at init test body s s2 s3 s4 p first third second) tried h =
       let front : List Diagnostic = said_of_init at.span init ++ refusals names init in
       records_same _ _ (said s) (said s4)
-      (append_assoc (front ++ [] ++ refusals names body) (said_of_test at.span test) (refusals names test))
-      (records_then (front ++ [] ++ refusals names body) _ (said s) (said s3) (said s4)
-      (records_then (front ++ []) (refusals names body) (said s) (said s2) (said s3)
-      (records_unit front (said s) (said s2) (init_refused first)) (statement_refused third)) (test_refused second))
-  loop_refused {names} (lowered.ForIn at head right body s s2 s3 s4 collection p first second third) =
+      (append_assoc (front ++ [] ++ refusals_at names tried body) (said_of_test at.span test) (refusals names test))
+      (records_then (front ++ [] ++ refusals_at names tried body) _ (said s) (said s3) (said s4)
+      (records_then (front ++ []) (refusals_at names tried body) (said s) (said s2) (said s3)
+      (records_unit front (said s) (said s2) (init_refused first))
+      (statement_refused third tried (tried_on s s2 (init_blocks first).extends.handlers h))) (test_refused second))
+  loop_refused {names} (lowered.ForIn at head right body s s2 s3 s4 collection p first second third) tried h =
       let f : RoundsParts = rounds_shut (forin_at s at.span) in
-      records_then (refusals names body ++ refusals names right) (refusals_at_head names head) (said s) (said s3) (said s4)
-      (records_then (refusals names body) (refusals names right) (said s) (said s2) (said s3) (statement_refused first)
+      records_then (refusals_at names tried body ++ refusals names right) (refusals_at_head names head) (said s) (said s3) (said s4)
+      (records_then (refusals_at names tried body) (refusals names right) (said s) (said s2) (said s3) (statement_refused first tried h)
       (expression_refused second))
       (records_before _ (said s3) _ (said s4) (value_said (forin_headed f s3) (values.NextPropertyOf collection) (Some (span_of head)))
       (head_refused third))
-  loop_refused {names} (lowered.ForOf at head right body s s2 s3 s4 collection p first second third) =
+  loop_refused {names} (lowered.ForOf at head right body s s2 s3 s4 collection p first second third) tried h =
       let f : ForOfParts = forof_shut (forof_at s at.span) in
-      records_then (refusals names body ++ refusals names right) (refusals_at_head names head) (said s) (said s3) (said s4)
-      (records_then (refusals names body) (refusals names right) (said s) (said s2) (said s3) (statement_refused first)
+      records_then (refusals_at names tried body ++ refusals names right) (refusals_at_head names head) (said s) (said s3) (said s4)
+      (records_then (refusals_at names tried body) (refusals names right) (said s) (said s2) (said s3) (statement_refused first tried h)
       (expression_refused second))
       (records_before _ (said s3) _ (said s4)
       (value_said (forof_tested f s3 collection) (values.IteratorNext (forof_iterator f s3 collection) collection) (Some (span_of head))
       ∙ value_said (forof_headed f s3) (values.GetIterator collection) collection.span) (head_refused third))
-  loop_refused (lowered.AwaitRefused at head right body s) = records_all (refusal row.F33 at.span ∷ []) (said s) _ refl
+  loop_refused (lowered.AwaitRefused at head right body s) tried h = records_all (refusal row.F33 at.span ∷ []) (said s) _ refl
 
-  init_refused : {names : Names} {at : Span} {e : Syntax} {s t : State} → LoweredInit names at e s t
-      → Records (said_of_init at e ++ refusals names e) (said s) (said t)
-  init_refused {at} (lowered.NoInit s) =
-      records_none [] (said s) _ refl (value_said s (values.Primitive primitives.Undefined) (Some at))
-  init_refused (lowered.DeclaredInit there fields s t l) = statement_refused l
-  init_refused {names} {at} (lowered.RefusedInit e s t p l) =
-      records_same _ _ (said s) (said t)
-      (ap (λ (ds : List Diagnostic). ds ++ refusals names e) (init_said e (lowered_plain l).node at))
-      (records_then (refusal row.F31 at ∷ []) (refusals names e) (said s) (said (recorded s (refusal row.F31 at))) (said t)
-      (records_all (refusal row.F31 at ∷ []) (said s) _ refl) (expression_refused l))
+  pub statements_refused : {names : Names} {es : Pieces} {s t : State} → LoweredStatements names es s t → (tried : Bool)
+      → IsTried tried s → Records (refusals_among names tried es) (said s) (said t)
+  statements_refused (lowered.NoStatement s) tried h = records_none [] (said s) (said s) refl refl
+  statements_refused {names} (lowered.NextStatement e es s t u l more) tried h =
+      records_then (refusals_at names tried e) (refusals_among names tried es) (said s) (said t) (said u) (statement_refused l tried h)
+      (statements_refused more tried (tried_on s t (statement_blocks l).extends.handlers h))
 
-  pub statements_refused : {names : Names} {es : Pieces} {s t : State} → LoweredStatements names es s t
-      → Records (refusals_in names es) (said s) (said t)
-  statements_refused (lowered.NoStatement s) = records_none [] (said s) (said s) refl refl
-  statements_refused {names} (lowered.NextStatement e es s t u l more) =
-      records_then (refusals names e) (refusals_in names es) (said s) (said t) (said u) (statement_refused l) (statements_refused more)
-
-pub body_refused : {names : Names} {b : Syntax} {s t : State} → LoweredBody names b s t → Records (refusals names b) (said s) (said t)
-body_refused {names} (lowered.Statements at directives statements s t texts l) =
-    records_same _ _ (said s) (said t)
-    (ap (λ (l : List Diagnostic). l ++ (refusals_in names statements ++ [])) (texts_refuse names directives texts)
-    ∙ append-nil (refusals_in names statements)) (statements_refused l)
-body_refused (lowered.Value e s t p l) = expression_refused l
+-- From a builder without handlers on.
+pub body_refused : {names : Names} {b : Syntax} {s t : State} → s.handlers ≡ [] → LoweredBody names b s t
+    → Records (refusals_in_body names b) (said s) (said t)
+body_refused {s = s} none (lowered.Statements at directives statements s1 t texts l) = statements_refused l false (tried_none s none)
+body_refused {names} none (lowered.Value e s t p l) =
+    records_same _ _ (said s) (said t) ((lowered_plain l).refused names) (expression_refused l)

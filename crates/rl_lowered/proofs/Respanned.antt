@@ -1,10 +1,9 @@
 -- The spans of the identifiers of variables behind lowered parts: the heads of loops that declare a variable give it another.
-use Rattle.std.proofs.Common.{◌≡◌, ℕ, ◌<◌, inl, inr, nat_eq, Bool, true, false, if◌then◌else◌, List, length, slice_get}
-use Rattle.std.proofs.Common.{Option, Some, None, refl, sym, ap, ◌∙◌, subst, eq-eqb}
+use Rattle.std.proofs.Common.{◌≡◌, ℕ, ◌<◌, inl, inr, nat_eq, Bool, true, false, if◌then◌else◌, List, length, slice_get, Option, Some}
+use Rattle.std.proofs.Common.{None, refl, sym, ap, ◌∙◌, subst, eq-eqb}
 use Rattle.std.proofs.lemmas.Bool.{ne_eqb}
 use Rattle.std.proofs.lemmas.Bool.Decides.{eqb_tells}
 use Rattle.std.proofs.lemmas.Option.{same_Some}
-use Rattle.rl_base.specs.Diagnostics.{diagnostic_at}
 use Rattle.rl_base.specs.declared.diagnostic.Diagnostic.{Diagnostic}
 use Rattle.rl_base.specs.declared.ids.BlockId.{BlockId}
 use Rattle.rl_base.specs.declared.ids.SymbolId.{SymbolId}
@@ -15,26 +14,24 @@ use Rattle.rl_base.specs.declared.type_kind.TypeKind.{TypeKind}
 use Rattle.rl_base.specs.declared.type_kind.TypeKind.TheVariants as types
 use Rattle.rl_base.specs.declared.variable_kind.VariableKind.{VariableKind}
 use Rattle.rl_base.specs.declared.variable_kind.VariableKind.TheVariants as kinds
+use Rattle.rl_base.specs.Diagnostics.{diagnostic_at}
 use Rattle.rl_builder.proofs.NameLaws.{name_of-injective}
 use Rattle.rl_builder.specs.Builder.{State, completed_by, innermost, new_block, pushed, pushed_under, recorded, reserved, with_temporary}
 use Rattle.rl_builder.specs.Names.{resolved_by}
 use Rattle.rl_builder.specs.Temporaries.{temporary, unordered, with_value}
-use Rattle.rl_frames.specs.Frames.{IfParts, if_after_consequent, if_alternate, if_at, if_consequent, if_ended, if_shut}
-use Rattle.rl_frames.specs.Frames.{ForParts, for_after, for_after_init, for_after_update, for_at, for_bodied, for_ended, for_inited}
-use Rattle.rl_frames.specs.Frames.{for_updated}
-use Rattle.rl_frames.specs.Frames.{do_while_bodied, label_at, label_ended, while_after, while_at, while_bodied, while_ended}
-use Rattle.rl_frames.specs.Frames.{LogicalParts, logical_after, logical_at, logical_ended, logical_righted}
-use Rattle.rl_frames.specs.Frames.{SequenceParts, sequence_at, sequence_ended}
-use Rattle.rl_frames.specs.Frames.{TernaryParts, ternary_alternated, ternary_at, ternary_consequent, ternary_parted}
+use Rattle.rl_frames.specs.Frames.{ForParts, IfParts, LogicalParts, SequenceParts, TernaryParts, TryParts, do_while_bodied, for_after}
+use Rattle.rl_frames.specs.Frames.{for_after_init, for_after_update, for_at, for_bodied, for_ended, for_inited, for_updated}
+use Rattle.rl_frames.specs.Frames.{if_after_consequent, if_alternate, if_at, if_consequent, if_ended, if_shut, label_at, label_ended}
+use Rattle.rl_frames.specs.Frames.{logical_after, logical_at, logical_ended, logical_righted, sequence_at, sequence_ended}
+use Rattle.rl_frames.specs.Frames.{ternary_alternated, ternary_at, ternary_consequent, ternary_parted, try_after, try_at, try_caught}
+use Rattle.rl_frames.specs.Frames.{try_ended, while_after, while_at, while_bodied, while_ended}
 use Rattle.rl_frames.specs.Parts.{for_begun, forin_begun, forof_begun, if_begun, label_begun, loads, logical_begun, logical_entered}
-use Rattle.rl_frames.specs.Parts.{logical_left, logical_place, sequence_begun, ternary_begun, while_begun}
+use Rattle.rl_frames.specs.Parts.{logical_left, logical_place, sequence_begun, ternary_begun, try_started, while_begun}
 use Rattle.rl_frames.specs.Rounds.{ForOfParts, RoundsParts, forin_at, forin_headed, forin_righted, forof_after, forof_at, forof_bodied}
 use Rattle.rl_frames.specs.Rounds.{forof_ended, forof_headed, forof_iterator, forof_righted, forof_shut, forof_tested, rounds_bodied}
 use Rattle.rl_frames.specs.Rounds.{rounds_ended, rounds_opened, rounds_shut}
+use Rattle.rl_frames.specs.SwitchParts.{case_begun, case_ended, fall_of, switch_begun, switch_finished}
 use Rattle.rl_hir.proofs.Identifiers.{slice_get-changed_at_other, slice_get-changed_at_same}
-use Rattle.rl_hir.specs.Identifiers.{with_span}
-use Rattle.rl_hir.specs.Pairs.{identifier_of}
-use Rattle.rl_hir.specs.Pieces.{Piece}
 use Rattle.rl_hir.specs.declared.function.BlockKind.TheVariants as blocks
 use Rattle.rl_hir.specs.declared.function.Identifier.{Identifier}
 use Rattle.rl_hir.specs.declared.function.Pair.{Pair}
@@ -45,32 +42,39 @@ use Rattle.rl_hir.specs.declared.instruction.InstructionValue.{InstructionValue}
 use Rattle.rl_hir.specs.declared.instruction.InstructionValue.TheVariants as values
 use Rattle.rl_hir.specs.declared.instruction.Place.{Place}
 use Rattle.rl_hir.specs.declared.instruction.PrimitiveValue.TheVariants as primitives
+use Rattle.rl_hir.specs.declared.terminal.Case.{Case}
 use Rattle.rl_hir.specs.declared.terminal.GotoVariant.TheVariants as gotos
 use Rattle.rl_hir.specs.declared.terminal.ReturnVariant.TheVariants as returns
+use Rattle.rl_hir.specs.Identifiers.{with_span}
+use Rattle.rl_hir.specs.Pairs.{identifier_of}
+use Rattle.rl_hir.specs.Pieces.{Piece}
 use Rattle.rl_lowered.proofs.Blocks.{all_blocks, blocks_declaring, declarators_blocks, declares_of, expression_blocks, test_blocks}
+use Rattle.rl_lowered.proofs.Catches.{catch_declared, declares_caught, extends_promoted, stores_caught}
 use Rattle.rl_lowered.proofs.Names.{found_within}
 use Rattle.rl_lowered.proofs.Plain.{lowered_plain}
 use Rattle.rl_lowered.proofs.Redeclared.{extends_redeclared}
 use Rattle.rl_lowered.specs.Forms.{IsMember, MemberKey, Static, load_of, store_of, typed}
-use Rattle.rl_lowered.specs.Lowered.{Lowered, LoweredBody, LoweredDeclarators, LoweredHead, LoweredInit, LoweredLast, LoweredLoop}
-use Rattle.rl_lowered.specs.Lowered.{LoweredParts, LoweredStatement, LoweredStatements, LoweredTest, declaring, found_again, kind_of}
-use Rattle.rl_lowered.specs.Lowered.{member_loaded, member_one, member_stored, member_updated, part_span, redeclared, value_span}
+use Rattle.rl_lowered.specs.Lowered.{Lowered, LoweredBody, LoweredCaseTest, LoweredCases, LoweredDeclarators, LoweredHead, LoweredInit}
+use Rattle.rl_lowered.specs.Lowered.{LoweredLast, LoweredLoop, LoweredParts, LoweredStatement, LoweredStatements, LoweredTest, catch_at}
+use Rattle.rl_lowered.specs.Lowered.{catch_begun, catch_bound, declaring, found_again, kind_of, member_loaded, member_one, member_stored}
+use Rattle.rl_lowered.specs.Lowered.{member_updated, part_span, promoted, redeclared, throwing, throwing_under, value_span}
 use Rattle.rl_lowered.specs.Lowered as lowered
 use Rattle.rl_lowered.specs.Named.{IsFound, Respans, found}
 use Rattle.rl_model.specs.Actions.{Label}
 use Rattle.rl_names.specs.Names.{Names}
 use Rattle.rl_promises.specs.Fields.{name_at}
+use Rattle.rl_promises.specs.Moved.{type_name}
 use Rattle.rl_promises.specs.Outs.{is_lost_head}
-use Rattle.rl_promises.specs.Rebound.{is_symbol, span_at_head, span_behind, span_behind_all, span_behind_body}
+use Rattle.rl_promises.specs.Rebound.{is_symbol, span_at_head, span_behind, span_behind_all, span_behind_body, span_behind_cases}
 use Rattle.rl_promises.specs.Rows.{refusal, row_of_head}
 use Rattle.rl_runs.proofs.Moves.{extends_resolved, extends_then, extends_value}
 use Rattle.rl_runs.proofs.Steps.{get_more}
 use Rattle.rl_runs.specs.Facts.{AreSoundNames, Extends, HasSoundNames}
-use Rattle.rl_runs.specs.Moves.{next_hole, return_of, returned_from, stored_in}
-use Rattle.rl_syntax.specs.Syntax.{Syntax, Node, Pieces, span_of}
+use Rattle.rl_runs.specs.Moves.{next_hole, return_of, returned_from, stored_in, threw_from}
 use Rattle.rl_syntax.specs.declared.numbered.At.{At}
 use Rattle.rl_syntax.specs.declared.word.Word.{Word}
 use Rattle.rl_syntax.specs.declared.word.Word.TheVariants as word
+use Rattle.rl_syntax.specs.Syntax.{Node, Pieces, Syntax, span_of}
 use Rattle.rl_used_names.specs.UsedName.{UsedName}
 
 -- Identifiers stay as they are.
@@ -421,6 +425,31 @@ variables_respan at k declarators s t l =
     respans_stays s t (extends_then (blocks_declaring s k at.span).extends (declarators_blocks l).extends)
     (stays_then s (declaring s k at.span) t (stays_declaring s k at.span) (declarators_stay l))
 
+case_test_respans : {names : Names} {e : Syntax} {s t : State} {p : Option Place} → LoweredCaseTest names e s t p → Respans unchanged s t
+case_test_respans (lowered.NoCaseTest s) = respans_same s s refl
+case_test_respans (lowered.CaseTested e s t p is l) = expression_respans l
+case_test_respans (lowered.CaseMoved at w fields s t p is l) =
+    let noted : Diagnostic = diagnostic_at row.F29 (type_name w) at.span in
+    respans_then s (recorded s noted) t (respans_noted s noted) (expression_respans l)
+
+respans_throwing_under : (handler : Option BlockId) (s : State) (at : Span) → Respans unchanged s (throwing_under handler s at)
+respans_throwing_under None s at = respans_same s s refl
+respans_throwing_under (Some handler) s at = respans_noted s (refusal row.F30 at)
+
+respans_throwing : (s : State) (at : Span) → Respans unchanged s (throwing s at)
+respans_throwing s at = respans_throwing_under (innermost s.handlers) s at
+
+respans_catch_begun : (s : State) (param : Span) → Respans unchanged s (catch_begun s param)
+respans_catch_begun s param =
+    let made : State = promoted s param in
+    let numbered : State = reserved made in
+    let declared : State = catch_declared s param in
+    respans_then s made _
+    (respans_stays s made (extends_promoted s param) (record { known = λ identifier i is. get_more s.env.identifiers _ identifier i is }))
+    (respans_then made numbered _ (respans_same made numbered refl)
+    (respans_then numbered declared _ (respans_value numbered (declares_caught s param) (Some param))
+    (respans_same declared (catch_begun s param) refl)))
+
 init_respans : {names : Names} {at : Span} {e : Syntax} {s t : State} → LoweredInit names at e s t → Respans unchanged s t
 init_respans {at} (lowered.NoInit s) = respans_value s (values.Primitive primitives.Undefined) (Some at)
 init_respans (lowered.DeclaredInit there fields s t l) =
@@ -470,6 +499,51 @@ mutual
       respans_same s (next_hole s target.0 gotos.Break at.span blocks.Block) refl
   statement_respans (lowered.Continue at label target s is) =
       respans_same s (next_hole s target.0 gotos.Continue at.span blocks.Block) refl
+  statement_respans (lowered.Throw at e s t p l) =
+      let thrown : State = throwing t at.span in
+      respans_then s t _ (expression_respans l)
+      (respans_then t thrown _ (respans_throwing t at.span) (respans_same thrown (threw_from thrown at.span p blocks.Block) refl))
+  statement_respans (lowered.Switch at value cases ks s t u p all l) =
+      respans_then s (switch_begun s) _ (respans_same s (switch_begun s) refl)
+      (respans_then (switch_begun s) t _ (cases_respan all)
+      (respans_then t u _ (expression_respans l) (respans_same u (switch_finished u s.env.next_block ks p at.span) refl)))
+  statement_respans (lowered.TryPlain at there block body s s2 s3 first second) =
+      let f : TryParts = try_at s at.span None in
+      let begun : State = try_started s None in
+      let handled : State = try_caught f s2 there.span in
+      respans_then s begun _ (respans_same s begun refl)
+      (respans_then begun s2 _ (statement_respans first)
+      (respans_then s2 handled _ (respans_same s2 handled refl)
+      (respans_then handled s3 _ (statement_respans second) (respans_same s3 (try_ended (try_after f s2) s3 (span_of block)) refl))))
+  statement_respans {names} (lowered.TryBound at there bind name type block body symbol identifier s s2 s3 annotated is f first second) =
+      let parts : TryParts = catch_at s at.span bind.span in
+      let begun : State = catch_begun s bind.span in
+      let looked : State = found names begun symbol bind.span in
+      let stored : State = catch_bound names s symbol identifier bind.span in
+      let handled : State = try_caught parts s2 there.span in
+      respans_then s begun _ (respans_catch_begun s bind.span)
+      (respans_then begun looked _ (respans_found names begun symbol bind.span identifier f)
+      (respans_then looked stored _ (respans_value looked (stores_caught s identifier bind.span) (Some bind.span))
+      (respans_then stored s2 _ (statement_respans first)
+      (respans_then s2 handled _ (respans_same s2 handled refl)
+      (respans_then handled s3 _ (statement_respans second)
+      (respans_same s3 (try_ended (try_after parts s2) s3 (span_of block)) refl))))))
+  statement_respans (lowered.Finalized at there block param body finalizer s t is l) =
+      let noted : State = recorded s (refusal row.F35 at.span) in
+      respans_then s noted t (respans_noted s (refusal row.F35 at.span)) (statement_respans l)
+  statement_respans (lowered.Uncaught at block finalizer s) = respans_noted s (refusal row.F34 at.span)
+  statement_respans (lowered.With at fields s) = respans_noted s (refusal row.F36 at.span)
+
+  cases_respan : {names : Names} {s : State} {es : Pieces} {ks : List Case} {t : State} → LoweredCases names s es ks t
+      → Respans (λ symbol before. span_behind_cases names symbol es before) (switch_begun s) t
+  cases_respan (lowered.NoCase s) = respans_same (switch_begun s) (switch_begun s) refl
+  cases_respan (lowered.NextCase at test statements cases ks s x y z p all l tested) =
+      let begun : State = case_begun x None s.env.next_block in
+      let shut : State = case_ended y (fall_of s.env.next_block ks) x.current at.span in
+      respans_then (switch_begun s) x z (cases_respan all)
+      (respans_then x begun z (respans_same x begun refl)
+      (respans_then begun y z (statements_respan l)
+      (respans_then y shut z (respans_same y shut refl) (case_test_respans tested))))
 
   loop_respans : {names : Names} {own : Label} {e : Syntax} {s t : State} → LoweredLoop names own e s t
       → Respans (λ symbol before. span_behind names symbol e before) s t

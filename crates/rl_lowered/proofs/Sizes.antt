@@ -1,39 +1,42 @@
 -- The numbers of blocks, types, identifiers and instructions that the lowering of a part adds, together: a bound by the part's nodes.
 use Rattle.std.proofs.Common.{ℕ, ◌+◌, ◌≤◌, Bool, true, false, Option, Some, None, List, [], ◌∷◌, length-append, arith}
+use Rattle.rl_base.specs.declared.ids.SymbolId.{SymbolId}
+use Rattle.rl_base.specs.declared.operator.UpdateOperator.{UpdateOperator}
 use Rattle.rl_base.specs.declared.row.Row.{Row}
 use Rattle.rl_base.specs.declared.row.Row.TheVariants as row
 use Rattle.rl_base.specs.declared.span.Span.{Span}
-use Rattle.rl_base.specs.Diagnostics.{diagnostic_at}
-use Rattle.rl_base.specs.declared.ids.SymbolId.{SymbolId}
-use Rattle.rl_base.specs.declared.operator.UpdateOperator.{UpdateOperator}
 use Rattle.rl_base.specs.declared.type_kind.TypeKind.{TypeKind}
 use Rattle.rl_base.specs.declared.type_kind.TypeKind.TheVariants as types
 use Rattle.rl_base.specs.declared.variable_kind.VariableKind.{VariableKind}
 use Rattle.rl_base.specs.declared.variable_kind.VariableKind.TheVariants as kinds
+use Rattle.rl_base.specs.Diagnostics.{diagnostic_at}
 use Rattle.rl_builder.specs.Builder.{State, recorded}
-use Rattle.rl_builder.specs.Temporaries.{temporary}
 use Rattle.rl_builder.specs.Names.{fresh_identifier, new_span, resolved_by}
+use Rattle.rl_builder.specs.Temporaries.{temporary}
 use Rattle.rl_frames.proofs.FrameSizes.{if_alternate_size, if_begun_size, if_consequent_size, logical_begun_size, logical_ended_size}
 use Rattle.rl_frames.proofs.FrameSizes.{logical_righted_size, sequence_begun_size, sequence_ended_size, ternary_alternated_size}
-use Rattle.rl_frames.proofs.FrameSizes.{ternary_begun_size, ternary_consequent_size}
+use Rattle.rl_frames.proofs.FrameSizes.{ternary_begun_size, ternary_consequent_size, try_size}
 use Rattle.rl_frames.proofs.RoundSizes.{forin_size, forof_size}
-use Rattle.rl_frames.specs.Frames.{IfParts, LogicalParts, TernaryParts, if_after_consequent, if_at, logical_after, logical_at, sequence_at}
-use Rattle.rl_frames.specs.Frames.{ternary_at, ternary_parted}
-use Rattle.rl_hir.specs.Pairs.{identifier_of}
-use Rattle.rl_hir.specs.Pieces.{Piece}
+use Rattle.rl_frames.specs.Frames.{IfParts, LogicalParts, TernaryParts, if_after_consequent, if_at, logical_after, logical_at}
+use Rattle.rl_frames.specs.Frames.{sequence_at, ternary_at, ternary_parted}
 use Rattle.rl_hir.specs.declared.instruction.InstructionKind.{InstructionKind}
 use Rattle.rl_hir.specs.declared.instruction.InstructionKind.TheVariants as variables
 use Rattle.rl_hir.specs.declared.instruction.InstructionValue.{InstructionValue}
 use Rattle.rl_hir.specs.declared.instruction.InstructionValue.TheVariants as values
 use Rattle.rl_hir.specs.declared.instruction.Place.{Place}
 use Rattle.rl_hir.specs.declared.instruction.PrimitiveValue.TheVariants as primitives
+use Rattle.rl_hir.specs.declared.terminal.Case.{Case}
+use Rattle.rl_hir.specs.Pairs.{identifier_of}
+use Rattle.rl_hir.specs.Pieces.{Piece}
+use Rattle.rl_lowered.proofs.Catches.{size_promoted, size_throwing, stores_caught}
 use Rattle.rl_lowered.proofs.Redeclared.{size_redeclared}
-use Rattle.rl_lowered.specs.Forms.{IsCast, IsForm, IsInside, IsMember, IsPrivate, IsRefusing, IsWrapper, MemberKey, load_of, store_of, type_of, typed}
+use Rattle.rl_lowered.specs.Forms.{IsCast, IsForm, IsInside, IsMember, IsPrivate, IsRefusing, IsWrapper, MemberKey, load_of, store_of}
+use Rattle.rl_lowered.specs.Forms.{type_of, typed}
 use Rattle.rl_lowered.specs.Forms as forms
-use Rattle.rl_lowered.specs.Lowered.{Lowered, LoweredBody, LoweredDeclarators, LoweredHead, LoweredInit, LoweredLast, LoweredLoop}
-use Rattle.rl_lowered.specs.Lowered.{LoweredParts, LoweredStatement, LoweredStatements, LoweredTest}
-use Rattle.rl_lowered.specs.Lowered.{binary_of, declaring, found_again, member_loaded, member_one, member_stored, member_updated}
-use Rattle.rl_lowered.specs.Lowered.{update_of, value_span}
+use Rattle.rl_lowered.specs.Lowered.{Lowered, LoweredBody, LoweredCaseTest, LoweredCases, LoweredDeclarators, LoweredHead, LoweredInit}
+use Rattle.rl_lowered.specs.Lowered.{LoweredLast, LoweredLoop, LoweredParts, LoweredStatement, LoweredStatements, LoweredTest, binary_of}
+use Rattle.rl_lowered.specs.Lowered.{catch_begun, caught, declaring, found_again, member_loaded, member_one, member_stored}
+use Rattle.rl_lowered.specs.Lowered.{member_updated, promoted, update_of, value_span}
 use Rattle.rl_lowered.specs.Lowered as lowered
 use Rattle.rl_lowered.specs.Named.{found}
 use Rattle.rl_lowered.specs.Promised.{share}
@@ -42,9 +45,9 @@ use Rattle.rl_names.specs.Names.{Names}
 use Rattle.rl_promises.specs.Rows.{refusal}
 use Rattle.rl_runs.proofs.Sizes.{size_value}
 use Rattle.rl_runs.specs.Blocks.{size_of}
-use Rattle.rl_syntax.specs.Syntax.{Syntax, Pieces, nodes, nodes_of, span_of}
-use Rattle.rl_used_names.specs.Choosing.{chosen}
 use Rattle.rl_syntax.specs.declared.word.Word.{Word}
+use Rattle.rl_syntax.specs.Syntax.{Pieces, Syntax, nodes, nodes_of, span_of}
+use Rattle.rl_used_names.specs.Choosing.{chosen}
 
 -- A look-up makes an identifier of a type of its own, or nothing.
 
@@ -241,6 +244,13 @@ test_size {at} (lowered.NoTest s) =
     omega (arith, size_value (recorded s (refusal row.F32 at)) (values.Primitive (primitives.Boolean true)) (Some at))
 test_size (lowered.Tested e s t p l) = omega (arith, expression_size l)
 
+-- The test of a case.
+pub case_test_size : {names : Names} {e : Syntax} {s t : State} {p : Option Place} → LoweredCaseTest names e s t p
+    → size_of t ≤ size_of s + share (nodes e)
+case_test_size (lowered.NoCaseTest s) = omega arith
+case_test_size (lowered.CaseTested e s t p is l) = omega (arith, expression_size l)
+case_test_size (lowered.CaseMoved at w fields s t p is l) = omega (arith, expression_size l)
+
 -- The head of a loop over keys or values.
 pub head_size : {names : Names} {value : Place} {e : Syntax} {s t : State} {p : Place} → LoweredHead names value e s t p
     → size_of t ≤ size_of s + share (nodes e)
@@ -290,6 +300,29 @@ mutual
   statement_size (lowered.Labeled at label body s s2 other l) = omega (arith, statement_size l)
   statement_size (lowered.Break at label target s is) = omega arith
   statement_size (lowered.Continue at label target s is) = omega arith
+  statement_size (lowered.Throw at e s t p l) = omega (arith, expression_size l, size_throwing t at.span)
+  statement_size (lowered.Switch at value cases ks s t u p all l) = omega (arith, cases_size all, expression_size l)
+  statement_size (lowered.TryPlain at there block body s s2 s3 first second) =
+      let whole = try_size s s2 s3 None at.span there.span (span_of block) (share (nodes body)) (share (nodes block)) (statement_size first)
+      (statement_size second) in
+      omega (arith, whole)
+  statement_size {names} (lowered.TryBound at there bind name type block body symbol identifier s s2 s3 annotated is f first second) =
+      let begun : State = catch_begun s bind.span in
+      let stored = size_value (found names begun symbol bind.span) (stores_caught s identifier bind.span) (Some bind.span) in
+      let handled : size_of s2 ≤ size_of begun + (6 + share (nodes body)) =
+      omega (arith, found_size names begun symbol bind.span, stored, statement_size first) in
+      let whole = try_size (promoted s bind.span) s2 s3 (Some (caught s bind.span)) at.span there.span (span_of block)
+      (6 + share (nodes body)) (share (nodes block)) handled (statement_size second) in
+      omega (arith, size_promoted s bind.span, whole)
+  statement_size (lowered.Finalized at there block param body finalizer s t is l) = omega (arith, statement_size l)
+  statement_size (lowered.Uncaught at block finalizer s) = omega arith
+  statement_size (lowered.With at fields s) = omega arith
+
+  pub cases_size : {names : Names} {s : State} {es : Pieces} {ks : List Case} {t : State} → LoweredCases names s es ks t
+      → size_of t ≤ size_of s + share (nodes_of es) + 1
+  cases_size (lowered.NoCase s) = omega arith
+  cases_size (lowered.NextCase at test statements cases ks s x y z p all l tested) =
+      omega (arith, cases_size all, statements_size l, case_test_size tested)
 
   pub loop_size : {names : Names} {own : Label} {e : Syntax} {s t : State} → LoweredLoop names own e s t
       → size_of t ≤ size_of s + share (nodes e)

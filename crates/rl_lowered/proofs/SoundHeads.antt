@@ -62,7 +62,7 @@ sound_redeclared small s identifier span at = record {
     }
 
 -- A variable that was looked up takes a value.
-variable_stored : (small : Type 0) (s mid : State) (k : InstructionKind) (identifier : ℕ) (at : Span) (value : Place)
+pub variable_stored : (small : Type 0) (s mid : State) (k : InstructionKind) (identifier : ℕ) (at : Span) (value : Place)
     → StaysSound small s mid → identifier < length mid.env.identifiers → IsSoundPlace small s value → (small → IsSmallSpan at)
     → IsSound small s
     (with_value mid (values.StoreLocal k (record { identifier = record { 0 = identifier }; span = Some at }) value) (Some at))

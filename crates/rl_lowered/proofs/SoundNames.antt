@@ -59,7 +59,7 @@ onto_ascii (suc k) n cs ascii =
     either_ascii _ (digit_glyph false (n % 10) ∷ cs) (digits_onto k 10 false (n / 10) (digit_glyph false (n % 10) ∷ cs)) ahead
     (onto_ascii k (n / 10) (digit_glyph false (n % 10) ∷ cs) ahead)
 
-decimal_ascii : (n : ℕ) → IsAscii (decimal n)
+pub decimal_ascii : (n : ℕ) → IsAscii (decimal n)
 unfolding digits
 decimal_ascii n = onto_ascii 64 n [] none_ascii
 

@@ -1,59 +1,67 @@
 -- Lowering a statement or a body keeps places known and parts writable.
-use Rattle.std.proofs.Common.{ℕ, true, false, List, [], ◌∷◌, length, Some, None, refl, arith}
-use Rattle.std.proofs.lemmas.List.Elements.{All-cons, All-head, All-tail}
-use Rattle.rl_base.specs.VariableKinds.{variable_text}
+use Rattle.std.proofs.Common.{ℕ, true, false, List, [], ◌∷◌, length, Some, None, refl, arith, All, Option}
+use Rattle.std.proofs.lemmas.List.Elements.{All-cons, All-head, All-tail, All-nil}
+use Rattle.rl_base.specs.declared.diagnostic.Diagnostic.{Diagnostic}
 use Rattle.rl_base.specs.declared.row.Row.TheVariants as row
 use Rattle.rl_base.specs.declared.span.Span.{Span}
 use Rattle.rl_base.specs.declared.variable_kind.VariableKind.{VariableKind}
 use Rattle.rl_base.specs.declared.variable_kind.VariableKind.TheVariants as kinds
+use Rattle.rl_base.specs.Diagnostics.{diagnostic_at}
+use Rattle.rl_base.specs.VariableKinds.{variable_text}
 use Rattle.rl_builder.specs.Builder.{State, completed_by, new_block, recorded, reserved}
 use Rattle.rl_builder.specs.Temporaries.{temporary, with_value}
-use Rattle.rl_frames.specs.Frames.{do_while_bodied, label_at, label_ended, while_after, while_at, while_bodied, while_ended}
-use Rattle.rl_frames.specs.Frames.{for_after, for_after_init, for_after_update, for_at, for_bodied, for_ended, for_inited, for_updated}
-use Rattle.rl_frames.specs.Frames.{if_alternate, if_after_consequent, if_at, if_consequent, if_ended, if_shut}
+use Rattle.rl_frames.specs.Frames.{do_while_bodied, for_after, for_after_init, for_after_update, for_at, for_bodied, for_ended}
+use Rattle.rl_frames.specs.Frames.{for_inited, for_updated, if_after_consequent, if_alternate, if_at, if_consequent, if_ended, if_shut}
+use Rattle.rl_frames.specs.Frames.{label_at, label_ended, while_after, while_at, while_bodied, while_ended}
 use Rattle.rl_frames.specs.Parts.{for_begun, forin_begun, forof_begun, if_begun, label_begun, while_begun}
 use Rattle.rl_frames.specs.Rounds.{forin_at, forin_headed, forin_key, forin_righted, forof_after, forof_at, forof_bodied, forof_ended}
 use Rattle.rl_frames.specs.Rounds.{forof_item, forof_iterator, forof_righted, forof_shut, forof_tested, rounds_bodied, rounds_ended}
 use Rattle.rl_frames.specs.Rounds.{rounds_opened, rounds_shut}
-use Rattle.rl_hir.specs.Listing as listing
+use Rattle.rl_frames.specs.SwitchParts.{switch_begun}
 use Rattle.rl_hir.specs.declared.function.BlockKind.TheVariants as blocks
 use Rattle.rl_hir.specs.declared.instruction.InstructionKind.{InstructionKind}
 use Rattle.rl_hir.specs.declared.instruction.InstructionValue.TheVariants as values
 use Rattle.rl_hir.specs.declared.instruction.Place.{Place}
 use Rattle.rl_hir.specs.declared.instruction.PrimitiveValue.TheVariants as primitives
+use Rattle.rl_hir.specs.declared.terminal.Case.{Case}
 use Rattle.rl_hir.specs.declared.terminal.ReturnVariant.TheVariants as returns
+use Rattle.rl_hir.specs.Listing as listing
 use Rattle.rl_lowered.proofs.Sound.{IsSound, expression_sound, one_place, over_sound, variable_place}
+use Rattle.rl_lowered.proofs.SoundCatches.{IsSoundCase, IsSoundTest, bound_tree_sound, case_tree_sound, switch_tree_sound}
+use Rattle.rl_lowered.proofs.SoundCatches.{throw_tree_sound, try_tree_sound}
 use Rattle.rl_lowered.proofs.SoundForms.{debugger_writable}
 use Rattle.rl_lowered.proofs.SoundFrames.{if_else_sound, if_then_sound}
 use Rattle.rl_lowered.proofs.SoundHeads.{head_sound}
 use Rattle.rl_lowered.proofs.SoundListing.{boolean_writable, declared_writable, initialized_writable, span_optional, span_writable}
 use Rattle.rl_lowered.proofs.SoundListing.{undefined_writable}
-use Rattle.rl_lowered.proofs.SoundLoops.{break_sound, continue_sound, do_while_sound, for_plain_sound, for_sound, label_sound, while_sound}
+use Rattle.rl_lowered.proofs.SoundLoops.{break_sound, continue_sound, do_while_sound, for_plain_sound, for_sound, label_sound}
+use Rattle.rl_lowered.proofs.SoundLoops.{while_sound}
 use Rattle.rl_lowered.proofs.SoundMoves.{empty_writable, none_known, place_made, place_next, place_weaker, sound_next, sound_recorded}
-use Rattle.rl_lowered.proofs.SoundMoves.{sound_refl}
-use Rattle.rl_lowered.proofs.SoundMoves.{sound_reserved, sound_return, sound_returned, sound_then, sound_value, sound_weaker, value_place}
+use Rattle.rl_lowered.proofs.SoundMoves.{sound_refl, sound_reserved, sound_return, sound_returned, sound_then, sound_value, sound_weaker}
+use Rattle.rl_lowered.proofs.SoundMoves.{value_place}
 use Rattle.rl_lowered.proofs.SoundNames.{sound_found}
 use Rattle.rl_lowered.proofs.SoundRounds.{forin_sound, forof_sound}
 use Rattle.rl_lowered.proofs.SoundTrees.{each_small, span_small}
 use Rattle.rl_lowered.proofs.Spanned.{place_spanned}
-use Rattle.rl_lowered.specs.Lowered.{AwaitRefused, Block, Break, Continue, Debugger, DeclaredInit, DoWhile, Empty, Expression, ForIn}
-use Rattle.rl_lowered.specs.Lowered.{ForOf, ForPlain, ForUpdated}
-use Rattle.rl_lowered.specs.Lowered.{IfElse}
-use Rattle.rl_lowered.specs.Lowered.{IfThen, Labeled, LabeledLoop, LoweredBody, LoweredDeclarators, LoweredInit, LoweredLoop}
-use Rattle.rl_lowered.specs.Lowered.{LoweredStatement, LoweredStatements, LoweredTest, NextDeclared, NextInitialized, NextStatement}
-use Rattle.rl_lowered.specs.Lowered.{NoDeclarator, NoInit, NoStatement, NoTest, RefusedInit, Return, ReturnNothing, Statements, Tested}
-use Rattle.rl_lowered.specs.Lowered.{Unlabeled, Value, Variables, While, declaring, label_part, part_span}
+use Rattle.rl_lowered.specs.Lowered.{AwaitRefused, Block, Break, CaseMoved, CaseTested, Continue, Debugger, DeclaredInit, DoWhile, Empty}
+use Rattle.rl_lowered.specs.Lowered.{Expression, Finalized, ForIn, ForOf, ForPlain, ForUpdated, IfElse, IfThen, Labeled, LabeledLoop}
+use Rattle.rl_lowered.specs.Lowered.{LoweredBody, LoweredCaseTest, LoweredCases, LoweredDeclarators, LoweredInit, LoweredLoop}
+use Rattle.rl_lowered.specs.Lowered.{LoweredStatement, LoweredStatements, LoweredTest, NextCase, NextDeclared, NextInitialized}
+use Rattle.rl_lowered.specs.Lowered.{NextStatement, NoCase, NoCaseTest, NoDeclarator, NoInit, NoStatement, NoTest, RefusedInit, Return}
+use Rattle.rl_lowered.specs.Lowered.{ReturnNothing, Statements, Switch, Tested, Throw, TryBound, TryPlain, Uncaught, Unlabeled, Value}
+use Rattle.rl_lowered.specs.Lowered.{Variables, While, With, declaring, label_part, part_span}
 use Rattle.rl_lowered.specs.Named.{found}
 use Rattle.rl_lowered.specs.Sound.{AreSmallTrees, HasSmallSpans, IsSmallTree, IsSoundPlace, StaysSound}
 use Rattle.rl_model.specs.Actions.{Label}
 use Rattle.rl_names.specs.Names.{Names}
 use Rattle.rl_promises.specs.Locals.{IsSmallSpan, KnowsNames}
+use Rattle.rl_promises.specs.Moved.{type_name}
 use Rattle.rl_promises.specs.Rows.{refusal}
 use Rattle.rl_runs.proofs.Moves.{value_made}
 use Rattle.rl_runs.specs.Moves.{return_of, returned_from}
 use Rattle.rl_syntax.specs.declared.numbered.At.{At}
 use Rattle.rl_syntax.specs.declared.word.Word.TheVariants as word
-use Rattle.rl_syntax.specs.Syntax.{Syntax, Node, Listed, Said, Flag, Absent, Pieces, End, Then, span_of}
+use Rattle.rl_syntax.specs.Syntax.{Absent, End, Flag, Listed, Node, Pieces, Said, Syntax, Then, span_of}
 use Rattle.rl_text.specs.Notation.{IsWritable}
 
 return_sound : (at : At) (e : Syntax) (s t : State) (p : Place) → IsSound (IsSmallTree e) s t p
@@ -387,6 +395,35 @@ declaring_sound : (small : Type 0) (s : State) (k : VariableKind) (at : Span) �
 declaring_sound small s kinds.Var at = sound_recorded small s (refusal row.F39 at)
 declaring_sound small s _ at = sound_refl small s
 
+-- The test of a case, and a `try` statement whose finalizer is left out
+
+case_test_sound : {names : Names} {e : Syntax} {s t : State} {p : Option Place} → KnowsNames names → LoweredCaseTest names e s t p
+    → StaysSound (IsSmallTree e) s t × IsSoundTest (IsSmallTree e) t p
+case_test_sound knows (NoCaseTest s) = (sound_refl (IsSmallTree Absent) s, tt)
+case_test_sound knows (CaseTested e s t p is by) = expression_sound knows by
+case_test_sound knows (CaseMoved at w fields s t p is by) =
+    let small : Type 0 = IsSmallTree (Node at w fields) in
+    let noted : Diagnostic = diagnostic_at row.F29 (type_name w) at.span in
+    let inner = expression_sound knows by in
+    (sound_next small s (recorded s noted) t (sound_recorded small s noted) inner.0, inner.1)
+
+finalized_sound : (at there : At) (block param body finalizer : Syntax) (s t : State)
+    → StaysSound
+    (IsSmallTree (Node at word.Try (Then block (Then (Node there word.Catch (Then param (Then body End))) (Then Absent End)))))
+    (recorded s (refusal row.F35 at.span)) t
+    → StaysSound
+    (IsSmallTree (Node at word.Try (Then block (Then (Node there word.Catch (Then param (Then body End))) (Then finalizer End))))) s t
+finalized_sound at there block param body finalizer s t inner =
+    sound_next small s noted t (sound_recorded small s (refusal row.F35 at.span))
+    (sound_weaker _ small noted t
+    (λ holds. ((holds.0.0, (holds.0.1.0, (holds.0.1.1.0, (tt, tt)))), (holds.1.0, (holds.1.1.0, (holds.1.1.1.0, (tt, tt)))))) inner)
+  where
+    small : Type 0
+    small = IsSmallTree (Node at word.Try (Then block (Then (Node there word.Catch (Then param (Then body End))) (Then finalizer End))))
+
+    noted : State
+    noted = recorded s (refusal row.F35 at.span)
+
 mutual
   pub statement_sound : {names : Names} {e : Syntax} {s t : State} → KnowsNames names → LoweredStatement names e s t
       → StaysSound (IsSmallTree e) s t
@@ -422,6 +459,26 @@ mutual
       break_sound (IsSmallTree (Node at word.Break (Then (label_part label) End))) s label target at.span (λ holds. holds.0.0) is
   statement_sound knows (Continue at label target s is) =
       continue_sound (IsSmallTree (Node at word.Continue (Then (label_part label) End))) s label target at.span (λ holds. holds.0.0) is
+  statement_sound knows (Throw at e s t p by) = throw_tree_sound at e s t p (expression_sound knows by)
+  statement_sound knows (Switch at value cases ks s t u p all by) =
+      switch_tree_sound at value cases ks s t u p (cases_sound knows all) (expression_sound knows by)
+  statement_sound knows (TryPlain at there block body s s2 s3 first second) =
+      try_tree_sound at there block body s s2 s3 (statement_sound knows first) (statement_sound knows second)
+  statement_sound knows (TryBound at there bind name type block body symbol identifier s s2 s3 annotated is f first second) =
+      bound_tree_sound at there bind name type block body symbol identifier s s2 s3 f (statement_sound knows first)
+      (statement_sound knows second)
+  statement_sound knows (Finalized at there block param body finalizer s t is by) =
+      finalized_sound at there block param body finalizer s t (statement_sound knows by)
+  statement_sound knows (Uncaught at block finalizer s) = sound_recorded _ s (refusal row.F34 at.span)
+  statement_sound knows (With at fields s) = sound_recorded _ s (refusal row.F36 at.span)
+
+  cases_sound : {names : Names} {s : State} {es : Pieces} {ks : List Case} {t : State} → KnowsNames names → LoweredCases names s es ks t
+      → StaysSound (AreSmallTrees es) (switch_begun s) t × All (IsSoundCase (AreSmallTrees es) t) ks
+  cases_sound knows (NoCase s) =
+      (sound_refl (AreSmallTrees End) (switch_begun s), All-nil (IsSoundCase (AreSmallTrees End) (switch_begun s)))
+  cases_sound knows (NextCase at test statements cases ks s x y z p all l tested) =
+      case_tree_sound at test statements cases ks s x y z p (cases_sound knows all) (statements_sound knows l)
+      (case_test_sound knows tested)
 
   pub loop_sound : {names : Names} {own : Label} {e : Syntax} {s t : State} → KnowsNames names → LoweredLoop names own e s t
       → StaysSound (IsSmallTree e) s t

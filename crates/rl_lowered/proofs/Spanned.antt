@@ -1,18 +1,18 @@
 -- Lowering a part gives no span that is none of the part's nodes or of a declaration, and its value is in a place without another.
-use Rattle.std.proofs.Common.{◌≡◌, Bool, true, List, [], ◌∷◌, Some, None, sym, subst}
+use Rattle.std.proofs.Common.{◌≡◌, ℕ, Bool, true, List, [], ◌∷◌, Some, None, sym, subst, Option}
 use Rattle.std.proofs.lemmas.List.Elements.{All-append}
 use Rattle.std.specs.Prelude.{IfSome}
-use Rattle.rl_base.specs.Diagnostics.{diagnostic_at}
 use Rattle.rl_base.specs.declared.row.Row.TheVariants as row
 use Rattle.rl_base.specs.declared.span.Span.{Span}
 use Rattle.rl_base.specs.declared.type_kind.TypeKind.{TypeKind}
 use Rattle.rl_base.specs.declared.type_kind.TypeKind.TheVariants as types
 use Rattle.rl_base.specs.declared.variable_kind.VariableKind.{VariableKind}
 use Rattle.rl_base.specs.declared.variable_kind.VariableKind.TheVariants as kinds
-use Rattle.rl_builder.specs.Builder.{State, new_block, recorded}
+use Rattle.rl_base.specs.Diagnostics.{diagnostic_at}
+use Rattle.rl_builder.specs.Builder.{State, new_block, recorded, reserved}
 use Rattle.rl_builder.specs.Temporaries.{temporary, with_value}
-use Rattle.rl_hir.specs.Instructions.{binding_texts}
-use Rattle.rl_hir.specs.Pieces.{Piece, argument_pieces, gathered}
+use Rattle.rl_frames.specs.Parts.{try_end}
+use Rattle.rl_frames.specs.SwitchParts.{fall_of}
 use Rattle.rl_hir.specs.declared.function.BlockKind.TheVariants as blocks
 use Rattle.rl_hir.specs.declared.instruction.InstructionKind.{InstructionKind}
 use Rattle.rl_hir.specs.declared.instruction.InstructionKind.TheVariants as variables
@@ -21,32 +21,40 @@ use Rattle.rl_hir.specs.declared.instruction.NonLocalBinding.{NonLocalBinding}
 use Rattle.rl_hir.specs.declared.instruction.Place.{Place}
 use Rattle.rl_hir.specs.declared.instruction.PlaceOrSpread.{PlaceOrSpread}
 use Rattle.rl_hir.specs.declared.instruction.PrimitiveValue.TheVariants as primitives
+use Rattle.rl_hir.specs.declared.terminal.Case.{Case}
 use Rattle.rl_hir.specs.declared.terminal.GotoVariant.TheVariants as gotos
 use Rattle.rl_hir.specs.declared.terminal.ReturnVariant.TheVariants as returns
+use Rattle.rl_hir.specs.Instructions.{binding_texts}
+use Rattle.rl_hir.specs.Pieces.{Piece, argument_pieces, gathered}
+use Rattle.rl_lowered.proofs.Catches.{catch_declared}
 use Rattle.rl_lowered.proofs.Plain.{lowered_plain, operand_span}
 use Rattle.rl_lowered.proofs.SoundForms.{form_places, method_places, object_places, stored_places}
 use Rattle.rl_lowered.proofs.SpannedForms.{cast_each, form_cast, form_each, load_spans, member_each, object_spanned, outer_spanned}
 use Rattle.rl_lowered.proofs.SpannedForms.{private_each, refusing_each, result_spanned, store_cast, update_cast, update_spanned}
 use Rattle.rl_lowered.proofs.SpannedForms.{update_spans, wrapper_each}
-use Rattle.rl_lowered.proofs.SpannedFrames.{do_while_spans, for_plain_spans, for_spans, forin_spans, forof_spans, if_else_spans}
-use Rattle.rl_lowered.proofs.SpannedFrames.{if_then_spans, label_spans}
-use Rattle.rl_lowered.proofs.SpannedFrames.{logical_spans, sequence_spans, ternary_spans, while_spans}
+use Rattle.rl_lowered.proofs.SpannedFrames.{bound_spans, case_begun_spans, case_ended_spans, declared_spans, do_while_spans}
+use Rattle.rl_lowered.proofs.SpannedFrames.{for_plain_spans, for_spans, forin_spans, forof_spans, if_else_spans, if_then_spans}
+use Rattle.rl_lowered.proofs.SpannedFrames.{label_spans, logical_spans, sequence_spans, switch_spans, ternary_spans, threw_spans}
+use Rattle.rl_lowered.proofs.SpannedFrames.{throwing_spans, tried_spans, while_spans}
 use Rattle.rl_lowered.proofs.SpannedMoves.{found_spans, more_spanned, next_hole_spans, none_spanned, one_spanned, recorded_spans}
-use Rattle.rl_lowered.proofs.SpannedMoves.{redeclared_spans, reserved_spans}
-use Rattle.rl_lowered.proofs.SpannedMoves.{return_spans, returned_spans, span_or, type_spans, value_spans}
+use Rattle.rl_lowered.proofs.SpannedMoves.{redeclared_spans, reserved_spans, return_spans, returned_spans, span_or, type_spans}
+use Rattle.rl_lowered.proofs.SpannedMoves.{value_spans}
 use Rattle.rl_lowered.specs.Forms.{IsMember, MemberKey, load_of, places_in, store_of, type_of, typed}
-use Rattle.rl_lowered.specs.Lowered.{Lowered, LoweredBody, LoweredDeclarators, LoweredHead, LoweredInit, LoweredLast, LoweredLoop}
-use Rattle.rl_lowered.specs.Lowered.{LoweredParts, LoweredStatement, LoweredStatements, LoweredTest, declaring, found_again, part_span}
-use Rattle.rl_lowered.specs.Lowered.{update_of, value_span}
+use Rattle.rl_lowered.specs.Lowered.{Lowered, LoweredBody, LoweredCaseTest, LoweredCases, LoweredDeclarators, LoweredHead, LoweredInit}
+use Rattle.rl_lowered.specs.Lowered.{LoweredLast, LoweredLoop, LoweredParts, LoweredStatement, LoweredStatements, LoweredTest, caught}
+use Rattle.rl_lowered.specs.Lowered.{declaring, found_again, part_span, throwing, update_of, value_span}
 use Rattle.rl_lowered.specs.Lowered as lowered
 use Rattle.rl_lowered.specs.Named.{found}
 use Rattle.rl_lowered.specs.Spanned.{EachSpan, EachSpanAmong, KeepsSpans}
 use Rattle.rl_model.specs.Actions.{Label}
+use Rattle.rl_model.specs.WellFormed.{case_places}
 use Rattle.rl_names.specs.Names.{Names}
+use Rattle.rl_promises.specs.Moved.{type_name}
 use Rattle.rl_promises.specs.Rows.{refusal, row_of_head}
 use Rattle.rl_promises.specs.Spans.{AreSpanned}
-use Rattle.rl_syntax.specs.Syntax.{Syntax, Pieces, span_of}
+use Rattle.rl_runs.specs.Moves.{block_id}
 use Rattle.rl_syntax.specs.declared.word.Word.{Word}
+use Rattle.rl_syntax.specs.Syntax.{Pieces, Syntax, span_of}
 
 module _ (P : Span → Type 0) where
   -- A part that was lowered is a node.
@@ -303,6 +311,29 @@ module _ (P : Span → Type 0) where
       (all_spans all (member_each P is each.1) h)
   head_spans (lowered.Lost at w fields s is) given each h = recorded_spans P s (refusal (row_of_head w) at.span) h
 
+  -- Tests of cases.
+
+  case_test_spans : {names : Names} {e : Syntax} {s t : State} {p : Option Place} → LoweredCaseTest names e s t p → EachSpan P e
+      → KeepsSpans P s t
+  case_test_spans (lowered.NoCaseTest s) each h = h
+  case_test_spans (lowered.CaseTested e s t p is by) each h = expression_spans by each h
+  case_test_spans (lowered.CaseMoved at w fields s t p is by) each h =
+      expression_spans by each (recorded_spans P s (diagnostic_at row.F29 (type_name w) at.span) h)
+
+  case_test_spanned : {names : Names} {e : Syntax} {s t : State} {p : Option Place} → LoweredCaseTest names e s t p → EachSpan P e
+      → (k : ℕ) (ks : List Case) → AreSpanned P (case_places ks)
+      → AreSpanned P (case_places (record { test = p; block = block_id k } ∷ ks))
+  case_test_spanned (lowered.NoCaseTest s) each k ks rest = rest
+  case_test_spanned (lowered.CaseTested e s t p is by) each k ks rest = more_spanned P p (case_places ks) (place_spanned by each) rest
+  case_test_spanned (lowered.CaseMoved at w fields s t p is by) each k ks rest =
+      more_spanned P p (case_places ks) (place_spanned by each) rest
+
+  cases_spanned : {names : Names} {s : State} {es : Pieces} {ks : List Case} {t : State} → LoweredCases names s es ks t
+      → EachSpanAmong P es → AreSpanned P (case_places ks)
+  cases_spanned (lowered.NoCase s) each = none_spanned P
+  cases_spanned (lowered.NextCase at test statements cases ks s x y z p all l tested) each =
+      case_test_spanned tested each.0.1.0 x.env.next_block ks (cases_spanned all each.1)
+
   mutual
     pub statement_spans : {names : Names} {e : Syntax} {s t : State} → LoweredStatement names e s t → EachSpan P e → KeepsSpans P s t
     statement_spans (lowered.Empty at s) each h = h
@@ -332,6 +363,38 @@ module _ (P : Span → Type 0) where
         next_hole_spans P s target.0 gotos.Break at.span blocks.Block each.0 h
     statement_spans (lowered.Continue at label target s is) each h =
         next_hole_spans P s target.0 gotos.Continue at.span blocks.Block each.0 h
+    statement_spans (lowered.Throw at e s t p by) each h =
+        threw_spans P (throwing t at.span) at.span p blocks.Block each.0 (place_spanned by each.1.0)
+        (throwing_spans P t at.span (expression_spans by each.1.0 h))
+    statement_spans (lowered.Switch at value cases ks s t u p all by) each h =
+        switch_spans P u s.env.next_block ks p at.span each.0 (place_spanned by each.1.0) (cases_spanned all each.1.1.0)
+        (expression_spans by each.1.0 (cases_spans all each.1.1.0 h))
+    statement_spans (lowered.TryPlain at there block body s s2 s3 first second) each h =
+        tried_spans P (reserved s) s2 s3 s.env.next_block there.span (span_of block)
+        (try_end s.env.next_block (reserved s).env.next_block s2.env.next_block None at.span) each.1.1.0.0 (statement_own second each.1.0)
+        (record { own = each.0; places = none_spanned P }) (statement_spans first each.1.1.0.1.1.0) (statement_spans second each.1.0)
+        (reserved_spans P s h)
+    statement_spans {names} (lowered.TryBound at there bind name type block body symbol identifier s s2 s3 annotated is f first second) each
+        h =
+        let declared : State = catch_declared s bind.span in
+        tried_spans P declared s2 s3 s.env.next_block there.span (span_of block)
+        (try_end s.env.next_block declared.env.next_block s2.env.next_block (Some (caught s bind.span)) at.span) each.1.1.0.0
+        (statement_own second each.1.0)
+        (record { own = each.0; places = one_spanned P (caught s bind.span) each.1.1.0.1.0.0 })
+        (λ g. statement_spans first each.1.1.0.1.1.0 (bound_spans P names s symbol identifier bind.span each.1.1.0.1.0.0 g))
+        (statement_spans second each.1.0) (declared_spans P s bind.span each.1.1.0.1.0.0 h)
+    statement_spans (lowered.Finalized at there block param body finalizer s t is by) each h =
+        statement_spans by (each.0, (each.1.0, (each.1.1.0, (tt, tt)))) (recorded_spans P s (refusal row.F35 at.span) h)
+    statement_spans (lowered.Uncaught at block finalizer s) each h = recorded_spans P s (refusal row.F34 at.span) h
+    statement_spans (lowered.With at fields s) each h = recorded_spans P s (refusal row.F36 at.span) h
+
+    cases_spans : {names : Names} {s : State} {es : Pieces} {ks : List Case} {t : State} → LoweredCases names s es ks t
+        → EachSpanAmong P es → KeepsSpans P s t
+    cases_spans (lowered.NoCase s) each h = reserved_spans P s h
+    cases_spans (lowered.NextCase at test statements cases ks s x y z p all l tested) each h =
+        case_test_spans tested each.0.1.0
+        (case_ended_spans P y (fall_of s.env.next_block ks) x.current at.span each.0.0
+        (statements_spans l each.0.1.1.0 (case_begun_spans P x s.env.next_block (cases_spans all each.1 h))))
 
     loop_spans : {names : Names} {own : Label} {e : Syntax} {s t : State} → LoweredLoop names own e s t → EachSpan P e → KeepsSpans P s t
     loop_spans {own} (lowered.While at test body s s2 s3 p first second) each h =

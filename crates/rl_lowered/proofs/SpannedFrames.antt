@@ -1,40 +1,54 @@
 -- Constructs give no span that is none of the tree's, where their holes give none.
-use Rattle.std.proofs.Common.{ℕ, ◌+◌, true, false, List, [], ◌∷◌, Some}
-use Rattle.std.specs.Prelude.{IfSome}
+use Rattle.std.proofs.Common.{ℕ, ◌+◌, true, false, List, [], ◌∷◌, Some, Bool, None, Option, ap, is_some, length, refl, subst, sym}
+use Rattle.std.proofs.Common.{append-nil, ◌∙◌}
+use Rattle.std.specs.Prelude.{IfSome, ◌≡◌, ◌++◌}
+use Rattle.std.proofs.lemmas.List.Elements.{All-push}
+use Rattle.rl_base.specs.declared.ids.BlockId.{BlockId}
+use Rattle.rl_base.specs.declared.ids.SymbolId.{SymbolId}
 use Rattle.rl_base.specs.declared.operator.LogicalOperator.{LogicalOperator}
+use Rattle.rl_base.specs.declared.row.Row.TheVariants as row
 use Rattle.rl_base.specs.declared.span.Span.{Span}
-use Rattle.rl_builder.specs.Builder.{State, completed_by, entered, new_block, pushed, reserved, with_temporary}
+use Rattle.rl_builder.specs.Builder.{State, completed_by, entered, innermost, new_block, pushed, reserved, with_temporary}
 use Rattle.rl_builder.specs.declared.blocks.WipBlock.{WipBlock}
 use Rattle.rl_builder.specs.Temporaries.{with_value}
-use Rattle.rl_frames.specs.Frames.{ForParts, for_after, for_after_init, for_after_update, for_again, for_aside, for_at, for_bodied}
-use Rattle.rl_frames.specs.Frames.{for_ended, for_inited, for_opened, for_updated}
-use Rattle.rl_frames.specs.Frames.{do_while_bodied, label_at, label_ended, while_after, while_at, while_bodied, while_ended}
-use Rattle.rl_frames.specs.Frames.{IfParts, LogicalParts, SequenceParts, TernaryParts}
-use Rattle.rl_frames.specs.Frames.{if_alternate, if_after_consequent, if_at, if_consequent, if_ended, if_shut}
-use Rattle.rl_frames.specs.Frames.{logical_after, logical_at, logical_ended, logical_righted}
-use Rattle.rl_frames.specs.Frames.{sequence_at, sequence_ended}
+use Rattle.rl_frames.specs.Frames.{ForParts, IfParts, LogicalParts, SequenceParts, TernaryParts, do_while_bodied, for_after, for_after_init}
+use Rattle.rl_frames.specs.Frames.{for_after_update, for_again, for_aside, for_at, for_bodied, for_ended, for_inited, for_opened}
+use Rattle.rl_frames.specs.Frames.{for_updated, if_after_consequent, if_alternate, if_at, if_consequent, if_ended, if_shut, label_at}
+use Rattle.rl_frames.specs.Frames.{label_ended, logical_after, logical_at, logical_ended, logical_righted, sequence_at, sequence_ended}
 use Rattle.rl_frames.specs.Frames.{ternary_after, ternary_alternated, ternary_at, ternary_consequent, ternary_ended, ternary_parted}
-use Rattle.rl_frames.specs.Parts.{do_while_end, for_begun, forin_begun, forin_end, forof_begun, forof_end, label_begun, label_end}
-use Rattle.rl_frames.specs.Parts.{while_begun, while_end}
-use Rattle.rl_frames.specs.Parts.{if_begun, if_end, loads, logical_begun, logical_entered, logical_left, logical_place}
-use Rattle.rl_frames.specs.Parts.{sequence_begun, ternary_begun, ternary_place}
+use Rattle.rl_frames.specs.Frames.{while_after, while_at, while_bodied, while_ended}
+use Rattle.rl_frames.specs.Parts.{do_while_end, for_begun, forin_begun, forin_end, forof_begun, forof_end, if_begun, if_end, label_begun}
+use Rattle.rl_frames.specs.Parts.{label_end, loads, logical_begun, logical_entered, logical_left, logical_place, sequence_begun}
+use Rattle.rl_frames.specs.Parts.{ternary_begun, ternary_place, try_begun, try_handler, while_begun, while_end}
 use Rattle.rl_frames.specs.Rounds.{ForOfParts, forin_at, forin_headed, forin_righted, forof_after, forof_at, forof_bodied, forof_ended}
 use Rattle.rl_frames.specs.Rounds.{forof_headed, forof_iterator, forof_righted, forof_shut, forof_tested, rounds_bodied, rounds_ended}
 use Rattle.rl_frames.specs.Rounds.{rounds_opened, rounds_shut}
+use Rattle.rl_frames.specs.SwitchParts.{case_begun, case_ended, switch_end, switch_finished, with_default}
+use Rattle.rl_hir.specs.declared.function.BlockKind.{BlockKind}
 use Rattle.rl_hir.specs.declared.function.BlockKind.TheVariants as block
+use Rattle.rl_hir.specs.declared.function.Identifier.{Identifier}
 use Rattle.rl_hir.specs.declared.instruction.InstructionValue.TheVariants as values
 use Rattle.rl_hir.specs.declared.instruction.Place.{Place}
+use Rattle.rl_hir.specs.declared.terminal.Case.{Case}
 use Rattle.rl_hir.specs.declared.terminal.GotoVariant.{GotoVariant}
 use Rattle.rl_hir.specs.declared.terminal.GotoVariant.TheVariants as gotos
 use Rattle.rl_hir.specs.declared.terminal.Terminal.{Terminal}
 use Rattle.rl_hir.specs.declared.terminal.TerminalKind.TheVariants as kinds
-use Rattle.rl_lowered.proofs.SpannedMoves.{completed_spans, entered_spans, last_hole_spans, more_spanned, next_hole_spans, none_spanned}
-use Rattle.rl_lowered.proofs.SpannedMoves.{one_spanned, pushed_spans, reserved_spans, scopes_spans, stored_spans, temporary_spans}
-use Rattle.rl_lowered.proofs.SpannedMoves.{value_spans}
+use Rattle.rl_lowered.proofs.Catches.{catch_declared, declares_caught, stores_caught}
+use Rattle.rl_lowered.proofs.SpannedMoves.{completed_spans, entered_spans, found_spans, last_hole_spans, more_spanned, next_hole_spans}
+use Rattle.rl_lowered.proofs.SpannedMoves.{none_spanned, one_spanned, pushed_spans, recorded_spans, reserved_spans, scopes_spans}
+use Rattle.rl_lowered.proofs.SpannedMoves.{stored_spans, temporary_spans, value_spans}
+use Rattle.rl_lowered.specs.Lowered.{catch_begun, catch_bound, caught, promoted, promoted_identifier, throwing, throwing_under}
+use Rattle.rl_lowered.specs.Named.{found}
 use Rattle.rl_lowered.specs.Spanned.{HasSpans, KeepsSpans}
+use Rattle.rl_machine.specs.Machine.{default_case}
 use Rattle.rl_model.specs.Actions.{Label}
-use Rattle.rl_promises.specs.Spans.{IsSpannedTerminal}
-use Rattle.rl_runs.specs.Moves.{block_id, branch, ends_by, goto, last_hole, next_hole, stored_in, without_scope}
+use Rattle.rl_model.specs.WellFormed.{case_places}
+use Rattle.rl_names.specs.Names.{Names}
+use Rattle.rl_promises.specs.Rows.{refusal}
+use Rattle.rl_promises.specs.Spans.{AreSpanned, IsSpannedTerminal}
+use Rattle.rl_runs.specs.Moves.{block_id, branch, ends_by, goto, last_hole, next_hole, stored_in, threw_from, without_handler}
+use Rattle.rl_runs.specs.Moves.{without_scope}
 
 module _ (P : Span → Type 0) where
   two_spans : (s : State) → KeepsSpans P s (reserved (reserved s))
@@ -299,3 +313,98 @@ module _ (P : Span → Type 0) where
 
       opened : State
       opened = with_value (forof_headed frame s3) (values.GetIterator collection) collection.span
+
+  -- A throw
+
+  throwing_under_spans : (o : Option BlockId) (s : State) (at : Span) → KeepsSpans P s (throwing_under o s at)
+  throwing_under_spans None s at h = h
+  throwing_under_spans (Some handler) s at h = recorded_spans P s (refusal row.F30 at) h
+
+  pub throwing_spans : (s : State) (at : Span) → KeepsSpans P s (throwing s at)
+  throwing_spans s at h = throwing_under_spans (innermost s.handlers) s at h
+
+  pub threw_spans : (s : State) (span : Span) (p : Place) (kind : BlockKind) → P span → IfSome p.span P
+      → KeepsSpans P s (threw_from s span p kind)
+  threw_spans s span p kind at place h =
+      completed_spans P (reserved s) (ends_by (kinds.Throw p) (Some span)) (new_block s.env.next_block kind)
+      (record { own = at; places = one_spanned P p place }) (reserved_spans P s h)
+
+  -- A `try` statement, from in front of its handler's block
+
+  handlers_spans : (s : State) (handlers : List BlockId) → KeepsSpans P s (record s { handlers = handlers })
+  handlers_spans s handlers h =
+      record { table = h.table; terminals = h.terminals; identifiers = h.identifiers; declarations = h.declarations }
+
+  pub tried_spans : (d s2 s3 : State) (behind : ℕ) (part other : Span) (end : Terminal) → P part → P other → IsSpannedTerminal P end
+      → KeepsSpans P (try_begun d) s2 → KeepsSpans P (try_handler s2 behind d.env.next_block part) s3
+      → KeepsSpans P d (completed_by (last_hole (without_handler s3) behind gotos.Try other d.current) end (new_block behind block.Block))
+  tried_spans d s2 s3 behind part other end part_at other_at ends first second h =
+      completed_spans P (last_hole (without_handler s3) behind gotos.Try other d.current) end (new_block behind block.Block) ends
+      (last_hole_spans P (without_handler s3) behind gotos.Try other d.current other_at
+      (handlers_spans s3 (without_handler s3).handlers
+      (second
+      (handlers_spans (next_hole s2 behind gotos.Break part block.Block) (try_handler s2 behind d.env.next_block part).handlers
+      (next_hole_spans P s2 behind gotos.Break part block.Block part_at
+      (first (entered_spans P (reserved d) (new_block d.env.next_block block.Catch) (reserved_spans P d h))))))))
+
+  promoted_spans : (s : State) (span : Span) → P span → KeepsSpans P s (promoted s span)
+  promoted_spans s span at h = record {
+    table = h.table;
+    terminals = h.terminals;
+    identifiers = All-push (λ (i : Identifier). IfSome i.span P) s.env.identifiers
+        (promoted_identifier (length s.env.identifiers) s.env.next_type span) h.identifiers at;
+    declarations = h.declarations;
+  }
+
+  pub declared_spans : (s : State) (param : Span) → P param → KeepsSpans P s (catch_declared s param)
+  declared_spans s param at h =
+      value_spans P (reserved (promoted s param)) (declares_caught s param) (Some param) at tt (one_spanned P (caught s param) at)
+      (reserved_spans P (promoted s param) (promoted_spans s param at h))
+
+  pub bound_spans : (names : Names) (s : State) (symbol : SymbolId) (identifier : ℕ) (param : Span) → P param
+      → KeepsSpans P (catch_begun s param) (catch_bound names s symbol identifier param)
+  bound_spans names s symbol identifier param at h =
+      value_spans P (found names (catch_begun s param) symbol param) (stores_caught s identifier param) (Some param) at tt
+      (more_spanned P (record { identifier = record { 0 = identifier }; span = Some param }) (caught s param ∷ []) at
+      (one_spanned P (caught s param) at))
+      (found_spans P names (catch_begun s param) symbol param at h)
+
+  -- A case of a `switch`
+
+  pub case_begun_spans : (x : State) (behind : ℕ) → KeepsSpans P x (case_begun x None behind)
+  case_begun_spans x behind h =
+      let opened : State = entered (reserved x) (new_block x.env.next_block block.Block) in
+      scopes_spans P opened (case_begun x None behind).scopes
+      (entered_spans P (reserved x) (new_block x.env.next_block block.Block) (reserved_spans P x h))
+
+  pub case_ended_spans : (y : State) (fall : ℕ) (outer : WipBlock) (part : Span) → P part → KeepsSpans P y (case_ended y fall outer part)
+  case_ended_spans y fall outer part part_at h =
+      last_hole_spans P (without_scope y) fall gotos.Break part outer part_at (scopes_spans P y (without_scope y).scopes h)
+
+  -- The case that goes behind the statement has no test.
+
+  none_behind : (ks : List Case) (behind : ℕ) → case_places (ks ++ record { test = None; block = block_id behind } ∷ []) ≡ case_places ks
+  none_behind [] behind = refl
+  none_behind (k ∷ ks) behind = by_test k.test (none_behind ks behind)
+    where
+      by_test : (test : Option Place) → case_places (ks ++ record { test = None; block = block_id behind } ∷ []) ≡ case_places ks
+          → case_places (record k { test = test } ∷ (ks ++ record { test = None; block = block_id behind } ∷ []))
+          ≡ case_places (record k { test = test } ∷ ks)
+      by_test None same = same
+      by_test (Some place) same = ap (λ (l : List Place). place ∷ l) same
+
+  default_places : (b : Bool) (ks : List Case) (behind : ℕ) → case_places (with_default b ks behind) ≡ case_places ks
+  default_places true ks behind = refl
+  default_places false ks behind = none_behind ks behind
+
+  pub switch_spans : (u : State) (behind : ℕ) (ks : List Case) (p : Place) (span : Span) → P span → IfSome p.span P
+      → AreSpanned P (case_places ks) → KeepsSpans P u (switch_finished u behind ks p span)
+  switch_spans u behind ks p span at place tests h =
+      completed_spans P u (switch_end behind ks p span) (new_block behind block.Block)
+      (record {
+        own = at;
+        places = more_spanned P p _ place
+            (subst (AreSpanned P)
+            (sym (append-nil (case_places (with_default (is_some (default_case ks)) ks behind))
+            ∙ default_places (is_some (default_case ks)) ks behind)) tests);
+      }) h

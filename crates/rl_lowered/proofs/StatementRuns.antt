@@ -1,13 +1,13 @@
 -- Lowered statements and bodies have the runs of the source, where nothing of them was refused.
-use Rattle.std.proofs.Common.{◌≡◌, ℕ, ◌++◌, ◌||◌, Bool, true, false, true≢false, List, [], ◌∷◌, length, codes, Option, Some, None, refl, sym, ap}
-use Rattle.std.proofs.Common.{if◌then◌else◌}
-use Rattle.std.proofs.Common.{◌∙◌, subst}
-use Rattle.rl_base.specs.VariableKinds.{variable_text}
+use Rattle.std.proofs.Common.{◌≡◌, ℕ, ◌||◌, Bool, true, false, true≢false, List, [], ◌∷◌, length, codes, Option, Some, None, refl, sym}
+use Rattle.std.proofs.Common.{ap, if◌then◌else◌, ◌∙◌, subst, arith}
+use Rattle.rl_base.specs.declared.ids.BlockId.{BlockId}
 use Rattle.rl_base.specs.declared.ids.SymbolId.{SymbolId}
 use Rattle.rl_base.specs.declared.span.Span.{Span}
 use Rattle.rl_base.specs.declared.variable_kind.VariableKind.{VariableKind}
 use Rattle.rl_base.specs.declared.variable_kind.VariableKind.TheVariants as kinds
-use Rattle.rl_builder.specs.Builder.{State, completed_by, new_block, reserved}
+use Rattle.rl_base.specs.VariableKinds.{variable_text}
+use Rattle.rl_builder.specs.Builder.{State, completed_by, innermost, new_block, reserved}
 use Rattle.rl_builder.specs.declared.blocks.WipBlock.{WipBlock}
 use Rattle.rl_builder.specs.Temporaries.{temporary, with_value}
 use Rattle.rl_frames.proofs.Enumerations.{forin_runs}
@@ -17,29 +17,37 @@ use Rattle.rl_frames.proofs.Iterations.{forof_runs}
 use Rattle.rl_frames.proofs.LabelFrames.{label_runs}
 use Rattle.rl_frames.proofs.Loops.{do_while_runs, while_runs}
 use Rattle.rl_frames.proofs.Meant.{do_while_meant, for_meant, forin_meant, forof_meant, if_meant, while_meant}
-use Rattle.rl_frames.specs.Parts.{label_begun}
+use Rattle.rl_frames.proofs.SwitchMeant.{CaseParts, case_meaning, case_meanings, switch_meant}
+use Rattle.rl_frames.proofs.SwitchRuns.{case_runs_more, switch_begun_runs, switch_runs}
+use Rattle.rl_frames.proofs.Tries.{try_runs}
+use Rattle.rl_frames.specs.Parts.{label_begun, try_started}
+use Rattle.rl_frames.specs.SwitchParts.{switch_finished}
 use Rattle.rl_hir.specs.declared.function.BlockKind.TheVariants as blocks
 use Rattle.rl_hir.specs.declared.instruction.InstructionKind.{InstructionKind}
 use Rattle.rl_hir.specs.declared.instruction.InstructionValue.TheVariants as values
 use Rattle.rl_hir.specs.declared.instruction.Place.{Place}
 use Rattle.rl_hir.specs.declared.instruction.PrimitiveValue.TheVariants as primitives
+use Rattle.rl_hir.specs.declared.terminal.Case.{Case}
 use Rattle.rl_hir.specs.declared.terminal.GotoVariant.TheVariants as gotos
 use Rattle.rl_hir.specs.declared.terminal.ReturnVariant.{ReturnVariant}
 use Rattle.rl_hir.specs.declared.terminal.ReturnVariant.TheVariants as returns
-use Rattle.rl_lowered.proofs.Blocks.{declarators_blocks, declares_of, expression_blocks, head_blocks, init_blocks}
-use Rattle.rl_lowered.proofs.Blocks.{loop_is, statement_blocks, statements_blocks, test_blocks}
-use Rattle.rl_lowered.proofs.Clean.{branches_clean, do_while_clean, first_none, for_clean, never, rounds_clean, row_clean, second_none}
-use Rattle.rl_lowered.proofs.Clean.{while_clean}
+use Rattle.rl_lowered.proofs.Blocks.{blocks_caught, case_test_blocks, cases_blocks, declarators_blocks, declares_of, expression_blocks}
+use Rattle.rl_lowered.proofs.Blocks.{head_blocks, init_blocks, loop_is, statement_blocks, statements_blocks, test_blocks}
+use Rattle.rl_lowered.proofs.Catches.{catch_declared, extends_promoted, length_promoted}
+use Rattle.rl_lowered.proofs.CatchRuns.{CasesRun, case_test_runs, caught_meaning, caught_runs, no_handler, plain_handler, unthrown}
+use Rattle.rl_lowered.proofs.Clean.{among_clean, branches_clean_at, case_clean, finalizer_never, first_none, for_clean, never}
+use Rattle.rl_lowered.proofs.Clean.{rounds_clean, row_clean, switch_clean, throw_clean, try_clean, while_clean}
 use Rattle.rl_lowered.proofs.HeadRuns.{head_runs}
 use Rattle.rl_lowered.proofs.Plain.{declared_meant, init_said, lowered_plain, operand_there, undeclared_meant}
+use Rattle.rl_lowered.proofs.Refused.{IsTried, bound_handlers, tried_in, tried_none, tried_on}
 use Rattle.rl_lowered.proofs.Runs.{expression_runs}
-use Rattle.rl_lowered.specs.Lowered.{Literal, Lowered, LoweredDeclarators, NextDeclared, NextInitialized, NoDeclarator, declaring, kind_of}
-use Rattle.rl_lowered.specs.Lowered.{AwaitRefused, Break, Continue, DeclaredInit, DoWhile, ForIn, ForOf, ForPlain, ForUpdated, Labeled}
-use Rattle.rl_lowered.specs.Lowered.{LabeledLoop, LoweredInit}
-use Rattle.rl_lowered.specs.Lowered.{LoweredLoop, LoweredTest, NoInit, NoTest, RefusedInit, Tested, Unlabeled, While, label_part}
-use Rattle.rl_lowered.specs.Lowered.{part_span}
-use Rattle.rl_lowered.specs.Lowered.{Block, Debugger, Empty, Expression, IfElse, IfThen, LoweredBody, LoweredStatement, LoweredStatements}
-use Rattle.rl_lowered.specs.Lowered.{NextStatement, NoStatement, Return, ReturnNothing, Statements, Value as OfValue, Variables}
+use Rattle.rl_lowered.specs.Lowered.{AwaitRefused, Block, Break, Continue, Debugger, DeclaredInit, DoWhile, Empty, Expression, Finalized}
+use Rattle.rl_lowered.specs.Lowered.{ForIn, ForOf, ForPlain, ForUpdated, IfElse, IfThen, Labeled, LabeledLoop, Literal, Lowered}
+use Rattle.rl_lowered.specs.Lowered.{LoweredBody, LoweredCases, LoweredDeclarators, LoweredInit, LoweredLoop, LoweredStatement}
+use Rattle.rl_lowered.specs.Lowered.{LoweredStatements, LoweredTest, NextCase, NextDeclared, NextInitialized, NextStatement, NoCase}
+use Rattle.rl_lowered.specs.Lowered.{NoDeclarator, NoInit, NoStatement, NoTest, RefusedInit, Return, ReturnNothing, Statements, Switch}
+use Rattle.rl_lowered.specs.Lowered.{Tested, Throw, TryBound, TryPlain, Uncaught, Unlabeled, Value as OfValue, Variables, While, With}
+use Rattle.rl_lowered.specs.Lowered.{catch_bound, caught, declaring, kind_of, label_part, part_span, promoted}
 use Rattle.rl_lowered.specs.Named.{found}
 use Rattle.rl_lowered.specs.Promised.{exec_before_end}
 use Rattle.rl_machine.specs.Acts.{Computes, declared}
@@ -50,7 +58,7 @@ use Rattle.rl_machine.specs.declared.trace.Value.TheVariants as value
 use Rattle.rl_machine.specs.Ends.{Notes}
 use Rattle.rl_machine.specs.Machine.{Code, Ends}
 use Rattle.rl_machine.specs.Traces.{Store, World, returned}
-use Rattle.rl_model.specs.Actions.{Action, Label, ◌>>=◌, break_to, continue_to, done, give, return_with}
+use Rattle.rl_model.specs.Actions.{Action, Label, break_to, continue_to, done, give, return_with, ◌>>=◌}
 use Rattle.rl_model.specs.Events.{event}
 use Rattle.rl_model.specs.Expressions.{eval}
 use Rattle.rl_model.specs.Patterns.{declare}
@@ -58,26 +66,27 @@ use Rattle.rl_model.specs.Scene.{Scene}
 use Rattle.rl_model.specs.Statements.{declare_all, declare_one, eval_optional, exec, exec_all, has_meaning, take_head}
 use Rattle.rl_names.specs.Names.{Names}
 use Rattle.rl_promises.specs.Jumps.{is_loop}
-use Rattle.rl_promises.specs.Rows.{refusals, refusals_in, said_of_init, said_of_test}
+use Rattle.rl_promises.specs.Rows.{refusals, refusals_among, refusals_at, refusals_in, refusals_in_body, refusals_in_cases, said_of_init}
+use Rattle.rl_promises.specs.Rows.{said_of_test}
 use Rattle.rl_promises.specs.Stops.{has_using, have_using}
-use Rattle.rl_runs.proofs.Jumpless.{jumpless_runs, evaluated_jumpless, none_jumpless, order_jumpless, variable_declared}
-use Rattle.rl_runs.proofs.Jumpless.{variable_initialized}
 use Rattle.rl_runs.proofs.Expressions.{literal_runs}
 use Rattle.rl_runs.proofs.Holes.{use_expression}
-use Rattle.rl_runs.proofs.Moves.{contained_before, extends_completed, extends_reserved, extends_resolved, extends_then, extends_value, inside}
-use Rattle.rl_runs.proofs.Moves.{terminal_met}
+use Rattle.rl_runs.proofs.Jumpless.{evaluated_jumpless, jumpless_runs, none_jumpless, order_jumpless, variable_declared}
+use Rattle.rl_runs.proofs.Jumpless.{variable_initialized}
+use Rattle.rl_runs.proofs.Moves.{contained_before, extends_completed, extends_refl, extends_reserved, extends_resolved, extends_then}
+use Rattle.rl_runs.proofs.Moves.{extends_value, inside, terminal_met}
 use Rattle.rl_runs.proofs.Shared.{kept_same}
 use Rattle.rl_runs.proofs.Statements.{break_runs, continue_runs, does_same, evaluated_runs, event_runs, nothing_runs, order_runs}
-use Rattle.rl_runs.proofs.Statements.{return_runs}
+use Rattle.rl_runs.proofs.Statements.{return_runs, throw_runs}
 use Rattle.rl_runs.proofs.Steps.{comes_at_once, since_start, steps_on}
 use Rattle.rl_runs.specs.Continuations.{Agrees, SharesVariables, TracesFrom, kept_in}
 use Rattle.rl_runs.specs.Exits.{labeled_by}
 use Rattle.rl_runs.specs.Facts.{Extends, IsContainedIn}
-use Rattle.rl_runs.specs.Moves.{next_hole, return_of, returned_from}
-use Rattle.rl_runs.specs.Simulation.{RunsJumpless, RunsExpression, RunsStatement}
+use Rattle.rl_runs.specs.Moves.{next_hole, return_of, returned_from, threw_from}
+use Rattle.rl_runs.specs.Simulation.{RunsExpression, RunsJumpless, RunsStatement}
 use Rattle.rl_syntax.specs.declared.numbered.At.{At}
 use Rattle.rl_syntax.specs.declared.word.Word.TheVariants as word
-use Rattle.rl_syntax.specs.Syntax.{Syntax, Node, Listed, Said, Absent, Pieces, End, Then, span_of}
+use Rattle.rl_syntax.specs.Syntax.{Absent, End, Listed, Node, Pieces, Said, Syntax, Then, span_of}
 
 -- The place of an identifier at a span.
 abbrev there_at : ℕ → Span → Place
@@ -116,6 +125,25 @@ rounds_unused head right body is =
     let first = or_false (has_using head) _ is in
     let second = or_false (has_using right) _ first.1 in
     (first.0, (or_false (has_using body) false second.1).0)
+
+switch_unused : (value : Syntax) (cases : Pieces) → has_using value || (have_using cases || false) ≡ false → have_using cases ≡ false
+switch_unused value cases is = (or_false (have_using cases) false (or_false (has_using value) _ is).1).0
+
+-- Of a case and of the cases behind it.
+case_unused : (test : Syntax) (statements cases : Pieces)
+    → (has_using test || (have_using statements || false)) || have_using cases ≡ false
+    → (have_using statements ≡ false) × (have_using cases ≡ false)
+case_unused test statements cases is =
+    let both = or_false (has_using test || (have_using statements || false)) (have_using cases) is in
+    ((or_false (have_using statements) false (or_false (has_using test) _ both.0).1).0, both.1)
+
+-- Of the block of a `try` statement, and of the body of its `catch`.
+try_unused : (block param body : Syntax) → has_using block || ((has_using param || (has_using body || false)) || false) ≡ false
+    → (has_using block ≡ false) × (has_using body ≡ false)
+try_unused block param body is =
+    let both = or_false (has_using block) _ is in
+    let inside = or_false (has_using param || (has_using body || false)) false both.1 in
+    (both.0, (or_false (has_using body) false (or_false (has_using param) _ inside.0).1).0)
 
 -- Declarations of variables.
 
@@ -248,84 +276,149 @@ unowned_meant (Continue at label target s is) other scene own =
 unowned_meant _ other scene own = refl
 
 mutual
-  pub statement_runs : {names : Names} {e : Syntax} {s t : State} → LoweredStatement names e s t → refusals names e ≡ []
-      → has_using e ≡ false → (scene : Scene) → scene.names ≡ names → scene.ported ≡ true
+  pub statement_runs : {names : Names} {e : Syntax} {s t : State} → LoweredStatement names e s t → (tried : Bool)
+      → IsTried tried s → refusals_at names tried e ≡ [] → has_using e ≡ false → (scene : Scene) → scene.names ≡ names → scene.ported ≡ true
       → RunsStatement scene.world (exec scene None e) s t
-  statement_runs (Empty at s) none unused scene same ported = nothing_runs scene.world s
-  statement_runs {names} (Expression at e s t p by) none unused scene same ported =
+  statement_runs (Empty at s) tried h none unused scene same ported = nothing_runs scene.world s
+  statement_runs {names} (Expression at e s t p by) tried h none unused scene same ported =
       evaluated_runs scene.world s t (eval scene e) p.identifier.0 (expression_runs by (first_none (refusals names e) [] none) scene same ported)
-  statement_runs (Debugger at s) none unused scene same ported =
+  statement_runs (Debugger at s) tried h none unused scene same ported =
       event_runs scene.world s values.Debugger (Some at.span) (event (codes "debugger") [] []) (λ store. refl)
-  statement_runs (Variables at k declarators s t d) none unused scene same ported =
+  statement_runs (Variables at k declarators s t d) tried h none unused scene same ported =
       jumpless_runs (variables_runs at k declarators s t d none unused scene same ported None)
-  statement_runs (ReturnNothing at s) none unused scene same ported =
+  statement_runs (ReturnNothing at s) tried h none unused scene same ported =
       return_runs scene.world s (with_value s (values.Primitive primitives.Undefined) None) (give value.Undefined) (temporary s None)
       (Some at.span) returns.Explicit blocks.Block
       (literal_runs scene.world s (give value.Undefined) primitives.Undefined None (λ ways k source answers. refl))
-  statement_runs {names} (Return at e s t p by) none unused scene same ported =
+  statement_runs {names} (Return at e s t p by) tried h none unused scene same ported =
       subst (λ (d : Action (Unit {0})). RunsStatement scene.world d s (returned_from t (Some at.span) returns.Explicit p blocks.Block))
       (sym (returned_meant by scene None at))
       (return_runs scene.world s t (eval scene e) p (Some at.span) returns.Explicit blocks.Block
       (expression_runs by (first_none (refusals names e) [] none) scene same ported))
-  statement_runs {names} (Block at statements s t by) none unused scene same ported =
-      statements_runs by (first_none (refusals_in names statements) [] none) (or_false (have_using statements) false unused).0 scene same
-      ported
-  statement_runs {names} (IfThen at test consequent s s2 s3 p by_consequent by_test) none unused scene same ported =
+  statement_runs {names} (Block at statements s t by) tried h none unused scene same ported =
+      statements_runs by tried h none (or_false (have_using statements) false unused).0 scene same ported
+  statement_runs {names} (IfThen at test consequent s s2 s3 p by_consequent by_test) tried h none unused scene same ported =
       does_same scene.world s _
       (λ ways normal source answers. sym (if_meant scene None at test consequent Absent ways normal source answers))
       (if_then_runs s s2 s3 p at.span (span_of consequent) (statement_blocks by_consequent).extends (expression_blocks by_test).extends
       scene.world (eval scene test) (exec scene None consequent)
-      (statement_runs by_consequent (branches_clean names consequent Absent test none).0
+      (statement_runs by_consequent tried h (branches_clean_at names tried consequent Absent test none).0
       (branches_unused test consequent Absent unused).0 scene same ported)
-      (expression_runs by_test (branches_clean names consequent Absent test none).2 scene same ported))
-  statement_runs {names} (IfElse at test consequent alternate s s2 s3 s4 p by_consequent by_alternate by_test) none unused scene same
-      ported =
+      (expression_runs by_test (branches_clean_at names tried consequent Absent test none).2 scene same ported))
+  statement_runs {names} (IfElse at test consequent alternate s s2 s3 s4 p by_consequent by_alternate by_test) tried h none unused scene
+      same ported =
       does_same scene.world s _
       (λ ways normal source answers. sym (if_meant scene None at test consequent alternate ways normal source answers))
       (if_runs s s2 s3 s4 p at.span (span_of consequent) (span_of alternate)
       (statement_blocks by_consequent).extends (statement_blocks by_alternate).extends (expression_blocks by_test).extends
       scene.world (eval scene test) (exec scene None consequent) (exec scene None alternate)
-      (statement_runs by_consequent (branches_clean names consequent alternate test none).0
+      (statement_runs by_consequent tried h (branches_clean_at names tried consequent alternate test none).0
       (branches_unused test consequent alternate unused).0 scene same ported)
-      (statement_runs by_alternate (branches_clean names consequent alternate test none).1
+      (statement_runs by_alternate tried (tried_on s s2 (statement_blocks by_consequent).extends.handlers h)
+      (branches_clean_at names tried consequent alternate test none).1
       (branches_unused test consequent alternate unused).1 scene same ported)
-      (expression_runs by_test (branches_clean names consequent alternate test none).2 scene same ported))
-  statement_runs (Unlabeled loop s t by) none unused scene same ported = loop_runs by none unused scene same ported
-  statement_runs {names} (LabeledLoop at label loop s t by) none unused scene same ported =
-      loop_runs by (first_none (refusals names loop) [] none) (or_false (has_using loop) false unused).0 scene same ported
-  statement_runs {names} (Labeled at label body s s2 other by) none unused scene same ported =
+      (expression_runs by_test (branches_clean_at names tried consequent alternate test none).2 scene same ported))
+  statement_runs (Unlabeled loop s t by) tried h none unused scene same ported = loop_runs by tried h none unused scene same ported
+  statement_runs {names} (LabeledLoop at label loop s t by) tried h none unused scene same ported =
+      loop_runs by tried h none (or_false (has_using loop) false unused).0 scene same ported
+  statement_runs {names} (Labeled at label body s s2 other by) tried h none unused scene same ported =
       label_runs s s2 label at.span (span_of body) (statement_blocks by).extends scene.world (exec scene (Some label) body)
       (subst (λ (d : Action (Unit {0})). RunsStatement scene.world d (label_begun s label) s2)
       (sym (unowned_meant by other scene (Some label)))
-      (statement_runs by (first_none (refusals names body) [] none) (or_false (has_using body) false unused).0 scene same ported))
-  statement_runs (Break at label target s is) none unused scene same ported =
+      (statement_runs by tried h none (or_false (has_using body) false unused).0 scene same ported))
+  statement_runs (Break at label target s is) tried h none unused scene same ported =
       subst (λ (d : Action (Unit {0})). RunsStatement scene.world d s (next_hole s target.0 gotos.Break at.span blocks.Block))
       (sym (break_meant scene None at label)) (break_runs scene.world s label target at.span blocks.Block is)
-  statement_runs (Continue at label target s is) none unused scene same ported =
+  statement_runs (Continue at label target s is) tried h none unused scene same ported =
       subst (λ (d : Action (Unit {0})). RunsStatement scene.world d s (next_hole s target.0 gotos.Continue at.span blocks.Block))
       (sym (continue_meant scene None at label)) (continue_runs scene.world s label target at.span blocks.Block is)
+  statement_runs {names} (Throw at e s t p by) tried h none unused scene same ported =
+      let clean = throw_clean names tried at.span e none in
+      let unhandled : innermost s.handlers ≡ None = no_handler (innermost s.handlers) (h ∙ clean.1) in
+      subst
+      (λ (x : State). RunsStatement scene.world (exec scene None (Node at word.Throw (Then e End))) s (threw_from x at.span p blocks.Block))
+      (sym (unthrown t at.span (ap (λ (l : List BlockId). innermost l) (expression_blocks by).extends.handlers ∙ unhandled)))
+      (throw_runs scene.world s t (eval scene e) p at.span blocks.Block unhandled (expression_runs by clean.0 scene same ported))
+  statement_runs {names} (Switch at value cases ks s t u p all by) tried h none unused scene same ported =
+      let clean = switch_clean names tried value cases none in
+      let bare = switch_unused value cases unused in
+      let c = cases_run all tried h clean.0 bare scene same ported in
+      subst (λ (es : Pieces). RunsStatement scene.world (exec scene None (Node at word.Switch (Then value (Then (Listed es) End)))) s
+      (switch_finished u s.env.next_block ks p at.span)) c.are
+      (does_same scene.world s _
+      (λ ways normal source answers. sym (switch_meant scene None at value c.parts ported ways normal source answers))
+      (switch_runs s t u None ks p at.span (cases_blocks all).extends (expression_blocks by).extends scene.world
+      (case_meanings scene c.parts) (eval scene value) c.runs (expression_runs by clean.1 scene same ported)))
+  statement_runs {names} (TryPlain at there block body s s2 s3 first second) tried h none unused scene same ported =
+      let clean = try_clean names tried Absent body block none in
+      let bare = try_unused block Absent body unused in
+      try_runs s s s2 s3 None at.span there.span (span_of block) (extends_refl s) (statement_blocks first).extends
+      (statement_blocks second).extends refl refl tt scene.world (exec scene None block) (caught_meaning scene Absent body)
+      (plain_handler scene.world (try_started s None) s2 (exec scene None body)
+      (statement_runs first tried h clean.1 bare.1 scene same ported))
+      (statement_runs second true (tried_in s2 s.env.next_block (reserved s).env.next_block there.span) clean.2 bare.0 scene same ported)
+  statement_runs {names} (TryBound at there bind name type block body symbol identifier s s2 s3 annotated is f first second) tried h none
+      unused scene same ported =
+      let param : Syntax = Node bind word.Bind (Then (Said name) (Then type End)) in
+      let clean = try_clean names tried param body block none in
+      let bare = try_unused block param body unused in
+      let made : State = promoted s bind.span in
+      let stored : State = catch_bound names s symbol identifier bind.span in
+      try_runs s made s2 s3 (Some (caught s bind.span)) at.span there.span (span_of block) (extends_promoted s bind.span)
+      (extends_then (blocks_caught names s symbol identifier bind.span f).extends (statement_blocks first).extends)
+      (statement_blocks second).extends refl refl (omega arith, omega (arith, length_promoted s bind.span)) scene.world
+      (exec scene None block)
+      (caught_meaning scene param body)
+      (caught_runs scene s s2 bind name type body symbol identifier f (declares scene names bind.id.0 symbol same is)
+      (blocks_caught names s symbol identifier bind.span f).extends (statement_blocks first).extends
+      (statement_runs first tried (tried_on s stored (bound_handlers s symbol identifier bind.span f) h) clean.1 bare.1 scene same ported))
+      (statement_runs second true (tried_in s2 s.env.next_block (catch_declared s bind.span).env.next_block there.span) clean.2 bare.0
+      scene same ported)
+  statement_runs {names} (Finalized at there block param body finalizer s t is by) tried h none unused scene same ported =
+      absurd (finalizer_never names tried at there block param body finalizer is none)
+  statement_runs (Uncaught at block finalizer s) tried h none unused scene same ported = absurd (never none)
+  statement_runs (With at fields s) tried h none unused scene same ported = absurd (never none)
+
+  -- The cases of a `switch`: their parts, and their runs.
+  cases_run : {names : Names} {s : State} {es : Pieces} {ks : List Case} {t : State} → LoweredCases names s es ks t → (tried : Bool)
+      → IsTried tried s → refusals_in_cases names tried es ≡ [] → have_using es ≡ false → (scene : Scene) → scene.names ≡ names
+      → scene.ported ≡ true → CasesRun scene s es ks t
+  cases_run (NoCase s) tried h none unused scene same ported =
+      record { parts = []; are = refl; runs = switch_begun_runs scene.world None s }
+  cases_run {names} (NextCase at test statements cases ks s x y z p all by tested) tried h none unused scene same ported =
+      let clean = case_clean names tried test statements cases none in
+      let bare = case_unused test statements cases unused in
+      let c = cases_run all tried h clean.behind bare.1 scene same ported in
+      let part : CaseParts = record { at = at; condition = test; statements = statements } in record {
+        parts = part ∷ c.parts;
+        are = ap (λ (rest : Pieces). Then (Node at word.Case (Then test (Then (Listed statements) End))) rest) c.are;
+        runs = case_runs_more s x y None ks at.span (cases_blocks all).extends (statements_blocks by).extends z
+            (case_test_blocks tested).extends scene.world (case_meanings scene c.parts) (case_meaning scene part) p c.runs
+            (statements_runs by tried (tried_on s x (cases_blocks all).extends.handlers h) clean.body bare.0 scene same ported)
+            (case_test_runs tested clean.moved clean.condition scene same ported);
+      }
 
   -- With the label that is its own.
-  pub loop_runs : {names : Names} {own : Label} {e : Syntax} {s t : State} → LoweredLoop names own e s t → refusals names e ≡ []
-      → has_using e ≡ false → (scene : Scene) → scene.names ≡ names → scene.ported ≡ true
+  pub loop_runs : {names : Names} {own : Label} {e : Syntax} {s t : State} → LoweredLoop names own e s t → (tried : Bool)
+      → IsTried tried s → refusals_at names tried e ≡ [] → has_using e ≡ false → (scene : Scene) → scene.names ≡ names → scene.ported ≡ true
       → RunsStatement scene.world (labeled_by own (exec scene own e)) s t
-  loop_runs {names} {own} (While at test body s s2 s3 p by by_test) none unused scene same ported =
-      let clean = while_clean names test body none in
+  loop_runs {names} {own} (While at test body s s2 s3 p by by_test) tried h none unused scene same ported =
+      let clean = while_clean names tried test body none in
       does_same scene.world s _ (λ ways normal source answers. sym (while_meant scene own at test body ways normal source answers))
       (while_runs s s2 s3 own p at.span (span_of body) (statement_blocks by).extends (expression_blocks by_test).extends scene.world
       (eval scene test) (exec scene None body)
-      (statement_runs by clean.0 (or_false (has_using body) false (or_false (has_using test) _ unused).1).0 scene same ported)
+      (statement_runs by tried h clean.0 (or_false (has_using body) false (or_false (has_using test) _ unused).1).0 scene same ported)
       (expression_runs by_test clean.1 scene same ported))
-  loop_runs {names} {own} (DoWhile at test body s s2 s3 p by by_test) none unused scene same ported =
-      let clean = do_while_clean names test body none in
+  loop_runs {names} {own} (DoWhile at test body s s2 s3 p by by_test) tried h none unused scene same ported =
+      let clean = while_clean names tried test body none in
       does_same scene.world s _ (λ ways normal source answers. sym (do_while_meant scene own at test body ways normal source answers))
       (do_while_runs s s2 s3 own p at.span (span_of body) (statement_blocks by).extends (expression_blocks by_test).extends scene.world
       (eval scene test) (exec scene None body)
-      (statement_runs by clean.0 (or_false (has_using body) _ unused).0 scene same ported)
+      (statement_runs by tried h clean.0 (or_false (has_using body) _ unused).0 scene same ported)
       (expression_runs by_test clean.1 scene same ported))
-  loop_runs {names} {own} (ForUpdated at init test update body s s2 s3 s4 s5 u p by_init by_update by by_test) none unused scene same
-      ported =
-      let clean = for_clean names at.span init test update body none in
+  loop_runs {names} {own} (ForUpdated at init test update body s s2 s3 s4 s5 u p by_init by_update by by_test) tried h none unused scene
+      same ported =
+      let clean = for_clean names tried at.span init test update body none in
       let bare = head_unused init test update body unused in
       does_same scene.world s _
       (λ ways normal source answers. sym (for_meant scene own at init test update body
@@ -334,9 +427,11 @@ mutual
       (expression_blocks by_update).extends (statement_blocks by).extends (test_blocks by_test).extends scene.world
       (exec scene None init) (eval scene test) (eval_optional scene update) (exec scene None body)
       (init_runs by_init clean.init_said clean.init bare.0 scene same ported) (update_runs by_update clean.update scene same ported)
-      (statement_runs by clean.body bare.1 scene same ported) (test_runs by_test clean.test_said clean.test scene same ported))
-  loop_runs {names} {own} (ForPlain at init test body s s2 s3 s4 p by_init by by_test) none unused scene same ported =
-      let clean = for_clean names at.span init test Absent body none in
+      (statement_runs by tried
+      (tried_on s s3 ((expression_blocks by_update).extends.handlers ∙ (init_blocks by_init).extends.handlers) h) clean.body bare.1 scene
+      same ported) (test_runs by_test clean.test_said clean.test scene same ported))
+  loop_runs {names} {own} (ForPlain at init test body s s2 s3 s4 p by_init by by_test) tried h none unused scene same ported =
+      let clean = for_clean names tried at.span init test Absent body none in
       let bare = head_unused init test Absent body unused in
       does_same scene.world s _
       (λ ways normal source answers. sym (for_meant scene own at init test Absent body
@@ -344,34 +439,38 @@ mutual
       (for_runs_plain s s2 s3 s4 own p at.span (part_span at.span init) (span_of body) (init_blocks by_init).extends
       (statement_blocks by).extends (test_blocks by_test).extends scene.world (exec scene None init) (eval scene test)
       (exec scene None body) (init_runs by_init clean.init_said clean.init bare.0 scene same ported)
-      (statement_runs by clean.body bare.1 scene same ported) (test_runs by_test clean.test_said clean.test scene same ported))
-  loop_runs {names} {own} (ForIn at head right body s s2 s3 s4 collection p by by_right by_head) none unused scene same ported =
-      let clean = rounds_clean names head right body none in
+      (statement_runs by tried (tried_on s s2 (init_blocks by_init).extends.handlers h) clean.body bare.1 scene same ported)
+      (test_runs by_test clean.test_said clean.test scene same ported))
+  loop_runs {names} {own} (ForIn at head right body s s2 s3 s4 collection p by by_right by_head) tried h none unused scene same ported =
+      let clean = rounds_clean names tried head right body none in
       let bare = rounds_unused head right body unused in
       does_same scene.world s _ (λ ways normal source answers. sym (forin_meant scene own at head right body ways normal source answers))
       (forin_runs s s2 s3 s4 own collection p at.span (span_of head) (span_of body) (statement_blocks by).extends
       (expression_blocks by_right).extends (head_blocks by_head).extends scene.world (eval scene right) (take_head scene head)
-      (exec scene None body) (statement_runs by clean.0 bare.1 scene same ported) (expression_runs by_right clean.1 scene same ported)
+      (exec scene None body) (statement_runs by tried h clean.0 bare.1 scene same ported)
+      (expression_runs by_right clean.1 scene same ported)
       (head_runs by_head clean.2 bare.0 scene same ported))
-  loop_runs {names} {own} (ForOf at head right body s s2 s3 s4 collection p by by_right by_head) none unused scene same ported =
-      let clean = rounds_clean names head right body none in
+  loop_runs {names} {own} (ForOf at head right body s s2 s3 s4 collection p by by_right by_head) tried h none unused scene same ported =
+      let clean = rounds_clean names tried head right body none in
       let bare = rounds_unused head right body unused in
       does_same scene.world s _ (λ ways normal source answers. sym (forof_meant scene own at head right body ways normal source answers))
       (forof_runs s s2 s3 s4 own collection p at.span (span_of head) (span_of body) (statement_blocks by).extends
       (expression_blocks by_right).extends (head_blocks by_head).extends scene.world (eval scene right) (take_head scene head)
-      (exec scene None body) (statement_runs by clean.0 bare.1 scene same ported) (expression_runs by_right clean.1 scene same ported)
+      (exec scene None body) (statement_runs by tried h clean.0 bare.1 scene same ported)
+      (expression_runs by_right clean.1 scene same ported)
       (head_runs by_head clean.2 bare.0 scene same ported))
-  loop_runs (AwaitRefused at head right body s) none unused scene same ported = absurd (never none)
+  loop_runs (AwaitRefused at head right body s) tried h none unused scene same ported = absurd (never none)
 
-  pub statements_runs : {names : Names} {es : Pieces} {s t : State} → LoweredStatements names es s t → refusals_in names es ≡ []
-      → have_using es ≡ false → (scene : Scene) → scene.names ≡ names → scene.ported ≡ true → RunsStatement scene.world (exec_all scene es) s t
-  statements_runs (NoStatement s) none unused scene same ported = nothing_runs scene.world s
-  statements_runs {names} (NextStatement e es s t u by all) none unused scene same ported =
+  pub statements_runs : {names : Names} {es : Pieces} {s t : State} → LoweredStatements names es s t → (tried : Bool) → IsTried tried s
+      → refusals_among names tried es ≡ [] → have_using es ≡ false → (scene : Scene) → scene.names ≡ names → scene.ported ≡ true
+      → RunsStatement scene.world (exec_all scene es) s t
+  statements_runs (NoStatement s) tried h none unused scene same ported = nothing_runs scene.world s
+  statements_runs {names} (NextStatement e es s t u by all) tried h none unused scene same ported =
+      let clean = among_clean names tried e es none in
+      let bare = or_false (has_using e) (have_using es) unused in
       order_runs scene.world s t u (exec scene None e) (exec_all scene es) (statement_blocks by).extends (statements_blocks all).extends
-      (statement_runs by (first_none (refusals names e) (refusals_in names es) none) (or_false (has_using e) (have_using es) unused).0 scene
-      same ported)
-      (statements_runs all (second_none (refusals names e) (refusals_in names es) none) (or_false (has_using e) (have_using es) unused).1
-      scene same ported)
+      (statement_runs by tried h clean.0 bare.0 scene same ported)
+      (statements_runs all tried (tried_on s t (statement_blocks by).extends.handlers h) clean.1 bare.1 scene same ported)
 
 -- A body that is an expression returns its value at its end.
 
@@ -404,15 +503,15 @@ value_runs world s t d place variant next g r = record {
     ends : Extends t (completed_by t (return_of None variant place) next)
     ends = extends_completed t (return_of None variant place) next (λ none. refl)
 
-pub body_runs : {names : Names} {b : Syntax} {s t : State} → LoweredBody names b s t → refusals names b ≡ [] → has_using b ≡ false
-    → (scene : Scene) → scene.names ≡ names → scene.ported ≡ true → RunsStatement scene.world (exec_before_end scene b) s t
-body_runs {names} (Statements at directives statements s t texts by) none unused scene same ported =
-    statements_runs by
-    (first_none (refusals_in names statements) [] (second_none (refusals_in names directives) (refusals_in names statements ++ []) none))
+pub body_runs : {names : Names} {b : Syntax} {s t : State} → s.handlers ≡ [] → LoweredBody names b s t → refusals_in_body names b ≡ []
+    → has_using b ≡ false → (scene : Scene) → scene.names ≡ names → scene.ported ≡ true
+    → RunsStatement scene.world (exec_before_end scene b) s t
+body_runs {s = s} unhandled (Statements at directives statements s1 t texts by) none unused scene same ported =
+    statements_runs by false (tried_none s unhandled) none
     (or_false (have_using statements) false (or_false (have_using directives) (have_using statements || false) unused).1).0 scene same ported
-body_runs {names} (OfValue e s t p by) none unused scene same ported =
+body_runs {names} unhandled (OfValue e s t p by) none unused scene same ported =
     subst
     (λ (d : Action (Unit {0})). RunsStatement scene.world d s (completed_by t (return_of None returns.Implicit p) (new_block s.env.next_block blocks.Block)))
     (sym ((lowered_plain by).last scene))
     (value_runs scene.world s t (eval scene e) p returns.Implicit (new_block s.env.next_block blocks.Block) (expression_blocks by).extends
-    (expression_runs by none scene same ported))
+    (expression_runs by (sym ((lowered_plain by).refused names) ∙ none) scene same ported))

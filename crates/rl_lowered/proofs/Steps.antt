@@ -1,7 +1,7 @@
 -- The lowering of a part keeps the steps of loops apart from the blocks at which none may stand.
-use Rattle.std.proofs.Common.{◌≡◌, ℕ, ◌+◌, ◌≤◌, inl, inr, Bool, true, false, List, [], ◌∷◌, Option, Some, None, refl, arith}
-use Rattle.rl_base.specs.Diagnostics.{diagnostic_at}
+use Rattle.std.proofs.Common.{◌≡◌, ℕ, ◌+◌, ◌≤◌, inl, inr, Bool, true, false, List, [], ◌∷◌, Option, Some, None, refl, arith, subst}
 use Rattle.rl_base.specs.declared.diagnostic.Diagnostic.{Diagnostic}
+use Rattle.rl_base.specs.declared.ids.BlockId.{BlockId}
 use Rattle.rl_base.specs.declared.ids.SymbolId.{SymbolId}
 use Rattle.rl_base.specs.declared.operator.UpdateOperator.{UpdateOperator}
 use Rattle.rl_base.specs.declared.row.Row.TheVariants as row
@@ -10,53 +10,58 @@ use Rattle.rl_base.specs.declared.type_kind.TypeKind.{TypeKind}
 use Rattle.rl_base.specs.declared.type_kind.TypeKind.TheVariants as types
 use Rattle.rl_base.specs.declared.variable_kind.VariableKind.{VariableKind}
 use Rattle.rl_base.specs.declared.variable_kind.VariableKind.TheVariants as declared
-use Rattle.rl_builder.specs.Builder.{State, completed_by, new_block, pushed, recorded, reserved, with_temporary, with_type}
+use Rattle.rl_base.specs.Diagnostics.{diagnostic_at}
+use Rattle.rl_builder.specs.Builder.{State, completed_by, innermost, new_block, pushed, recorded, reserved, with_temporary, with_type}
 use Rattle.rl_builder.specs.Temporaries.{temporary, unordered, with_value}
-use Rattle.rl_frames.specs.Frames.{ForParts, for_after_init, for_after_update, for_again, for_aside, for_at, for_bodied, for_inited}
-use Rattle.rl_frames.specs.Frames.{for_opened, for_updated}
-use Rattle.rl_frames.specs.Frames.{IfParts, if_after_consequent, if_alternate, if_at, if_consequent}
-use Rattle.rl_frames.specs.Frames.{LogicalParts, aside_of, logical_at, logical_righted}
-use Rattle.rl_frames.specs.Frames.{SequenceParts, sequence_at}
-use Rattle.rl_frames.specs.Frames.{TernaryParts, ternary_alternated, ternary_aside, ternary_at, ternary_consequent, ternary_parted}
+use Rattle.rl_frames.specs.Frames.{ForParts, IfParts, LogicalParts, SequenceParts, TernaryParts, aside_of, for_after_init}
+use Rattle.rl_frames.specs.Frames.{for_after_update, for_again, for_aside, for_at, for_bodied, for_inited, for_opened, for_updated}
+use Rattle.rl_frames.specs.Frames.{if_after_consequent, if_alternate, if_at, if_consequent, logical_at, logical_righted, sequence_at}
+use Rattle.rl_frames.specs.Frames.{ternary_alternated, ternary_aside, ternary_at, ternary_consequent, ternary_parted}
 use Rattle.rl_frames.specs.Parts.{do_while_end, for_begun, for_end, forin_begun, forin_end, forof_begun, forof_end, if_begun, if_end}
 use Rattle.rl_frames.specs.Parts.{label_begun, label_end, loads, logical_begun, logical_entered, logical_left, logical_place}
-use Rattle.rl_frames.specs.Parts.{logical_reserved, sequence_begun, sequence_reserved, ternary_begun, ternary_reserved, while_begun}
-use Rattle.rl_frames.specs.Parts.{while_end}
-use Rattle.rl_frames.specs.Rounds.{forin_at, forin_headed, forin_righted, forof_at, forof_bodied, forof_headed}
-use Rattle.rl_frames.specs.Rounds.{forof_iterator, forof_righted, forof_shut, forof_tested, rounds_bodied, rounds_shut}
-use Rattle.rl_hir.specs.Pieces.{Piece}
+use Rattle.rl_frames.specs.Parts.{logical_reserved, sequence_begun, sequence_reserved, ternary_begun, ternary_reserved, try_begun}
+use Rattle.rl_frames.specs.Parts.{try_end, try_handler, while_begun, while_end}
+use Rattle.rl_frames.specs.Rounds.{forin_at, forin_headed, forin_righted, forof_at, forof_bodied, forof_headed, forof_iterator}
+use Rattle.rl_frames.specs.Rounds.{forof_righted, forof_shut, forof_tested, rounds_bodied, rounds_shut}
+use Rattle.rl_frames.specs.SwitchParts.{case_begun, case_ended, fall_of, switch_begun, switch_end}
 use Rattle.rl_hir.specs.declared.function.BlockKind.TheVariants as blocks
 use Rattle.rl_hir.specs.declared.instruction.InstructionKind.{InstructionKind}
 use Rattle.rl_hir.specs.declared.instruction.InstructionValue.{InstructionValue}
 use Rattle.rl_hir.specs.declared.instruction.InstructionValue.TheVariants as values
 use Rattle.rl_hir.specs.declared.instruction.Place.{Place}
 use Rattle.rl_hir.specs.declared.instruction.PrimitiveValue.TheVariants as primitives
+use Rattle.rl_hir.specs.declared.terminal.Case.{Case}
 use Rattle.rl_hir.specs.declared.terminal.GotoVariant.TheVariants as gotos
 use Rattle.rl_hir.specs.declared.terminal.ReturnVariant.TheVariants as returns
 use Rattle.rl_hir.specs.declared.terminal.Terminal.{Terminal}
 use Rattle.rl_hir.specs.declared.terminal.TerminalKind.TheVariants as kinds
+use Rattle.rl_hir.specs.Pieces.{Piece}
+use Rattle.rl_lowered.proofs.Catches.{catch_declared, declares_caught, stores_caught}
 use Rattle.rl_lowered.proofs.StepMoves.{apart_ended, apart_hole, apart_marked, apart_next, apart_noted, apart_pushed, apart_refl}
 use Rattle.rl_lowered.proofs.StepMoves.{apart_same, apart_step, apart_stored, apart_then, apart_value, is_step, unmarked_between}
 use Rattle.rl_lowered.proofs.StepMoves.{unmarked_value}
 use Rattle.rl_lowered.specs.Forms.{IsForm, MemberKey, delete_of, load_of, store_of, typed}
 use Rattle.rl_lowered.specs.Forms as forms
-use Rattle.rl_lowered.specs.Lowered.{Lowered, LoweredBody, LoweredDeclarators, LoweredHead, LoweredInit, LoweredLast, LoweredLoop}
-use Rattle.rl_lowered.specs.Lowered.{LoweredParts, LoweredStatement, LoweredStatements, LoweredTest, declaring, found_again, member_loaded}
-use Rattle.rl_lowered.specs.Lowered.{member_one, member_stored, member_updated, part_span, update_of, value_span}
+use Rattle.rl_lowered.specs.Lowered.{Lowered, LoweredBody, LoweredCaseTest, LoweredCases, LoweredDeclarators, LoweredHead, LoweredInit}
+use Rattle.rl_lowered.specs.Lowered.{LoweredLast, LoweredLoop, LoweredParts, LoweredStatement, LoweredStatements, LoweredTest}
+use Rattle.rl_lowered.specs.Lowered.{catch_begun, catch_bound, caught, declaring, found_again, member_loaded, member_one, member_stored}
+use Rattle.rl_lowered.specs.Lowered.{member_updated, part_span, promoted, throwing, throwing_under, update_of, value_span}
 use Rattle.rl_lowered.specs.Lowered as lowered
 use Rattle.rl_lowered.specs.Named.{found}
 use Rattle.rl_lowered.specs.Steps.{KeepsStepsApart}
 use Rattle.rl_model.specs.Actions.{Label}
 use Rattle.rl_names.specs.Names.{Names}
+use Rattle.rl_promises.specs.Moved.{type_name}
 use Rattle.rl_promises.specs.Rows.{refusal, row_of_head}
 use Rattle.rl_runs.proofs.Moves.{extends_pushed}
 use Rattle.rl_runs.proofs.Naming.{named_first, named_none}
 use Rattle.rl_runs.specs.Blocks.{WasNumbered}
-use Rattle.rl_runs.specs.Moves.{block_id, branch, ends_by, goto, last_hole, next_hole, return_of, returned_from, stored_in, without_scope}
+use Rattle.rl_runs.specs.Moves.{block_id, branch, ends_by, goto, last_hole, next_hole, return_of, returned_from, stored_in, threw_from}
+use Rattle.rl_runs.specs.Moves.{without_handler, without_scope}
 use Rattle.rl_runs.specs.ReadNotes.{HasId}
 use Rattle.rl_runs.specs.StepNotes.{stepless_of}
-use Rattle.rl_syntax.specs.Syntax.{Syntax, Pieces, span_of}
 use Rattle.rl_syntax.specs.declared.word.Word.{Word}
+use Rattle.rl_syntax.specs.Syntax.{Pieces, Syntax, span_of}
 
 -- Values that are no steps.
 
@@ -384,6 +389,56 @@ forof_apart s s3 s4 collection test span left before behind =
     in_test : KeepsStepsApart s tested
     in_test = apart_then s opened tested in_opened (apart_ended opened in_init_end (new_block (n + 1 + 1) blocks.Loop) refl refl)
 
+case_test_steps : {names : Names} {e : Syntax} {s t : State} {p : Option Place} → LoweredCaseTest names e s t p → KeepsStepsApart s t
+case_test_steps (lowered.NoCaseTest s) = apart_refl s
+case_test_steps (lowered.CaseTested e s t p is l) = expression_steps l
+case_test_steps (lowered.CaseMoved at w fields s t p is l) =
+    let noted : Diagnostic = diagnostic_at row.F29 (type_name w) at.span in
+    apart_then s (recorded s noted) t (apart_noted s noted) (expression_steps l)
+
+-- A throw, and a `try` statement, from in front of its handler's block.
+
+apart_throwing_under : (handler : Option BlockId) (s : State) (at : Span) → KeepsStepsApart s (throwing_under handler s at)
+apart_throwing_under None s at = apart_refl s
+apart_throwing_under (Some handler) s at = apart_noted s (refusal row.F30 at)
+
+apart_throwing : (s : State) (at : Span) → KeepsStepsApart s (throwing s at)
+apart_throwing s at = apart_throwing_under (innermost s.handlers) s at
+
+apart_threw : (s : State) (span : Span) (place : Place) → KeepsStepsApart s (threw_from s span place blocks.Block)
+apart_threw s span place =
+    apart_then s (reserved s) _ (apart_same s (reserved s) refl refl refl (omega arith))
+    (apart_ended (reserved s) (ends_by (kinds.Throw place) (Some span)) (new_block s.env.next_block blocks.Block) refl refl)
+
+-- The block behind the statement, at which no step may stand, is numbered first.
+behind_mark : (s : State) (end : Terminal) → stepless_of end.kind ≡ block_id s.env.next_block ∷ [] → (id : ℕ)
+    → HasId (stepless_of end.kind) id → WasNumbered s.env.next_block (reserved s).env.next_block id
+behind_mark s end is id has =
+    elim (named_first id (block_id s.env.next_block) [] (subst (λ (l : List BlockId). HasId l id) is has)) [
+      | inl e ↦ (omega (arith, e), omega (arith, e))
+      | inr never ↦ absurd (named_none id never)
+    ]
+
+apart_tried : (s d s2 s3 : State) (part other : Span) (end : Terminal) → stepless_of end.kind ≡ block_id s.env.next_block ∷ []
+    → KeepsStepsApart (reserved s) d → KeepsStepsApart (try_begun d) s2
+    → KeepsStepsApart (try_handler s2 s.env.next_block d.env.next_block part) s3
+    → KeepsStepsApart s
+    (completed_by (last_hole (without_handler s3) s.env.next_block gotos.Try other d.current) end (new_block s.env.next_block blocks.Block))
+apart_tried s d s2 s3 part other end is front first second =
+    let n : ℕ = s.env.next_block in
+    let next : State = next_hole s2 n gotos.Break part blocks.Block in
+    let tried : State = try_handler s2 n d.env.next_block part in
+    let shut : State = last_hole (without_handler s3) n gotos.Try other d.current in
+    let inside : KeepsStepsApart (try_begun d) s3 =
+    apart_then (try_begun d) s2 s3 first
+    (apart_then s2 next s3 (apart_next s2 n gotos.Break part blocks.Block)
+    (apart_then next tried s3 (apart_same next tried refl refl refl (omega arith)) second)) in
+    apart_marked s shut (reserved s).env end (new_block n blocks.Block) refl (omega arith) (behind_mark s end is)
+    (apart_then (reserved s) d shut front
+    (apart_then d (reserved d) shut (apart_same d (reserved d) refl refl refl (omega arith))
+    (apart_hole (reserved d) s3 (new_block d.env.next_block blocks.Catch) d.scopes s3.scopes (without_handler s3).handlers
+    (goto n gotos.Try other) refl refl inside)))
+
 mutual
   pub statement_steps : {names : Names} {e : Syntax} {s t : State} → LoweredStatement names e s t → KeepsStepsApart s t
   statement_steps (lowered.Empty at s) = apart_refl s
@@ -436,6 +491,47 @@ mutual
       (apart_ended gone (label_end n at.span) (new_block n blocks.Block) refl refl))
   statement_steps (lowered.Break at label target s is) = apart_next s target.0 gotos.Break at.span blocks.Block
   statement_steps (lowered.Continue at label target s is) = apart_next s target.0 gotos.Continue at.span blocks.Block
+  statement_steps (lowered.Throw at e s t p l) =
+      let thrown : State = throwing t at.span in
+      apart_then s t _ (expression_steps l) (apart_then t thrown _ (apart_throwing t at.span) (apart_threw thrown at.span p))
+  statement_steps (lowered.Switch at value cases ks s t u p all l) =
+      apart_then s (switch_begun s) _ (apart_same s (switch_begun s) refl refl refl (omega arith))
+      (apart_then (switch_begun s) t _ (cases_steps all)
+      (apart_then t u _ (expression_steps l)
+      (apart_ended u (switch_end s.env.next_block ks p at.span) (new_block s.env.next_block blocks.Block) refl refl)))
+  statement_steps (lowered.TryPlain at there block body s s2 s3 first second) =
+      apart_tried s (reserved s) s2 s3 there.span (span_of block)
+      (try_end s.env.next_block (reserved s).env.next_block s2.env.next_block None at.span) refl (apart_refl (reserved s))
+      (statement_steps first) (statement_steps second)
+  statement_steps {names} (lowered.TryBound at there bind name type block body symbol identifier s s2 s3 annotated is f first second) =
+      let made : State = promoted s bind.span in
+      let declared : State = catch_declared s bind.span in
+      let begun : State = catch_begun s bind.span in
+      apart_then s made _ (apart_same s made refl refl refl (omega arith))
+      (apart_tried made declared s2 s3 there.span (span_of block)
+      (try_end s.env.next_block declared.env.next_block s2.env.next_block (Some (caught s bind.span)) at.span) refl
+      (apart_value (reserved made) (declares_caught s bind.span) (Some bind.span) refl)
+      (apart_then begun (catch_bound names s symbol identifier bind.span) s2
+      (apart_found_value names begun symbol bind.span (stores_caught s identifier bind.span) (Some bind.span) refl) (statement_steps first))
+      (statement_steps second))
+  statement_steps (lowered.Finalized at there block param body finalizer s t is l) =
+      apart_then s (recorded s (refusal row.F35 at.span)) t (apart_noted s (refusal row.F35 at.span)) (statement_steps l)
+  statement_steps (lowered.Uncaught at block finalizer s) = apart_noted s (refusal row.F34 at.span)
+  statement_steps (lowered.With at fields s) = apart_noted s (refusal row.F36 at.span)
+
+  cases_steps : {names : Names} {s : State} {es : Pieces} {ks : List Case} {t : State} → LoweredCases names s es ks t
+      → KeepsStepsApart (switch_begun s) t
+  cases_steps (lowered.NoCase s) = apart_refl (switch_begun s)
+  cases_steps (lowered.NextCase at test statements cases ks s x y z p all l tested) =
+      let fall : ℕ = fall_of s.env.next_block ks in
+      let begun : State = case_begun x None s.env.next_block in
+      let shut : State = case_ended y fall x.current at.span in
+      apart_then (switch_begun s) x z (cases_steps all)
+      (apart_then x (reserved x) z (apart_same x (reserved x) refl refl refl (omega arith))
+      (apart_then (reserved x) shut z
+      (apart_hole (reserved x) y (new_block x.env.next_block blocks.Block) begun.scopes (without_scope y).scopes y.handlers
+      (goto fall gotos.Break at.span) refl refl (statements_steps l))
+      (case_test_steps tested)))
 
   pub loop_steps : {names : Names} {own : Label} {e : Syntax} {s t : State} → LoweredLoop names own e s t → KeepsStepsApart s t
   loop_steps {own} (lowered.While at test body s s2 s3 p second first) =

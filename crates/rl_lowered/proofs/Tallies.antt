@@ -1,9 +1,8 @@
 -- The table has an instruction for each call, construction and await that was lowered, where nothing of it was refused.
-use Rattle.std.proofs.Common.{◌≡◌, ℕ, ◌+◌, ◌++◌, ◌&&◌, if◌then◌else◌, Bool, true, false, List, [], ◌∷◌, Option, Some, None, codes, refl, sym, ap}
-use Rattle.std.proofs.Common.{◌∙◌, arith}
+use Rattle.std.proofs.Common.{◌≡◌, ℕ, ◌+◌, ◌++◌, ◌&&◌, if◌then◌else◌, Bool, true, false, List, [], ◌∷◌, Option, Some, None, codes, refl}
+use Rattle.std.proofs.Common.{sym, ap, ◌∙◌, arith, subst}
 use Rattle.std.specs.List.{list_any}
 use Rattle.std.specs.Str.{bytes_eq}
-use Rattle.rl_base.specs.Operators.{update_text}
 use Rattle.rl_base.specs.declared.ids.BlockId.{BlockId}
 use Rattle.rl_base.specs.declared.operator.UpdateOperator.{UpdateOperator}
 use Rattle.rl_base.specs.declared.span.Span.{Span}
@@ -11,16 +10,16 @@ use Rattle.rl_base.specs.declared.type_kind.TypeKind.{TypeKind}
 use Rattle.rl_base.specs.declared.type_kind.TypeKind.TheVariants as types
 use Rattle.rl_base.specs.declared.variable_kind.VariableKind.{VariableKind}
 use Rattle.rl_base.specs.declared.variable_kind.VariableKind.TheVariants as kinds
-use Rattle.rl_builder.specs.Builder.{State, innermost, pushed, pushed_under, with_temporary}
+use Rattle.rl_base.specs.Operators.{update_text}
+use Rattle.rl_base.specs.VariableKinds.{variable_text}
+use Rattle.rl_builder.specs.Builder.{State, innermost, pushed, pushed_under, reserved, with_temporary}
 use Rattle.rl_builder.specs.Temporaries.{temporary, unordered, with_value}
 use Rattle.rl_frames.specs.Parts.{loads, logical_entered, logical_left, logical_place, sequence_place, ternary_place}
-use Rattle.rl_grammar.proofs.Viewing.{rest_fit}
-use Rattle.rl_grammar.specs.Grammar.{every}
-use Rattle.rl_grammar.specs.declared.kind.Kind.TheVariants as sort
 use Rattle.rl_frames.specs.Rounds.{ForOfParts, RoundsParts, forin_at, forin_headed, forof_at, forof_headed, forof_iterator, forof_shut}
 use Rattle.rl_frames.specs.Rounds.{forof_tested, rounds_shut}
-use Rattle.rl_hir.specs.Pieces.{Piece}
-use Rattle.rl_hir.specs.Written.{value_word}
+use Rattle.rl_grammar.proofs.Viewing.{rest_fit}
+use Rattle.rl_grammar.specs.declared.kind.Kind.TheVariants as sort
+use Rattle.rl_grammar.specs.Grammar.{every}
 use Rattle.rl_hir.specs.declared.instruction.Instruction.{Instruction}
 use Rattle.rl_hir.specs.declared.instruction.InstructionKind.{InstructionKind}
 use Rattle.rl_hir.specs.declared.instruction.InstructionKind.TheVariants as variables
@@ -28,40 +27,52 @@ use Rattle.rl_hir.specs.declared.instruction.InstructionValue.{InstructionValue}
 use Rattle.rl_hir.specs.declared.instruction.InstructionValue.TheVariants as values
 use Rattle.rl_hir.specs.declared.instruction.Place.{Place}
 use Rattle.rl_hir.specs.declared.instruction.PrimitiveValue.TheVariants as primitives
-use Rattle.rl_lowered.proofs.Clean.{branches_clean, cast_clean, computed_row_clean, constant_update_never, do_while_clean, first_none}
-use Rattle.rl_lowered.proofs.Clean.{for_clean, form_clean, never, while_clean}
-use Rattle.rl_lowered.proofs.Clean.{fraction_row_never, method_clean, outer_never, private_clean, private_never, property_row_clean}
-use Rattle.rl_lowered.proofs.Clean.{refused_never, refusing_never, row_clean, second_none, spread_row_clean, unknown_row_never}
-use Rattle.rl_lowered.proofs.Clean.{constant_head_never, lost_head_never, member_head_clean, rounds_clean, updated_member_clean}
-use Rattle.rl_lowered.proofs.Clean.{wrapper_clean}
-use Rattle.rl_lowered.proofs.HeldParts.{HeldBy, IsHeldAs, Unheld, cast_held, declared_head_held, declarator_held, form_held, form_word}
-use Rattle.rl_lowered.proofs.HeldParts.{is_held, literal_held, member_held, method_held, property_held, updated_held, wrapper_held}
+use Rattle.rl_hir.specs.declared.terminal.Case.{Case}
+use Rattle.rl_hir.specs.Pieces.{Piece}
+use Rattle.rl_hir.specs.Written.{value_word}
+use Rattle.rl_lowered.proofs.Blocks.{declares_of}
+use Rattle.rl_lowered.proofs.Catches.{declares_caught, stores_caught}
+use Rattle.rl_lowered.proofs.Clean.{among_clean, branches_clean, branches_clean_at, case_clean, cast_clean, computed_row_clean}
+use Rattle.rl_lowered.proofs.Clean.{constant_head_never, constant_update_never, finalizer_never, first_none, for_clean, form_clean}
+use Rattle.rl_lowered.proofs.Clean.{fraction_row_never, lost_head_never, member_head_clean, method_clean, moved_never, never, outer_never}
+use Rattle.rl_lowered.proofs.Clean.{private_clean, private_never, property_row_clean, refused_never, refusing_never, rounds_clean}
+use Rattle.rl_lowered.proofs.Clean.{row_clean, second_none, spread_row_clean, switch_clean, throw_clean, try_clean, unknown_row_never}
+use Rattle.rl_lowered.proofs.Clean.{updated_member_clean, while_clean, wrapper_clean}
+use Rattle.rl_lowered.proofs.HeldParts.{HeldBy, IsHeldAs, Unheld, cast_held, declarator_held, declared_head_held, form_held, form_word}
+use Rattle.rl_lowered.proofs.HeldParts.{is_held, literal_held, member_held, method_held, param_held, property_held, updated_held}
+use Rattle.rl_lowered.proofs.HeldParts.{wrapper_held}
 use Rattle.rl_lowered.proofs.Meant.{private_member_never}
 use Rattle.rl_lowered.proofs.Plain.{init_said, lowered_plain}
-use Rattle.rl_lowered.specs.Forms.{MemberKey, Computed, Fixed, load_of, store_of, typed}
-use Rattle.rl_lowered.specs.Lowered.{Asked, Block, Cast, Conditional, Debugger, EarlierPart, Empty, Expression, Global, IfElse, IfThen, LastPart}
-use Rattle.rl_lowered.specs.Lowered.{Break, Continue, DeclaredInit, DoWhile, ForPlain, ForUpdated, Labeled, LabeledLoop, LoweredInit}
-use Rattle.rl_lowered.specs.Lowered.{AwaitRefused, Declared, ForIn, ForOf, Lost, LoweredHead, Reassigned, ReassignedConstant}
-use Rattle.rl_lowered.specs.Lowered.{StoredGlobal, StoredMember, found_again}
-use Rattle.rl_lowered.specs.Lowered.{LoweredLoop, LoweredTest, NoInit, NoTest, RefusedInit, Tested, Unlabeled, While, label_part}
-use Rattle.rl_lowered.specs.Lowered.{Literal, Logical, Lowered, LoweredBody, LoweredDeclarators, LoweredLast, LoweredParts, LoweredStatement}
-use Rattle.rl_lowered.specs.Lowered.{LoweredStatements, Method, NextComputed, NextDeclared, NextFraction, NextHole, NextInitialized, NextPart}
-use Rattle.rl_lowered.specs.Lowered.{NextProperty, NextSpread, NextStatement, NextUnknown, NoDeclarator, NoPart, NoStatement, Object, Private}
-use Rattle.rl_lowered.specs.Lowered.{Refused, RefusedBefore, RefusedBehind, RefusedGlobal, Return, ReturnNothing, Same, Sequence, Statements}
-use Rattle.rl_lowered.specs.Lowered.{UpdatedConstant, UpdatedMember, UpdatedVariable, Value, Variable, Variables}
-use Rattle.rl_lowered.specs.Lowered.{declaring, member_loaded, member_one, member_stored, member_updated, update_of, value_span}
+use Rattle.rl_lowered.specs.Forms.{Computed, Fixed, MemberKey, load_of, store_of, typed}
+use Rattle.rl_lowered.specs.Lowered.{Asked, AwaitRefused, Block, Break, CaseMoved, CaseTested, Cast, Conditional, Continue, Debugger}
+use Rattle.rl_lowered.specs.Lowered.{Declared, DeclaredInit, DoWhile, EarlierPart, Empty, Expression, Finalized, ForIn, ForOf, ForPlain}
+use Rattle.rl_lowered.specs.Lowered.{ForUpdated, Global, IfElse, IfThen, Labeled, LabeledLoop, LastPart, Literal, Logical, Lost, Lowered}
+use Rattle.rl_lowered.specs.Lowered.{LoweredBody, LoweredCaseTest, LoweredCases, LoweredDeclarators, LoweredHead, LoweredInit}
+use Rattle.rl_lowered.specs.Lowered.{LoweredLast, LoweredLoop, LoweredParts, LoweredStatement, LoweredStatements, LoweredTest, Method}
+use Rattle.rl_lowered.specs.Lowered.{NextCase, NextComputed, NextDeclared, NextFraction, NextHole, NextInitialized, NextPart}
+use Rattle.rl_lowered.specs.Lowered.{NextProperty, NextSpread, NextStatement, NextUnknown, NoCase, NoCaseTest, NoDeclarator, NoInit}
+use Rattle.rl_lowered.specs.Lowered.{NoPart, NoStatement, NoTest, Object, Private, Reassigned, ReassignedConstant, Refused, RefusedBefore}
+use Rattle.rl_lowered.specs.Lowered.{RefusedBehind, RefusedGlobal, RefusedInit, Return, ReturnNothing, Same, Sequence, Statements}
+use Rattle.rl_lowered.specs.Lowered.{Switch, Throw}
+use Rattle.rl_lowered.specs.Lowered.{StoredGlobal, StoredMember, Tested, TryBound, TryPlain, Uncaught, Unlabeled, UpdatedConstant}
+use Rattle.rl_lowered.specs.Lowered.{UpdatedMember, UpdatedVariable, Value, Variable, Variables, While, With, catch_begun, declaring}
+use Rattle.rl_lowered.specs.Lowered.{found_again, kind_of, label_part, member_loaded, member_one, member_stored, member_updated, promoted}
+use Rattle.rl_lowered.specs.Lowered.{throwing, throwing_under, update_of, value_span}
 use Rattle.rl_lowered.specs.Named.{found}
-use Rattle.rl_model.specs.Counted.{Counted}
 use Rattle.rl_model.specs.Actions.{Label}
+use Rattle.rl_model.specs.Counted.{Counted}
 use Rattle.rl_names.specs.Names.{Names}
 use Rattle.rl_promises.proofs.Unheld.{unheld_untallied}
 use Rattle.rl_promises.specs.Held.{is_of, is_span, times}
 use Rattle.rl_promises.specs.Live.{Held, held_among, held_as, held_in}
-use Rattle.rl_promises.specs.Rows.{refusals, refusals_at_head, refusals_in, said_of_init, said_of_test}
+use Rattle.rl_promises.specs.Moved.{said_of_moved}
+use Rattle.rl_promises.specs.Rows.{refusals, refusals_among, refusals_at, refusals_at_head, refusals_in, refusals_in_body}
+use Rattle.rl_promises.specs.Rows.{refusals_in_cases, said_of_init, said_of_test}
 use Rattle.rl_promises.specs.Tallies.{Awaits, Calls, Constructions, IsHeldKind, held_word, is_among, tallied, tallied_among}
 use Rattle.rl_runs.specs.Moves.{stored_in}
+use Rattle.rl_syntax.specs.declared.numbered.At.{At}
 use Rattle.rl_syntax.specs.declared.word.Word.TheVariants as word
-use Rattle.rl_syntax.specs.Syntax.{Syntax, Node, Listed, Said, Count, Flag, Absent, Pieces, End, Then, span_of}
+use Rattle.rl_syntax.specs.Syntax.{Absent, Count, End, Flag, Listed, Node, Pieces, Said, Syntax, Then, span_of}
 
 -- Sums of what was there and of what the parts add.
 
@@ -149,6 +160,17 @@ added_labeled a b body is = omega (arith, is)
 added_body : (a b directives statements : ℕ) → directives ≡ 0 → b ≡ a + statements → b ≡ a + (0 + (directives + (statements + 0)))
 added_body a b directives statements none is = omega (arith, none, is)
 
+added_case : (a b c d test statements cases : ℕ) → b ≡ a + cases → c ≡ b + statements → d ≡ c + test
+    → d ≡ a + ((0 + (test + (statements + 0))) + cases)
+added_case a b c d test statements cases p q r = omega (arith, p, q, r)
+
+added_try : (a b c block body : ℕ) → b ≡ a + body → c ≡ b + block → c ≡ a + (0 + (block + ((0 + (0 + (body + 0))) + (0 + 0))))
+added_try a b c block body p q = omega (arith, p, q)
+
+added_bound_try : (a b c d e block param body : ℕ) → param ≡ 0 → b ≡ a + 0 → c ≡ b + 0 → d ≡ c + body → e ≡ d + block
+    → e ≡ a + (0 + (block + ((0 + (param + (body + 0))) + (0 + 0))))
+added_bound_try a b c d e block param body none p q r s = omega (arith, none, p, q, r, s)
+
 -- The table of a state with one more instruction.
 table_under : (o : Option BlockId) (s : State) (i : Instruction) → (pushed_under o s i).table ≡ s.table ++ i ∷ []
 table_under None s i = refl
@@ -187,6 +209,13 @@ typed_table s types.Other = refl
 declaring_table : (s : State) (k : VariableKind) (at : Span) → (declaring s k at).table ≡ s.table
 declaring_table s kinds.Var at = refl
 declaring_table s _ at = refl
+
+throwing_table_under : (o : Option BlockId) (s : State) (at : Span) → (throwing_under o s at).table ≡ s.table
+throwing_table_under None s at = refl
+throwing_table_under (Some handler) s at = refl
+
+throwing_table : (s : State) (at : Span) → (throwing s at).table ≡ s.table
+throwing_table s at = throwing_table_under (innermost s.handlers) s at
 
 and_true : (b : Bool) → b && true ≡ b
 and_true true = refl
@@ -453,85 +482,135 @@ module _ (key : Counted) (held : IsHeldKind key.kinds) where
   jump_tallied None = refl
   jump_tallied (Some label) = refl
 
-  mutual
-    pub statement_tallies : {names : Names} {e : Syntax} {s t : State} → LoweredStatement names e s t → refusals names e ≡ []
-        → times key t.table ≡ times key s.table + tallied key e
-    statement_tallies (Empty at s) none = omega arith
-    statement_tallies {names} (Expression at e s t p d) none =
-        added_inner _ _ _ _ refl (expression_tallies d (first_none (refusals names e) [] none))
-    statement_tallies (Debugger at s) none = added_leaf _ _ _ refl (unheld_tallies s values.Debugger (Some at.span) refl)
-    statement_tallies {names} (Variables at k declarators s t d) none =
-        added_declared _ _ _
-        (declarators_tallies d (second_none _ (refusals_in names declarators) none)
-        ∙ ap (λ (l : List Instruction). times key l + tallied_among key declarators) (declaring_table s k at.span))
-    statement_tallies (ReturnNothing at s) none =
-        added_leaf _ _ _ refl (unheld_tallies s (values.Primitive primitives.Undefined) None refl)
-    statement_tallies {names} (Return at e s t p d) none =
-        added_inner _ _ _ _ refl (expression_tallies d (first_none (refusals names e) [] none))
-    statement_tallies {names} (Block at statements s t d) none =
-        added_inner _ _ _ _ refl (statements_tallies d (first_none (refusals_in names statements) [] none))
-    statement_tallies {names} (IfThen at test consequent s s2 s3 p dc dt) none =
-        let clean = branches_clean names consequent Absent test none in
-        added_branch _ _ _ _ _ (statement_tallies dc clean.0) (expression_tallies dt clean.2)
-    statement_tallies {names} (IfElse at test consequent alternate s s2 s3 s4 p dc da dt) none =
-        let clean = branches_clean names consequent alternate test none in
-        added_branches _ _ _ _ _ _ _ (statement_tallies dc clean.0) (statement_tallies da clean.1) (expression_tallies dt clean.2)
-    statement_tallies (Unlabeled loop s t d) none = loop_tallies d none
-    statement_tallies {names} (LabeledLoop at label loop s t d) none =
-        added_labeled _ _ _ (loop_tallies d (first_none (refusals names loop) [] none))
-    statement_tallies {names} (Labeled at label body s s2 other d) none =
-        added_labeled _ _ _ (statement_tallies d (first_none (refusals names body) [] none))
-    statement_tallies (Break at label target s is) none = added_jump _ _ (jump_tallied label)
-    statement_tallies (Continue at label target s is) none = added_jump _ _ (jump_tallied label)
+  case_test_tallies : {names : Names} {e : Syntax} {s t : State} {p : Option Place} → LoweredCaseTest names e s t p
+      → said_of_moved names e ≡ [] → refusals names e ≡ [] → times key t.table ≡ times key s.table + tallied key e
+  case_test_tallies (NoCaseTest s) unsaid none = omega arith
+  case_test_tallies (CaseTested e s t p is d) unsaid none = expression_tallies d none
+  case_test_tallies {names} (CaseMoved at w fields s t p is d) unsaid none = absurd (moved_never names at w fields is unsaid)
 
-    pub loop_tallies : {names : Names} {own : Label} {e : Syntax} {s t : State} → LoweredLoop names own e s t → refusals names e ≡ []
+  variables_tallies : {names : Names} (at : At) (k : VariableKind) (declarators : Pieces) (s t : State)
+      → LoweredDeclarators names at.span (kind_of k) declarators (declaring s k at.span) t
+      → refusals names (Node at word.Var (Then (Said (variable_text k)) (Then (Listed declarators) End))) ≡ []
+      → times key t.table
+      ≡ times key s.table + tallied key (Node at word.Var (Then (Said (variable_text k)) (Then (Listed declarators) End)))
+  variables_tallies {names} at k declarators s t d none =
+      added_declared _ _ _
+      (declarators_tallies d (second_none _ (refusals_in names declarators) none)
+      ∙ ap (λ (l : List Instruction). times key l + tallied_among key declarators) (declaring_table s k at.span))
+
+  init_tallies : {names : Names} {at : Span} {e : Syntax} {s t : State} → LoweredInit names at e s t → said_of_init at e ≡ []
+      → refusals names e ≡ [] → times key t.table ≡ times key s.table + tallied key e
+  init_tallies {at} (NoInit s) unsaid none = unheld_tallies s (values.Primitive primitives.Undefined) (Some at) refl
+  init_tallies {names} (DeclaredInit there fields s1 t1 d) unsaid none =
+      let v = declares_of d in
+      subst (λ (f : Pieces). times key t1.table ≡ times key s1.table + tallied key (Node there word.Var f)) v.are
+      (variables_tallies there v.kind v.declarators s1 t1 v.by
+      (ap (λ (f : Pieces). refusals names (Node there word.Var f)) v.are ∙ none))
+  init_tallies {at} (RefusedInit e s t p d) unsaid none =
+      absurd (never (sym (init_said e (lowered_plain d).node at) ∙ unsaid))
+
+  mutual
+    pub statement_tallies : {names : Names} {e : Syntax} {s t : State} → LoweredStatement names e s t → (tried : Bool)
+        → refusals_at names tried e ≡ []
         → times key t.table ≡ times key s.table + tallied key e
-    loop_tallies {names} (While at test body s s2 s3 p d dt) none =
-        let clean = while_clean names test body none in
-        added_loop _ _ _ _ _ (statement_tallies d clean.0) (expression_tallies dt clean.1)
-    loop_tallies {names} (DoWhile at test body s s2 s3 p d dt) none =
-        let clean = do_while_clean names test body none in
-        added_do _ _ _ _ _ (statement_tallies d clean.0) (expression_tallies dt clean.1)
-    loop_tallies {names} (ForUpdated at init test update body s s2 s3 s4 s5 u p di du d dt) none =
-        let clean = for_clean names at.span init test update body none in
+    statement_tallies (Empty at s) tried none = omega arith
+    statement_tallies {names} (Expression at e s t p d) tried none =
+        added_inner _ _ _ _ refl (expression_tallies d (first_none (refusals names e) [] none))
+    statement_tallies (Debugger at s) tried none = added_leaf _ _ _ refl (unheld_tallies s values.Debugger (Some at.span) refl)
+    statement_tallies (Variables at k declarators s t d) tried none = variables_tallies at k declarators s t d none
+    statement_tallies (ReturnNothing at s) tried none =
+        added_leaf _ _ _ refl (unheld_tallies s (values.Primitive primitives.Undefined) None refl)
+    statement_tallies {names} (Return at e s t p d) tried none =
+        added_inner _ _ _ _ refl (expression_tallies d (first_none (refusals names e) [] none))
+    statement_tallies {names} (Block at statements s t d) tried none =
+        added_inner _ _ _ _ refl (statements_tallies d tried none)
+    statement_tallies {names} (IfThen at test consequent s s2 s3 p dc dt) tried none =
+        let clean = branches_clean_at names tried consequent Absent test none in
+        added_branch _ _ _ _ _ (statement_tallies dc tried clean.0) (expression_tallies dt clean.2)
+    statement_tallies {names} (IfElse at test consequent alternate s s2 s3 s4 p dc da dt) tried none =
+        let clean = branches_clean_at names tried consequent alternate test none in
+        added_branches _ _ _ _ _ _ _ (statement_tallies dc tried clean.0) (statement_tallies da tried clean.1)
+        (expression_tallies dt clean.2)
+    statement_tallies (Unlabeled loop s t d) tried none = loop_tallies d tried none
+    statement_tallies {names} (LabeledLoop at label loop s t d) tried none =
+        added_labeled _ _ _ (loop_tallies d tried none)
+    statement_tallies {names} (Labeled at label body s s2 other d) tried none =
+        added_labeled _ _ _ (statement_tallies d tried none)
+    statement_tallies (Break at label target s is) tried none = added_jump _ _ (jump_tallied label)
+    statement_tallies (Continue at label target s is) tried none = added_jump _ _ (jump_tallied label)
+    statement_tallies {names} (Throw at e s t p d) tried none =
+        ap (λ (l : List Instruction). times key l) (throwing_table t at.span)
+        ∙ added_inner _ _ _ _ refl (expression_tallies d (throw_clean names tried at.span e none).0)
+    statement_tallies {names} (Switch at value cases ks s t u p all d) tried none =
+        let clean = switch_clean names tried value cases none in
+        added_loop _ _ _ _ _ (cases_tallies all tried clean.0) (expression_tallies d clean.1)
+    statement_tallies {names} (TryPlain at there block body s s2 s3 first second) tried none =
+        let clean = try_clean names tried Absent body block none in
+        added_try _ _ _ _ _ (statement_tallies first tried clean.1) (statement_tallies second true clean.2)
+    statement_tallies {names} (TryBound at there bind name type block body symbol identifier s s2 s3 annotated is f first second) tried
+        none =
+        let param : Syntax = Node bind word.Bind (Then (Said name) (Then type End)) in
+        let clean = try_clean names tried param body block none in
+        added_bound_try _ _ _ _ _ _ _ _ (same_tallied param Absent (param_held bind name type annotated))
+        (unheld_tallies (reserved (promoted s bind.span)) (declares_caught s bind.span) (Some bind.span) refl)
+        (unheld_tallies (found names (catch_begun s bind.span) symbol bind.span) (stores_caught s identifier bind.span) (Some bind.span)
+        refl)
+        (statement_tallies first tried clean.1) (statement_tallies second true clean.2)
+    statement_tallies {names} (Finalized at there block param body finalizer s t is d) tried none =
+        absurd (finalizer_never names tried at there block param body finalizer is none)
+    statement_tallies (Uncaught at block finalizer s) tried none = absurd (never none)
+    statement_tallies (With at fields s) tried none = absurd (never none)
+
+    cases_tallies : {names : Names} {s : State} {es : Pieces} {ks : List Case} {t : State} → LoweredCases names s es ks t → (tried : Bool)
+        → refusals_in_cases names tried es ≡ [] → times key t.table ≡ times key s.table + tallied_among key es
+    cases_tallies (NoCase s) tried none = omega arith
+    cases_tallies {names} (NextCase at test statements cases ks s x y z p all d tested) tried none =
+        let clean = case_clean names tried test statements cases none in
+        added_case _ _ _ _ _ _ _ (cases_tallies all tried clean.behind) (statements_tallies d tried clean.body)
+        (case_test_tallies tested clean.moved clean.condition)
+
+    pub loop_tallies : {names : Names} {own : Label} {e : Syntax} {s t : State} → LoweredLoop names own e s t → (tried : Bool)
+        → refusals_at names tried e ≡ []
+        → times key t.table ≡ times key s.table + tallied key e
+    loop_tallies {names} (While at test body s s2 s3 p d dt) tried none =
+        let clean = while_clean names tried test body none in
+        added_loop _ _ _ _ _ (statement_tallies d tried clean.0) (expression_tallies dt clean.1)
+    loop_tallies {names} (DoWhile at test body s s2 s3 p d dt) tried none =
+        let clean = while_clean names tried test body none in
+        added_do _ _ _ _ _ (statement_tallies d tried clean.0) (expression_tallies dt clean.1)
+    loop_tallies {names} (ForUpdated at init test update body s s2 s3 s4 s5 u p di du d dt) tried none =
+        let clean = for_clean names tried at.span init test update body none in
         added_for _ _ _ _ _ _ _ _ _ (init_tallies di clean.init_said clean.init) (expression_tallies du clean.update)
-        (statement_tallies d clean.body) (test_tallies dt clean.test_said clean.test)
-    loop_tallies {names} (ForPlain at init test body s s2 s3 s4 p di d dt) none =
-        let clean = for_clean names at.span init test Absent body none in
-        added_plain_for _ _ _ _ _ _ _ (init_tallies di clean.init_said clean.init) (statement_tallies d clean.body)
+        (statement_tallies d tried clean.body) (test_tallies dt clean.test_said clean.test)
+    loop_tallies {names} (ForPlain at init test body s s2 s3 s4 p di d dt) tried none =
+        let clean = for_clean names tried at.span init test Absent body none in
+        added_plain_for _ _ _ _ _ _ _ (init_tallies di clean.init_said clean.init) (statement_tallies d tried clean.body)
         (test_tallies dt clean.test_said clean.test)
-    loop_tallies {names} (ForIn at head right body s s2 s3 s4 collection p d dr dp) none =
+    loop_tallies {names} (ForIn at head right body s s2 s3 s4 collection p d dr dp) tried none =
         let f : RoundsParts = rounds_shut (forin_at s at.span) in
-        let clean = rounds_clean names head right body none in
-        added_rounds _ _ _ _ _ _ _ _ (statement_tallies d clean.0) (expression_tallies dr clean.1)
+        let clean = rounds_clean names tried head right body none in
+        added_rounds _ _ _ _ _ _ _ _ (statement_tallies d tried clean.0) (expression_tallies dr clean.1)
         (unheld_tallies (forin_headed f s3) (values.NextPropertyOf collection) (Some (span_of head)) refl) (head_tallies dp clean.2)
-    loop_tallies {names} (ForOf at head right body s s2 s3 s4 collection p d dr dp) none =
+    loop_tallies {names} (ForOf at head right body s s2 s3 s4 collection p d dr dp) tried none =
         let f : ForOfParts = forof_shut (forof_at s at.span) in
-        let clean = rounds_clean names head right body none in
-        added_iterated _ _ _ _ _ _ _ _ _ (statement_tallies d clean.0) (expression_tallies dr clean.1)
+        let clean = rounds_clean names tried head right body none in
+        added_iterated _ _ _ _ _ _ _ _ _ (statement_tallies d tried clean.0) (expression_tallies dr clean.1)
         (unheld_tallies (forof_headed f s3) (values.GetIterator collection) collection.span refl)
         (unheld_tallies (forof_tested f s3 collection) (values.IteratorNext (forof_iterator f s3 collection) collection)
         (Some (span_of head)) refl) (head_tallies dp clean.2)
-    loop_tallies (AwaitRefused at head right body s) none = absurd (never none)
+    loop_tallies (AwaitRefused at head right body s) tried none = absurd (never none)
 
-    init_tallies : {names : Names} {at : Span} {e : Syntax} {s t : State} → LoweredInit names at e s t → said_of_init at e ≡ []
-        → refusals names e ≡ [] → times key t.table ≡ times key s.table + tallied key e
-    init_tallies {at} (NoInit s) unsaid none = unheld_tallies s (values.Primitive primitives.Undefined) (Some at) refl
-    init_tallies (DeclaredInit there fields s t d) unsaid none = statement_tallies d none
-    init_tallies {at} (RefusedInit e s t p d) unsaid none =
-        absurd (never (sym (init_said e (lowered_plain d).node at) ∙ unsaid))
-
-    pub statements_tallies : {names : Names} {es : Pieces} {s t : State} → LoweredStatements names es s t → refusals_in names es ≡ []
+    pub statements_tallies : {names : Names} {es : Pieces} {s t : State} → LoweredStatements names es s t → (tried : Bool)
+        → refusals_among names tried es ≡ []
         → times key t.table ≡ times key s.table + tallied_among key es
-    statements_tallies (NoStatement s) none = omega arith
-    statements_tallies {names} (NextStatement e es s t u d ds) none =
-        let clean = row_clean names e es none in
-        added_row _ _ _ _ _ (statement_tallies d clean.0) (statements_tallies ds clean.1)
+    statements_tallies (NoStatement s) tried none = omega arith
+    statements_tallies {names} (NextStatement e es s t u d ds) tried none =
+        let clean = among_clean names tried e es none in
+        added_row _ _ _ _ _ (statement_tallies d tried clean.0) (statements_tallies ds tried clean.1)
 
-  pub body_tallies : {names : Names} {b : Syntax} {s t : State} → LoweredBody names b s t → refusals names b ≡ []
+  pub body_tallies : {names : Names} {b : Syntax} {s t : State} → LoweredBody names b s t → refusals_in_body names b ≡ []
       → times key t.table ≡ times key s.table + tallied key b
   body_tallies {names} (Statements at directives statements s t texts d) none =
       added_body _ _ _ _ (texts_tallied directives texts)
-      (statements_tallies d (first_none (refusals_in names statements) []
-      (second_none (refusals_in names directives) (refusals_in names statements ++ []) none)))
-  body_tallies (Value e s t p d) none = expression_tallies d none
+      (statements_tallies d false none)
+  body_tallies {names} (Value e s t p d) none = expression_tallies d (sym ((lowered_plain d).refused names) ∙ none)

@@ -1,20 +1,22 @@
 -- Promises of the lowering of a part, from its derivation.
-use Rattle.std.proofs.Common.{List}
+use Rattle.std.proofs.Common.{List, Option, refl}
 use Rattle.rl_base.specs.declared.span.Span.{Span}
 use Rattle.rl_builder.specs.Builder.{State}
-use Rattle.rl_hir.specs.Pieces.{Piece}
+use Rattle.rl_frames.specs.SwitchParts.{switch_begun}
 use Rattle.rl_hir.specs.declared.instruction.Place.{Place}
-use Rattle.rl_lowered.proofs.Names.{all_names, expression_names, head_names, init_names, last_names, loop_names, statement_names}
-use Rattle.rl_lowered.proofs.Names.{statements_names, test_names}
-use Rattle.rl_lowered.proofs.Sizes.{all_size, expression_size, head_size, init_size, last_size, loop_size, statement_size, statements_size}
-use Rattle.rl_lowered.proofs.Sizes.{test_size}
-use Rattle.rl_lowered.specs.Lowered.{Lowered, LoweredAll, LoweredHead, LoweredInit, LoweredLast, LoweredLoop, LoweredProperties}
-use Rattle.rl_lowered.specs.Lowered.{LoweredStatement, LoweredStatements, LoweredTest}
-use Rattle.rl_lowered.specs.Promised.{LowersAll, LowersExpression, LowersHead, LowersInit, LowersLast, LowersLoop, LowersProperties}
-use Rattle.rl_lowered.specs.Promised.{LowersStatement, LowersStatements, LowersTest}
+use Rattle.rl_hir.specs.declared.terminal.Case.{Case}
+use Rattle.rl_hir.specs.Pieces.{Piece}
+use Rattle.rl_lowered.proofs.Names.{all_names, case_test_names, cases_names, expression_names, head_names, init_names, last_names}
+use Rattle.rl_lowered.proofs.Names.{loop_names, names_same, statement_names, statements_names, test_names}
+use Rattle.rl_lowered.proofs.Sizes.{all_size, case_test_size, cases_size, expression_size, head_size, init_size, last_size, loop_size}
+use Rattle.rl_lowered.proofs.Sizes.{statement_size, statements_size, test_size}
+use Rattle.rl_lowered.specs.Lowered.{Lowered, LoweredAll, LoweredCaseTest, LoweredCases, LoweredHead, LoweredInit, LoweredLast}
+use Rattle.rl_lowered.specs.Lowered.{LoweredLoop, LoweredProperties, LoweredStatement, LoweredStatements, LoweredTest}
+use Rattle.rl_lowered.specs.Promised.{LowersAll, LowersCaseTest, LowersCases, LowersExpression, LowersHead, LowersInit, LowersLast}
+use Rattle.rl_lowered.specs.Promised.{LowersLoop, LowersProperties, LowersStatement, LowersStatements, LowersTest}
 use Rattle.rl_model.specs.Actions.{Label}
 use Rattle.rl_names.specs.Names.{Names}
-use Rattle.rl_syntax.specs.Syntax.{Syntax, Pieces}
+use Rattle.rl_syntax.specs.Syntax.{Pieces, Syntax}
 
 pub told : {names : Names} {e : Syntax} {s t : State} {p : Place} → Lowered names e s t p → LowersExpression names e s t p
 told l = record { by = l; named = (expression_names l).named; size = expression_size l }
@@ -50,3 +52,16 @@ told_head l = record { by = l; named = (head_names l).named; size = head_size l 
 
 pub told_statements : {names : Names} {es : Pieces} {s t : State} → LoweredStatements names es s t → LowersStatements names es s t
 told_statements l = record { by = l; named = (statements_names l).named; size = statements_size l }
+
+pub told_case_test : {names : Names} {e : Syntax} {s t : State} {p : Option Place} → LoweredCaseTest names e s t p
+    → LowersCaseTest names e s t p
+told_case_test l = record { by = l; named = (case_test_names l).named; size = case_test_size l }
+
+-- The block that was numbered for what follows a `switch` is told with its cases.
+pub told_cases : {names : Names} {s : State} {es : Pieces} {ks : List Case} {t : State} → LoweredCases names s es ks t
+    → LowersCases names s es ks t
+told_cases {s = s} l = record {
+  by = l;
+  named = λ n. (cases_names l).named ((names_same s (switch_begun s) refl).named n);
+  size = cases_size l;
+}

@@ -1,258 +1,52 @@
 -- Lowering a part keeps that no run reads the note behind a construct whose terminal `build` may replace.
-use Rattle.std.proofs.Common.{◌≡◌, ℕ, ◌+◌, ◌<◌, ◌≤◌, inl, inr, Bool, true, false, List, [], ◌∷◌, Option, Some, None, refl, ◌∙◌}
-use Rattle.std.proofs.Common.{subst, arith}
-use Rattle.rl_base.specs.Diagnostics.{diagnostic_at}
-use Rattle.rl_base.specs.declared.ids.BlockId.{BlockId}
+use Rattle.std.proofs.Common.{◌+◌, Bool, true, false, List, Option, Some, None, refl, ◌∙◌, arith}
 use Rattle.rl_base.specs.declared.diagnostic.Diagnostic.{Diagnostic}
-use Rattle.rl_base.specs.declared.ids.SymbolId.{SymbolId}
-use Rattle.rl_base.specs.declared.operator.UpdateOperator.{UpdateOperator}
 use Rattle.rl_base.specs.declared.row.Row.TheVariants as row
 use Rattle.rl_base.specs.declared.span.Span.{Span}
-use Rattle.rl_base.specs.declared.type_kind.TypeKind.{TypeKind}
-use Rattle.rl_base.specs.declared.type_kind.TypeKind.TheVariants as types
-use Rattle.rl_base.specs.declared.variable_kind.VariableKind.{VariableKind}
-use Rattle.rl_base.specs.declared.variable_kind.VariableKind.TheVariants as declared
-use Rattle.rl_builder.specs.Builder.{State, completed_by, new_block, pushed, recorded, reserved, with_temporary, with_type}
-use Rattle.rl_builder.specs.declared.blocks.WipBlock.{WipBlock}
-use Rattle.rl_builder.specs.Temporaries.{temporary, unordered, with_value}
+use Rattle.rl_base.specs.Diagnostics.{diagnostic_at}
+use Rattle.rl_builder.specs.Builder.{State, new_block, pushed, recorded, reserved}
+use Rattle.rl_builder.specs.Temporaries.{temporary, with_value}
 use Rattle.rl_frames.proofs.LoopNotes.{do_while_unread, while_unread}
 use Rattle.rl_frames.proofs.RoundNotes.{forin_unread, forof_unread}
-use Rattle.rl_frames.specs.Frames.{ForParts, for_after_init, for_after_update, for_again, for_aside, for_at, for_bodied}
-use Rattle.rl_frames.specs.Frames.{for_inited, for_opened, for_updated}
-use Rattle.rl_frames.specs.Frames.{IfParts, if_after_consequent, if_alternate, if_at, if_consequent}
-use Rattle.rl_frames.specs.Frames.{LabelParts, label_at}
-use Rattle.rl_frames.specs.Frames.{LogicalParts, aside_of, logical_at, logical_righted}
-use Rattle.rl_frames.specs.Frames.{SequenceParts, sequence_at}
-use Rattle.rl_frames.specs.Frames.{TernaryParts, ternary_alternated, ternary_aside, ternary_at, ternary_consequent}
-use Rattle.rl_frames.specs.Frames.{ternary_parted}
+use Rattle.rl_frames.specs.Frames.{ForParts, IfParts, LabelParts, LogicalParts, SequenceParts, TernaryParts, aside_of, for_after_init}
+use Rattle.rl_frames.specs.Frames.{for_after_update, for_again, for_aside, for_at, for_bodied, for_inited, for_updated}
+use Rattle.rl_frames.specs.Frames.{if_after_consequent, if_alternate, if_at, if_consequent, label_at, logical_at, logical_righted}
+use Rattle.rl_frames.specs.Frames.{sequence_at, ternary_alternated, ternary_aside, ternary_at, ternary_consequent, ternary_parted}
+use Rattle.rl_frames.specs.Parts.{for_begun, for_end, if_begun, if_end, label_begun, label_end, loads, logical_begun, logical_entered}
+use Rattle.rl_frames.specs.Parts.{logical_left, logical_place, sequence_begun, ternary_begun, try_end}
 use Rattle.rl_frames.specs.Rounds.{ForOfParts, RoundsParts, forin_at, forin_headed, forof_at, forof_headed, forof_iterator, forof_shut}
 use Rattle.rl_frames.specs.Rounds.{forof_tested, rounds_shut}
-use Rattle.rl_frames.specs.Parts.{for_begun, for_end, if_begun, if_end, label_begun, label_end, loads, logical_begun, logical_entered}
-use Rattle.rl_frames.specs.Parts.{logical_left, logical_place, sequence_begun, ternary_begun}
-use Rattle.rl_hir.specs.Blocks.{Pair as BlockPair}
-use Rattle.rl_hir.specs.Pieces.{Piece}
-use Rattle.rl_hir.specs.declared.function.BlockKind.{BlockKind}
+use Rattle.rl_frames.specs.SwitchParts.{case_begun, case_ended, fall_of, switch_begun, switch_end}
 use Rattle.rl_hir.specs.declared.function.BlockKind.TheVariants as blocks
-use Rattle.rl_hir.specs.declared.instruction.Instruction.{Instruction}
 use Rattle.rl_hir.specs.declared.instruction.InstructionKind.{InstructionKind}
-use Rattle.rl_hir.specs.declared.instruction.InstructionKind.TheVariants as variables
-use Rattle.rl_hir.specs.declared.instruction.InstructionValue.{InstructionValue}
 use Rattle.rl_hir.specs.declared.instruction.InstructionValue.TheVariants as values
 use Rattle.rl_hir.specs.declared.instruction.Place.{Place}
 use Rattle.rl_hir.specs.declared.instruction.PrimitiveValue.TheVariants as primitives
-use Rattle.rl_hir.specs.declared.terminal.GotoVariant.{GotoVariant}
+use Rattle.rl_hir.specs.declared.terminal.Case.{Case}
 use Rattle.rl_hir.specs.declared.terminal.GotoVariant.TheVariants as gotos
 use Rattle.rl_hir.specs.declared.terminal.ReturnVariant.TheVariants as returns
-use Rattle.rl_hir.specs.declared.terminal.Terminal.{Terminal}
-use Rattle.rl_hir.specs.declared.terminal.TerminalKind.{TerminalKind}
 use Rattle.rl_hir.specs.declared.terminal.TerminalKind.TheVariants as kinds
+use Rattle.rl_hir.specs.Pieces.{Piece}
 use Rattle.rl_lowered.proofs.Blocks.{expression_blocks, head_blocks, statement_blocks}
-use Rattle.rl_lowered.specs.Forms.{MemberKey, load_of, store_of, typed}
-use Rattle.rl_lowered.specs.Lowered.{Lowered, LoweredBody, LoweredDeclarators, LoweredHead, LoweredInit, LoweredLast, LoweredLoop}
-use Rattle.rl_lowered.specs.Lowered.{LoweredParts, LoweredStatement, LoweredStatements, LoweredTest, declaring, found_again, member_loaded}
-use Rattle.rl_lowered.specs.Lowered.{member_one, member_stored, member_updated, part_span, value_span}
+use Rattle.rl_lowered.proofs.Catches.{catch_declared, declares_caught, stores_caught}
+use Rattle.rl_lowered.proofs.UnreadMoves.{Unreads, own_note, unreads_declaring, unreads_ended, unreads_for_opened, unreads_found}
+use Rattle.rl_lowered.proofs.UnreadMoves.{unreads_found_value, unreads_frame, unreads_last, unreads_member, unreads_next, unreads_noted}
+use Rattle.rl_lowered.proofs.UnreadMoves.{unreads_noted_value, unreads_pushed, unreads_refl, unreads_same, unreads_scope_ended}
+use Rattle.rl_lowered.proofs.UnreadMoves.{unreads_stored, unreads_then, unreads_throwing, unreads_tried, unreads_typed, unreads_undefined}
+use Rattle.rl_lowered.proofs.UnreadMoves.{unreads_value}
+use Rattle.rl_lowered.specs.Forms.{load_of, store_of, typed}
+use Rattle.rl_lowered.specs.Lowered.{Lowered, LoweredBody, LoweredCaseTest, LoweredCases, LoweredDeclarators, LoweredHead, LoweredInit}
+use Rattle.rl_lowered.specs.Lowered.{LoweredLast, LoweredLoop, LoweredParts, LoweredStatement, LoweredStatements, LoweredTest}
+use Rattle.rl_lowered.specs.Lowered.{catch_begun, catch_bound, caught, declaring, found_again, part_span, promoted, throwing, value_span}
 use Rattle.rl_lowered.specs.Lowered as lowered
 use Rattle.rl_lowered.specs.Named.{found}
 use Rattle.rl_model.specs.Actions.{Label}
 use Rattle.rl_names.specs.Names.{Names}
+use Rattle.rl_promises.specs.Moved.{type_name}
 use Rattle.rl_promises.specs.Rows.{refusal, row_of_head}
-use Rattle.rl_runs.proofs.Moves.{extends_pushed}
-use Rattle.rl_runs.proofs.Naming.{named_first, named_none}
-use Rattle.rl_runs.proofs.ReadNotes.{marked_ended, unread_ended, unread_pushed, unread_then}
-use Rattle.rl_runs.specs.Blocks.{IsTarget}
-use Rattle.rl_runs.specs.Moves.{block_id, branch, ends_by, goto, last_hole, next_hole, return_of, returned_from, stored_in, without_scope}
-use Rattle.rl_runs.specs.ReadNotes.{HasId, IsHandler, KeepsUnread, KnowsReads, MarkedAt, ReadsSince, ReplacesSince, Unread, reads_of}
-use Rattle.rl_runs.specs.ReadNotes.{replaced_of}
-use Rattle.rl_syntax.specs.Syntax.{Syntax, Pieces, span_of}
-
--- Moves one after the other: no handler opens or closes, and the counter of blocks does not fall.
-pub record Unreads (old new : State) : Type 0 where
-  pub grows : old.env.next_block ≤ new.env.next_block
-  pub handlers : new.handlers ≡ old.handlers
-  pub keeps : KeepsUnread old new
-
-pub unreads_then : (a b c : State) → Unreads a b → Unreads b c → Unreads a c
-unreads_then a b c j k = record {
-  grows = omega (arith, j.grows, k.grows);
-  handlers = k.handlers ∙ j.handlers;
-  keeps = unread_then a b c j.grows k.grows j.handlers j.keeps k.keeps;
-}
-
--- A move that completes no block.
-pub unreads_same : (s t : State) → t.completed ≡ s.completed → t.handlers ≡ s.handlers → s.env.next_block ≤ t.env.next_block → Unreads s t
-unreads_same s t completed handlers grows = record {
-  grows = grows;
-  handlers = handlers;
-  keeps = record {
-    replaces = λ id m. inl (before replaced_of id m);
-    reads = λ id m. inl (before reads_of id m);
-    unread = λ k u id m n. u id (before replaced_of id m) (before reads_of id n);
-  };
-}
-  where
-    before : (of : TerminalKind → List BlockId) (id : ℕ) → MarkedAt of t.completed id → MarkedAt of s.completed id
-    before of id m = subst (λ (l : List BlockPair). MarkedAt of l id) completed m
-
-pub unreads_refl : (s : State) → Unreads s s
-unreads_refl s = unreads_same s s refl refl (omega arith)
-
--- A terminal that marks no block.
-pub unreads_ended : (s : State) (t : Terminal) (next : WipBlock) → replaced_of t.kind ≡ [] → reads_of t.kind ≡ []
-    → Unreads s (completed_by s t next)
-unreads_ended s t next replaced reads =
-    record { grows = omega arith; handlers = refl; keeps = unread_ended s t next replaced reads }
-
--- Holes
-
-unreads_next : (s : State) (behind : ℕ) (variant : GotoVariant) (part : Span) (kind : BlockKind)
-    → Unreads s (next_hole s behind variant part kind)
-unreads_next s behind variant part kind =
-    unreads_then s (reserved s) _ (unreads_same s (reserved s) refl refl (omega arith))
-    (unreads_ended (reserved s) (goto behind variant part) (new_block s.env.next_block kind) refl refl)
-
-unreads_last : (s : State) (behind : ℕ) (variant : GotoVariant) (part : Span) (outer : WipBlock)
-    → Unreads s (last_hole s behind variant part outer)
-unreads_last s behind variant part outer = unreads_ended s (goto behind variant part) outer refl refl
-
--- Instructions
-
-unreads_pushed : (s : State) (i : Instruction) → Unreads s (pushed s i)
-unreads_pushed s i =
-    let g = extends_pushed s i in record { grows = g.blocks; handlers = g.handlers; keeps = unread_pushed s i }
-
-pub unreads_value : (s : State) (v : InstructionValue) (span : Option Span) → Unreads s (with_value s v span)
-unreads_value s v span =
-    unreads_then s (with_temporary s span) _ (unreads_same s (with_temporary s span) refl refl (omega arith))
-    (unreads_pushed (with_temporary s span) (unordered (temporary s span) v span))
-
-unreads_stored : (s : State) (place value : Place) (part : Span) → Unreads s (stored_in s place value part)
-unreads_stored s place value part = unreads_value s (values.StoreLocal variables.Const place value) (Some part)
-
-unreads_noted : (s : State) (d : Diagnostic) → Unreads s (recorded s d)
-unreads_noted s d = unreads_same s (recorded s d) refl refl (omega arith)
-
-unreads_noted_value : (s : State) (d : Diagnostic) (v : InstructionValue) (span : Option Span)
-    → Unreads s (with_value (recorded s d) v span)
-unreads_noted_value s d v span = unreads_then s (recorded s d) _ (unreads_noted s d) (unreads_value (recorded s d) v span)
-
-unreads_undefined : (s : State) (d : Diagnostic) (at : Span)
-    → Unreads s (with_value (recorded s d) (values.Primitive primitives.Undefined) (Some at))
-unreads_undefined s d at = unreads_noted_value s d (values.Primitive primitives.Undefined) (Some at)
-
-unreads_found : (names : Names) (s : State) (symbol : SymbolId) (at : Span) → Unreads s (found names s symbol at)
-unreads_found names s symbol at = unreads_same s (found names s symbol at) refl refl (omega arith)
-
-unreads_found_value : (names : Names) (s : State) (symbol : SymbolId) (at : Span) (v : InstructionValue) (span : Option Span)
-    → Unreads s (with_value (found names s symbol at) v span)
-unreads_found_value names s symbol at v span =
-    unreads_then s (found names s symbol at) _ (unreads_found names s symbol at) (unreads_value (found names s symbol at) v span)
-
-unreads_typed : (s : State) (k : TypeKind) → Unreads s (typed s k)
-unreads_typed s types.Array = unreads_refl s
-unreads_typed s types.Primitive = unreads_refl s
-unreads_typed s types.Other = unreads_same s (with_type s) refl refl (omega arith)
-
-unreads_declaring : (s : State) (k : VariableKind) (at : Span) → Unreads s (declaring s k at)
-unreads_declaring s declared.Var at = unreads_noted s (refusal row.F39 at)
-unreads_declaring s _ at = unreads_refl s
-
-unreads_member : (t : State) (object : Place) (key : MemberKey) (operator : UpdateOperator) (there : Span)
-    → Unreads t (member_stored t object key operator there)
-unreads_member t object key operator there =
-    let loaded : State = member_loaded t object key there in
-    let one : State = member_one t object key there in
-    let updated : State = member_updated t object key operator there in
-    unreads_then t loaded _ (unreads_value t (load_of object key) (Some there))
-    (unreads_then loaded one _ (unreads_value loaded (values.Primitive (primitives.Number 1)) None)
-    (unreads_then one updated _ (unreads_value one _ (Some there))
-    (unreads_value updated (store_of object key (temporary one (Some there))) (Some there))))
-
--- Constructs whose last terminal reads the note of a block of their own, one that was numbered before the first hole opened in `begun`.
-module _ (s begun x : State) (t : Terminal) (next : WipBlock) (completed : begun.completed ≡ s.completed)
-    (handlers : begun.handlers ≡ s.handlers) (grows : s.env.next_block ≤ begun.env.next_block) (unreplaced : replaced_of t.kind ≡ [])
-    (own : (id : ℕ) → HasId (reads_of t.kind) id → (s.env.next_block ≤ id) × (id < begun.env.next_block)) (hole : Unreads begun x) where
-  abbrev last : State
-  last = completed_by x t next
-
-  before : (of : TerminalKind → List BlockId) (id : ℕ) → MarkedAt of begun.completed id → MarkedAt of s.completed id
-  before of id m = subst (λ (l : List BlockPair). MarkedAt of l id) completed m
-
-  handled : (id : ℕ) → IsHandler begun id → IsHandler s id
-  handled id h = subst (λ (l : List BlockId). IsTarget l [] id) handlers h
-
-  never_replaced : (id : ℕ) → HasId (replaced_of t.kind) id → ⊥
-  never_replaced id has = named_none id (subst (λ (l : List BlockId). HasId l id) unreplaced has)
-
-  replaces : ReplacesSince s last
-  replaces id m = elim (marked_ended replaced_of x t next id m) [
-    | inl m1 ↦ elim (hole.keeps.replaces id m1) [
-      | inl old ↦ inl (before replaced_of id old)
-      | inr o ↦ inr (omega (arith, o.0, grows), o.1)
-    ]
-    | inr never ↦ absurd (never_replaced id never)
-  ]
-
-  reads : ReadsSince s last
-  reads id m = elim (marked_ended reads_of x t next id m) [
-    | inl m1 ↦ elim (hole.keeps.reads id m1) [
-      | inl old ↦ inl (before reads_of id old)
-      | inr new ↦ elim new [ inl o ↦ inr (inl (omega (arith, o.0, grows), o.1)) | inr h ↦ inr (inr (handled id h)) ]
-    ]
-    | inr mine ↦ (let o = own id mine in inr (inl (o.0, omega (arith, o.1, hole.grows))))
-  ]
-
-  knows_begun : KnowsReads s → KnowsReads begun
-  knows_begun k = record {
-    replaced = λ id m. (let small : id < s.env.next_block = k.replaced id (before replaced_of id m) in omega (arith, small, grows));
-    read = λ id m. (let small : id < s.env.next_block = k.read id (before reads_of id m) in omega (arith, small, grows));
-    handlers = λ id h. (let small : id < s.env.next_block = k.handlers id (handled id h) in omega (arith, small, grows));
-    apart = λ id h m. k.apart id (handled id h) (before replaced_of id m);
-  }
-
-  unread : KnowsReads s → Unread s → Unread last
-  unread k u id m n = elim (marked_ended replaced_of x t next id m) [
-    | inl m1 ↦ elim (marked_ended reads_of x t next id n) [
-      | inl n1 ↦ hole.keeps.unread (knows_begun k) (λ id1 m2 n2. u id1 (before replaced_of id1 m2) (before reads_of id1 n2)) id m1 n1
-      | inr mine ↦ apart m1 (own id mine)
-    ]
-    | inr never ↦ never_replaced id never
-  ]
-    where
-      apart : MarkedAt replaced_of x.completed id → (s.env.next_block ≤ id) × (id < begun.env.next_block) → ⊥
-      apart m1 o = elim (hole.keeps.replaces id m1) [
-        | inl old ↦ (let small : id < s.env.next_block = k.replaced id (before replaced_of id old) in omega (arith, small, o.0))
-        | inr new ↦ omega (arith, new.0, o.1)
-      ]
-
-  unreads_frame : Unreads s last
-  unreads_frame = record {
-    grows = omega (arith, grows, hole.grows);
-    handlers = hole.handlers ∙ handlers;
-    keeps = record { replaces = replaces; reads = reads; unread = unread };
-  }
-
--- The note that the last terminal reads is that of one of the numbered blocks.
-own_note : (note first end : ℕ) → first ≤ note → note < end → (id : ℕ) → HasId (block_id note ∷ []) id → (first ≤ id) × (id < end)
-own_note note first end low high id has = elim (named_first id (block_id note) [] has) [
-  | inl e ↦ (omega (arith, e, low), omega (arith, e, high))
-  | inr never ↦ absurd (named_none id never)
-]
-
--- A block in a scope ends, and the block that was set aside by a terminal that marks none.
-unreads_scope_ended : (s : State) (behind : ℕ) (variant : GotoVariant) (part : Span) (outer : WipBlock) (end : Terminal) (next : WipBlock)
-    → replaced_of end.kind ≡ [] → reads_of end.kind ≡ []
-    → Unreads s (completed_by (last_hole (without_scope s) behind variant part outer) end next)
-unreads_scope_ended s behind variant part outer end next replaced reads =
-    let left : State = without_scope s in
-    let gone : State = last_hole left behind variant part outer in
-    unreads_then s left _ (unreads_same s left refl refl (omega arith))
-    (unreads_then left gone _ (unreads_last left behind variant part outer) (unreads_ended gone end next replaced reads))
-
-unreads_for_opened : (f : ForParts) (s : State) (part : Span) → Unreads s (for_opened f s part)
-unreads_for_opened f s part =
-    let next : State = next_hole s f.test gotos.Break part blocks.Block in
-    unreads_then s next _ (unreads_next s f.test gotos.Break part blocks.Block)
-    (unreads_same next (for_opened f s part) refl refl (omega arith))
+use Rattle.rl_runs.specs.Moves.{branch, ends_by, last_hole, return_of, returned_from, stored_in, threw_from, without_scope}
+use Rattle.rl_runs.specs.ReadNotes.{KeepsUnread}
+use Rattle.rl_syntax.specs.Syntax.{Pieces, Syntax, span_of}
 
 mutual
   pub expression_unread : {names : Names} {e : Syntax} {s t : State} {p : Place} → Lowered names e s t p → Unreads s t
@@ -384,6 +178,18 @@ test_unread {at} (lowered.NoTest s) =
     unreads_noted_value s (refusal row.F32 at) (values.Primitive (primitives.Boolean true)) (Some at)
 test_unread (lowered.Tested e s t p l) = expression_unread l
 
+case_test_unread : {names : Names} {e : Syntax} {s t : State} {p : Option Place} → LoweredCaseTest names e s t p → Unreads s t
+case_test_unread (lowered.NoCaseTest s) = unreads_refl s
+case_test_unread (lowered.CaseTested e s t p is l) = expression_unread l
+case_test_unread (lowered.CaseMoved at w fields s t p is l) =
+    let noted : Diagnostic = diagnostic_at row.F29 (type_name w) at.span in
+    unreads_then s (recorded s noted) t (unreads_noted s noted) (expression_unread l)
+
+unreads_threw : (s : State) (span : Span) (place : Place) → Unreads s (threw_from s span place blocks.Block)
+unreads_threw s span place =
+    unreads_then s (reserved s) _ (unreads_same s (reserved s) refl refl (omega arith))
+    (unreads_ended (reserved s) (ends_by (kinds.Throw place) (Some span)) (new_block s.env.next_block blocks.Block) refl refl)
+
 -- The head of a loop over keys or values.
 head_unread : {names : Names} {value : Place} {e : Syntax} {s t : State} {p : Place} → LoweredHead names value e s t p → Unreads s t
 head_unread {names} (lowered.Declared at there bind kind name type symbol identifier s annotated is f) =
@@ -441,6 +247,47 @@ mutual
       (unreads_scope_ended s2 f.behind.id.0 gotos.Break (span_of body) s.current (label_end s.env.next_block at.span) f.behind refl refl))
   statement_unread (lowered.Break at label target s is) = unreads_next s target.0 gotos.Break at.span blocks.Block
   statement_unread (lowered.Continue at label target s is) = unreads_next s target.0 gotos.Continue at.span blocks.Block
+  statement_unread (lowered.Throw at e s t p l) =
+      let thrown : State = throwing t at.span in
+      unreads_then s t _ (expression_unread l) (unreads_then t thrown _ (unreads_throwing t at.span) (unreads_threw thrown at.span p))
+  statement_unread (lowered.Switch at value cases ks s t u p all l) =
+      unreads_then s (switch_begun s) _ (unreads_same s (switch_begun s) refl refl (omega arith))
+      (unreads_then (switch_begun s) t _ (cases_unread all)
+      (unreads_then t u _ (expression_unread l)
+      (unreads_ended u (switch_end s.env.next_block ks p at.span) (new_block s.env.next_block blocks.Block) refl refl)))
+  statement_unread (lowered.TryPlain at there block body s s2 s3 first second) =
+      unreads_tried s (reserved s) s2 s3 there.span (span_of block)
+      (try_end s.env.next_block (reserved s).env.next_block s2.env.next_block None at.span) refl refl (unreads_refl (reserved s))
+      (statement_unread first) (statement_unread second)
+  statement_unread {names} (lowered.TryBound at there bind name type block body symbol identifier s s2 s3 annotated is f first second) =
+      let made : State = promoted s bind.span in
+      let declared : State = catch_declared s bind.span in
+      let begun : State = catch_begun s bind.span in
+      unreads_then s made _ (unreads_same s made refl refl (omega arith))
+      (unreads_tried made declared s2 s3 there.span (span_of block)
+      (try_end s.env.next_block declared.env.next_block s2.env.next_block (Some (caught s bind.span)) at.span) refl refl
+      (unreads_value (reserved made) (declares_caught s bind.span) (Some bind.span))
+      (unreads_then begun (catch_bound names s symbol identifier bind.span) s2
+      (unreads_found_value names begun symbol bind.span (stores_caught s identifier bind.span) (Some bind.span)) (statement_unread first))
+      (statement_unread second))
+  statement_unread (lowered.Finalized at there block param body finalizer s t is l) =
+      unreads_then s (recorded s (refusal row.F35 at.span)) t (unreads_noted s (refusal row.F35 at.span)) (statement_unread l)
+  statement_unread (lowered.Uncaught at block finalizer s) = unreads_noted s (refusal row.F34 at.span)
+  statement_unread (lowered.With at fields s) = unreads_noted s (refusal row.F36 at.span)
+
+  cases_unread : {names : Names} {s : State} {es : Pieces} {ks : List Case} {t : State} → LoweredCases names s es ks t
+      → Unreads (switch_begun s) t
+  cases_unread (lowered.NoCase s) = unreads_refl (switch_begun s)
+  cases_unread (lowered.NextCase at test statements cases ks s x y z p all l tested) =
+      let begun : State = case_begun x None s.env.next_block in
+      let left : State = without_scope y in
+      let shut : State = case_ended y (fall_of s.env.next_block ks) x.current at.span in
+      unreads_then (switch_begun s) x z (cases_unread all)
+      (unreads_then x begun z (unreads_same x begun refl refl (omega arith))
+      (unreads_then begun y z (statements_unread l)
+      (unreads_then y left z (unreads_same y left refl refl (omega arith))
+      (unreads_then left shut z (unreads_last left (fall_of s.env.next_block ks) gotos.Break at.span x.current)
+      (case_test_unread tested)))))
 
   pub loop_unread : {names : Names} {own : Label} {e : Syntax} {s t : State} → LoweredLoop names own e s t → Unreads s t
   loop_unread {own} (lowered.While at test body s s2 s3 p second first) =

@@ -1,5 +1,6 @@
 -- The lowering as a relation: a derivation says by which moves the builder came from one state to another for a part of the source.
-use Rattle.std.specs.Prelude.{◌≡◌, ℕ, Bool, true, false, List, [], ◌∷◌, Some, None, Ok, codes, unwrap_or}
+use Rattle.std.specs.Prelude.{◌≡◌, ℕ, ◌+◌, Bool, true, false, List, [], ◌∷◌, ◌++◌, length, Option, Some, None, Ok, codes, unwrap_or}
+use Rattle.std.specs.Fmt.{decimal}
 use Rattle.rl_base.specs.Diagnostics.{diagnostic_at}
 use Rattle.rl_base.specs.Operators.{logical_text, update_text}
 use Rattle.rl_base.specs.TypeKinds.{type_text}
@@ -17,7 +18,7 @@ use Rattle.rl_base.specs.declared.span.Span.{Span}
 use Rattle.rl_base.specs.declared.type_kind.TypeKind.{TypeKind}
 use Rattle.rl_base.specs.declared.variable_kind.VariableKind.{VariableKind}
 use Rattle.rl_base.specs.declared.variable_kind.VariableKind.TheVariants as variables
-use Rattle.rl_builder.specs.Builder.{State, completed_by, new_block, recorded, reserved}
+use Rattle.rl_builder.specs.Builder.{State, completed_by, innermost, new_block, recorded, reserved}
 use Rattle.rl_builder.specs.Jumps.{lookup_break, lookup_continue}
 use Rattle.rl_builder.specs.Temporaries.{temporary, with_value}
 use Rattle.rl_frames.specs.Frames.{if_alternate, if_after_consequent, if_at, if_consequent, if_ended, if_shut}
@@ -25,16 +26,20 @@ use Rattle.rl_frames.specs.Frames.{do_while_bodied, label_at, label_ended, while
 use Rattle.rl_frames.specs.Frames.{for_after, for_after_init, for_after_update, for_at, for_bodied, for_ended, for_inited, for_updated}
 use Rattle.rl_frames.specs.Frames.{logical_after, logical_at, logical_ended, logical_righted}
 use Rattle.rl_frames.specs.Frames.{sequence_at, sequence_ended}
+use Rattle.rl_frames.specs.Frames.{TryParts, try_after, try_at, try_caught, try_ended}
 use Rattle.rl_frames.specs.Frames.{ternary_after, ternary_alternated, ternary_at, ternary_consequent, ternary_ended, ternary_parted}
 use Rattle.rl_frames.specs.Parts.{for_begun, forin_begun, forof_begun, if_begun, label_begun, logical_begun, logical_place}
-use Rattle.rl_frames.specs.Parts.{sequence_begun, sequence_place, ternary_begun, ternary_place, while_begun}
+use Rattle.rl_frames.specs.Parts.{sequence_begun, sequence_place, ternary_begun, ternary_place, try_started, while_begun}
 use Rattle.rl_frames.specs.Rounds.{forin_at, forin_key, forin_righted, forof_after, forof_at, forof_bodied, forof_ended, forof_item}
 use Rattle.rl_frames.specs.Rounds.{forof_righted, forof_shut, rounds_bodied, rounds_ended, rounds_opened, rounds_shut}
+use Rattle.rl_frames.specs.SwitchParts.{case_begun, case_ended, fall_of, switch_begun, switch_finished}
 use Rattle.rl_grammar.specs.Grammar.{every}
 use Rattle.rl_grammar.specs.declared.kind.Kind.TheVariants as sort
 use Rattle.rl_hir.specs.Identifiers.{changed_at, with_span}
 use Rattle.rl_hir.specs.Pieces.{Piece, Gives, Names as Named, Says, Spreads, argument_pieces, gathered, property_pieces}
 use Rattle.rl_hir.specs.declared.function.BlockKind.TheVariants as blocks
+use Rattle.rl_hir.specs.declared.function.Identifier.{Identifier}
+use Rattle.rl_hir.specs.declared.function.IdentifierName.TheVariants as identifiers
 use Rattle.rl_hir.specs.declared.instruction.InstructionKind.{InstructionKind}
 use Rattle.rl_hir.specs.declared.instruction.InstructionKind.TheVariants as kinds
 use Rattle.rl_hir.specs.declared.instruction.InstructionValue.{InstructionValue}
@@ -45,19 +50,21 @@ use Rattle.rl_hir.specs.declared.instruction.Place.{Place}
 use Rattle.rl_hir.specs.declared.instruction.PlaceOrSpread.{PlaceOrSpread}
 use Rattle.rl_hir.specs.declared.instruction.PrimitiveValue.{PrimitiveValue}
 use Rattle.rl_hir.specs.declared.instruction.PrimitiveValue.TheVariants as primitives
+use Rattle.rl_hir.specs.declared.terminal.Case.{Case}
 use Rattle.rl_hir.specs.declared.terminal.GotoVariant.TheVariants as gotos
 use Rattle.rl_hir.specs.declared.terminal.ReturnVariant.TheVariants as returns
 use Rattle.rl_lowered.specs.Forms.{IsAnnotation, IsCast, IsForm, IsLiteral, IsMember, IsPrivate, IsRefused, IsRefusing, IsWrapper}
 use Rattle.rl_lowered.specs.Forms.{MemberKey, load_of, store_of, type_of, typed}
 use Rattle.rl_lowered.specs.Named.{IsFound, found}
 use Rattle.rl_model.specs.Actions.{Label}
-use Rattle.rl_model.specs.Shapes.{is_computed, key_text, said}
+use Rattle.rl_model.specs.Shapes.{is_absent, is_computed, key_text, said}
 use Rattle.rl_names.specs.Names.{Names}
 use Rattle.rl_names.specs.declared.names.Meaning.TheVariants.{Local, Outer}
 use Rattle.rl_promises.specs.Jumps.{is_loop}
+use Rattle.rl_promises.specs.Moved.{may_move, type_name}
 use Rattle.rl_promises.specs.Outs.{is_known_key, is_lost_head}
 use Rattle.rl_promises.specs.Rows.{is_eval, refusal, row_of_head}
-use Rattle.rl_runs.specs.Moves.{next_hole, return_of, returned_from}
+use Rattle.rl_runs.specs.Moves.{block_id, next_hole, return_of, returned_from, threw_from}
 use Rattle.rl_syntax.specs.declared.numbered.At.{At}
 use Rattle.rl_syntax.specs.declared.word.Word.{Word}
 use Rattle.rl_syntax.specs.declared.word.Word.TheVariants as word
@@ -349,6 +356,58 @@ pub data LoweredHead (names : Names) (value : Place) : (head : Syntax) → (old 
   Lost : (at : At) (w : Word) (fields : Pieces) (s : State) → is_lost_head (Node at w fields) ≡ true
       → LoweredHead names value (Node at w fields) s (recorded s (refusal (row_of_head w) at.span)) value
 
+-- The state behind the value of a `throw`, which is refused under a handler (row F30).
+
+abbrev pub throwing_under : (handler : Option BlockId) → State → Span → State
+throwing_under None s at = s
+throwing_under (Some handler) s at = recorded s (refusal row.F30 at)
+
+abbrev pub throwing : State → Span → State
+throwing s at = throwing_under (innermost s.handlers) s at
+
+-- The identifier of a promoted temporary, by its id.
+abbrev pub promoted_identifier : (id : ℕ) → (type_id : ℕ) → Span → Identifier
+promoted_identifier id type_id span = record {
+  name = Some (identifiers.Promoted (codes "#t" ++ decimal id));
+  span = Some span;
+  type_id = record { 0 = type_id };
+}
+
+-- The state with one more identifier, which has a name of its own.
+abbrev pub promoted : State → Span → State
+promoted s span = record s {
+  env = record s.env {
+    next_type = s.env.next_type + 1;
+    identifiers = s.env.identifiers ++ promoted_identifier (length s.env.identifiers) s.env.next_type span ∷ [];
+  };
+}
+
+-- A `catch` whose parameter is a variable, at the span `param`: the place that takes the caught value, the parts of the frame behind that,
+-- the state in which the hole of the handler opens, and the one behind the store of the value to the variable.
+
+abbrev pub caught : State → (param : Span) → Place
+caught s param = temporary s (Some param)
+
+abbrev pub catch_at : State → (at param : Span) → TryParts
+catch_at s at param = try_at (promoted s param) at (Some (caught s param))
+
+abbrev pub catch_begun : State → (param : Span) → State
+catch_begun s param = try_started (promoted s param) (Some (caught s param))
+
+abbrev pub catch_bound : Names → State → SymbolId → (identifier : ℕ) → (param : Span) → State
+catch_bound names s symbol identifier param =
+    with_value (found names (catch_begun s param) symbol param)
+    (values.StoreLocal kinds.Catch (record { identifier = record { 0 = identifier }; span = Some param }) (caught s param)) (Some param)
+
+-- The test of a case was lowered, which a default has not. One that may not be evaluated in another place is refused (row F29).
+pub data LoweredCaseTest (names : Names) : Syntax → (old new : State) → Option Place → Type 0 where
+  NoCaseTest : (s : State) → LoweredCaseTest names Absent s s None
+  CaseTested : (e : Syntax) (s t : State) (p : Place) → may_move names e ≡ true → Lowered names e s t p
+      → LoweredCaseTest names e s t (Some p)
+  CaseMoved : (at : At) (w : Word) (fields : Pieces) (s t : State) (p : Place) → may_move names (Node at w fields) ≡ false
+      → Lowered names (Node at w fields) (recorded s (diagnostic_at row.F29 (type_name w) at.span)) t p
+      → LoweredCaseTest names (Node at w fields) s t (Some p)
+
 mutual
   -- A statement was lowered between two states.
   pub data LoweredStatement (names : Names) : Syntax → (old new : State) → Type 0 where
@@ -366,6 +425,8 @@ mutual
         (temporary s None) blocks.Block)
     Return : (at : At) (e : Syntax) (s t : State) (p : Place) → Lowered names e s t p
         → LoweredStatement names (Node at word.Return (Then e End)) s (returned_from t (Some at.span) returns.Explicit p blocks.Block)
+    Throw : (at : At) (e : Syntax) (s t : State) (p : Place) → Lowered names e s t p
+        → LoweredStatement names (Node at word.Throw (Then e End)) s (threw_from (throwing t at.span) at.span p blocks.Block)
     Block : (at : At) (statements : Pieces) (s t : State) → LoweredStatements names statements s t
         → LoweredStatement names (Node at word.Block (Then (Listed statements) End)) s t
     IfThen : (at : At) (test consequent : Syntax) (s s2 s3 : State) (p : Place)
@@ -396,6 +457,51 @@ mutual
     Continue : (at : At) (label : Label) (target : BlockId) (s : State) → lookup_continue s.scopes label ≡ Ok target
         → LoweredStatement names (Node at word.Continue (Then (label_part label) End)) s
         (next_hole s target.0 gotos.Continue at.span blocks.Block)
+    -- A `switch`: its cases from the last to the first, and then its value.
+    Switch : (at : At) (value : Syntax) (cases : Pieces) (ks : List Case) (s t u : State) (p : Place)
+        → LoweredCases names s cases ks t → Lowered names value t u p
+        → LoweredStatement names (Node at word.Switch (Then value (Then (Listed cases) End))) s
+        (switch_finished u s.env.next_block ks p at.span)
+    -- A `try` statement: its handler, and then its block. A `catch` has no parameter, or a name.
+    TryPlain : (at there : At) (block body : Syntax) (s s2 s3 : State)
+        → LoweredStatement names body (try_started s None) s2
+        → LoweredStatement names block (try_caught (try_at s at.span None) s2 there.span) s3
+        → LoweredStatement names
+        (Node at word.Try (Then block (Then (Node there word.Catch (Then Absent (Then body End))) (Then Absent End)))) s
+        (try_ended (try_after (try_at s at.span None) s2) s3 (span_of block))
+    TryBound : (at there bind : At) (name : List ℕ) (type block body : Syntax) (symbol : SymbolId) (identifier : ℕ) (s s2 s3 : State)
+        → IsAnnotation type → names.declared bind.id.0 ≡ Some symbol
+        → IsFound names (catch_begun s bind.span) symbol bind.span identifier
+        → LoweredStatement names body (catch_bound names s symbol identifier bind.span) s2
+        → LoweredStatement names block (try_caught (catch_at s at.span bind.span) s2 there.span) s3
+        → LoweredStatement names
+        (Node at word.Try
+        (Then block
+        (Then (Node there word.Catch (Then (Node bind word.Bind (Then (Said name) (Then type End))) (Then body End))) (Then Absent End)))) s
+        (try_ended (try_after (catch_at s at.span bind.span) s2) s3 (span_of block))
+    -- A finalizer behind a `catch` (row F35), without which the statement was lowered.
+    Finalized : (at there : At) (block param body finalizer : Syntax) (s t : State) → is_absent finalizer ≡ false
+        → LoweredStatement names
+        (Node at word.Try (Then block (Then (Node there word.Catch (Then param (Then body End))) (Then Absent End))))
+        (recorded s (refusal row.F35 at.span)) t
+        → LoweredStatement names
+        (Node at word.Try (Then block (Then (Node there word.Catch (Then param (Then body End))) (Then finalizer End)))) s t
+    -- A `try` statement without a `catch` (row F34).
+    Uncaught : (at : At) (block finalizer : Syntax) (s : State)
+        → LoweredStatement names (Node at word.Try (Then block (Then Absent (Then finalizer End)))) s (recorded s (refusal row.F34 at.span))
+    -- A `with` statement (row F36).
+    With : (at : At) (fields : Pieces) (s : State)
+        → LoweredStatement names (Node at word.With fields) s (recorded s (refusal row.F36 at.span))
+
+  -- The cases of a `switch` that began at `begun` were lowered, the last one first: the builder stands at `new`.
+  pub data LoweredCases (names : Names) : (begun : State) → Pieces → List Case → (new : State) → Type 0 where
+    NoCase : (s : State) → LoweredCases names s End [] (switch_begun s)
+    NextCase : (at : At) (test : Syntax) (statements cases : Pieces) (ks : List Case) (s x y z : State) (p : Option Place)
+        → LoweredCases names s cases ks x
+        → LoweredStatements names statements (case_begun x None s.env.next_block) y
+        → LoweredCaseTest names test (case_ended y (fall_of s.env.next_block ks) x.current at.span) z p
+        → LoweredCases names s (Then (Node at word.Case (Then test (Then (Listed statements) End))) cases)
+        (record { test = p; block = block_id x.env.next_block } ∷ ks) z
 
   -- A loop was lowered, with a label of its own or none: its body before its test.
   pub data LoweredLoop (names : Names) : (own : Label) → Syntax → (old new : State) → Type 0 where

@@ -5,10 +5,11 @@ use Rattle.rl_builder.specs.Builder.{State}
 use Rattle.rl_hir.specs.Pieces.{Piece}
 use Rattle.rl_hir.specs.declared.instruction.Instruction.{Instruction}
 use Rattle.rl_hir.specs.declared.instruction.Place.{Place}
+use Rattle.rl_hir.specs.declared.terminal.Case.{Case}
 use Rattle.rl_hir.specs.declared.terminal.ReturnVariant.TheVariants as returns
 use Rattle.rl_lowered.specs.Listing.{ListsSince}
-use Rattle.rl_lowered.specs.Lowered.{Lowered, LoweredAll, LoweredBody, LoweredHead, LoweredInit, LoweredLast, LoweredLoop}
-use Rattle.rl_lowered.specs.Lowered.{LoweredProperties, LoweredStatement, LoweredStatements, LoweredTest}
+use Rattle.rl_lowered.specs.Lowered.{Lowered, LoweredAll, LoweredBody, LoweredCases, LoweredCaseTest, LoweredHead, LoweredInit, LoweredLast}
+use Rattle.rl_lowered.specs.Lowered.{LoweredLoop, LoweredProperties, LoweredStatement, LoweredStatements, LoweredTest}
 use Rattle.rl_lowered.specs.Named.{IsNamed, KeepsNames, Respans}
 use Rattle.rl_lowered.specs.Sound.{IsSmallTree, StaysSound}
 use Rattle.rl_lowered.specs.Steps.{KeepsStepsApart}
@@ -23,7 +24,7 @@ use Rattle.rl_promises.specs.Held.{times}
 use Rattle.rl_model.specs.Dead.{lives_all}
 use Rattle.rl_promises.specs.Live.{Held, live_in_body}
 use Rattle.rl_promises.specs.Rebound.{span_behind_body}
-use Rattle.rl_promises.specs.Rows.{Records, refusals}
+use Rattle.rl_promises.specs.Rows.{Records, refusals_in_body}
 use Rattle.rl_promises.specs.Stops.{has_using}
 use Rattle.rl_promises.specs.Tallies.{IsHeldKind, tallied}
 use Rattle.rl_runs.specs.Blocks.{Lives, PreservesBlocks, size_of}
@@ -100,6 +101,18 @@ pub record LowersStatements (names : Names) (es : Pieces) (old new : State) : Ty
   pub named : IsNamed names old → IsNamed names new
   pub size : size_of new ≤ size_of old + share (nodes_of es)
 
+-- As `LowersExpression`, for the test of a case, if it has one.
+pub record LowersCaseTest (names : Names) (e : Syntax) (old new : State) (place : Option Place) : Type 0 where
+  pub by : LoweredCaseTest names e old new place
+  pub named : IsNamed names old → IsNamed names new
+  pub size : size_of new ≤ size_of old + share (nodes e)
+
+-- As `LowersStatement`, for the cases of a `switch` that began at `begun`, from the last to the first.
+pub record LowersCases (names : Names) (begun : State) (es : Pieces) (cases : List Case) (new : State) : Type 0 where
+  pub by : LoweredCases names begun es cases new
+  pub named : IsNamed names begun → IsNamed names new
+  pub size : size_of new ≤ size_of begun + share (nodes_of es) + 1
+
 -- The meaning of a body before its end, where the function returns undefined: an expression returns its value.
 abbrev pub exec_before_end : Scene → Syntax → Action (Unit {0})
 exec_before_end scene (Node at word.Body (Then directives (Then (Listed statements) End))) = exec_all scene statements
@@ -127,9 +140,10 @@ pub record LowersBody (names : Names) (b : Syntax) (old new : State) : Type 0 wh
   pub lists : ListsSince old new
   pub unread : KeepsUnread old new
   pub steps : KeepsStepsApart old new
-  pub refused : Records (refusals names b) old.env.diagnostics new.env.diagnostics
-  pub tallies : refusals names b ≡ [] → (key : Counted) → IsHeldKind key.kinds → times key new.table ≡ times key old.table + tallied key b
-  pub lives : refusals names b ≡ [] → Lives held_by (live_in_body b) (body_falls b) old new
+  pub refused : Records (refusals_in_body names b) old.env.diagnostics new.env.diagnostics
+  pub tallies : refusals_in_body names b ≡ [] → (key : Counted) → IsHeldKind key.kinds
+      → times key new.table ≡ times key old.table + tallied key b
+  pub lives : refusals_in_body names b ≡ [] → Lives held_by (live_in_body b) (body_falls b) old new
   pub sound : StaysSound (IsSmallTree b) old new
-  pub runs : refusals names b ≡ [] → has_using b ≡ false → (scene : Scene) → scene.names ≡ names → scene.ported ≡ true
+  pub runs : refusals_in_body names b ≡ [] → has_using b ≡ false → (scene : Scene) → scene.names ≡ names → scene.ported ≡ true
       → RunsStatement scene.world (exec_before_end scene b) old new
