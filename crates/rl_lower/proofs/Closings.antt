@@ -12,7 +12,7 @@ use Rattle.rl_hir.specs.declared.instruction.Place.{Place}
 use Rattle.rl_hir.specs.declared.terminal.ReturnVariant.TheVariants as returns
 use Rattle.rl_lower.proofs.Building.{IsFresh, size_closed}
 use Rattle.rl_lower.proofs.Builds.{closed_below, closed_env, closed_fits, closed_orders, closed_whole}
-use Rattle.rl_lower.proofs.FunctionGraphs.{begun_size}
+use Rattle.rl_lower.proofs.FunctionGraphs.{begun_fresh, begun_size}
 use Rattle.rl_lower.proofs.Parameters.{parameters_named, state_with}
 use Rattle.rl_lower.specs.Begun.{FunctionTables, begun_by, given_by}
 use Rattle.rl_lower.specs.Endings.{IsGraphOf, closed_off, with_undefined}
@@ -53,7 +53,8 @@ pub begun_told : (names : Names) (env : Environment) (tables : FunctionTables) (
     → begun ≡ state_with (begun_by env tables) parameters → KnowsNames names → TellDeclarations names tables.semantic → AreLocals names parameters
     → LoweredBody names body begun s → LowersBody names body begun s
 begun_told names env tables parameters body begun s is knows told locals l =
-    told_body (subst (λ (t : State). IsNamed names t) (sym is) (parameters_named (begun_by env tables) names parameters knows told locals)) l
+    told_body (subst (λ (t : State). IsNamed names t) (sym is) (parameters_named (begun_by env tables) names parameters knows told locals))
+    (subst (λ (t : State). t.handlers ≡ []) (sym is) (begun_fresh env tables parameters).handlers) l
 
 -- The room that a body leaves for its end.
 pub body_room : (names : Names) (env : Environment) (tables : FunctionTables) (parameters : List Parameter) (body : Syntax)

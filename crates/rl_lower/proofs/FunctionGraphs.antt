@@ -53,7 +53,7 @@ use Rattle.rl_promises.proofs.CoveredMeanings.{params_taken}
 use Rattle.rl_promises.specs.Fields.{AreGiven, ArePairs}
 use Rattle.rl_promises.specs.Rebound.{respanned, span_behind_body}
 use Rattle.rl_promises.specs.Headline.{NeverStuck, SameRuns}
-use Rattle.rl_promises.specs.Rows.{Records, refusals, refusals_of}
+use Rattle.rl_promises.specs.Rows.{Records, refusals_in_body, refusals_of}
 use Rattle.rl_promises.specs.Size.{function_size}
 use Rattle.rl_promises.specs.Stops.{has_using}
 use Rattle.rl_runs.proofs.FinalNames.{sound_covers}
@@ -134,12 +134,12 @@ module _ (names : Names) (tables : FunctionTables) (parameters : List Parameter)
       let same : new.next_type ≡ last.env.next_type = ap (λ (e : Environment). e.next_type) g.after in
       omega (arith, graph_size room, same)
 
-  pub graph_refused : Records (said_of_parameters names parameters ++ refusals names body) env.diagnostics new.diagnostics
+  pub graph_refused : Records (said_of_parameters names parameters ++ refusals_in_body names body) env.diagnostics new.diagnostics
   graph_refused =
-      records_then (said_of_parameters names parameters) (refusals names body) env.diagnostics begun.env.diagnostics new.diagnostics
+      records_then (said_of_parameters names parameters) (refusals_in_body names body) env.diagnostics begun.env.diagnostics new.diagnostics
       (records_all (said_of_parameters names parameters) env.diagnostics begun.env.diagnostics
       (ap (λ (l : List Diagnostic). env.diagnostics ++ l) (said_told names (begun_by env tables) parameters g.declared)))
-      (subst (λ (l : List Diagnostic). Records (refusals names body) begun.env.diagnostics l) (sym after) lowered_from.refused)
+      (subst (λ (l : List Diagnostic). Records (refusals_in_body names body) begun.env.diagnostics l) (sym after) lowered_from.refused)
     where
       after : new.diagnostics ≡ g.state.env.diagnostics
       after = ap (λ (e : Environment). e.diagnostics) g.after ∙ diagnostics_closed g.state
@@ -201,9 +201,9 @@ graph_bounded names tables parameters body env new params built g distinct f cou
 -- The clauses of `lower`, whose caller hands it the function's parameters.
 
 pub body_supported : (names : Names) (f body : Syntax) → IsFunction f body → DeclaresAll names (params_in f) → AreLocals names (parameters_of names f)
-    → refusals_of names f ≡ [] → refusals names body ≡ []
+    → refusals_of names f ≡ [] → refusals_in_body names body ≡ []
 body_supported names f body w declared own none =
-    second_none (said_of_parameters names (parameters_of names f)) (refusals names body)
+    second_none (said_of_parameters names (parameters_of names f)) (refusals_in_body names body)
     (sym (function_refusals names f body w declared own) ∙ none)
 
 pub lower_room : (f body : Syntax) (names : Names) (parameters : List Parameter) (s : State) → IsFunction f body
@@ -220,9 +220,9 @@ pub lower_refused : (f body : Syntax) (names : Names) (tables : FunctionTables) 
     → AreApart parameters → IsGraphOf names tables parameters body env new params built
     → Records (refusals_of names f) env.diagnostics new.diagnostics
 lower_refused f body names tables parameters env new params built w declared own is distinct g =
-    records_same (refusals_of names f) (said_of_parameters names parameters ++ refusals names body) env.diagnostics new.diagnostics
+    records_same (refusals_of names f) (said_of_parameters names parameters ++ refusals_in_body names body) env.diagnostics new.diagnostics
     (function_refusals names f body w declared own
-    ∙ ap (λ (l : List Parameter). said_of_parameters names l ++ refusals names body) (sym is))
+    ∙ ap (λ (l : List Parameter). said_of_parameters names l ++ refusals_in_body names body) (sym is))
     (graph_refused names tables parameters body env new params built g distinct)
 
 lower_runs_by : (f body : Syntax) (names : Names) (tables : FunctionTables) (parameters : List Parameter) (env new : Environment)

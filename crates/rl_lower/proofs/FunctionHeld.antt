@@ -48,9 +48,9 @@ use Rattle.rl_names.specs.Names.{Names}
 use Rattle.rl_names.specs.declared.parameters.Parameter.{Parameter}
 use Rattle.rl_order.specs.Reached.{IsReached}
 use Rattle.rl_promises.specs.HeldNodes.{HoldsNodes, counted_by}
-use Rattle.rl_promises.specs.Live.{Held, held_among, held_as, held_at, held_in, live_all, live_in, live_in_body}
+use Rattle.rl_promises.specs.Live.{Held, held_among, held_as, held_at, held_in, live_all, live_cases, live_in, live_in_body}
 use Rattle.rl_promises.specs.Locals.{AreLocals}
-use Rattle.rl_promises.specs.Rows.{refusals, refusals_of}
+use Rattle.rl_promises.specs.Rows.{refusals_in_body, refusals_of}
 use Rattle.rl_promises.specs.Tallies.{IsHeldKind, call_word, held_word, tallied}
 use Rattle.rl_promises.specs.Held.{is_counted, is_of, is_span, listed, times}
 use Rattle.rl_runs.proofs.FinalNames.{sound_covers}
@@ -148,6 +148,20 @@ mutual
   statement_counted own (Node at word.Forof (Then (Flag false) (Then head (Then right (Then body End))))) =
       All-append IsCountedNode (held_in head ++ held_in right) (live_in None body)
       (All-append IsCountedNode (held_in head) (held_in right) (node_counted head) (node_counted right)) (statement_counted None body)
+  statement_counted own (Node at word.Switch (Then discriminant (Then (Listed cases) End))) =
+      All-append IsCountedNode (held_in discriminant) (live_cases cases) (node_counted discriminant) (cases_counted cases)
+  statement_counted own (Node at word.Try (Then block (Then (Node there word.Catch (Then param (Then body End))) (Then finalizer End)))) =
+      let caught : List Held = if (lives None block).acts then held_in param ++ live_in None body else [] in
+      All-append IsCountedNode (live_in None block ++ caught) (held_in finalizer)
+      (All-append IsCountedNode (live_in None block) caught (statement_counted None block)
+      (by_acts (lives None block).acts
+      (All-append IsCountedNode (held_in param) (live_in None body) (node_counted param) (statement_counted None body))))
+      (node_counted finalizer)
+    where
+      by_acts : (acts : Bool) → All IsCountedNode (held_in param ++ live_in None body)
+          → All IsCountedNode (if acts then held_in param ++ live_in None body else [])
+      by_acts true all = all
+      by_acts false all = All-nil IsCountedNode
   statement_counted own (Node at word.Labeled (Then (Said label) (Then body End))) = statement_counted (Some label) body
   statement_counted own statement = node_counted statement
 
@@ -160,6 +174,13 @@ mutual
       by_test : (b : Bool) → All IsCountedNode (live_all statements) → All IsCountedNode (if b then live_all statements else [])
       by_test true rest = rest
       by_test false rest = All-nil IsCountedNode
+
+  cases_counted : (cases : Pieces) → All IsCountedNode (live_cases cases)
+  cases_counted (Then (Node at word.Case (Then condition (Then (Listed statements) End))) cases) =
+      All-append IsCountedNode (held_in condition ++ live_all statements) (live_cases cases)
+      (All-append IsCountedNode (held_in condition) (live_all statements) (node_counted condition) (statements_counted statements))
+      (cases_counted cases)
+  cases_counted cases = nodes_counted cases
 
 body_counted : (body : Syntax) → All IsCountedNode (live_in_body body)
 body_counted (Node at word.Body (Then directives (Then (Listed statements) End))) = statements_counted statements
@@ -266,7 +287,7 @@ module _ (names : Names) (tables : FunctionTables) (parameters : List Parameter)
   table_is = graph_table names tables parameters body env new params built g distinct
 
   -- The table holds the counted nodes, where no node is refused.
-  pub graph_tallied : refusals names body ≡ [] → (key : Counted) → IsHeldKind key.kinds → times key built.table ≡ tallied key body
+  pub graph_tallied : refusals_in_body names body ≡ [] → (key : Counted) → IsHeldKind key.kinds → times key built.table ≡ tallied key body
   graph_tallied accepted key held =
       let tallied_in : times key g.state.table ≡ 0 + tallied key body = lowered.tallies accepted key held in
       let same : times key built.table ≡ times key g.state.table =
@@ -288,7 +309,7 @@ module _ (names : Names) (tables : FunctionTables) (parameters : List Parameter)
           (graph_listed names tables parameters body env new params built g distinct).once)
 
   -- The code of the blocks, in a world that shares no variable.
-  module _ (none : env.pairs ≡ []) (accepted : refusals names body ≡ []) where
+  module _ (none : env.pairs ≡ []) (accepted : refusals_in_body names body ≡ []) where
     fin : IsFinished last
     fin = function_finished begun g.state (begun_fresh env tables parameters) lowered.blocks fits
 
@@ -353,5 +374,5 @@ lower_held f body names tables parameters env new params built w declared own di
       (graph_live names tables parameters body env new params built g distinct none accepted)));
 }
   where
-    accepted : refusals names body ≡ []
+    accepted : refusals_in_body names body ≡ []
     accepted = body_supported names f body w declared own supported

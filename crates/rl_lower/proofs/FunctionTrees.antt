@@ -31,7 +31,7 @@ use Rattle.rl_base.specs.declared.ids.SymbolId.{SymbolId}
 use Rattle.rl_promises.specs.Covered.{AreCovered, IsCovered, IsCoveredFunction}
 use Rattle.rl_promises.specs.Locals.{AreLocals, DeclareIn, DeclaresIn, DeclaresVariable}
 use Rattle.rl_promises.specs.Lowerable.{AreLowerable, DeclaresFree, IsLowerable}
-use Rattle.rl_promises.specs.Rows.{label_of, refusals, refusals_in, refusals_of, said_of_local}
+use Rattle.rl_promises.specs.Rows.{label_of, refusals, refusals_in, refusals_in_body, refusals_of, said_of_local}
 use Rattle.rl_lower.specs.Parameters.{said_of_parameters}
 use Rattle.rl_lowered.proofs.Refusals.{bind_refuses}
 use Rattle.rl_lowered.proofs.SoundListing.{span_writable}
@@ -194,7 +194,7 @@ said_params names (p ∷ params) declared named = by_symbol (said_params names p
 
 pub function_refusals : (names : Names) (f body : Syntax) → IsFunction f body → DeclaresAll names (params_in f)
     → AreLocals names (parameters_of names f)
-    → refusals_of names f ≡ said_of_parameters names (parameters_of names f) ++ refusals names body
+    → refusals_of names f ≡ said_of_parameters names (parameters_of names f) ++ refusals_in_body names body
 function_refusals names f body w declared own =
     let all : AreDeclared names (params_of w.params) = subst (λ (t : Syntax). DeclaresAll names t) w.is_params declared in
     let are = parameters_are names f body w in
@@ -202,8 +202,8 @@ function_refusals names f body w declared own =
     let given : refusals names (params_in f) ≡ said_of_parameters names (parameters_of names f) =
     ap (λ (t : Syntax). refusals names t) w.is_params ∙ append-nil (refusals_in names (params_of w.params)) ∙ said_params names w.params all named
     ∙ ap (said_of_parameters names) (sym are) in
-    ap (λ (l : List Diagnostic). l ++ refusals names (body_in f)) given
-    ∙ ap (λ (t : Syntax). said_of_parameters names (parameters_of names f) ++ refusals names t) w.is_body
+    ap (λ (l : List Diagnostic). l ++ refusals_in_body names (body_in f)) given
+    ∙ ap (λ (t : Syntax). said_of_parameters names (parameters_of names f) ++ refusals_in_body names t) w.is_body
 
 -- The symbols of parameters are small, and the names of parameters that stop nothing are not reserved.
 

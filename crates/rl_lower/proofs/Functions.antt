@@ -30,7 +30,7 @@ use Rattle.rl_lower.proofs.StartStores.{start_values, take_arguments}
 use Rattle.rl_lower.specs.Endings.{closed_off, hir_of, with_undefined}
 use Rattle.rl_lowered.proofs.StepMoves.{apart_ended as steps_ended, apart_then, apart_value}
 use Rattle.rl_lowered.proofs.Stepless.{stepless_whole, unread_whole}
-use Rattle.rl_lowered.proofs.Unread.{unreads_ended, unreads_then, unreads_value}
+use Rattle.rl_lowered.proofs.UnreadMoves.{unreads_ended, unreads_then, unreads_value}
 use Rattle.rl_lowered.specs.Steps.{KeepsStepsApart}
 use Rattle.rl_machine.proofs.Silence.{settled_walks, settles_passes_once}
 use Rattle.rl_machine.specs.Conditions.{MayOrder}

@@ -21,4 +21,6 @@ pub mod SoundOrders
 pub mod SpannedGraphs
 pub mod StartStores
 pub mod StatementDerivations
+pub mod SwitchDerivations
+pub mod TryDerivations
 pub mod WellFormed

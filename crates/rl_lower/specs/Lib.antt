@@ -1,7 +1,9 @@
 pub mod Begun
+pub mod Cases
 pub mod Declarators
 pub mod Endings
 pub mod Parameters
 pub mod Rooms
 pub mod Scenes
 pub mod Sound
+pub mod Tries

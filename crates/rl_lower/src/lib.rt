@@ -1,9 +1,13 @@
-//! Syntax to graphs.
+//! Statements and functions to graphs.
 #![tactic(auto)]
 
+mod case_test;
 mod declaration;
 pub mod function;
 mod heads;
 mod jumps;
 mod loops;
 mod statement;
+mod switch;
+mod throw;
+mod try_statement;

@@ -14,21 +14,25 @@ ghost use Rattle.rl_runs.specs.Moves.{returned_from};
 use crate::declaration::lower_variables;
 use crate::jumps::{lower_break, lower_continue};
 use crate::loops::{lower_labeled, lower_loop};
+use crate::switch::lower_switch;
+use crate::throw::lower_throw;
+use crate::try_statement::lower_try;
 use rl_ast::statement::{Statement, statement_view};
 use rl_ast::statement_part::block_statement_view;
 use rl_base::ids::EvaluationOrder;
+use rl_base::row::Row;
 use rl_base::span::Span;
 use rl_base::stop::Stop;
 use rl_builder::unit_tables::ReadsUnit;
 use rl_frames::if_frame::IfFrame;
-use rl_grammar::sort::{ExpressionTree, StatementTree, StatementTrees};
+use rl_grammar::sort::{BlockStatementTree, ExpressionTree, StatementTree, StatementTrees};
 use rl_hir::function::BlockKind;
 use rl_hir::instruction::{InstructionValue, Place};
 use rl_hir::terminal::{ReturnVariant, Terminal, TerminalKind};
 use rl_lower_expressions::expression::lower_expression;
 use rl_lower_expressions::graph_builder::GraphBuilder;
 use rl_lower_expressions::span::span_of;
-use rl_lower_expressions::temporary::{lower_undefined, lower_value_to_temporary};
+use rl_lower_expressions::temporary::{lower_undefined, lower_value_to_temporary, refuse};
 use rl_names::names::FunctionNames;
 use rl_syntax::numbered::At;
 use std::alloc::Global;
@@ -139,6 +143,25 @@ fn lower_if_else<U: ReadsUnit>(
     Ok(())
 }
 
+/// Lowers the statements of a block.
+#[cycle(statements)]
+pub(crate) fn lower_block<U: ReadsUnit>(
+    alloc: Global,
+    builder: &mut GraphBuilder<'_, U>,
+    names: &FunctionNames<'_>,
+    block: BlockStatementTree<'_>,
+) -> Result<(), Stop>
+    requires names { IsNamed (seen names.now) (state_of U.tables builder.old) }
+    requires may { IsLowerableIn (seen names.now) (arounds (state_of U.tables builder.old)) None (syntax block.tree.now) }
+    requires room { HasRoom (state_of U.tables builder.old) (share (nodes (syntax block.tree.now))) }
+    ensures same_reference { builder.new.env.ghost_name ≡ builder.old.env.ghost_name }
+    ensures lowered { OnOk result (LowersStatement (seen names.now) (syntax block.entry.tree.now) (state_of U.tables builder.old) (state_of U.tables builder.new)) }
+    ensures memory { IfErr result (λ e. e ≡ Stop.OutOfMemory) }
+{
+    let block = block_statement_view(block);
+    lower_statements(alloc, builder, names, block.body)
+}
+
 /// Lowers a statement (`lowerStatement`).
 #[cycle(statements)]
 pub(crate) fn lower_statement<U: ReadsUnit>(
@@ -166,10 +189,8 @@ pub(crate) fn lower_statement<U: ReadsUnit>(
         }
         Statement::Variables(declaration) => lower_variables(alloc, builder, names, declaration),
         Statement::Return { at, argument } => lower_return(alloc, builder, names, at, argument),
-        Statement::Block(block) => {
-            let block = block_statement_view(block);
-            lower_statements(alloc, builder, names, block.body)
-        }
+        Statement::Throw { at, argument } => lower_throw(alloc, builder, names, at, argument),
+        Statement::Block(block) => lower_block(alloc, builder, names, block),
         Statement::If {
             at,
             test,
@@ -191,6 +212,21 @@ pub(crate) fn lower_statement<U: ReadsUnit>(
         }
         Statement::Break { at, label } => lower_break(builder, at, label),
         Statement::Continue { at, label } => lower_continue(builder, at, label),
+        Statement::Switch {
+            at,
+            discriminant,
+            cases,
+        } => lower_switch(alloc, builder, names, at, discriminant, cases),
+        Statement::Try {
+            at,
+            block,
+            handler,
+            finalizer,
+        } => lower_try(alloc, builder, names, at, block, handler, finalizer),
+        Statement::With { at, .. } => {
+            refuse(alloc, builder, Row::F36, at.span)?;
+            Ok(())
+        }
         _ => unreachable!(),
     }
 }

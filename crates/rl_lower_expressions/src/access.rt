@@ -32,7 +32,7 @@ use rl_syntax::numbered::At;
 use rl_syntax::word::Word;
 use std::alloc::Global;
 
-/// Lowers the object of a property by its name (`lowerMemberExpression`).
+/// Lowers the object of a property by its name (`lowerMemberExpression`). On `Stop::OutOfMemory` an allocation failed; no other stop comes.
 #[cycle(expressions)]
 pub fn lower_static<U: ReadsUnit>(
     alloc: Global,
@@ -57,7 +57,7 @@ pub fn lower_static<U: ReadsUnit>(
 }
 
 /// Lowers the object and the key of a property in brackets (`lowerMemberExpression`). A numeral is no expression of its own, but a
-/// fixed key.
+/// fixed key. On `Stop::OutOfMemory` an allocation failed; no other stop comes.
 #[cycle(expressions)]
 pub fn lower_computed<U: ReadsUnit>(
     alloc: Global,

@@ -362,7 +362,8 @@ fn lower_operation<U: ReadsUnit>(
     }
 }
 
-/// Lowers an expression (`lowerExpression`). A refused one is lowered to other code, in a graph that no caller is given.
+/// Lowers an expression (`lowerExpression`), and returns the place of its value. A refused one is lowered to other code, in a graph that
+/// no caller is given. On `Stop::OutOfMemory` an allocation failed; no other stop comes.
 #[cycle(expressions)]
 pub fn lower_expression<U: ReadsUnit>(
     alloc: Global,

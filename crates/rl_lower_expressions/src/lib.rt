@@ -1,4 +1,4 @@
-//! Lowering of expressions: the walk over them, and what it leaves to statements.
+//! Expressions to instructions: the walk over them, and what statements share with it, as temporaries, names and properties.
 #![tactic(auto)]
 
 pub mod access;

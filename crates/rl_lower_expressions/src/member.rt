@@ -194,7 +194,8 @@ pub(crate) fn update_member<U: ReadsUnit>(
     Ok(old)
 }
 
-/// Stores `value` in the property at `at`, whose object and key were lowered. Returns the place of the store.
+/// Stores `value` in the property at `at`, whose object and key were lowered. Returns the place of the store. On `Stop::OutOfMemory` an
+/// allocation failed; no other stop comes.
 pub fn store_member<U: ReadsUnit>(
     alloc: Global,
     builder: &mut GraphBuilder<'_, U>,

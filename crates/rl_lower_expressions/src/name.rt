@@ -36,7 +36,8 @@ use rl_syntax::word::Word;
 use rl_text::number::parse_number;
 use std::alloc::Global;
 
-/// The identifier of a local variable, which it gets here if it has none. Its name is not reserved, so that nothing stops.
+/// The identifier of a local variable, which it gets here if it has none. Its name is not reserved, so that nothing stops but on
+/// `Stop::OutOfMemory`, where an allocation failed.
 pub fn resolve_variable<U: ReadsUnit>(
     builder: &mut GraphBuilder<'_, U>,
     names: &FunctionNames<'_>,

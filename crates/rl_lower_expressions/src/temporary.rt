@@ -43,7 +43,7 @@ pub fn lower_value_to_temporary<U: ReadsUnit>(
     Ok(place)
 }
 
-/// Undefined, in a temporary with the span.
+/// Undefined, in a temporary with the span. On `Stop::OutOfMemory` an allocation failed; no other stop comes.
 pub fn lower_undefined<U: ReadsUnit>(
     builder: &mut GraphBuilder<'_, U>,
     span: Option<Span>,
@@ -61,7 +61,7 @@ pub fn lower_undefined<U: ReadsUnit>(
     )
 }
 
-/// Records the diagnostic of a row that refuses a node; its label is the span.
+/// Records the diagnostic of a row that refuses a node; its label is the span. On `OutOfMemory` an allocation failed.
 pub fn refuse<U: ReadsUnit>(
     alloc: Global,
     builder: &mut GraphBuilder<'_, U>,

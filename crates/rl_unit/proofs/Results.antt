@@ -126,7 +126,9 @@ unit_result u f names l r rules found none same result =
         covered = ap (λ (t : Syntax). first (uncovered_in t)) (sym is) ∙ none;
         supported = whole.supported;
         main = main;
-        orderly = same_as_written u (names_of u).declared fits known (world_in l l.function (graphs l.inner)) l.function l.pairs main.same_runs;
+        orderly =
+            same_as_written u (names_of u).declared fits known whole.supported.accepted (world_in l l.function (graphs l.inner)) l.function
+            l.pairs main.same_runs;
         inner = whole.inner;
         identifiers = whole.identifiers;
         symbols = pairs_of_unit u (marked u) l.identifiers l.pairs whole.identifiers.pairs.named;

@@ -16,8 +16,8 @@ use rl_base::error::OutOfMemory;
 use rl_base::ids::NodeId;
 use rl_base::infallible_io::{SteadySink, SteadySource};
 use rl_base::io::{ReadError, Sink, Source, read_up_to, write_all};
-use rl_hir::blocks::GraphBlocks;
-use rl_hir::function::{HirFunction, Lowered};
+use rl_hir::blocks::Blocks;
+use rl_hir::function::Lowered;
 use rl_hir::instruction::{InstructionValue, PrimitiveValue};
 use rl_hir::listing::write_listing;
 use std::alloc::Global;
@@ -168,8 +168,14 @@ const BYTES_OF_INSTRUCTION: usize = 124;
 /// Number of bytes that a listing has for an operand, of the same digits.
 const BYTES_OF_OPERAND: usize = 29;
 
-/// Number of bytes that a listing has for a parameter, with its entries in the tables, of the same digits.
-const BYTES_OF_PARAMETER: usize = 110;
+/// Number of bytes that a listing has for a block without its instructions, of the same digits.
+const BYTES_OF_BLOCK: usize = 96;
+
+/// Number of bytes that the tables of a listing have for a symbol, of the same digits.
+const BYTES_OF_SYMBOL: usize = 56;
+
+/// Number of bytes that a listing has for a parameter beside those of its symbol, of the same digits.
+const BYTES_OF_PARAMETER: usize = 62;
 
 /// Number of bytes that a listing has for the operands or the text of an instruction.
 fn room_for_parts(value: &InstructionValue) -> usize {
@@ -185,10 +191,19 @@ fn room_for_parts(value: &InstructionValue) -> usize {
     }
 }
 
+/// Number of bytes that a listing has for the blocks, symbols and parameters of a result.
+fn room_around(lowered: &Lowered) -> usize {
+    let function = &lowered.function;
+    let blocks = BYTES_OF_BLOCK.saturating_mul(function.body.blocks.len());
+    let symbols = BYTES_OF_SYMBOL.saturating_mul(lowered.pairs.len());
+    let parameters = BYTES_OF_PARAMETER.saturating_mul(function.params.len());
+    blocks.saturating_add(symbols).saturating_add(parameters)
+}
+
 /// Number of bytes for which `listed` makes room at once: about as many as the listing has.
-fn room_for(function: &HirFunction<GraphBlocks>) -> usize {
-    let mut room = BYTES_OF_PARAMETER.saturating_mul(function.params.len());
-    for instruction in function.instructions.as_slice() {
+fn room_for(lowered: &Lowered) -> usize {
+    let mut room = room_around(lowered);
+    for instruction in lowered.function.instructions.as_slice() {
         let parts = room_for_parts(&instruction.value);
         room = room
             .saturating_add(BYTES_OF_INSTRUCTION)
@@ -201,7 +216,7 @@ fn room_for(function: &HirFunction<GraphBlocks>) -> usize {
 fn listed(alloc: Global, lowered: &Lowered) -> Result<Vec<u8>, OutOfMemory>
     ensures { IfOk result (λ text. text.items ≡ output lowered.now) }
 {
-    let room = room_for(&lowered.function);
+    let room = room_for(lowered);
     let mut text = Vec::with_capacity(alloc, room)?;
     write_listing(lowered, &mut text)?;
     text.push(b'\n')?;

@@ -1,12 +1,13 @@
-use Rattle.std.proofs.Common.{rules, ◌≡◌, ℕ, ◌+◌, true, false, true≢false, List, ◌∷◌, None, map, option_map, refl, ap, sym, ◌∙◌, subst, arith}
+use Rattle.std.proofs.Common.{rules, ◌≡◌, ℕ, ◌+◌, ◌≤◌, true, false, true≢false, List, ◌∷◌, None, map, option_map, refl, ap, sym, ◌∙◌, subst}
+use Rattle.std.proofs.Common.{arith}
 use Rattle.rl_ast.specs.StatementViews.{seen_statement}
 use Rattle.rl_ast.specs.declared.statement.Statement.{Statement}
 use Rattle.rl_ast.specs.declared.statement.Statement.TheVariants as statement
 use Rattle.rl_builder.specs.Builder.{State, state_of}
 use Rattle.rl_frames.specs.Frames.{ForParts, WhileParts, do_while_bodied, do_while_of, for_bodied, for_inited, for_of, for_updated, if_of}
-use Rattle.rl_frames.specs.Frames.{while_bodied, while_of}
+use Rattle.rl_frames.specs.Frames.{while_bodied, while_of, TryParts, try_caught, try_of}
 use Rattle.rl_builder.specs.declared.jumps.JumpScope.TheVariants as scopes
-use Rattle.rl_frames.specs.Parts.{for_begun, for_scope, label_begun, label_scope, while_begun, while_scope}
+use Rattle.rl_frames.specs.Parts.{for_begun, for_scope, label_begun, label_scope, while_begun, while_scope, try_started}
 use Rattle.rl_frames.specs.Rounds.{forin_of, forof_of}
 use Rattle.rl_grammar.specs.Fields.{maybe}
 use Rattle.rl_lowered.proofs.Arounds.{expression_arounds, statement_arounds}
@@ -17,25 +18,38 @@ use Rattle.rl_lowered.specs.Named.{IsNamed}
 use Rattle.rl_lowered.specs.Promised.{HasRoom, share}
 use Rattle.rl_model.specs.Actions.{Label}
 use Rattle.rl_names.specs.Seen.{seen}
-use Rattle.rl_promises.specs.Jumps.{Around, InLoop}
-use Rattle.rl_promises.specs.Lowerable.{AreLowerableIn, IsLowerableIn}
+use Rattle.rl_promises.specs.Jumps.{Around, InLoop, InSwitch}
+use Rattle.rl_promises.specs.Lowerable.{AreLowerableIn, IsLowerableIn, AreLowerableCases}
 use Rattle.rl_runs.specs.Moves.{block_id}
-use Rattle.rl_syntax.specs.Syntax.{Syntax, Pieces, Then, nodes, nodes_of, pieces_of, syntax}
+use Rattle.rl_syntax.specs.Syntax.{Syntax, Pieces, Then, nodes, nodes_of, pieces_of, syntax, End}
 use Rattle.rl_lower_expressions.proofs.Derivations.{room_after}
 use Rattle.rl_lower.proofs.LoopDerivations.{break_may, continue_may, do_while_bodied_size, do_while_told, for_begun_arounds, for_begun_size}
 use Rattle.rl_lower.proofs.LoopDerivations.{for_bodied_size, for_inited_arounds, for_inited_names, for_inited_size, for_plain_arounds}
 use Rattle.rl_lower.proofs.LoopDerivations.{for_plain_told, for_updated_arounds, for_updated_size, for_updated_told, if_consequent_arounds}
 use Rattle.rl_lower.proofs.LoopDerivations.{init_arounds, inside, inside_label, inside_loop, jump_ok, label_begun_size, labeled_loop_may}
-use Rattle.rl_lower.proofs.LoopDerivations.{labeled_loop_ok, labeled_may, labeled_told, moved_named, moved_room, opened_plain, opened_updated}
-use Rattle.rl_lower.proofs.LoopDerivations.{scope_kept, unlabeled_loop_ok, while_begun_arounds, while_begun_size, while_bodied_size, while_told}
-use Rattle.rl_lower.proofs.RoundDerivations.{await_told, bodied_room, for_in_arounds, for_in_begun_named, for_in_head_room, for_in_righted_named}
-use Rattle.rl_lower.proofs.RoundDerivations.{for_in_room, for_in_told, for_of_arounds, for_of_begun_named, for_of_head_room, for_of_may, for_of_ok}
-use Rattle.rl_lower.proofs.RoundDerivations.{for_of_righted_named, for_of_room, for_of_told, forin_head, forin_outer, forof_head, forof_outer}
-use Rattle.rl_lower.proofs.RoundDerivations.{forof_test, right_room, rounds_bodied_named}
+use Rattle.rl_lower.proofs.LoopDerivations.{labeled_loop_ok, labeled_may, labeled_told, moved_named, moved_room, opened_plain}
+use Rattle.rl_lower.proofs.LoopDerivations.{opened_updated, scope_kept, unlabeled_loop_ok, while_begun_arounds, while_begun_size}
+use Rattle.rl_lower.proofs.LoopDerivations.{while_bodied_size, while_told}
+use Rattle.rl_lower.proofs.RoundDerivations.{await_told, bodied_room, for_in_arounds, for_in_begun_named, for_in_head_room}
+use Rattle.rl_lower.proofs.RoundDerivations.{for_in_righted_named, for_in_room, for_in_told, for_of_arounds, for_of_begun_named}
+use Rattle.rl_lower.proofs.RoundDerivations.{for_of_head_room, for_of_may, for_of_ok, for_of_righted_named, for_of_room, for_of_told}
+use Rattle.rl_lower.proofs.RoundDerivations.{forin_head, forin_outer, forof_head, forof_outer, forof_test, right_room, rounds_bodied_named}
 use Rattle.rl_lower.proofs.StatementDerivations.{block_ok, debugger_told, empty_told, expression_told, function_unlowered}
-use Rattle.rl_lower.proofs.StatementDerivations.{if_alternate_named, if_alternate_room, if_begun_named, if_begun_room}
-use Rattle.rl_lower.proofs.StatementDerivations.{if_consequent_named, if_consequent_room, if_else_told}
-use Rattle.rl_lower.proofs.StatementDerivations.{if_second_room, if_then_told, if_third_room, statements_done, statements_next}
+use Rattle.rl_lower.proofs.StatementDerivations.{if_alternate_named, if_alternate_room, if_begun_named, if_begun_room, if_consequent_named}
+use Rattle.rl_lower.proofs.StatementDerivations.{if_consequent_room, if_else_told, if_second_room, if_then_told, if_third_room}
+use Rattle.rl_lower.proofs.StatementDerivations.{statements_done, statements_next}
+use Rattle.rl_lower.proofs.TryDerivations.{with_told, caught_arounds, handler_kept, plain_arounds, try_caught_size, try_plain_told}
+use Rattle.rl_lower.proofs.TryDerivations.{try_started_size, bound_front_room, bound_room, front_named, stored_arounds, try_bound_told}
+use Rattle.rl_lower.proofs.TryDerivations.{caught_ok, clause_may, clause_room, caught_may, caught_room, finalized_ok, finalizer_arounds}
+use Rattle.rl_lower.proofs.TryDerivations.{finalizer_named, uncaught_told}
+use Rattle.rl_base.specs.declared.span.Span.{Span}
+use Rattle.rl_frames.specs.SwitchParts.{SwitchParts, switch_entered, switch_left, switch_of, switch_begun}
+use Rattle.rl_lower.proofs.SwitchDerivations.{case_framed, case_scope, behind_arounds, behind_label, behind_named, behind_room, cases_begun}
+use Rattle.rl_lower.proofs.SwitchDerivations.{cases_done, cases_may, cases_next, nodes_split, cases_named, cases_room, switch_told}
+use Rattle.rl_frames.proofs.SwitchNotes.{switch_begun_size}
+use Rattle.rl_lower.specs.Cases.{FramesBehind, joined}
+use Rattle.rl_ast.specs.BindingViews.{seen_binding_identifier}
+use Rattle.rl_lower.proofs.DeclarationDerivations.{annotation_fits}
 use Rattle.rl_lower.proofs.+statements.Goals as goal
 
 pub statement::lower_statement-returns-in-Empty-clause-lowered : goal.statement::lower_statement-returns-in-Empty-clause-lowered
@@ -51,10 +65,12 @@ pub statement::lower_statement-returns-in_ok-lower_expression-in-Expression-clau
 statement::lower_statement-returns-in_ok-lower_expression-in-Expression-clause-lowered g t c =
     expression_told c.in-Expression.ensures c.in_ok-lower_expression-in-Expression.ensures.lowered
 
-pub statement::lower_statement-returns-in-Block-clause-lowered : goal.statement::lower_statement-returns-in-Block-clause-lowered
-statement::lower_statement-returns-in-Block-clause-lowered g t c =
-    block_ok (seen c.args.names.now) _ _ c.lower_statements.result (c.block_statement_view-block.ensures ∙ c.in-Block.ensures)
-    c.lower_statements.ensures.lowered
+pub statement::lower_block-returns-clause-lowered : goal.statement::lower_block-returns-clause-lowered
+statement::lower_block-returns-clause-lowered g t c =
+    block_ok (seen c.args.names.now) _ _ c.lower_statements.result c.block_statement_view-block.ensures c.lower_statements.ensures.lowered
+
+pub statement::lower_statement-returns-in_ok-refuse-in-With-clause-lowered : goal.statement::lower_statement-returns-in_ok-refuse-in-With-clause-lowered
+statement::lower_statement-returns-in_ok-refuse-in-With-clause-lowered g t c = with_told _ c.in-With.ensures c.in_ok-refuse-in-With.ensures.state
 
 pub statement::lower_statement-lower_break-requires-clause-may : goal.statement::lower_statement-lower_break-requires-clause-may
 statement::lower_statement-lower_break-requires-clause-may g t c = break_may (seen c.args.names.now) (arounds (state_of g.U.ReadsUnit.tables c.args.builder.now)) c.in-Break.at c.in-Break.label c.in-Break.ensures c.requires.may
@@ -79,6 +95,7 @@ statement::lower_statement-unreachable-requires g t c = by_kind c.statement_view
     by_kind (statement.Debugger at) is shown = c.in_default.not-Debugger at is
     by_kind (statement.Expression at e) is shown = c.in_default.not-Expression at e is
     by_kind (statement.Return at a) is shown = c.in_default.not-Return at a is
+    by_kind (statement.Throw at a) is shown = c.in_default.not-Throw at a is
     by_kind (statement.Block b) is shown = c.in_default.not-Block b is
     by_kind (statement.If at p q r) is shown = c.in_default.not-If at p q r is
     by_kind (statement.For at i p u b) is shown = c.in_default.not-For at i p u b is
@@ -86,6 +103,9 @@ statement::lower_statement-unreachable-requires g t c = by_kind c.statement_view
     by_kind (statement.DoWhile at b p) is shown = c.in_default.not-DoWhile at b p is
     by_kind (statement.ForIn at h r b) is shown = c.in_default.not-ForIn at h r b is
     by_kind (statement.ForOf at w h r b) is shown = c.in_default.not-ForOf at w h r b is
+    by_kind (statement.Switch at d k) is shown = c.in_default.not-Switch at d k is
+    by_kind (statement.Try at b h f) is shown = c.in_default.not-Try at b h f is
+    by_kind (statement.With at o b) is shown = c.in_default.not-With at o b is
     by_kind (statement.Break at l) is shown = c.in_default.not-Break at l is
     by_kind (statement.Continue at l) is shown = c.in_default.not-Continue at l is
     by_kind (statement.Labeled at l b) is shown = c.in_default.not-Labeled at l b is
@@ -1063,3 +1083,360 @@ loops::lower_for_of-returns-clause-lowered g t c =
     for_of_ok (seen c.args.names.now) c.args.at (option_map (λ l. l.now) c.args.label)
     (syntax c.args.left.tree.now) (syntax c.args.right.tree.now) (syntax c.args.body.tree.now)
     c.args.is_await _ _ c.lower_for_of_plain.result c.if-is_await.false c.lower_for_of_plain.ensures.lowered
+
+-- `switch`.
+
+pub switch::lower_case-leave-requires-clause-scope : goal.switch::lower_case-leave-requires-clause-scope
+switch::lower_case-leave-requires-clause-scope g t c =
+    case_scope (switch_of c.args.frame.now) (state_of g.U.ReadsUnit.tables c.args.builder.now) _ _ c.in_ok-enter.ensures.state
+    c.in_ok-lower_statements.ensures.lowered
+
+pub switch::lower_case-lower_case_test-requires-clause-names : goal.switch::lower_case-lower_case_test-requires-clause-names
+switch::lower_case-lower_case_test-requires-clause-names g t c =
+    let x : State = state_of g.U.ReadsUnit.tables c.args.builder.now in
+    let f : SwitchParts = switch_of c.args.frame.now in
+    let y : State = state_of g.U.ReadsUnit.tables c.lower_statements.new.builder in
+    let f1 : SwitchParts = switch_of c.enter.new.self in
+    let part : Span = c.switch_case_view-case.result.at.span in
+    moved_named y (switch_left f1 y part) _ c.in_ok-leave.ensures.state (names_same y (switch_left f1 y part) refl)
+    (c.in_ok-lower_statements.ensures.lowered.named
+    (moved_named x (switch_entered f x) _ c.in_ok-enter.ensures.state (names_same x (switch_entered f x) refl) c.requires.names))
+
+pub switch::lower_case-returns-clause-lowered : goal.switch::lower_case-returns-clause-lowered
+switch::lower_case-returns-clause-lowered g t c =
+    case_framed (switch_of c.done.new.self) _ c.switch_case_view-case.ensures c.in_ok-enter.ensures.state c.in_ok-enter.ensures.frame
+    c.in_ok-lower_statements.ensures.lowered c.in_ok-leave.ensures.state c.in_ok-leave.ensures.frame c.in_ok-test.ensures.lowered
+    c.done.ensures.state c.in_ok-done.ensures.frame
+
+pub switch::lower_cases-cases-init : goal.switch::lower_cases-cases-init
+switch::lower_cases-cases-init g t c =
+    let s : State = state_of g.U.ReadsUnit.tables c.args.builder.now in
+    let b : State = state_of g.U.ReadsUnit.tables c.begin.new.b in
+    let all : Pieces = pieces_of (map syntax c.args.cases.trees.now) in
+    record {
+      same_reference = search rules;
+      names = moved_named s (switch_begun s) b c.in_ok-frame.ensures.state (names_same s (switch_begun s) refl) c.requires.names;
+      may = subst (λ (a : List Around). AreLowerableCases (seen c.args.names.now) (InSwitch None ∷ a) all) (sym (ap arounds c.in_ok-frame.ensures.state))
+          c.requires.may;
+      room = moved_room s (switch_begun s) b 1 (share (nodes_of all)) (share (nodes_of all) + 1) c.in_ok-frame.ensures.state (switch_begun_size s)
+          (omega arith) c.requires.room;
+      fewer = omega arith;
+      lowers = cases_begun all s b c.in_ok-frame.ensures.state c.in_ok-frame.ensures.frame;
+    }
+
+pub switch::lower_cases-lower_case-requires : goal.switch::lower_cases-lower_case-requires
+switch::lower_cases-lower_case-requires g t c =
+    let left : Pieces = pieces_of (map syntax c.cases.left.trees.now) in
+    let rest : Pieces = pieces_of (map syntax c.in-Some.rest.trees.now) in
+    let case : Syntax = syntax c.in-Some.case.tree.now in
+    let counted : nodes_of left ≡ nodes_of rest + nodes case = nodes_split rest case c.in-Some.ensures.parts in
+    let fewer : nodes case ≤ nodes_of (pieces_of (map syntax c.args.cases.trees.now)) = omega (arith, counted, c.cases.invariant.fewer) in
+    λ lifetimes outlives. (
+      omega (arith, fewer),
+      (
+        search rules,
+        (
+          search rules,
+          (
+            behind_label c.cases.invariant.lowers,
+            (
+              (cases_may (seen c.args.names.now) (InSwitch None ∷ arounds (state_of g.U.ReadsUnit.tables c.cases.builder)) rest case
+                  c.in-Some.ensures.parts c.cases.invariant.may).1,
+              omega (arith, counted, c.cases.invariant.room),
+            ),
+          ),
+        ),
+      ),
+    )
+
+pub switch::lower_cases-cases-preserved : goal.switch::lower_cases-cases-preserved
+switch::lower_cases-cases-preserved g t c =
+    let loop = c.cases.invariant in
+    let begun : State = state_of g.U.ReadsUnit.tables c.args.builder.now in
+    let now : State = state_of g.U.ReadsUnit.tables c.cases.builder in
+    let later : State = state_of g.U.ReadsUnit.tables c.lower_case.new.builder in
+    let all : Pieces = pieces_of (map syntax c.args.cases.trees.now) in
+    let left : Pieces = pieces_of (map syntax c.cases.left.trees.now) in
+    let rest : Pieces = pieces_of (map syntax c.in-Some.rest.trees.now) in
+    let case : Syntax = syntax c.in-Some.case.tree.now in
+    let split : left ≡ joined rest (Then case End) = c.in-Some.ensures.parts in
+    let counted : nodes_of left ≡ nodes_of rest + nodes case = nodes_split rest case split in
+    let after : FramesBehind (seen c.args.names.now) begun c.args.span all rest (switch_of c.lower_case.new.frame) later =
+    cases_next later split loop.lowers c.in_ok-lower_case.ensures.lowered in
+    record {
+      same_reference = c.in_ok-lower_case.ensures.same_reference ∙ loop.same_reference;
+      names = behind_named after c.requires.names;
+      may = subst (λ (a : List Around). AreLowerableCases (seen c.args.names.now) (InSwitch None ∷ a) rest)
+          (behind_arounds loop.lowers ∙ sym (behind_arounds after))
+          (cases_may (seen c.args.names.now) (InSwitch None ∷ arounds now) rest case split loop.may).0;
+      room = behind_room after c.requires.room;
+      fewer = omega (arith, counted, loop.fewer);
+      lowers = after;
+    }
+
+pub switch::lower_cases-returns-clause-lowered : goal.switch::lower_cases-returns-clause-lowered
+switch::lower_cases-returns-clause-lowered g t c = cases_done c.in_default.ensures.parts c.cases.invariant.lowers
+
+pub switch::lower_switch-lower_expression-requires-clause-names : goal.switch::lower_switch-lower_expression-requires-clause-names
+switch::lower_switch-lower_expression-requires-clause-names g t c = cases_named c.in_ok-frame.ensures.lowered c.requires.names
+
+pub switch::lower_switch-lower_expression-requires-clause-room : goal.switch::lower_switch-lower_expression-requires-clause-room
+switch::lower_switch-lower_expression-requires-clause-room g t c =
+    let value : ℕ = nodes (syntax c.args.discriminant.tree.now) in
+    let all : ℕ = nodes_of (pieces_of (map syntax c.args.cases.trees.now)) in
+    cases_room (share value) (share (value + (all + 0) + 1)) c.in_ok-frame.ensures.lowered (omega arith) c.requires.room
+
+pub switch::lower_switch-returns-clause-lowered : goal.switch::lower_switch-returns-clause-lowered
+switch::lower_switch-returns-clause-lowered g t c =
+    switch_told _ c.in_ok-frame.ensures.lowered c.in_ok-value.ensures.lowered c.in_ok-finish.ensures.state
+
+-- `try`.
+
+pub try_statement::lower_try_plain-lower_block-requires-2 : goal.try_statement::lower_try_plain-lower_block-requires-2
+try_statement::lower_try_plain-lower_block-requires-2 g t c =
+    λ lifetimes outlives. (
+      search rules,
+      (
+        search rules,
+        (
+          let s : State = state_of g.U.ReadsUnit.tables c.args.builder.now in
+              let s2 : State = state_of g.U.ReadsUnit.tables c.lower_block.new.builder in
+              let f : TryParts = try_of c.in_ok-frame.frame in
+              moved_named s2 (try_caught f s2 c.args.there.span) _ c.in_ok-catch.ensures.state (names_same s2 (try_caught f s2 c.args.there.span) refl)
+              (c.in_ok-lower_block.ensures.lowered.named
+              (moved_named s (try_started s None) _ c.in_ok-frame.ensures.state (names_same s (try_started s None) refl) c.requires.names)),
+          (
+            let s : State = state_of g.U.ReadsUnit.tables c.args.builder.now in
+                let b : State = state_of g.U.ReadsUnit.tables c.begin.new.b in
+                let s2 : State = state_of g.U.ReadsUnit.tables c.lower_block.new.builder in
+                let b2 : State = state_of g.U.ReadsUnit.tables c.catch.new.b in
+                inside (seen c.args.names.now) (syntax c.args.block.tree.now) s b2
+                (caught_arounds (try_of c.in_ok-frame.frame) c.args.there.span s2 b2 c.in_ok-catch.ensures.state
+                ∙ statement_arounds c.in_ok-lower_block.ensures.lowered.by ∙ plain_arounds s b c.in_ok-frame.ensures.state) c.requires.may.2,
+            let block : ℕ = nodes (syntax c.args.block.tree.now) in
+                let body : ℕ = nodes (syntax c.args.body.tree.now) in
+                let s : State = state_of g.U.ReadsUnit.tables c.args.builder.now in
+                let b : State = state_of g.U.ReadsUnit.tables c.begin.new.b in
+                let s2 : State = state_of g.U.ReadsUnit.tables c.lower_block.new.builder in
+                let f : TryParts = try_of c.in_ok-frame.frame in
+                let room : HasRoom b (share body + (share block + 62)) =
+                moved_room s (try_started s None) b 2 (share body + (share block + 62)) (share (block + (0 + (body + 0) + 1 + (0 + 0)) + 1))
+                c.in_ok-frame.ensures.state (try_started_size s) (omega arith) c.requires.room in
+                moved_room s2 (try_caught f s2 c.args.there.span) _ 1 (share block) (share block + 62) c.in_ok-catch.ensures.state
+                (try_caught_size f s2 c.args.there.span) (omega arith)
+                (room_after b s2 (share body) (share block + 62) (share body + (share block + 62)) c.in_ok-lower_block.ensures.lowered.size (omega arith) room),
+          ),
+        ),
+      ),
+    )
+
+pub try_statement::lower_try_plain-finish-requires : goal.try_statement::lower_try_plain-finish-requires
+try_statement::lower_try_plain-finish-requires g t c =
+    record {
+      handler = handler_kept (try_of c.in_ok-frame.frame) c.args.there.span (state_of g.U.ReadsUnit.tables c.lower_block.new.builder) _ _
+          c.in_ok-catch.ensures.state c.in_ok-lower_block-2.ensures.lowered;
+    }
+
+pub try_statement::lower_try_plain-returns-clause-lowered : goal.try_statement::lower_try_plain-returns-clause-lowered
+try_statement::lower_try_plain-returns-clause-lowered g t c =
+    try_plain_told (try_of c.catch.new.self) _ c.span_of.ensures c.in_ok-frame.ensures.frame c.in_ok-frame.ensures.state
+    c.in_ok-lower_block.ensures.lowered c.in_ok-catch.ensures.state c.in_ok-catch.ensures.frame c.in_ok-lower_block-2.ensures.lowered
+    c.in_ok-finish.ensures.state
+
+pub try_statement::lower_try_bound-store_caught-requires-clause-names : goal.try_statement::lower_try_bound-store_caught-requires-clause-names
+try_statement::lower_try_bound-store_caught-requires-clause-names g t c =
+    front_named (state_of g.U.ReadsUnit.tables c.args.builder.now) (state_of g.U.ReadsUnit.tables c.make_promoted.new.builder) _
+    c.in_ok-value.ensures.state c.in_ok-value.ensures.place c.in_ok-frame.ensures.state c.requires.names
+
+pub try_statement::lower_try_bound-store_caught-requires-clause-room : goal.try_statement::lower_try_bound-store_caught-requires-clause-room
+try_statement::lower_try_bound-store_caught-requires-clause-room g t c =
+    let block : ℕ = nodes (syntax c.args.block.tree.now) in
+    let param : ℕ = nodes (seen_binding_identifier c.args.bind.now) in
+    let body : ℕ = nodes (syntax c.args.body.tree.now) in
+    bound_front_room c.in_ok-value.value c.args.bind.now.at.span (state_of g.U.ReadsUnit.tables c.args.builder.now) (state_of g.U.ReadsUnit.tables c.make_promoted.new.builder) _
+    6 (share (block + (param + (body + 0) + 1 + (0 + 0)) + 1)) c.in_ok-value.ensures.state c.in_ok-frame.ensures.state (omega arith) c.requires.room
+
+pub try_statement::lower_try_bound-lower_block-requires : goal.try_statement::lower_try_bound-lower_block-requires
+try_statement::lower_try_bound-lower_block-requires g t c =
+    λ lifetimes outlives. (
+      search rules,
+      (
+        search rules,
+        (
+          c.in_ok-store_caught.ensures.stored.named,
+          (
+            let s : State = state_of g.U.ReadsUnit.tables c.args.builder.now in
+                let s1 : State = state_of g.U.ReadsUnit.tables c.make_promoted.new.builder in
+                let b0 : State = state_of g.U.ReadsUnit.tables c.begin.new.b in
+                let b1 : State = state_of g.U.ReadsUnit.tables c.store_caught.new.builder in
+                inside (seen c.args.names.now) (syntax c.args.body.tree.now) s b1
+                (stored_arounds s s1 b0 b1 c.in_ok-store_caught.ensures.stored c.in_ok-value.ensures.state c.in_ok-value.ensures.place c.in_ok-frame.ensures.state)
+                c.requires.may.1,
+            let block : ℕ = nodes (syntax c.args.block.tree.now) in
+                let param : ℕ = nodes (seen_binding_identifier c.args.bind.now) in
+                let body : ℕ = nodes (syntax c.args.body.tree.now) in
+                bound_room c.in_ok-value.value c.args.bind.now.at.span (state_of g.U.ReadsUnit.tables c.args.builder.now) (state_of g.U.ReadsUnit.tables c.make_promoted.new.builder)
+                (state_of g.U.ReadsUnit.tables c.begin.new.b) (state_of g.U.ReadsUnit.tables c.store_caught.new.builder)
+                (share body) (share (block + (param + (body + 0) + 1 + (0 + 0)) + 1)) c.in_ok-value.ensures.state c.in_ok-frame.ensures.state c.in_ok-store_caught.ensures.stored (omega arith) c.requires.room,
+          ),
+        ),
+      ),
+    )
+
+pub try_statement::lower_try_bound-catch-requires : goal.try_statement::lower_try_bound-catch-requires
+try_statement::lower_try_bound-catch-requires g t c =
+    let block : ℕ = nodes (syntax c.args.block.tree.now) in
+    let param : ℕ = nodes (seen_binding_identifier c.args.bind.now) in
+    let body : ℕ = nodes (syntax c.args.body.tree.now) in
+    let b1 : State = state_of g.U.ReadsUnit.tables c.store_caught.new.builder in
+    let s2 : State = state_of g.U.ReadsUnit.tables c.lower_block.new.builder in
+    let room : HasRoom b1 (share body + (share block + 40)) =
+    bound_room c.in_ok-value.value c.args.bind.now.at.span (state_of g.U.ReadsUnit.tables c.args.builder.now) (state_of g.U.ReadsUnit.tables c.make_promoted.new.builder)
+    (state_of g.U.ReadsUnit.tables c.begin.new.b) b1 (share body + (share block + 40)) (share (block + (param + (body + 0) + 1 + (0 + 0)) + 1))
+    c.in_ok-value.ensures.state c.in_ok-frame.ensures.state c.in_ok-store_caught.ensures.stored (omega arith) c.requires.room in
+    let room2 : HasRoom s2 (share block + 40) =
+    room_after b1 s2 (share body) (share block + 40) (share body + (share block + 40)) c.in_ok-lower_block.ensures.lowered.size (omega arith) room in
+    record { blocks = omega (arith, room2) }
+
+pub try_statement::lower_try_bound-lower_block-requires-2 : goal.try_statement::lower_try_bound-lower_block-requires-2
+try_statement::lower_try_bound-lower_block-requires-2 g t c =
+    λ lifetimes outlives. (
+      search rules,
+      (
+        search rules,
+        (
+          let s2 : State = state_of g.U.ReadsUnit.tables c.lower_block.new.builder in
+              let f : TryParts = try_of c.in_ok-frame.frame in
+              moved_named s2 (try_caught f s2 c.args.there.span) _ c.in_ok-catch.ensures.state (names_same s2 (try_caught f s2 c.args.there.span) refl)
+              (c.in_ok-lower_block.ensures.lowered.named c.in_ok-store_caught.ensures.stored.named),
+          (
+            let s : State = state_of g.U.ReadsUnit.tables c.args.builder.now in
+                let s1 : State = state_of g.U.ReadsUnit.tables c.make_promoted.new.builder in
+                let b0 : State = state_of g.U.ReadsUnit.tables c.begin.new.b in
+                let b1 : State = state_of g.U.ReadsUnit.tables c.store_caught.new.builder in
+                let s2 : State = state_of g.U.ReadsUnit.tables c.lower_block.new.builder in
+                let b2 : State = state_of g.U.ReadsUnit.tables c.catch.new.b in
+                inside (seen c.args.names.now) (syntax c.args.block.tree.now) s b2
+                (caught_arounds (try_of c.in_ok-frame.frame) c.args.there.span s2 b2 c.in_ok-catch.ensures.state
+                ∙ statement_arounds c.in_ok-lower_block.ensures.lowered.by
+                ∙ stored_arounds s s1 b0 b1 c.in_ok-store_caught.ensures.stored c.in_ok-value.ensures.state c.in_ok-value.ensures.place c.in_ok-frame.ensures.state)
+                c.requires.may.2,
+            let block : ℕ = nodes (syntax c.args.block.tree.now) in
+                let param : ℕ = nodes (seen_binding_identifier c.args.bind.now) in
+                let body : ℕ = nodes (syntax c.args.body.tree.now) in
+                let b1 : State = state_of g.U.ReadsUnit.tables c.store_caught.new.builder in
+                let s2 : State = state_of g.U.ReadsUnit.tables c.lower_block.new.builder in
+                let f : TryParts = try_of c.in_ok-frame.frame in
+                let room : HasRoom b1 (share body + (share block + 40)) =
+                bound_room c.in_ok-value.value c.args.bind.now.at.span (state_of g.U.ReadsUnit.tables c.args.builder.now) (state_of g.U.ReadsUnit.tables c.make_promoted.new.builder)
+                (state_of g.U.ReadsUnit.tables c.begin.new.b) b1 (share body + (share block + 40)) (share (block + (param + (body + 0) + 1 + (0 + 0)) + 1))
+                c.in_ok-value.ensures.state c.in_ok-frame.ensures.state c.in_ok-store_caught.ensures.stored (omega arith) c.requires.room in
+                moved_room s2 (try_caught f s2 c.args.there.span) _ 1 (share block) (share block + 40) c.in_ok-catch.ensures.state
+                (try_caught_size f s2 c.args.there.span) (omega arith)
+                (room_after b1 s2 (share body) (share block + 40) (share body + (share block + 40)) c.in_ok-lower_block.ensures.lowered.size (omega arith) room),
+          ),
+        ),
+      ),
+    )
+
+pub try_statement::lower_try_bound-finish-requires : goal.try_statement::lower_try_bound-finish-requires
+try_statement::lower_try_bound-finish-requires g t c =
+    record {
+      handler = handler_kept (try_of c.in_ok-frame.frame) c.args.there.span (state_of g.U.ReadsUnit.tables c.lower_block.new.builder) _ _
+          c.in_ok-catch.ensures.state c.in_ok-lower_block-2.ensures.lowered;
+    }
+
+pub try_statement::lower_try_bound-returns-clause-lowered : goal.try_statement::lower_try_bound-returns-clause-lowered
+try_statement::lower_try_bound-returns-clause-lowered g t c =
+    try_bound_told (try_of c.catch.new.self) _ (annotation_fits (λ t. syntax t.tree.now) c.args.bind.now.annotation (λ t. t.fit))
+    c.span_of.ensures c.in_ok-value.ensures.state c.in_ok-value.ensures.place c.in_ok-frame.ensures.frame c.in_ok-frame.ensures.state
+    c.in_ok-store_caught.ensures.stored c.in_ok-lower_block.ensures.lowered c.in_ok-catch.ensures.state c.in_ok-catch.ensures.frame
+    c.in_ok-lower_block-2.ensures.lowered c.in_ok-finish.ensures.state
+
+pub try_statement::lower_caught-lower_try_bound-requires : goal.try_statement::lower_caught-lower_try_bound-requires
+try_statement::lower_caught-lower_try_bound-requires g t c =
+    λ lifetimes outlives. (
+      search rules,
+      (
+        search rules,
+        (
+          search rules,
+          (
+            clause_may (seen c.args.names.now) c.args.at c.args.clause.at (syntax c.args.block.tree.now) (syntax c.args.clause.body.tree.now)
+                (arounds (state_of g.U.ReadsUnit.tables c.args.builder.now))
+                (c.binding_identifier_view-bind.ensures ∙ c.in-Identifier.ensures
+                ∙ sym (ap (λ param. maybe param (λ t. syntax t.tree.now)) c.in-Some.is)) c.requires.may,
+            clause_room c.args.at c.args.clause.at (syntax c.args.block.tree.now) (syntax c.args.clause.body.tree.now)
+                (state_of g.U.ReadsUnit.tables c.args.builder.now)
+                (c.binding_identifier_view-bind.ensures ∙ c.in-Identifier.ensures
+                ∙ sym (ap (λ param. maybe param (λ t. syntax t.tree.now)) c.in-Some.is)) c.requires.room,
+          ),
+        ),
+      ),
+    )
+
+pub try_statement::lower_caught-returns-in-Identifier-clause-lowered : goal.try_statement::lower_caught-returns-in-Identifier-clause-lowered
+try_statement::lower_caught-returns-in-Identifier-clause-lowered g t c =
+    caught_ok (seen c.args.names.now) c.args.at c.args.clause.at (syntax c.args.block.tree.now) (syntax c.args.clause.body.tree.now) _ _
+    c.lower_try_bound.result
+    (c.binding_identifier_view-bind.ensures ∙ c.in-Identifier.ensures
+    ∙ sym (ap (λ param. maybe param (λ t. syntax t.tree.now)) c.in-Some.is)) c.lower_try_bound.ensures.lowered
+
+pub try_statement::lower_caught-lower_try_plain-requires : goal.try_statement::lower_caught-lower_try_plain-requires
+try_statement::lower_caught-lower_try_plain-requires g t c =
+    λ lifetimes outlives. (
+      search rules,
+      (
+        search rules,
+        (
+          search rules,
+          (
+            clause_may (seen c.args.names.now) c.args.at c.args.clause.at (syntax c.args.block.tree.now) (syntax c.args.clause.body.tree.now)
+                (arounds (state_of g.U.ReadsUnit.tables c.args.builder.now))
+                (sym (ap (λ param. maybe param (λ t. syntax t.tree.now)) c.in-None.is)) c.requires.may,
+            clause_room c.args.at c.args.clause.at (syntax c.args.block.tree.now) (syntax c.args.clause.body.tree.now)
+                (state_of g.U.ReadsUnit.tables c.args.builder.now)
+                (sym (ap (λ param. maybe param (λ t. syntax t.tree.now)) c.in-None.is)) c.requires.room,
+          ),
+        ),
+      ),
+    )
+
+pub try_statement::lower_caught-returns-in-None-clause-lowered : goal.try_statement::lower_caught-returns-in-None-clause-lowered
+try_statement::lower_caught-returns-in-None-clause-lowered g t c =
+    caught_ok (seen c.args.names.now) c.args.at c.args.clause.at (syntax c.args.block.tree.now) (syntax c.args.clause.body.tree.now) _ _
+    c.lower_try_plain.result (sym (ap (λ param. maybe param (λ t. syntax t.tree.now)) c.in-None.is)) c.lower_try_plain.ensures.lowered
+
+pub try_statement::lower_try-lower_caught-requires : goal.try_statement::lower_try-lower_caught-requires
+try_statement::lower_try-lower_caught-requires g t c =
+    λ lifetimes outlives. (
+      search rules,
+      (
+        search rules,
+        (
+          finalizer_named (maybe c.args.finalizer (λ t. syntax t.tree.now)) (state_of g.U.ReadsUnit.tables c.args.builder.now) _ c.args.at.span
+              c.in_ok-note_finalizer-in-Some.ensures.state c.requires.names,
+          (
+            let s : State = state_of g.U.ReadsUnit.tables c.args.builder.now in
+                let b : State = state_of g.U.ReadsUnit.tables c.note_finalizer.new.builder in
+                caught_may (seen c.args.names.now) c.args.at (syntax c.args.block.tree.now) (maybe c.args.finalizer (λ t. syntax t.tree.now)) s b
+                (c.catch_clause_view-clause.ensures ∙ sym (ap (λ handler. maybe handler (λ t. syntax t.tree.now)) c.in-Some.is))
+                (finalizer_arounds (maybe c.args.finalizer (λ t. syntax t.tree.now)) s b c.args.at.span c.in_ok-note_finalizer-in-Some.ensures.state)
+                c.requires.may,
+            caught_room c.args.at (syntax c.args.block.tree.now) (maybe c.args.finalizer (λ t. syntax t.tree.now)) (state_of g.U.ReadsUnit.tables c.args.builder.now) _
+                (c.catch_clause_view-clause.ensures ∙ sym (ap (λ handler. maybe handler (λ t. syntax t.tree.now)) c.in-Some.is))
+                c.in_ok-note_finalizer-in-Some.ensures.state c.requires.room,
+          ),
+        ),
+      ),
+    )
+
+pub try_statement::lower_try-returns-in_ok-note_finalizer-in-Some-clause-lowered : goal.try_statement::lower_try-returns-in_ok-note_finalizer-in-Some-clause-lowered
+try_statement::lower_try-returns-in_ok-note_finalizer-in-Some-clause-lowered g t c =
+    finalized_ok (seen c.args.names.now) c.args.at (syntax c.args.block.tree.now) (maybe c.args.finalizer (λ t. syntax t.tree.now)) _ _ c.lower_caught.result
+    (c.catch_clause_view-clause.ensures ∙ sym (ap (λ handler. maybe handler (λ t. syntax t.tree.now)) c.in-Some.is))
+    c.in_ok-note_finalizer-in-Some.ensures.state c.lower_caught.ensures.lowered
+
+pub try_statement::lower_try-returns-in_ok-refuse-in-None-clause-lowered : goal.try_statement::lower_try-returns-in_ok-refuse-in-None-clause-lowered
+try_statement::lower_try-returns-in_ok-refuse-in-None-clause-lowered g t c =
+    uncaught_told _ (sym (ap (λ handler. maybe handler (λ t. syntax t.tree.now)) c.in-None.is)) c.in_ok-refuse-in-None.ensures.state

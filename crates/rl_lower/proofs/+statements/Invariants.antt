@@ -1,15 +1,21 @@
-use Rattle.std.proofs.Common.{◌≡◌, ◌+◌, ◌*◌, ◌≤◌, false, List, None, Some, map}
+use Rattle.std.proofs.Common.{◌≡◌, ◌+◌, ◌*◌, ◌≤◌, ◌∷◌, false, List, None, Some, length, map}
+use Rattle.rl_ast.specs.BindingViews.{seen_binding_identifier}
 use Rattle.rl_ast.specs.StatementViews.{seen_statement}
 use Rattle.rl_ast.specs.declared.statement.Statement.TheVariants as statement
 use Rattle.rl_builder.specs.Builder.{State, state_of}
+use Rattle.rl_frames.specs.SwitchParts.{switch_of}
+use Rattle.rl_grammar.specs.Fields.{maybe}
+use Rattle.rl_lower.specs.Cases.{FramesBehind}
+use Rattle.rl_lower.specs.Tries.{caught_try}
 use Rattle.rl_lowered.specs.Arounds.{arounds}
 use Rattle.rl_lowered.specs.Lowered.{LoweredStatements}
 use Rattle.rl_lowered.specs.Named.{IsNamed}
 use Rattle.rl_lowered.specs.Promised.{HasRoom, share}
 use Rattle.rl_names.specs.Seen.{seen}
-use Rattle.rl_promises.specs.Lowerable.{AreLowerableIn}
+use Rattle.rl_promises.specs.Jumps.{InSwitch}
+use Rattle.rl_promises.specs.Lowerable.{AreLowerableCases, AreLowerableIn}
 use Rattle.rl_syntax.specs.Sizes.{size_of}
-use Rattle.rl_syntax.specs.Syntax.{Pieces, nodes, nodes_of, pieces_of, syntax}
+use Rattle.rl_syntax.specs.Syntax.{Absent, Pieces, nodes, nodes_of, pieces_of, syntax}
 use Rattle.rl_syntax.specs.declared.numbered.Numbered.{Numbered}
 use Rattle.rl_lower.proofs.+statements.Given as goal
 
@@ -26,6 +32,32 @@ decreases-statement::lower_if_then g l = 5 * nodes (seen_statement (statement.If
 
 abbrev pub decreases-statement::lower_if_else : goal.decreases-statement::lower_if_else
 decreases-statement::lower_if_else g l = 5 * nodes (seen_statement (statement.If l.at l.test l.consequent (Some l.alternate)))
+
+abbrev pub decreases-statement::lower_block : goal.decreases-statement::lower_block
+decreases-statement::lower_block g l = 5 * nodes (syntax l.block.tree.now)
+
+abbrev pub decreases-switch::lower_switch : goal.decreases-switch::lower_switch
+decreases-switch::lower_switch g l = 5 * nodes (seen_statement (statement.Switch l.at l.discriminant l.cases))
+
+abbrev pub decreases-switch::lower_cases : goal.decreases-switch::lower_cases
+decreases-switch::lower_cases g l = 5 * nodes_of (shown l.cases.trees.now) + 4
+
+abbrev pub decreases-switch::lower_case : goal.decreases-switch::lower_case
+decreases-switch::lower_case g l = 5 * nodes (syntax l.case.tree.now)
+
+abbrev pub decreases-try_statement::lower_try : goal.decreases-try_statement::lower_try
+decreases-try_statement::lower_try g l = 5 * nodes (seen_statement (statement.Try l.at l.block l.handler l.finalizer)) + 2
+
+abbrev pub decreases-try_statement::lower_caught : goal.decreases-try_statement::lower_caught
+decreases-try_statement::lower_caught g l =
+    5 * nodes (caught_try l.at l.clause.at (syntax l.block.tree.now) (maybe l.clause.param (λ t. syntax t.tree.now)) (syntax l.clause.body.tree.now)) + 1
+
+abbrev pub decreases-try_statement::lower_try_plain : goal.decreases-try_statement::lower_try_plain
+decreases-try_statement::lower_try_plain g l = 5 * nodes (caught_try l.at l.there (syntax l.block.tree.now) Absent (syntax l.body.tree.now))
+
+abbrev pub decreases-try_statement::lower_try_bound : goal.decreases-try_statement::lower_try_bound
+decreases-try_statement::lower_try_bound g l =
+    5 * nodes (caught_try l.at l.there (syntax l.block.tree.now) (seen_binding_identifier l.bind.now) (syntax l.body.tree.now))
 
 abbrev pub decreases-loops::lower_labeled : goal.decreases-loops::lower_labeled
 decreases-loops::lower_labeled g l = 5 * nodes (seen_statement (statement.Labeled l.at l.label l.body)) + 1
@@ -71,4 +103,20 @@ invariant-statement::lower_statements-statements g l = record {
   lowers : (new : State)
       → LoweredStatements (seen l.names) (shown l.left.trees.now) (state_of g.U.ReadsUnit.tables l.builder) new
       → LoweredStatements (seen l.names) (shown l.statements.trees.now) (state_of g.U.ReadsUnit.tables l.initial.builder) new;
+}
+
+-- The cases behind those that are left were lowered.
+
+abbrev pub decreases-switch::lower_cases-cases : goal.decreases-switch::lower_cases-cases
+decreases-switch::lower_cases-cases g l = length l.left.trees.now
+
+abbrev pub invariant-switch::lower_cases-cases : goal.invariant-switch::lower_cases-cases
+invariant-switch::lower_cases-cases g l = record {
+  same_reference : l.builder.env.ghost_name ≡ l.initial.builder.env.ghost_name;
+  names : IsNamed (seen l.names) (state_of g.U.ReadsUnit.tables l.builder);
+  may : AreLowerableCases (seen l.names) (InSwitch None ∷ arounds (state_of g.U.ReadsUnit.tables l.builder)) (shown l.left.trees.now);
+  room : HasRoom (state_of g.U.ReadsUnit.tables l.builder) (share (nodes_of (shown l.left.trees.now)));
+  fewer : nodes_of (shown l.left.trees.now) ≤ nodes_of (shown l.cases.trees.now);
+  lowers : FramesBehind (seen l.names) (state_of g.U.ReadsUnit.tables l.fn.builder) l.fn.span (shown l.cases.trees.now)
+      (shown l.left.trees.now) (switch_of l.frame) (state_of g.U.ReadsUnit.tables l.builder);
 }
