@@ -8,9 +8,8 @@ use Rattle.std.specs.List.{list_any}
 use Rattle.rl_base.specs.declared.ids.NodeId.{NodeId}
 use Rattle.rl_bindings.specs.declared.event.Bound.{Bound}
 use Rattle.rl_bindings.specs.declared.resolve.Declaration.{Declaration}
-use Rattle.rl_lint.specs.Clear.{are_clear_declarations, are_clear_from, declared_scope, FindsNone, function_around, function_at}
-use Rattle.rl_lint.specs.Clear.{is_before, is_behind_last, is_clear_bind, is_clear_declaration, is_clear_name, is_clear_node}
-use Rattle.rl_lint.specs.Clear.{is_clear_use, is_hinted, is_inside, is_known, is_up_to, named_scope, parent_scope, function_inside}
+use Rattle.rl_lint.specs.Clear.{are_clear_declarations, are_clear_from, FindsNone, is_clear_bind, is_clear_declaration, is_clear_name}
+use Rattle.rl_lint.specs.Clear.{is_clear_node, is_clear_use}
 use Rattle.rl_lint.specs.Findings.{finding}
 use Rattle.rl_lint.specs.Roles.{below, declaring, function_below, function_role, has_body, is_var, kept, listed, only_at, place_below}
 use Rattle.rl_lint.specs.Roles.{role_of, variables_role, item_place, top}
@@ -18,8 +17,6 @@ use Rattle.rl_lint.specs.Rules.{declared, early, early_of, early_use, is_late, s
 use Rattle.rl_lint.specs.Sites.{bind_site, site_of, sites, sites_among, sites_from, sites_in, use_site}
 use Rattle.rl_lint.specs.Tables.{Tables}
 use Rattle.rl_lint.specs.declared.finding.LintRule.TheVariants as rule
-use Rattle.rl_lint.specs.declared.hints.Hints.{Hints}
-use Rattle.rl_lint.specs.declared.hints.LastBind.{LastBind}
 use Rattle.rl_lint.specs.declared.role.Above.{Above}
 use Rattle.rl_lint.specs.declared.role.Place.{Place}
 use Rattle.rl_lint.specs.declared.role.Place.TheVariants as place
@@ -28,6 +25,10 @@ use Rattle.rl_lint.specs.declared.site.NamedSite.{NamedSite}
 use Rattle.rl_lint.specs.declared.site.Site.{Site}
 use Rattle.rl_lint.specs.declared.site.Site.TheVariants as site
 use Rattle.rl_lint.specs.declared.site.UseSite.{UseSite}
+use Rattle.rl_lint_hints.specs.Hints.{declared_scope, function_around, function_at, function_inside, is_before, is_behind_last}
+use Rattle.rl_lint_hints.specs.Hints.{is_hinted, is_inside, is_known, is_up_to, named_scope, parent_scope}
+use Rattle.rl_lint_hints.specs.declared.hints.Hints.{Hints}
+use Rattle.rl_lint_hints.specs.declared.hints.LastBind.{LastBind}
 use Rattle.rl_resolver.specs.Inside.{is_function_word}
 use Rattle.rl_resolver.specs.Lookups.{is_number, name_text}
 use Rattle.rl_semantic.specs.Items.{of_item}

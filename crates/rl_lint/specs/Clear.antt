@@ -1,66 +1,24 @@
--- Units in which L1 and L4 find nothing, as their tables tell. Hints stand beside the tables; nothing is known of them but what is tested.
-use Rattle.std.specs.Prelude.{◌≡◌, ℕ, ◌+◌, Bool, true, false, not, ◌&&◌, ◌||◌, if◌then◌else◌, nat_eq, nat_le, nat_lt, is_none}
-use Rattle.std.specs.Prelude.{Option, Some, None, slice_get, List, [], ◌∷◌}
+-- Units in which L1 and L4 find nothing, as their tables tell, with hints beside these.
+use Rattle.std.specs.Prelude.{◌≡◌, ℕ, ◌+◌, Bool, true, not, ◌&&◌, ◌||◌, nat_eq, is_none, slice_get, List, [], ◌∷◌}
 use Rattle.std.specs.List.{list_all}
-use Rattle.rl_base.specs.declared.ids.NodeId.{NodeId}
 use Rattle.rl_base.specs.declared.ids.ScopeId.{ScopeId}
 use Rattle.rl_bindings.specs.declared.event.Bound.{Bound}
 use Rattle.rl_bindings.specs.declared.resolve.Declaration.{Declaration}
 use Rattle.rl_lint.specs.Rules.{early, taken, taken_by, used}
 use Rattle.rl_lint.specs.Sites.{sites_in}
 use Rattle.rl_lint.specs.Tables.{Tables}
-use Rattle.rl_lint.specs.declared.hints.Hints.{Hints}
-use Rattle.rl_lint.specs.declared.hints.LastBind.{LastBind}
-use Rattle.rl_resolver.specs.Inside.{is_function_word}
+use Rattle.rl_lint_hints.specs.Hints.{is_behind_last, is_hinted, is_known, named_scope}
+use Rattle.rl_lint_hints.specs.declared.hints.Hints.{Hints}
 use Rattle.rl_resolver.specs.Lookups.{name_text}
 use Rattle.rl_semantic.specs.Items.{of_item}
 use Rattle.rl_syntax.specs.Syntax.{Syntax, is_reference}
 use Rattle.rl_syntax.specs.declared.nodes.NodeEntry.{NodeEntry}
 use Rattle.rl_syntax.specs.declared.numbered.At.{At}
-use Rattle.rl_syntax.specs.declared.word.Word.{Word}
-use Rattle.rl_syntax.specs.declared.word.Word.TheVariants as word
-
--- The innermost function around the parts of a node, by a table of these. The unit's node where the table has none.
-abbrev pub function_at : (functions : List NodeId) → (node : ℕ) → NodeId
-function_at functions node = of_item (record { 0 = 0 }) (λ (function : NodeId). function) (slice_get functions node)
-
--- The innermost function around a node with this parent.
-abbrev pub function_around : (functions : List NodeId) → (parent : Option NodeId) → NodeId
-function_around functions parent = of_item (record { 0 = 0 }) (λ (p : NodeId). function_at functions p.0) parent
-
--- The innermost function around the parts of a node: the node itself, if it is a function, or the one around it.
-abbrev pub function_inside : (functions : List NodeId) → NodeEntry → NodeId
-function_inside functions e = if is_function_word e.word then e.at.id else function_around functions e.parent
-
--- True of the word of function declarations.
-abbrev pub is_declaration_word : Word → Bool
-is_declaration_word word.Fundecl = true
-is_declaration_word _ = false
-
--- The scope that a function declaration makes. None of any other node.
-abbrev pub declared_scope : NodeEntry → Option ScopeId
-declared_scope e = if is_declaration_word e.word then Some e.at.scope else None
-
--- The scope that the parent of a node makes, if that is a function declaration.
-abbrev pub parent_scope : List NodeEntry → (parent : Option NodeId) → Option ScopeId
-parent_scope nodes parent = of_item None (λ (p : NodeId). of_item None declared_scope (slice_get nodes p.0)) parent
-
--- The scope of the function declaration whose name a node is. None of any other node.
-abbrev pub named_scope : List NodeEntry → (node : ℕ) → Option ScopeId
-named_scope nodes node = of_item None (λ (e : NodeEntry). parent_scope nodes e.parent) (slice_get nodes node)
 
 -- True of a symbol whose name, declared by a function that makes the scope `scope`, is that of no other symbol around, nor its stem.
 abbrev pub is_clear_name : Tables → (own : ℕ) → (scope : ScopeId) → Bool
 is_clear_name b own scope = of_item true (λ (first : Bound). is_none (taken_by b own scope (name_text b.names first.name)))
     (slice_get b.symbols own)
-
--- True of a declaration that is not behind the last one of its symbol, nor in another function.
-abbrev pub is_up_to : Hints → (node : ℕ) → LastBind → Bool
-is_up_to h node last = nat_le node last.node.0 && nat_eq (function_at h.functions node).0 last.function.0
-
--- True of a declaration of a symbol that the hints know.
-abbrev pub is_hinted : Hints → (node symbol : ℕ) → Bool
-is_hinted h node symbol = of_item true (is_up_to h node) (slice_get h.lasts symbol)
 
 -- True of a declaration of a symbol that L4 finds nothing at, or that the hints know.
 abbrev pub is_clear_bind : List NodeEntry → Hints → Tables → (node symbol : ℕ) → Bool
@@ -72,25 +30,9 @@ is_clear_declaration nodes h b d = of_item true (is_clear_bind nodes h b d.node.
 abbrev pub are_clear_declarations : List NodeEntry → Hints → Tables → List Declaration → Bool
 are_clear_declarations nodes h b ds = list_all (is_clear_declaration nodes h b) ds
 
--- True of a use before the last declaration of its symbol, in the same function.
-abbrev pub is_before : Hints → (node : ℕ) → LastBind → Bool
-is_before h node last = nat_lt node last.node.0 && nat_eq (function_at h.functions node).0 last.function.0
-
--- True of a use of a symbol that stands behind all declarations in its function, as far as the hints know them.
-abbrev pub is_behind_last : Hints → (node symbol : ℕ) → Bool
-is_behind_last h node symbol = of_item false (λ (last : LastBind). not (is_before h node last)) (slice_get h.lasts symbol)
-
 -- True of a use that L1 finds nothing at.
 abbrev pub is_clear_use : Hints → Tables → At → Bool
 is_clear_use h b at = of_item true (is_behind_last h at.id.0) (used b.references at.reference.0)
-
--- True of a node whose parent, if it has one, has a smaller id.
-abbrev pub is_inside : (parent : Option NodeId) → (node : ℕ) → Bool
-is_inside parent node = of_item true (λ (p : NodeId). nat_lt p.0 node) parent
-
--- True of a node for which the table has the right function.
-abbrev pub is_known : (functions : List NodeId) → NodeEntry → Bool
-is_known functions e = is_inside e.parent e.at.id.0 && nat_eq (function_at functions e.at.id.0).0 (function_inside functions e).0
 
 -- True of a node that the hints know, and that is no use or one that L1 finds nothing at.
 abbrev pub is_clear_node : Hints → Tables → NodeEntry → Bool

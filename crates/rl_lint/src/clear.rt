@@ -5,7 +5,6 @@ ghost use Rattle.rl_lint.specs.Clear as spec;
 ghost use Rattle.rl_lint.specs.Tables.{tables};
 ghost use Rattle.rl_syntax.specs.Syntax.{syntax};
 
-use crate::hints::{Hints, LastBind, function_at, function_inside, hints_of, named_scope};
 use crate::names::{name_text, symbol_at, used};
 use crate::taken::taken_by;
 use rl_ast::unit::Unit;
@@ -13,6 +12,8 @@ use rl_base::error::OutOfMemory;
 use rl_base::ids::{NodeId, ScopeId};
 use rl_bindings::bindings::Bindings;
 use rl_bindings::resolve::Declaration;
+use rl_lint_hints::checks::{is_behind_last, is_hinted, is_known};
+use rl_lint_hints::hints::{Hints, hints_of, named_scope};
 use rl_syntax::nodes::NodeEntry;
 use rl_syntax::numbered::{At, is_reference};
 use std::alloc::Global;
@@ -23,23 +24,6 @@ fn is_clear_name(bindings: &Bindings, own: usize, scope: ScopeId) -> bool
 {
     match symbol_at(bindings, own) {
         Some(first) => taken_by(bindings, own, scope, name_text(bindings, first.name)).is_none(),
-        None => true,
-    }
-}
-
-/// True of a declaration that is not behind the last one of its symbol, nor in another function.
-fn is_up_to(hints: &Hints, node: NodeId, last: &LastBind) -> bool
-    ensures { result ≡ spec.is_up_to hints.now node.0 last.now }
-{
-    node.0 <= last.node.0 && function_at(hints.functions.as_slice(), node).0 == last.function.0
-}
-
-/// True of a declaration of a symbol that the hints know.
-fn is_hinted(hints: &Hints, node: NodeId, symbol: usize) -> bool
-    ensures { result ≡ spec.is_hinted hints.now node.0 symbol }
-{
-    match hints.lasts.get(symbol) {
-        Some(last) => is_up_to(hints, node, last),
         None => true,
     }
 }
@@ -87,23 +71,6 @@ fn are_clear_declarations(nodes: &[NodeEntry], hints: &Hints, bindings: &Binding
     true
 }
 
-/// True of a use before the last declaration of its symbol, in the same function.
-fn is_before(hints: &Hints, node: NodeId, last: &LastBind) -> bool
-    ensures { result ≡ spec.is_before hints.now node.0 last.now }
-{
-    node.0 < last.node.0 && function_at(hints.functions.as_slice(), node).0 == last.function.0
-}
-
-/// True of a use of a symbol that stands behind all declarations in its function, as far as the hints know them.
-fn is_behind_last(hints: &Hints, node: NodeId, symbol: usize) -> bool
-    ensures { result ≡ spec.is_behind_last hints.now node.0 symbol }
-{
-    match hints.lasts.get(symbol) {
-        Some(last) => !is_before(hints, node, last),
-        None => false,
-    }
-}
-
 /// True of a use that L1 finds nothing at.
 fn is_clear_use(hints: &Hints, bindings: &Bindings, at: &At) -> bool
     ensures { result ≡ spec.is_clear_use hints.now (tables bindings.now) at.now }
@@ -112,24 +79,6 @@ fn is_clear_use(hints: &Hints, bindings: &Bindings, at: &At) -> bool
         Some(symbol) => is_behind_last(hints, at.id, symbol),
         None => true,
     }
-}
-
-/// True of a node whose parent, if it has one, has a smaller id.
-fn is_inside(parent: Option<NodeId>, node: NodeId) -> bool
-    ensures { result ≡ spec.is_inside parent node.0 }
-{
-    match parent {
-        Some(parent) => parent.0 < node.0,
-        None => true,
-    }
-}
-
-/// True of a node for which the hints have the right function.
-fn is_known(functions: &[NodeId], node: &NodeEntry) -> bool
-    ensures { result ≡ spec.is_known functions.now node.now }
-{
-    is_inside(node.parent, node.at.id)
-        && function_at(functions, node.at.id).0 == function_inside(functions, node).0
 }
 
 /// True of a node that the hints know, and that is no use or one that L1 finds nothing at.

@@ -10,10 +10,11 @@ ghost use Rattle.rl_lint.specs.declared.finding.LintRule.TheVariants as rule;
 ghost use Rattle.rl_syntax.specs.Syntax.{pieces_of, syntax};
 
 use crate::finding::{Finding, LintRule, push_finding};
-use crate::role::{first_text, is_function};
+use crate::role::first_text;
 use rl_ast::unit::Unit;
 use rl_base::error::OutOfMemory;
 use rl_base::text::Text;
+use rl_lint_hints::words::is_function;
 use rl_syntax::nodes::NodeEntry;
 use rl_syntax::numbered::{At, Numbered};
 use rl_syntax::word::Word;

@@ -5,7 +5,6 @@
 mod clear;
 mod early;
 pub mod finding;
-mod hints;
 mod labels;
 pub mod lint;
 mod names;

@@ -1,9 +1,7 @@
 //! Roles of nodes in the rules on names: all that these know of the grammar.
 
 ghost use Rattle.std.specs.Prelude.{◌≡◌, map, option_map};
-ghost use Rattle.rl_lint.specs.Clear.{is_declaration_word};
 ghost use Rattle.rl_lint.specs.Roles as spec;
-ghost use Rattle.rl_resolver.specs.Inside.{is_function_word};
 ghost use Rattle.rl_semantic.specs.Imports.{first_text};
 ghost use Rattle.rl_syntax.specs.Syntax.{pieces_of, syntax};
 
@@ -64,28 +62,6 @@ pub struct Above {
     pub function: NodeId,
     /// The place among declarations.
     pub place: Place,
-}
-
-/// True of the words of functions.
-pub(crate) fn is_function(word: Word) -> bool
-    ensures { result ≡ is_function_word word }
-{
-    match word {
-        Word::Arrow => true,
-        Word::Fundecl => true,
-        Word::Funexpr => true,
-        _ => false,
-    }
-}
-
-/// True of the word of function declarations.
-pub(crate) fn is_declaration(word: Word) -> bool
-    ensures { result ≡ is_declaration_word word }
-{
-    match word {
-        Word::Fundecl => true,
-        _ => false,
-    }
 }
 
 /// The first part, if it is a text.

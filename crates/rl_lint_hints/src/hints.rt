@@ -1,0 +1,161 @@
+//! The tables of hints, and how they are made.
+
+ghost use Rattle.std.specs.Prelude.{◌≡◌};
+ghost use Rattle.rl_lint_hints.specs.Hints as spec;
+
+use crate::words::{is_declaration, is_function};
+use rl_base::error::OutOfMemory;
+use rl_base::ids::{NodeId, ScopeId};
+use rl_base::list::List;
+use rl_bindings::bindings::Bindings;
+use rl_bindings::resolve::Declaration;
+use rl_syntax::nodes::NodeEntry;
+use std::alloc::Global;
+
+/// The last declaration of a symbol.
+#[derive(Clone, Copy)]
+pub struct LastBind {
+    /// The `bind` node with the largest id, the names of function declarations aside.
+    pub node: NodeId,
+    /// The innermost function around it. The unit's node outside functions.
+    pub function: NodeId,
+}
+
+/// Tables by node and by symbol.
+#[derive(Drop)]
+pub struct Hints {
+    /// For each node the innermost function around its parts.
+    pub functions: List<NodeId>,
+    /// For each symbol its last declaration.
+    pub lasts: List<LastBind>,
+}
+
+/// The innermost function around the parts of a node, by a table of these. The unit's node where the table has none.
+pub fn function_at(functions: &[NodeId], node: NodeId) -> NodeId
+    ensures { result ≡ spec.function_at functions.now node.0 }
+{
+    match functions.get(node.0 as usize) {
+        Some(function) => *function,
+        None => NodeId(0),
+    }
+}
+
+/// The innermost function around a node with this parent. The unit's node without a parent.
+fn function_around(functions: &[NodeId], parent: Option<NodeId>) -> NodeId
+    ensures { result ≡ spec.function_around functions.now parent }
+{
+    match parent {
+        Some(parent) => function_at(functions, parent),
+        None => NodeId(0),
+    }
+}
+
+/// The innermost function around the parts of a node: the node itself, if it is a function, or the one around it.
+pub fn function_inside(functions: &[NodeId], node: &NodeEntry) -> NodeId
+    ensures { result ≡ spec.function_inside functions.now node.now }
+{
+    if is_function(node.word) {
+        node.at.id
+    } else {
+        function_around(functions, node.parent)
+    }
+}
+
+/// The scope that a function declaration makes. `None` of any other node.
+fn declared_scope(node: &NodeEntry) -> Option<ScopeId>
+    ensures { result ≡ spec.declared_scope node.now }
+{
+    if is_declaration(node.word) {
+        Some(node.at.scope)
+    } else {
+        None
+    }
+}
+
+/// The scope that the parent of a node makes, if that is a function declaration.
+fn parent_scope(nodes: &[NodeEntry], parent: Option<NodeId>) -> Option<ScopeId>
+    ensures { result ≡ spec.parent_scope nodes.now parent }
+{
+    match parent {
+        Some(parent) => match nodes.get(parent.0 as usize) {
+            Some(node) => declared_scope(node),
+            None => None,
+        },
+        None => None,
+    }
+}
+
+/// The scope of the function declaration whose name a node is. `None` of any other node.
+pub fn named_scope(nodes: &[NodeEntry], node: NodeId) -> Option<ScopeId>
+    ensures { result ≡ spec.named_scope nodes.now node.0 }
+{
+    match nodes.get(node.0 as usize) {
+        Some(node) => parent_scope(nodes, node.parent),
+        None => None,
+    }
+}
+
+/// The innermost functions around the parts of nodes. On `OutOfMemory`, an allocation failed.
+fn functions_of(alloc: Global, nodes: &[NodeEntry]) -> Result<List<NodeId>, OutOfMemory> {
+    let mut functions = List::with_capacity(alloc, nodes.len())?;
+    for node in nodes {
+        let function = function_inside(functions.as_slice(), node);
+        functions.push(function)?;
+    }
+    Ok(functions)
+}
+
+/// Makes a declaration the last one of its symbol, if none with a larger id is.
+fn put_last(lasts: &mut [LastBind], symbol: usize, last: LastBind) {
+    if symbol < lasts.len() {
+        if lasts[symbol].node.0 <= last.node.0 {
+            lasts[symbol] = last;
+        }
+    }
+}
+
+/// Makes a declaration the last one of its symbol, unless it is the name of a function declaration.
+fn put_declaration(
+    lasts: &mut [LastBind],
+    nodes: &[NodeEntry],
+    functions: &[NodeId],
+    declaration: &Declaration,
+) {
+    let node = declaration.node;
+    if let Some(symbol) = declaration.symbol {
+        if named_scope(nodes, node).is_none() {
+            let function = function_at(functions, node);
+            put_last(lasts, symbol, LastBind { node, function });
+        }
+    }
+}
+
+/// The last declarations of symbols. On `OutOfMemory`, an allocation failed.
+fn lasts_of(
+    alloc: Global,
+    nodes: &[NodeEntry],
+    functions: &[NodeId],
+    bindings: &Bindings,
+) -> Result<List<LastBind>, OutOfMemory> {
+    let none = LastBind {
+        node: NodeId(0),
+        function: NodeId(0),
+    };
+    let mut lasts = Vec::new(alloc);
+    lasts.resize(bindings.symbols.as_slice().len(), none)?;
+    for declaration in bindings.declarations.as_slice() {
+        put_declaration(&mut lasts, nodes, functions, declaration);
+    }
+    Ok(List::from_vec(lasts))
+}
+
+/// Hints for a unit with these nodes. On `OutOfMemory`, an allocation failed.
+pub fn hints_of(
+    alloc: Global,
+    nodes: &[NodeEntry],
+    bindings: &Bindings,
+) -> Result<Hints, OutOfMemory> {
+    let functions = functions_of(alloc, nodes)?;
+    let lasts = lasts_of(alloc, nodes, functions.as_slice(), bindings)?;
+    Ok(Hints { functions, lasts })
+}

@@ -1,0 +1,29 @@
+//! The words of functions.
+
+ghost use Rattle.std.specs.Prelude.{◌≡◌};
+ghost use Rattle.rl_lint_hints.specs.Hints.{is_declaration_word};
+ghost use Rattle.rl_resolver.specs.Inside.{is_function_word};
+
+use rl_syntax::word::Word;
+
+/// True of the words of functions.
+pub fn is_function(word: Word) -> bool
+    ensures { result ≡ is_function_word word }
+{
+    match word {
+        Word::Arrow => true,
+        Word::Fundecl => true,
+        Word::Funexpr => true,
+        _ => false,
+    }
+}
+
+/// True of the word of function declarations.
+pub fn is_declaration(word: Word) -> bool
+    ensures { result ≡ is_declaration_word word }
+{
+    match word {
+        Word::Fundecl => true,
+        _ => false,
+    }
+}
