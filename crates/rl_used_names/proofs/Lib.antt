@@ -4,3 +4,4 @@ pub mod Merging
 pub mod NameEntries
 pub mod NameLaws
 pub mod NameSearches
+pub mod ReservedWords

@@ -4,4 +4,5 @@ pub mod Choosing
 pub mod IdentifierNames
 pub mod Merged
 pub mod NameSearch
+pub mod ReservedSlots
 pub mod UsedName
