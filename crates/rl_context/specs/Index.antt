@@ -1,8 +1,6 @@
 -- Look-ups in the sites of a function: the entry of a reference, and the span of a symbol's declaration.
-use Rattle.std.specs.Prelude.{◌≡◌, ℕ, Bool, false, if◌then◌else◌, nat_eq, Option, Some, None, List, [], ◌∷◌}
-use Rattle.std.specs.BTreeSet.{BTreeSet, contains_by}
+use Rattle.std.specs.Prelude.{◌≡◌, ℕ, Bool, false, if◌then◌else◌, get_or, nat_eq, Option, Some, None, List, [], ◌∷◌}
 use Rattle.std.specs.List.{list_any}
-use Rattle.std.specs.Ordering.{nat_cmp}
 use Rattle.rl_base.specs.declared.span.Span.{Span}
 use Rattle.rl_bindings.specs.Symbols.{option_or}
 use Rattle.rl_bindings.specs.declared.event.Bound.{Bound}
@@ -44,6 +42,6 @@ declaration_span ss symbols symbol = of_item None (span_among ss) (declaration_i
 pub record AreEntries (entries : List (Option IdentEntry)) (ss : List Site) : Type 0 where
   pub at : (reference : ℕ) → first_at entries reference ≡ entry_among reference ss
 
--- The set has the `bind` nodes among the sites.
-pub record AreDeclarations (declarations : BTreeSet ℕ) (ss : List Site) : Type 0 where
-  pub at : (node : ℕ) → contains_by (nat_cmp node) declarations ≡ declares node ss
+-- The table has true at the ids of the `bind` nodes among the sites, and at no others.
+pub record AreDeclarations (declarations : List Bool) (ss : List Site) : Type 0 where
+  pub at : (node : ℕ) → get_or declarations node false ≡ declares node ss

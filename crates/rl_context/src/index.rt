@@ -1,6 +1,6 @@
 //! Index of a function: its references and declarations by number.
 
-ghost use Rattle.std.specs.Prelude.{◌≡◌, ◌<◌, ℕ, if◌then◌else◌, length, nat_eq, Some, None, IfOk, OnOk};
+ghost use Rattle.std.specs.Prelude.{◌≡◌, ◌<◌, ◌||◌, ℕ, false, if◌then◌else◌, get_or, length, nat_eq, Some, None, IfOk, OnOk};
 ghost use Rattle.std.specs.Option.{option_copied};
 ghost use Rattle.rl_ast.specs.FunctionNodes.{seen_function_node};
 ghost use Rattle.rl_bindings.specs.Symbols.{option_or};
@@ -17,7 +17,6 @@ use rl_base::list::List;
 use rl_base::span::Span;
 use rl_resolver::resolver::ScopeResolver;
 use std::alloc::Global;
-use std::collections::BTreeSet;
 use std::marker::Model;
 
 /// Lengthens a table of entries so that it has a place for a reference, and gives no entry to any. On `OutOfMemory`, an allocation
@@ -62,14 +61,45 @@ fn entries_of(alloc: Global, sites: &[Site]) -> Result<Vec<Option<IdentEntry>>, 
     Ok(entries)
 }
 
-/// The declarations among sites, by the ids of their nodes. On `OutOfMemory`, an allocation failed.
-fn declarations_of(alloc: Global, sites: &[Site]) -> Result<BTreeSet<u32>, OutOfMemory>
-    ensures { IfOk result (λ declarations. spec.AreDeclarations declarations sites.now) }
+/// True of a number that is marked. None past the end is.
+fn is_marked(marks: &[bool], number: usize) -> bool
+    ensures { result ≡ get_or marks.now number false }
 {
-    let mut declarations = BTreeSet::new(alloc);
+    match marks.get(number) {
+        Some(marked) => *marked,
+        None => false,
+    }
+}
+
+/// Lengthens a table of marks so that it has a place for a number, and marks none. On `OutOfMemory`, an allocation failed.
+fn reach(marks: &mut Vec<bool>, number: u32) -> Result<(), OutOfMemory>
+    ensures place { OnOk result (number < length marks.new.items) }
+    ensures same { OnOk result ((n : ℕ) → get_or marks.new.items n false ≡ get_or marks.old.items n false) }
+{
+    let count = number as usize + 1;
+    if marks.len() < count {
+        marks.resize(count, false)?;
+    }
+    Ok(())
+}
+
+/// Marks a number. On `OutOfMemory`, an allocation failed.
+fn mark(marks: &mut Vec<bool>, number: u32) -> Result<(), OutOfMemory>
+    ensures { OnOk result ((n : ℕ) → get_or marks.new.items n false ≡ (nat_eq number n || get_or marks.old.items n false)) }
+{
+    reach(marks, number)?;
+    marks[number as usize] = true;
+    Ok(())
+}
+
+/// The declarations among sites: the ids of their nodes are marked. On `OutOfMemory`, an allocation failed.
+fn declarations_of(alloc: Global, sites: &[Site]) -> Result<Vec<bool>, OutOfMemory>
+    ensures { IfOk result (λ declarations. spec.AreDeclarations declarations.items sites.now) }
+{
+    let mut declarations = Vec::new(alloc);
     for site in sites {
         if let Site::Declaration(node) = site {
-            declarations.insert(node.0)?;
+            mark(&mut declarations, node.0)?;
         }
     }
     Ok(declarations)
@@ -82,7 +112,7 @@ fn declarations_of(alloc: Global, sites: &[Site]) -> Result<BTreeSet<u32>, OutOf
 pub struct IdentifierLocIndex {
     list: List<Site>,
     entries: Vec<Option<IdentEntry>>,
-    declarations: BTreeSet<u32>,
+    declarations: Vec<bool>,
 }
 
 impl Model for IdentifierLocIndex {
@@ -94,13 +124,12 @@ impl Model for IdentifierLocIndex {
 
     ghost view = { λ index. index.list };
 
-    ghost invariant = { λ index. AreEntries index.entries.items index.list × AreDeclarations index.declarations index.list };
+    ghost invariant = { λ index. AreEntries index.entries.items index.list × AreDeclarations index.declarations.items index.list };
 }
 
 impl IdentifierLocIndex {
     /// The index of a function: `build_identifier_loc_index` of the original. It takes time that is linear in the nodes of the
-    /// function and the references before it, up to the logarithm of the look-ups of declarations. On `OutOfMemory`, an
-    /// allocation failed.
+    /// function, and the nodes and references before it. On `OutOfMemory`, an allocation failed.
     pub fn of(alloc: Global, func: &FunctionNode<'_>) -> Result<IdentifierLocIndex, OutOfMemory>
         ensures { IfOk result (λ index. index ≡ sites_in (seen_function_node func.now)) }
     {
@@ -138,7 +167,7 @@ impl IdentifierLocIndex {
     {
         match scope.declaration_ident(symbol) {
             Some(declaration) => {
-                if self.declarations.contains(&declaration.node.0) {
+                if is_marked(self.declarations.as_slice(), declaration.node.0 as usize) {
                     Some(declaration.span)
                 } else {
                     None
