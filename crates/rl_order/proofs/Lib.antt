@@ -3,6 +3,7 @@ pub mod DeadEnds
 pub mod DeadTries
 pub mod Examples
 pub mod Fallthroughs
+pub mod FewIds
 pub mod Follows
 pub mod Forwards
 pub mod IsUsed

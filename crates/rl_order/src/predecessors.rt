@@ -1,6 +1,8 @@
 //! The predecessors of blocks.
 
-ghost use Rattle.std.specs.Prelude.{◌≡◌, ◌≤◌, ◌++◌, ◌∷◌, [], IfOk, OnOk, OnErr, length, reverse, vec_len};
+ghost use Rattle.std.specs.Prelude.{◌≡◌, ◌≤◌, ◌++◌, ◌∷◌, [], IfOk, IsTrue, OnOk, OnErr, length, reverse, vec_len};
+ghost use Rattle.indexmap.specs.IndexSet.{insert_all};
+ghost use Rattle.rl_hir.specs.Blocks.{same_id};
 ghost use Rattle.rl_order.specs.PredecessorWalk.{IsMarked, WalksAlong, distinct_ids, edges_from, source_lists};
 ghost use Rattle.rl_order.specs.Predecessors.{PredecessorsReached};
 ghost use Rattle.rl_order.specs.Walked.{Goes, left_of, trail_of, with_lists, with_source, worklist};
@@ -36,16 +38,38 @@ struct Walk {
     left: Vec<Edge>,
 }
 
-/// The successors of a terminal, each once, in order. On `OutOfMemory`, an allocation failed.
-fn distinct_successors(alloc: Global, terminal: &Terminal) -> Result<BlockSet, OutOfMemory>
-    ensures { IfOk result (λ ids. ids.keys ≡ distinct_ids terminal.now) }
+/// True of at most two ids, none of them twice.
+fn are_few(ids: &[BlockId]) -> bool
+    ensures { IsTrue result → insert_all same_id [] ids.now ≡ ids.now }
 {
-    let successors = each_terminal_successor(alloc, terminal)?;
+    match ids {
+        [] => true,
+        [_] => true,
+        [first, second] => first.0 != second.0,
+        _ => false,
+    }
+}
+
+/// The ids, each once, in order. On `OutOfMemory`, an allocation failed.
+fn each_once(alloc: Global, ids: &[BlockId]) -> Result<Vec<BlockId>, OutOfMemory>
+    ensures { IfOk result (λ once. once.items ≡ insert_all same_id [] ids.now) }
+{
     let mut distinct = new_set(alloc);
-    for id in successors.as_slice() {
+    for id in ids {
         distinct.insert(*id)?;
     }
-    Ok(distinct)
+    Ok(Vec::from_slice(alloc, distinct.as_slice())?)
+}
+
+/// The successors of a terminal, each once, in order. On `OutOfMemory`, an allocation failed.
+fn distinct_successors(alloc: Global, terminal: &Terminal) -> Result<Vec<BlockId>, OutOfMemory>
+    ensures { IfOk result (λ ids. ids.items ≡ distinct_ids terminal.now) }
+{
+    let successors = each_terminal_successor(alloc, terminal)?;
+    if are_few(successors.as_slice()) {
+        return Ok(successors);
+    }
+    each_once(alloc, successors.as_slice())
 }
 
 /// Leaves the edges from a block to be followed next. On `OutOfMemory`, an allocation failed.

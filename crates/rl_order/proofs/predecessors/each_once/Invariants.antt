@@ -1,8 +1,8 @@
 use Rattle.std.proofs.Common.{◌≡◌, [], drop}
 use Rattle.indexmap.specs.IndexSet.{insert_all}
 use Rattle.rl_hir.specs.Blocks.{same_id}
-use Rattle.rl_order.proofs.predecessors.distinct_successors.Given as goal
+use Rattle.rl_order.proofs.predecessors.each_once.Given as goal
 
 -- Those to come are put behind those that are there already
 abbrev pub invariant-loop-id : goal.invariant-loop-id
-invariant-loop-id l = insert_all same_id l.distinct.keys (drop l.id-index l.id-items) ≡ insert_all same_id [] l.id-items
+invariant-loop-id l = insert_all same_id l.distinct.keys (drop l.id-index l.fn.ids) ≡ insert_all same_id [] l.fn.ids
