@@ -9,8 +9,6 @@ use Rattle.rl_base.specs.declared.diagnostic.Diagnostic.{Diagnostic}
 use Rattle.rl_syntax.specs.Syntax.{Syntax}
 use Rattle.rl_ast.specs.Units.{Spells}
 use Rattle.rl_ast.proofs.Units.{one_unit}
-use Rattle.rl_hir.specs.declared.function.Lowered.{Lowered}
-use Rattle.rl_promises.specs.Headline.{LowersTo}
 use Rattle.rl_promises.specs.Rows.{IsTold, Nothing, refusals_of}
 use Rattle.rl_promises.specs.Stops.{has_using, stop_of}
 use Rattle.rl_model.specs.Marked.{marked}
@@ -18,7 +16,7 @@ use Rattle.rl_model.specs.Units.{names_of}
 use Rattle.rl_names.specs.Functions.{body_in}
 use Rattle.rl_promises.specs.Covered.{pending}
 use Rattle.rl_semantic.specs.Rules.{least_broken}
-use Rattle.rl_unit.specs.Answers.{AnswersSteadily, Explains, IsAnswer, IsOutput, IsComplete, IsMalformed, IsPending, IsRefused, IsReportOf, IsRowReport, IsRowText, IsSkipped, IsStopped, WritesKnown, ReadsWhole, Refuses, RefusesKnown, lines, output, pending_line, skipped_line}
+use Rattle.rl_unit.specs.Answers.{AnswersSteadily, Explains, IsAnswer, IsOutput, IsComplete, IsMalformed, IsReportOf, IsRowReport, IsRowText, WritesKnown, ReadsWhole, Refuses, RefusesKnown, lines, skipped_line}
 use Rattle.rl_unit.specs.Answers.{StopText, RefusalsText, SkipText}
 use Rattle.rl_unit.specs.declared.run.Status.{Status}
 use Rattle.rl_unit.specs.declared.run.Status.TheVariants.{Done, Reported, Malformed, TooLarge, ReadFault, WriteFault, OutOfMemory, Usage}
@@ -44,12 +42,6 @@ too_large_known (Some known) bytes first large = elim (cases_lt most_bytes (leng
   | inl past ↦ more_left (Some known) bytes first past
   | inr within ↦ record { no_output = tt; refuses = subst IsTooLarge (all_read (Some known) bytes first (omega (arith, within))) large }
 ]
-
--- The text is the output of the status for the unit that the bytes spell.
-pub record Writes (bytes : List ℕ) (status : Status) (text : List ℕ) : Type 0 where
-  pub source : Syntax
-  pub spelled : Spells bytes source
-  pub is_output : IsOutput status source text
 
 -- An option is not both `Some` and `None`.
 never_both : (o : Option Diagnostic) (d : Diagnostic) → o ≡ Some d → o ≡ None → ⊥
@@ -94,36 +86,6 @@ module _ (u : Syntax) (rules : least_broken u ≡ None) (covered : pending u ≡
     written = subst (λ (o : Option Diagnostic). IsRowText o (refusals_of (names_of u) (marked u)) skipped_line) (sym goes_on)
         (subst (λ (l : List Diagnostic). IsRowText None l skipped_line) (sym accepted) SkipText);
   }
-
--- A result, a stop, a report and the line of a pending node are outputs.
-pub writes_result : (bytes : List ℕ) (l : Lowered) (text : List ℕ) → LowersTo bytes l → text ≡ output l → Writes bytes Done text
-writes_result bytes l text lowers written = record { source = lowers.0; spelled = lowers.1.spells; is_output = record { rules = lowers.1.rules; result = l; is_lowered = lowers.2; written = written } }
-
-pub writes_pending : (bytes : List ℕ) (node : ℕ) (text : List ℕ) → IsPending bytes node → text ≡ pending_line node → Writes bytes Reported text
-writes_pending bytes node text waits written = record {
-  source = waits.source;
-  spelled = waits.spelled.spells;
-  is_output = inl (record { uncovered = record { rules = waits.spelled.rules; node = node; waits = waits.waits }; written = written });
-}
-
--- The text is a report on the rows of the unit.
-row_written : (bytes : List ℕ) (u : Syntax) (line text : List ℕ) → Spells bytes u → IsRowReport u line → text ≡ line → Writes bytes Reported text
-row_written bytes u line text spells row written =
-    record { source = u; spelled = spells; is_output = inr (subst (λ (t : List ℕ). IsRowReport u t) (sym written) row) }
-
-pub writes_stop : (bytes : List ℕ) (said : Diagnostic) (text : List ℕ) → IsStopped bytes said → text ≡ line_of said → Writes bytes Reported text
-writes_stop bytes said text s written =
-    row_written bytes s.source (line_of said) text s.spelled.spells (stop_row s.source s.spelled.rules s.covered said s.stops) written
-
-pub writes_report : (bytes : List ℕ) (said : List Diagnostic) (text : List ℕ) → IsRefused bytes said → text ≡ lines said → Writes bytes Reported text
-writes_report bytes said text r written =
-    row_written bytes r.source (lines said) text r.spelled.spells
-    (refusals_row r.source r.spelled.rules r.covered said r.goes_on r.names r.some) written
-
-pub writes_skip : (bytes : List ℕ) (text : List ℕ) → IsSkipped bytes → text ≡ skipped_line → Writes bytes Reported text
-writes_skip bytes text s written =
-    row_written bytes s.source skipped_line text s.spelled.spells
-    (skip_row s.source s.spelled.rules s.covered s.goes_on s.accepted s.skips) written
 
 malformed_known : (left : Option (List ℕ)) (bytes : List ℕ) → IfSome left (λ known. bytes ≡ known) → IsMalformed bytes → RefusesKnown left Malformed
 malformed_known None bytes same m = record { no_output = tt; refuses = tt }

@@ -19,13 +19,7 @@ abbrev pub IsOutcome : Outcome → Syntax → Type 0
 IsOutcome (outcomes.Lowered l) u = (least_broken u ≡ None) × IsLowered u l
 IsOutcome (outcomes.Reported text) u = IsReportOf u text.items
 
--- The bytes spell a unit with this outcome.
-pub record ComesTo (bytes : List ℕ) (outcome : Outcome) : Type 0 where
-  pub source : Syntax
-  pub spelled : Spells bytes source
-  pub is_outcome : IsOutcome outcome source
-
--- As `ComesTo`, of bytes that may not be known: of some unit, and within the limits where they are known.
+-- A unit has this outcome. Bytes that are known are within the limits, and spell that unit.
 pub record ComesToKnown (bytes : Option (List ℕ)) (outcome : Outcome) : Type 0 where
   pub source : Syntax
   pub spelled : IfSome bytes (λ known. Spells known source)

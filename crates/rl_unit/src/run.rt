@@ -4,18 +4,21 @@ ghost use Rattle.std.specs.Prelude.{◌≡◌, ◌≢◌, ◌<◌, ◌↔◌, �
 ghost use Rattle.std.specs.Io.KnownBytes.{Keeps};
 ghost use Rattle.rl_base.specs.Faults.{Rose};
 ghost use Rattle.rl_base.specs.Diagnostics.{line_of};
-ghost use Rattle.rl_syntax.specs.Limits.{IsTooLarge};
-ghost use Rattle.rl_unit.specs.Outcomes.{ComesTo, ComesToKnown, IsStatusOf, outcome_status, outcome_text, reported};
+ghost use Rattle.rl_syntax.specs.Syntax.{syntax};
+ghost use Rattle.rl_unit.specs.Functions.{IsRead};
+ghost use Rattle.rl_unit.specs.Known.{RefusesUnit};
+ghost use Rattle.rl_unit.specs.Outcomes.{ComesToKnown, IsOutcome, IsStatusOf, outcome_status, outcome_text, reported};
 ghost use Rattle.rl_unit.specs.Answers.{AnswersSteadily, Explains, HasRead, IsComplete, ReadsWhole, RefusesKnown, WritesKnown, exit_code, lines, output, pending_line, skipped_line};
 
-use crate::unit::{LowerError, lower_unit};
-use rl_ast::read::LARGEST_INPUT;
+use crate::read::read_unit;
+use crate::unit::{LowerError, lower_tree};
+use rl_ast::unit::Unit;
 use rl_base::decimal::write_decimal;
 use rl_base::diagnostic::Diagnostic;
 use rl_base::error::OutOfMemory;
 use rl_base::ids::NodeId;
 use rl_base::infallible_io::{SteadySink, SteadySource};
-use rl_base::io::{ReadError, Sink, Source, read_up_to, write_all};
+use rl_base::io::{Sink, Source, write_all};
 use rl_hir::blocks::Blocks;
 use rl_hir::function::Lowered;
 use rl_hir::instruction::{InstructionValue, PrimitiveValue};
@@ -169,7 +172,7 @@ const BYTES_OF_INSTRUCTION: usize = 124;
 const BYTES_OF_OPERAND: usize = 29;
 
 /// Number of bytes that a listing has for a block without its instructions, of the same digits.
-const BYTES_OF_BLOCK: usize = 96;
+const BYTES_OF_BLOCK: usize = 108;
 
 /// Number of bytes that the tables of a listing have for a symbol, of the same digits.
 const BYTES_OF_SYMBOL: usize = 56;
@@ -241,14 +244,13 @@ pub fn report_of(alloc: Global, error: LowerError) -> Result<Vec<u8>, Status>
     }
 }
 
-/// Lowers the unit that the bytes spell.
-fn outcome_of(alloc: Global, bytes: &[u8]) -> Result<Outcome, Status>
-    ensures comes { IfOk result (λ outcome. ComesTo bytes.now outcome) }
-    ensures within { IfOk result (λ _. IsTooLarge bytes.now → ⊥) }
-    ensures status { IfErr result (RefusesKnown (Some bytes.now)) }
-    ensures unread { IsErrOf result Status.ReadFault → ⊥ }
+/// Lowers the marked function of a unit that was read. An error is `Malformed`, of a unit that breaks a rule, or `OutOfMemory`.
+fn outcome_of(alloc: Global, unit: &Unit) -> Result<Outcome, Status>
+    requires read { IsRead (syntax unit.now.tree) }
+    ensures outcome { IfOk result (λ outcome. IsOutcome outcome (syntax unit.now.tree)) }
+    ensures status { IfErr result (RefusesUnit (syntax unit.now.tree)) }
 {
-    match lower_unit(alloc, bytes) {
+    match lower_tree(alloc, unit) {
         Ok(lowered) => Ok(Outcome::Lowered(lowered)),
         Err(error) => match report_of(alloc, error) {
             Ok(text) => Ok(Outcome::Reported(text)),
@@ -266,12 +268,11 @@ pub fn lower_from<S: Source>(alloc: Global, source: &mut S) -> Result<Outcome, S
     ensures read { MatchResult result (λ _. ReadsWhole (S.left source.old) (S.left source.new)) (λ status. HasRead status → ReadsWhole (S.left source.old) (S.left source.new)) }
     ensures cause { IsErrOf result Status.ReadFault → Rose (S.faults source.old) (S.faults source.new) }
 {
-    let bytes = match read_up_to(alloc, source, LARGEST_INPUT + 1) {
-        Ok(bytes) => bytes,
-        Err(ReadError::Fault) => return Err(Status::ReadFault),
-        Err(ReadError::OutOfMemory) => return Err(Status::OutOfMemory),
+    let unit = match read_unit(alloc, source) {
+        Ok(unit) => unit,
+        Err(status) => return Err(status),
     };
-    match outcome_of(alloc, bytes.as_slice()) {
+    match outcome_of(alloc, &unit) {
         Ok(outcome) => Ok(outcome),
         Err(status) => Err(status),
     }
@@ -294,14 +295,19 @@ fn output_of(alloc: Global, outcome: Outcome) -> Result<Output, OutOfMemory>
     }
 }
 
-/// Reads the unit that the source has left. The result is the output for it, or the status of a run without output.
+/// Reads the unit that the source has left. The result is the output for it, or the status of a run without output. The unit is let go
+/// behind its listing: where room for the listing is asked for right behind a tree's memory, an allocator first joins all its pieces.
 fn answer<S: Source>(alloc: Global, source: &mut S) -> Result<Output, Status>
     ensures writes { IfOk result (λ output. WritesKnown (S.left source.old) output.status output.text.items) }
     ensures status { IfErr result (RefusesKnown (S.left source.old)) }
     ensures read { MatchResult result (λ _. ReadsWhole (S.left source.old) (S.left source.new)) (λ status. HasRead status → ReadsWhole (S.left source.old) (S.left source.new)) }
     ensures cause { IsErrOf result Status.ReadFault → Rose (S.faults source.old) (S.faults source.new) }
 {
-    let outcome = match lower_from(alloc, source) {
+    let unit = match read_unit(alloc, source) {
+        Ok(unit) => unit,
+        Err(status) => return Err(status),
+    };
+    let outcome = match outcome_of(alloc, &unit) {
         Ok(outcome) => outcome,
         Err(status) => return Err(status),
     };

@@ -1,5 +1,5 @@
 use Rattle.std.proofs.Common.{inl}
-use Rattle.react_lower.proofs.Answering.{error_report, error_status}
+use Rattle.rl_unit.proofs.Outcomes.{error_report, error_status}
 use Rattle.rl_syntax.specs.Syntax.{syntax}
 use Rattle.react_lower.proofs.trace.unit_output.Goals as goal
 
