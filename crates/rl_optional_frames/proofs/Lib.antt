@@ -1,0 +1,15 @@
+pub mod Chains
+pub mod Composes
+pub mod DefaultBlocks
+pub mod DefaultRuns
+pub mod LinkBlocks
+pub mod LinkRuns
+pub mod LinkStarts
+pub mod LinkValues
+pub mod Lives
+pub mod Meant
+pub mod Notes
+pub mod Reaching
+pub mod Sizes
+pub mod Taken
+pub mod There

@@ -1,0 +1,5 @@
+pub mod Chains
+pub mod Frames
+pub mod Links
+pub mod Meanings
+pub mod Parts
