@@ -17,7 +17,7 @@ import shutil
 import sys
 
 FUNCTION = re.compile(r"^(?:pub(?:\(\w+\))? )?fn (\w+)")
-GOAL = re.compile(r"^(?:abbrev )?pub (decreases-|invariant-)?([a-z_]+::[a-z_]+)(?:-\S+)? :", re.M)
+GOAL = re.compile(r"^(?:abbrev )?pub (decreases-|invariant-)?([a-z_]+::[a-z_]+)(?:-\S+)?\s+:", re.M)
 
 
 def cut(text, module, cycle, named):

@@ -1,15 +1,31 @@
--- The expressions of a covered function that is orderly: each means the same as it is written and as it is ported.
-use Rattle.std.proofs.Common.{◌≡◌, ℕ, Bool, true, false, true≢false, ◌&&◌, not, if◌then◌else◌, List, [], ◌∷◌, ◌++◌, codes, Option, refl, sym, ap, ◌∙◌}
+-- The expressions of a covered function that is orderly and has no refusals: each means the same as it is written and as it is ported.
+use Rattle.std.proofs.Common.{◌≡◌, ℕ, Bool, true, false, true≢false, ◌&&◌, ◌||◌, not, if◌then◌else◌, List, [], ◌∷◌, ◌++◌, codes, Option}
+use Rattle.std.proofs.Common.{refl, sym, ap, ◌∙◌}
 use Rattle.std.specs.Str.{bytes_eq}
+use Rattle.rl_base.specs.declared.diagnostic.Diagnostic.{Diagnostic}
 use Rattle.rl_base.specs.declared.ids.SymbolId.{SymbolId}
+use Rattle.rl_base.specs.declared.span.Span.{Span}
 use Rattle.rl_machine.specs.Traces.{truthy}
 use Rattle.rl_machine.specs.declared.trace.Value.{Value}
 use Rattle.rl_machine.specs.declared.trace.Value.TheVariants as value
+use Rattle.rl_promises.proofs.Accepted.{AreAccepted, are_accepted, nil_parts, none_else, none_then}
+use Rattle.rl_promises.proofs.FormedParts.{AreAssignable}
+use Rattle.rl_promises.proofs.KeptVariables as kept
+use Rattle.rl_promises.proofs.KeptVariables.{Keeps, eval_keeps}
 use Rattle.rl_promises.proofs.OrderlyCalls as orderly
-use Rattle.rl_promises.proofs.OrderlyCalls.{lends_at}
+use Rattle.rl_promises.proofs.OrderlyCalls.{IsOrderlyAt, lends_at}
+use Rattle.rl_promises.proofs.SteadyTargets.{index_steady, member_steady, swapped}
+use Rattle.rl_promises.proofs.SteadyTests.{IsSteady, steady}
+use Rattle.rl_promises.specs.Outs.{is_known_key, is_lost_delete}
+use Rattle.rl_promises.specs.Rows.{refusals, refusals_below, refusals_in, said_of_assigned, said_of_updated}
 use Rattle.rl_model.specs.Actions.{Action, ◌>>=◌, ◌>>◌, ask, give, no_meaning, test}
 use Rattle.rl_model.specs.Events as events
-use Rattle.rl_model.specs.Expressions.{call_kind, callee, called, delete_property, eval, eval_last, key_in, needs_right, one_value, place, property_key, read, unless_nullish, update_name, update_property, values, values_of}
+use Rattle.rl_model.specs.Expressions.{assign_to, assignment, assignment_in, call_kind, callee, called, compound, delete_property, eval}
+use Rattle.rl_model.specs.Expressions.{eval_last}
+use Rattle.rl_model.specs.Expressions.{key_in, needs_right, one_value, place, property_key, read, unless_nullish, update_name}
+use Rattle.rl_model.specs.Expressions.{update_property}
+use Rattle.rl_model.specs.Expressions.{values, values_of, write, write_property}
+use Rattle.rl_model.specs.Orderly.{is_steady, is_steady_target}
 use Rattle.rl_model.specs.Scene.{Scene}
 use Rattle.rl_model.specs.Shapes as shapes
 use Rattle.rl_model.specs.Shapes.{is_link, lends}
@@ -36,8 +52,24 @@ link_lends _ link = absurd (true≢false (sym link))
 abbrev pub as_ported : Scene → (stored : ℕ → Option SymbolId) → (early : Bool → ℕ → Bool) → Scene
 as_ported t stored early = record t { stored = stored; ported = true; takes_early = early }
 
+-- A name takes a value alike.
+pub write_alike : (t : Scene) (stored : ℕ → Option SymbolId) (early : Bool → ℕ → Bool) (meaning : Meaning) (name : List ℕ) (v : Value)
+    → write (as_ported t stored early) meaning name v ≡ write t meaning name v
+write_alike t stored early (Local symbol) name v = refl
+write_alike t stored early (Outer binding) name v = refl
+
+-- An assignment by its operator: `=`, a logical one, which is refused, or another.
+by_operator : (plain logical value target : Bool) (said more : List Diagnostic) (refused : Diagnostic) (a b c d : Action Value)
+    → not plain || value || target ≡ true → (if plain then said else if logical then refused ∷ [] else more) ≡ []
+    → (value || target ≡ true → said ≡ [] → a ≡ b) → (more ≡ [] → c ≡ d)
+    → (if plain then a else if logical then no_meaning else c) ≡ (if plain then b else if logical then no_meaning else d)
+by_operator true logical value target said more refused a b c d either none plainly computed = plainly either none
+by_operator false true value target said more refused a b c d either none plainly computed = refl
+by_operator false false value target said more refused a b c d either none plainly computed = computed none
+
 -- `s` runs as the port does, `t` as the function is written.
-module _ (t : Scene) (stored : ℕ → Option SymbolId) (early : Bool → ℕ → Bool) (assigned : List ℕ) where
+module _ (t : Scene) (stored : ℕ → Option SymbolId) (early : Bool → ℕ → Bool) (assigned : List ℕ)
+    (closed : (symbol : ℕ) → t.world.opens symbol ≡ false) (written : t.ported ≡ false) where
   abbrev s : Scene
   s = as_ported t stored early
 
@@ -170,338 +202,472 @@ module _ (t : Scene) (stored : ℕ → Option SymbolId) (early : Bool → ℕ �
   hole_alike at End = refl
   hole_alike at _ = refl
 
+  -- `=` to a property, where its value or its object and key are steady.
+  property_alike : (still_value still_place : Bool) → still_value || still_place ≡ true
+      → (ported_place placed : Action (Value × events.Key)) (ported_right right : Action Value)
+      → ported_place ≡ placed → ported_right ≡ right → Keeps assigned placed → Keeps assigned right
+      → (still_value ≡ true → IsSteady assigned right) → (still_place ≡ true → IsSteady assigned placed)
+      → assignment_in s ported_place ported_right ≡ assignment_in t placed right
+  property_alike still_value still_place either ported_place placed ported_right right one same keeps also value_still place_still =
+      (λ i. (do
+        v ← same i
+        p ← one i
+        write_property t p.0 p.1 v))
+      ∙ swapped t assigned closed still_value still_place either placed right keeps also value_still place_still
+      ∙ sym (ap (λ (ported : Bool).
+      if ported then (do
+        v ← right
+        p ← placed
+        write_property t p.0 p.1 v)
+      else (do
+        p ← placed
+        v ← right
+        write_property t p.0 p.1 v)) written)
+
+  -- Assignments by their values.
+
+  abbrev plain_by : Scene → (target : Syntax) → (right : Action Value) → Action Value
+  plain_by scene target right = assignment scene target (place scene target) (assign_to scene target) right
+
+  abbrev compound_by : Scene → (operator : List ℕ) → (target : Syntax) → (right : Action Value) → Action Value
+  compound_by scene operator target right = compound scene operator target (place scene target) right
+
+  abbrev computed_by : Scene → (operator : List ℕ) → (placed : Action (Value × events.Key)) → (right : Action Value) → Action Value
+  computed_by scene operator placed right = do
+    p ← placed
+    old ← ask scene (events.load p.0 p.1)
+    w ← right
+    v ← ask scene (events.binary operator old w)
+    write_property scene p.0 p.1 v
+
   mutual
-    pub eval_alike : (e : Syntax) → LendsAlike e → eval s e ≡ eval t e
-    eval_alike (Node at word.Empty parts) covered = refl
-    eval_alike (Node at word.Expr parts) covered = refl
-    eval_alike (Node at word.Return parts) covered = refl
-    eval_alike (Node at word.If parts) covered = refl
-    eval_alike (Node at word.For parts) covered = refl
-    eval_alike (Node at word.Forin parts) covered = refl
-    eval_alike (Node at word.Forof parts) covered = refl
-    eval_alike (Node at word.While parts) covered = refl
-    eval_alike (Node at word.Dowhile parts) covered = refl
-    eval_alike (Node at word.Break parts) covered = refl
-    eval_alike (Node at word.Continue parts) covered = refl
-    eval_alike (Node at word.Labeled parts) covered = refl
-    eval_alike (Node at word.Switch parts) covered = refl
-    eval_alike (Node at word.Case parts) covered = refl
-    eval_alike (Node at word.Try parts) covered = refl
-    eval_alike (Node at word.Catch parts) covered = refl
-    eval_alike (Node at word.Throw parts) covered = refl
-    eval_alike (Node at word.With parts) covered = refl
-    eval_alike (Node at word.Block parts) covered = refl
-    eval_alike (Node at word.Params parts) covered = refl
-    eval_alike (Node at word.Param parts) covered = refl
-    eval_alike (Node at word.Body parts) covered = refl
-    eval_alike (Node at word.Bind parts) covered = refl
-    eval_alike (Node at word.Hole parts) covered = refl
-    eval_alike (Node at word.Quasi parts) covered = refl
-    eval_alike (Node at word.Spread parts) covered = refl
-    eval_alike (Node at word.Debugger parts) covered = refl
-    eval_alike (Node at word.Var parts) covered = refl
-    eval_alike (Node at word.Declarator parts) covered = refl
-    eval_alike (Node at word.Type parts) covered = refl
-    eval_alike (Node at word.Name parts) covered = refl
-    eval_alike (Node at word.Private parts) covered = refl
-    eval_alike (Node at word.Bigint parts) covered = refl
-    eval_alike (Node at word.Privatein parts) covered = refl
-    eval_alike (Node at word.Yield parts) covered = refl
-    eval_alike (Node at word.Newtarget parts) covered = refl
-    eval_alike (Node at word.Super parts) covered = refl
-    eval_alike (Node at word.This parts) covered = refl
-    eval_alike (Node at word.Importcall parts) covered = refl
-    eval_alike (Node at word.Privatemember parts) covered = refl
-    eval_alike (Node at word.Prop parts) covered = refl
-    eval_alike (Node at word.Null parts) covered = null_alike at parts
-    eval_alike (Node at word.Bool parts) covered = bool_alike at parts
-    eval_alike (Node at word.Num parts) covered = num_alike at parts
-    eval_alike (Node at word.Str parts) covered = str_alike at parts
-    eval_alike (Node at word.Regexp parts) covered = regexp_alike at parts
-    eval_alike (Node at word.Importmeta parts) covered = importmeta_alike at parts
-    eval_alike (Node at word.Id parts) covered = id_alike at parts
-    eval_alike (Node at word.Paren parts) covered = paren_alike at parts covered.2
-    eval_alike (Node at word.Nonnull parts) covered = nonnull_alike at parts covered.2
-    eval_alike (Node at word.As parts) covered = as_alike at parts covered.2
-    eval_alike (Node at word.Satisfies parts) covered = satisfies_alike at parts covered.2
-    eval_alike (Node at word.Assert parts) covered = assert_alike at parts covered.2
-    eval_alike (Node at word.Instantiate parts) covered = instantiate_alike at parts covered.2
-    eval_alike (Node at word.Template parts) covered = template_alike at parts covered.2
-    eval_alike (Node at word.Tagged parts) covered = tagged_alike at parts covered.1.lends covered.2
-    eval_alike (Node at word.Object parts) covered = object_alike at parts covered.2
-    eval_alike (Node at word.Array parts) covered = array_alike at parts covered.2
-    eval_alike (Node at word.Unary parts) covered = unary_alike at parts covered.2
-    eval_alike (Node at word.Update parts) covered = update_alike at parts covered.2
-    eval_alike (Node at word.Binary parts) covered = binary_alike at parts covered.2
-    eval_alike (Node at word.Logical parts) covered = logical_alike at parts covered.2
-    eval_alike (Node at word.Cond parts) covered = conditional_alike at parts covered.2
-    eval_alike (Node at word.Seq parts) covered = sequence_alike at parts covered.2
-    eval_alike (Node at word.Await parts) covered = await_alike at parts covered.2
-    eval_alike (Node at word.Member parts) covered = member_alike at parts covered.2
-    eval_alike (Node at word.Index parts) covered = index_alike at parts covered.2
-    eval_alike (Node at word.Call parts) covered = call_alike at parts covered.1.lends covered.2
-    eval_alike (Node at word.New parts) covered = new_alike at parts covered.2
-    eval_alike (Listed parts) covered = refl
-    eval_alike (Said text) covered = refl
-    eval_alike (Count number) covered = refl
-    eval_alike (Flag flag) covered = refl
-    eval_alike Absent covered = refl
-    eval_alike _ covered = absurd (true≢false (sym covered.0))
+    pub eval_alike : (e : Syntax) → LendsAlike e → refusals t.names e ≡ [] → eval s e ≡ eval t e
+    eval_alike (Node at word.Empty parts) covered none = refl
+    eval_alike (Node at word.Expr parts) covered none = refl
+    eval_alike (Node at word.Return parts) covered none = refl
+    eval_alike (Node at word.If parts) covered none = refl
+    eval_alike (Node at word.For parts) covered none = refl
+    eval_alike (Node at word.Forin parts) covered none = refl
+    eval_alike (Node at word.Forof parts) covered none = refl
+    eval_alike (Node at word.While parts) covered none = refl
+    eval_alike (Node at word.Dowhile parts) covered none = refl
+    eval_alike (Node at word.Break parts) covered none = refl
+    eval_alike (Node at word.Continue parts) covered none = refl
+    eval_alike (Node at word.Labeled parts) covered none = refl
+    eval_alike (Node at word.Switch parts) covered none = refl
+    eval_alike (Node at word.Case parts) covered none = refl
+    eval_alike (Node at word.Try parts) covered none = refl
+    eval_alike (Node at word.Catch parts) covered none = refl
+    eval_alike (Node at word.Throw parts) covered none = refl
+    eval_alike (Node at word.With parts) covered none = refl
+    eval_alike (Node at word.Block parts) covered none = refl
+    eval_alike (Node at word.Params parts) covered none = refl
+    eval_alike (Node at word.Param parts) covered none = refl
+    eval_alike (Node at word.Body parts) covered none = refl
+    eval_alike (Node at word.Bind parts) covered none = refl
+    eval_alike (Node at word.Hole parts) covered none = refl
+    eval_alike (Node at word.Quasi parts) covered none = refl
+    eval_alike (Node at word.Spread parts) covered none = refl
+    eval_alike (Node at word.Debugger parts) covered none = refl
+    eval_alike (Node at word.Var parts) covered none = refl
+    eval_alike (Node at word.Declarator parts) covered none = refl
+    eval_alike (Node at word.Type parts) covered none = refl
+    eval_alike (Node at word.Name parts) covered none = refl
+    eval_alike (Node at word.Private parts) covered none = refl
+    eval_alike (Node at word.Bigint parts) covered none = refl
+    eval_alike (Node at word.Privatein parts) covered none = refl
+    eval_alike (Node at word.Yield parts) covered none = refl
+    eval_alike (Node at word.Newtarget parts) covered none = refl
+    eval_alike (Node at word.Super parts) covered none = refl
+    eval_alike (Node at word.This parts) covered none = refl
+    eval_alike (Node at word.Importcall parts) covered none = refl
+    eval_alike (Node at word.Privatemember parts) covered none = refl
+    eval_alike (Node at word.Prop parts) covered none = refl
+    eval_alike (Node at word.Null parts) covered none = null_alike at parts
+    eval_alike (Node at word.Bool parts) covered none = bool_alike at parts
+    eval_alike (Node at word.Num parts) covered none = num_alike at parts
+    eval_alike (Node at word.Str parts) covered none = str_alike at parts
+    eval_alike (Node at word.Regexp parts) covered none = regexp_alike at parts
+    eval_alike (Node at word.Importmeta parts) covered none = importmeta_alike at parts
+    eval_alike (Node at word.Id parts) covered none = id_alike at parts
+    eval_alike (Node at word.Paren parts) covered none = paren_alike at parts covered.2 (are_accepted t.names parts none)
+    eval_alike (Node at word.Nonnull parts) covered none = nonnull_alike at parts covered.2 (are_accepted t.names parts none)
+    eval_alike (Node at word.As parts) covered none = as_alike at parts covered.2 (are_accepted t.names parts none)
+    eval_alike (Node at word.Satisfies parts) covered none = satisfies_alike at parts covered.2 (are_accepted t.names parts none)
+    eval_alike (Node at word.Assert parts) covered none = assert_alike at parts covered.2 (are_accepted t.names parts none)
+    eval_alike (Node at word.Instantiate parts) covered none = instantiate_alike at parts covered.2 none
+    eval_alike (Node at word.Template parts) covered none = template_alike at parts covered.2 (are_accepted t.names parts none)
+    eval_alike (Node at word.Tagged parts) covered none = tagged_alike at parts covered.1.lends covered.2 none
+    eval_alike (Node at word.Object parts) covered none = object_alike at parts covered.2 (are_accepted t.names parts none)
+    eval_alike (Node at word.Array parts) covered none = array_alike at parts covered.2 (are_accepted t.names parts none)
+    eval_alike (Node at word.Unary parts) covered none = unary_alike at parts covered.2 none
+    eval_alike (Node at word.Update parts) covered none = update_alike at parts covered.2 none
+    eval_alike (Node at word.Binary parts) covered none = binary_alike at parts covered.2 (are_accepted t.names parts none)
+    eval_alike (Node at word.Logical parts) covered none = logical_alike at parts covered.2 none
+    eval_alike (Node at word.Cond parts) covered none = conditional_alike at parts covered.2 none
+    eval_alike (Node at word.Seq parts) covered none = sequence_alike at parts covered.2 (are_accepted t.names parts none)
+    eval_alike (Node at word.Await parts) covered none = await_alike at parts covered.2 (are_accepted t.names parts none)
+    eval_alike (Node at word.Assign parts) covered none = assign_alike at parts covered.1 covered.2 none
+    eval_alike (Node at word.Member parts) covered none = member_alike at parts covered.2 (are_accepted t.names parts none)
+    eval_alike (Node at word.Index parts) covered none = index_alike at parts covered.2 (are_accepted t.names parts none)
+    eval_alike (Node at word.Call parts) covered none = call_alike at parts covered.1.lends covered.2 (are_accepted t.names parts none)
+    eval_alike (Node at word.New parts) covered none = new_alike at parts covered.2 (are_accepted t.names parts none)
+    eval_alike (Listed parts) covered none = refl
+    eval_alike (Said text) covered none = refl
+    eval_alike (Count number) covered none = refl
+    eval_alike (Flag flag) covered none = refl
+    eval_alike Absent covered none = refl
+    eval_alike _ covered none = absurd (true≢false (sym covered.0))
 
-    paren_alike : (at : At) (parts : Pieces) → LendAlike parts → eval s (Node at word.Paren parts) ≡ eval t (Node at word.Paren parts)
-    paren_alike at (Then expression End) covered = eval_alike expression covered.0
-    paren_alike at _ covered = refl
+    paren_alike : (at : At) (parts : Pieces) → LendAlike parts → AreAccepted t.names parts
+        → eval s (Node at word.Paren parts) ≡ eval t (Node at word.Paren parts)
+    paren_alike at (Then expression End) covered accepted = eval_alike expression covered.0 accepted.0
+    paren_alike at _ covered accepted = refl
 
-    nonnull_alike : (at : At) (parts : Pieces) → LendAlike parts
+    nonnull_alike : (at : At) (parts : Pieces) → LendAlike parts → AreAccepted t.names parts
         → eval s (Node at word.Nonnull parts) ≡ eval t (Node at word.Nonnull parts)
-    nonnull_alike at (Then expression End) covered = eval_alike expression covered.0
-    nonnull_alike at _ covered = refl
+    nonnull_alike at (Then expression End) covered accepted = eval_alike expression covered.0 accepted.0
+    nonnull_alike at _ covered accepted = refl
 
-    as_alike : (at : At) (parts : Pieces) → LendAlike parts → eval s (Node at word.As parts) ≡ eval t (Node at word.As parts)
-    as_alike at (Then expression (Then type End)) covered = eval_alike expression covered.0
-    as_alike at _ covered = refl
+    as_alike : (at : At) (parts : Pieces) → LendAlike parts → AreAccepted t.names parts
+        → eval s (Node at word.As parts) ≡ eval t (Node at word.As parts)
+    as_alike at (Then expression (Then type End)) covered accepted = eval_alike expression covered.0 accepted.0
+    as_alike at _ covered accepted = refl
 
-    satisfies_alike : (at : At) (parts : Pieces) → LendAlike parts
+    satisfies_alike : (at : At) (parts : Pieces) → LendAlike parts → AreAccepted t.names parts
         → eval s (Node at word.Satisfies parts) ≡ eval t (Node at word.Satisfies parts)
-    satisfies_alike at (Then expression (Then type End)) covered = eval_alike expression covered.0
-    satisfies_alike at _ covered = refl
+    satisfies_alike at (Then expression (Then type End)) covered accepted = eval_alike expression covered.0 accepted.0
+    satisfies_alike at _ covered accepted = refl
 
-    assert_alike : (at : At) (parts : Pieces) → LendAlike parts → eval s (Node at word.Assert parts) ≡ eval t (Node at word.Assert parts)
-    assert_alike at (Then type (Then expression End)) covered = eval_alike expression covered.1.0
-    assert_alike at _ covered = refl
+    assert_alike : (at : At) (parts : Pieces) → LendAlike parts → AreAccepted t.names parts
+        → eval s (Node at word.Assert parts) ≡ eval t (Node at word.Assert parts)
+    assert_alike at (Then type (Then expression End)) covered accepted = eval_alike expression covered.1.0 accepted.1.0
+    assert_alike at _ covered accepted = refl
 
-    instantiate_alike : (at : At) (parts : Pieces) → LendsFirst parts
+    instantiate_alike : (at : At) (parts : Pieces) → LendsFirst parts → refusals t.names (Node at word.Instantiate parts) ≡ []
         → eval s (Node at word.Instantiate parts) ≡ eval t (Node at word.Instantiate parts)
-    instantiate_alike at (Then expression (Then names End)) covered = eval_alike expression covered
-    instantiate_alike at _ covered = refl
+    instantiate_alike at (Then expression (Then names End)) covered none = eval_alike expression covered none
+    instantiate_alike at _ covered none = refl
 
-    template_alike : (at : At) (parts : Pieces) → LendAlike parts
+    template_alike : (at : At) (parts : Pieces) → LendAlike parts → AreAccepted t.names parts
         → eval s (Node at word.Template parts) ≡ eval t (Node at word.Template parts)
-    template_alike at (Then (Listed quasis) (Then (Listed expressions) End)) covered = λ i. (do
-      vs ← values_alike expressions covered.1.0 i
+    template_alike at (Then (Listed quasis) (Then (Listed expressions) End)) covered accepted = λ i. (do
+      vs ← values_alike expressions covered.1.0 accepted.1.0 i
       ask t (events.event (codes "template") (shapes.quasis quasis ++ shapes.shapes expressions) vs))
-    template_alike at _ covered = refl
+    template_alike at _ covered accepted = refl
 
-    array_alike : (at : At) (parts : Pieces) → LendAlike parts → eval s (Node at word.Array parts) ≡ eval t (Node at word.Array parts)
-    array_alike at (Then (Listed items) End) covered = λ i. (do
-      vs ← values_alike items covered.0 i
+    array_alike : (at : At) (parts : Pieces) → LendAlike parts → AreAccepted t.names parts
+        → eval s (Node at word.Array parts) ≡ eval t (Node at word.Array parts)
+    array_alike at (Then (Listed items) End) covered accepted = λ i. (do
+      vs ← values_alike items covered.0 accepted.0 i
       ask t (events.event (codes "array") (shapes.shapes items) vs))
-    array_alike at _ covered = refl
+    array_alike at _ covered accepted = refl
 
-    object_alike : (at : At) (parts : Pieces) → LendAlike parts → eval s (Node at word.Object parts) ≡ eval t (Node at word.Object parts)
-    object_alike at (Then (Listed properties) End) covered = λ i. (do
-      vs ← values_alike properties covered.0 i
+    object_alike : (at : At) (parts : Pieces) → LendAlike parts → AreAccepted t.names parts
+        → eval s (Node at word.Object parts) ≡ eval t (Node at word.Object parts)
+    object_alike at (Then (Listed properties) End) covered accepted = λ i. (do
+      vs ← values_alike properties covered.0 accepted.0 i
       ask t (events.event (codes "object") (shapes.shapes properties) vs))
-    object_alike at _ covered = refl
+    object_alike at _ covered accepted = refl
 
     tagged_alike : (at : At) (parts : Pieces) → lends_at word.Tagged parts ≡ false → LendAlike parts
-        → eval s (Node at word.Tagged parts) ≡ eval t (Node at word.Tagged parts)
-    tagged_alike at (Then tag (Then (Node there word.Template parts) rest)) none covered =
-        template_tagged at tag there parts rest none (eval_alike tag covered.0) covered.1.0.2
-    tagged_alike at _ none covered = refl
+        → refusals t.names (Node at word.Tagged parts) ≡ [] → eval s (Node at word.Tagged parts) ≡ eval t (Node at word.Tagged parts)
+    tagged_alike at (Then tag (Then (Node there word.Template parts) rest)) alone covered none =
+        template_tagged at tag there parts rest alone (eval_alike tag covered.0) covered.1.0.2 none
+    tagged_alike at _ alone covered none = refl
 
     template_tagged : (at : At) (tag : Syntax) (there : At) (parts rest : Pieces) → lends tag ≡ false
-        → eval s tag ≡ eval t tag → LendAlike parts
+        → (refusals t.names tag ≡ [] → eval s tag ≡ eval t tag) → LendAlike parts
+        → refusals t.names (Node at word.Tagged (Then tag (Then (Node there word.Template parts) rest))) ≡ []
         → eval s (Node at word.Tagged (Then tag (Then (Node there word.Template parts) rest)))
         ≡ eval t (Node at word.Tagged (Then tag (Then (Node there word.Template parts) rest)))
-    template_tagged at tag there (Then (Listed quasis) (Then (Listed expressions) End)) End none same more =
-        as_tagged s tag quasis expressions at there none
-        ∙ (λ i. tagged_by t (shapes.are_raw quasis) (one_value (same i)) (values_alike expressions more.1.0 i)
+    template_tagged at tag there (Then (Listed quasis) (Then (Listed expressions) End)) End alone same more none =
+        let told = none_then (shapes.are_raw quasis) (refusals t.names tag ++ refusals_in t.names expressions) _ none in
+        let both = nil_parts (refusals t.names tag) (refusals_in t.names expressions) told in
+        as_tagged s tag quasis expressions at there alone
+        ∙ (λ i. tagged_by t (shapes.are_raw quasis) (one_value (same both.0 i)) (values_alike expressions more.1.0 both.1 i)
         (shapes.quasis quasis ++ shapes.shapes expressions))
-        ∙ sym (as_tagged t tag quasis expressions at there none)
-    template_tagged at tag there _ _ none same more = refl
+        ∙ sym (as_tagged t tag quasis expressions at there alone)
+    template_tagged at tag there _ _ alone same more none = refl
 
-    unary_alike : (at : At) (parts : Pieces) → LendAlike parts → eval s (Node at word.Unary parts) ≡ eval t (Node at word.Unary parts)
-    unary_alike at (Then (Said operator) (Then argument End)) covered =
-        unary_with operator argument (delete_alike argument covered.1.0) (eval_alike argument covered.1.0) at
-    unary_alike at _ covered = refl
+    unary_alike : (at : At) (parts : Pieces) → LendAlike parts → refusals t.names (Node at word.Unary parts) ≡ []
+        → eval s (Node at word.Unary parts) ≡ eval t (Node at word.Unary parts)
+    unary_alike at (Then (Said operator) (Then argument End)) covered none =
+        let told = none_else (is_lost_delete operator argument) _ (refusals t.names argument) none in
+        unary_with operator argument (delete_alike argument covered.1.0 told) (eval_alike argument covered.1.0 told) at
+    unary_alike at _ covered none = refl
 
-    delete_alike : (e : Syntax) → LendsAlike e → delete_property s e ≡ delete_property t e
-    delete_alike (Node at word.Paren parts) covered = paren_deleted at parts covered.2
-    delete_alike (Node at word.Member parts) covered = member_deleted at parts covered.2
-    delete_alike (Node at word.Index parts) covered = index_deleted at parts covered.2
-    delete_alike _ covered = refl
+    delete_alike : (e : Syntax) → LendsAlike e → refusals t.names e ≡ [] → delete_property s e ≡ delete_property t e
+    delete_alike (Node at word.Paren parts) covered none = paren_deleted at parts covered.2 (are_accepted t.names parts none)
+    delete_alike (Node at word.Member parts) covered none = member_deleted at parts covered.2 (are_accepted t.names parts none)
+    delete_alike (Node at word.Index parts) covered none = index_deleted at parts covered.2 (are_accepted t.names parts none)
+    delete_alike _ covered none = refl
 
-    paren_deleted : (at : At) (parts : Pieces) → LendAlike parts
+    paren_deleted : (at : At) (parts : Pieces) → LendAlike parts → AreAccepted t.names parts
         → delete_property s (Node at word.Paren parts) ≡ delete_property t (Node at word.Paren parts)
-    paren_deleted at (Then expression End) covered = delete_alike expression covered.0
-    paren_deleted at _ covered = refl
+    paren_deleted at (Then expression End) covered accepted = delete_alike expression covered.0 accepted.0
+    paren_deleted at _ covered accepted = refl
 
-    member_deleted : (at : At) (parts : Pieces) → LendAlike parts
+    member_deleted : (at : At) (parts : Pieces) → LendAlike parts → AreAccepted t.names parts
         → delete_property s (Node at word.Member parts) ≡ delete_property t (Node at word.Member parts)
-    member_deleted at (Then optional (Then object (Then (Said name) End))) covered = λ i. (do
-      v ← eval_alike object covered.1.0 i
+    member_deleted at (Then optional (Then object (Then (Said name) End))) covered accepted = λ i. (do
+      v ← eval_alike object covered.1.0 accepted.1.0 i
       ask t (events.delete v (events.fixed_key (value.Text name))))
-    member_deleted at _ covered = refl
+    member_deleted at _ covered accepted = refl
 
-    index_deleted : (at : At) (parts : Pieces) → LendAlike parts
+    index_deleted : (at : At) (parts : Pieces) → LendAlike parts → AreAccepted t.names parts
         → delete_property s (Node at word.Index parts) ≡ delete_property t (Node at word.Index parts)
-    index_deleted at (Then optional (Then object (Then property End))) covered = λ i. (do
-      v ← eval_alike object covered.1.0 i
-      key ← key_in property (eval_alike property covered.1.1.0 i)
+    index_deleted at (Then optional (Then object (Then property End))) covered accepted = λ i. (do
+      v ← eval_alike object covered.1.0 accepted.1.0 i
+      key ← key_in property (eval_alike property covered.1.1.0 accepted.1.1.0 i)
       ask t (events.delete v key))
-    index_deleted at _ covered = refl
+    index_deleted at _ covered accepted = refl
 
-    update_alike : (at : At) (parts : Pieces) → LendAlike parts → eval s (Node at word.Update parts) ≡ eval t (Node at word.Update parts)
-    update_alike at (Then (Said operator) (Then (Flag prefix) (Then target rest))) covered =
-        target_updated operator prefix at target rest covered.1.1.0
-    update_alike at _ covered = refl
+    update_alike : (at : At) (parts : Pieces) → LendAlike parts → refusals t.names (Node at word.Update parts) ≡ []
+        → eval s (Node at word.Update parts) ≡ eval t (Node at word.Update parts)
+    update_alike at (Then (Said operator) (Then (Flag prefix) (Then target rest))) covered none =
+        target_updated operator prefix at target rest covered.1.1.0 none
+    update_alike at _ covered none = refl
 
     target_updated : (operator : List ℕ) (prefix : Bool) (at : At) (target : Syntax) (rest : Pieces) → LendsAlike target
+        → refusals t.names (update_at operator prefix at target rest) ≡ []
         → eval s (update_at operator prefix at target rest) ≡ eval t (update_at operator prefix at target rest)
-    target_updated operator prefix at (Node there word.Id parts) rest covered = id_updated operator prefix at there parts rest
-    target_updated operator prefix at (Node there word.Member parts) End covered = λ i. (do
-      p ← member_placed there parts covered.2 i
+    target_updated operator prefix at (Node there word.Id parts) rest covered none = id_updated operator prefix at there parts rest
+    target_updated operator prefix at (Node there word.Member parts) End covered none = λ i. (do
+      p ← member_placed there parts covered.2 (are_accepted t.names parts none) i
       update_property t prefix operator p.0 p.1)
-    target_updated operator prefix at (Node there word.Index parts) End covered = λ i. (do
-      p ← index_placed there parts covered.2 i
+    target_updated operator prefix at (Node there word.Index parts) End covered none = λ i. (do
+      p ← index_placed there parts covered.2 (are_accepted t.names parts none) i
       update_property t prefix operator p.0 p.1)
-    target_updated operator prefix at _ End covered = refl
-    target_updated operator prefix at _ (Then first rest) covered = refl
+    target_updated operator prefix at _ End covered none = refl
+    target_updated operator prefix at _ (Then first rest) covered none = refl
 
-    member_placed : (at : At) (parts : Pieces) → LendAlike parts → place s (Node at word.Member parts) ≡ place t (Node at word.Member parts)
-    member_placed at (Then optional (Then object (Then (Said name) End))) covered = λ i. (do
-      v ← eval_alike object covered.1.0 i
+    member_placed : (at : At) (parts : Pieces) → LendAlike parts → AreAccepted t.names parts
+        → place s (Node at word.Member parts) ≡ place t (Node at word.Member parts)
+    member_placed at (Then optional (Then object (Then (Said name) End))) covered accepted = λ i. (do
+      v ← eval_alike object covered.1.0 accepted.1.0 i
       give (v, events.fixed_key (value.Text name)))
-    member_placed at _ covered = refl
+    member_placed at _ covered accepted = refl
 
-    index_placed : (at : At) (parts : Pieces) → LendAlike parts → place s (Node at word.Index parts) ≡ place t (Node at word.Index parts)
-    index_placed at (Then optional (Then object (Then property End))) covered = λ i. (do
-      v ← eval_alike object covered.1.0 i
-      key ← key_in property (eval_alike property covered.1.1.0 i)
+    index_placed : (at : At) (parts : Pieces) → LendAlike parts → AreAccepted t.names parts
+        → place s (Node at word.Index parts) ≡ place t (Node at word.Index parts)
+    index_placed at (Then optional (Then object (Then property End))) covered accepted = λ i. (do
+      v ← eval_alike object covered.1.0 accepted.1.0 i
+      key ← key_in property (eval_alike property covered.1.1.0 accepted.1.1.0 i)
       give (v, key))
-    index_placed at _ covered = refl
+    index_placed at _ covered accepted = refl
 
-    binary_alike : (at : At) (parts : Pieces) → LendAlike parts → eval s (Node at word.Binary parts) ≡ eval t (Node at word.Binary parts)
-    binary_alike at (Then (Said operator) (Then left (Then right End))) covered = λ i. (do
-      v ← eval_alike left covered.1.0 i
-      w ← eval_alike right covered.1.1.0 i
+    -- Assignments.
+
+    assign_alike : (at : At) (parts : Pieces) → IsOrderlyAt t.names assigned at word.Assign parts → LendAlike parts
+        → refusals t.names (Node at word.Assign parts) ≡ [] → eval s (Node at word.Assign parts) ≡ eval t (Node at word.Assign parts)
+    assign_alike at (Then (Said operator) (Then target (Then right End))) facts covered none =
+        let ahead : List Diagnostic = refusals t.names right in
+        let taken : List Diagnostic = said_of_assigned t.names at.span target (refusals_below t.names target) in
+        let stored_to : List Diagnostic = said_of_updated t.names target in
+        by_operator (bytes_eq operator (codes "=")) (shapes.is_logical operator) (is_steady t.names assigned right)
+        (is_steady_target t.names assigned target) (ahead ++ taken) (refusals t.names target ++ ahead ++ stored_to) _
+        (plain_by s target (eval s right)) (plain_by t target (eval t right))
+        (compound_by s (shapes.operator_in operator) target (eval s right))
+        (compound_by t (shapes.operator_in operator) target (eval t right)) facts.orderly none
+        (λ either told.
+        let both = nil_parts ahead taken told in
+        plain_alike at.span target right facts.formed either covered.1.0 covered.1.1.0 both.0 both.1
+        (eval_alike right covered.1.1.0 both.0))
+        (λ told.
+        let both = nil_parts (refusals t.names target) ahead (nil_parts (refusals t.names target ++ ahead) stored_to told).0 in
+        compound_alike (shapes.operator_in operator) target right covered.1.0 both.0 (eval_alike right covered.1.1.0 both.1))
+    assign_alike at _ facts covered none = refl
+
+    plain_alike : (at : Span) (target right : Syntax) → AreAssignable target right
+        → is_steady t.names assigned right || is_steady_target t.names assigned target ≡ true → LendsAlike target → LendsAlike right
+        → refusals t.names right ≡ [] → said_of_assigned t.names at target (refusals_below t.names target) ≡ []
+        → eval s right ≡ eval t right → plain_by s target (eval s right) ≡ plain_by t target (eval t right)
+    plain_alike at (Node there word.Id (Then (Said name) End)) right formed either covered given none told same = λ i. (do
+      v ← same i
+      write_alike t stored early (t.names.meaning there.reference.0 name) name v i)
+    plain_alike at (Node there word.Member parts) right formed either covered given none told same =
+        property_alike (is_steady t.names assigned right) (is_steady_target t.names assigned (Node there word.Member parts)) either
+        (place s (Node there word.Member parts)) (place t (Node there word.Member parts)) (eval s right) (eval t right)
+        (member_placed there parts covered.2 (are_accepted t.names parts told)) same
+        (kept.member_placed t assigned closed there parts covered.2) (eval_keeps t assigned closed right given)
+        (λ is. steady t assigned closed right is formed.1 none) (λ is. member_steady t assigned closed there parts formed.0 is told)
+    plain_alike at (Node there word.Index parts) right formed either covered given none told same =
+        property_alike (is_steady t.names assigned right) (is_steady_target t.names assigned (Node there word.Index parts)) either
+        (place s (Node there word.Index parts)) (place t (Node there word.Index parts)) (eval s right) (eval t right)
+        (index_placed there parts covered.2 (are_accepted t.names parts told)) same
+        (kept.index_placed t assigned closed there parts covered.2) (eval_keeps t assigned closed right given)
+        (λ is. steady t assigned closed right is formed.1 none) (λ is. index_steady t assigned closed there parts formed.0 is told)
+    plain_alike at (Node there word.Privatemember parts) right formed either covered given none told same = refl
+    plain_alike at (Node there word.Arraytarget parts) right formed either covered given none told same =
+        absurd (true≢false (sym covered.0))
+    plain_alike at (Node there word.Objecttarget parts) right formed either covered given none told same =
+        absurd (true≢false (sym covered.0))
+    plain_alike at (Node there word.Default parts) right formed either covered given none told same = absurd (true≢false (sym covered.0))
+    plain_alike at (Node there word.Short parts) right formed either covered given none told same = absurd (true≢false (sym covered.0))
+    plain_alike at (Node there word.Keyed parts) right formed either covered given none told same = absurd (true≢false (sym covered.0))
+    plain_alike at (Node there word.Rest parts) right formed either covered given none told same = absurd (true≢false (sym covered.0))
+    plain_alike at target right formed either covered given none told same = λ i. plain_by t target (same i)
+
+    compound_alike : (operator : List ℕ) (target right : Syntax) → LendsAlike target → refusals t.names target ≡ []
+        → eval s right ≡ eval t right → compound_by s operator target (eval s right) ≡ compound_by t operator target (eval t right)
+    compound_alike operator (Node there word.Id (Then (Said name) End)) right covered none same = λ i. (do
+      old ← read_alike (t.names.meaning there.reference.0 name) i
+      w ← same i
+      v ← ask t (events.binary operator old w)
+      write_alike t stored early (t.names.meaning there.reference.0 name) name v i)
+    compound_alike operator (Node there word.Member parts) right covered none same = λ i.
+        computed_by t operator (member_placed there parts covered.2 (are_accepted t.names parts none) i) (same i)
+    compound_alike operator (Node there word.Index parts) right covered none same = λ i.
+        computed_by t operator (index_placed there parts covered.2 (are_accepted t.names parts none) i) (same i)
+    compound_alike operator target right covered none same = λ i. compound_by t operator target (same i)
+
+    binary_alike : (at : At) (parts : Pieces) → LendAlike parts → AreAccepted t.names parts
+        → eval s (Node at word.Binary parts) ≡ eval t (Node at word.Binary parts)
+    binary_alike at (Then (Said operator) (Then left (Then right End))) covered accepted = λ i. (do
+      v ← eval_alike left covered.1.0 accepted.1.0 i
+      w ← eval_alike right covered.1.1.0 accepted.1.1.0 i
       ask t (events.binary operator v w))
-    binary_alike at _ covered = refl
+    binary_alike at _ covered accepted = refl
 
-    logical_alike : (at : At) (parts : Pieces) → LendAlike parts
+    logical_alike : (at : At) (parts : Pieces) → LendAlike parts → refusals t.names (Node at word.Logical parts) ≡ []
         → eval s (Node at word.Logical parts) ≡ eval t (Node at word.Logical parts)
-    logical_alike at (Then (Said operator) (Then left (Then right End))) covered = λ i. (do
-      v ← eval_alike left covered.1.0 i
-      needed ← needs_right t operator v
-      if needed then eval_alike right covered.1.1.0 i else give v)
-    logical_alike at _ covered = refl
+    logical_alike at (Then (Said operator) (Then left (Then right End))) covered none =
+        let both = nil_parts (refusals t.names right) (refusals t.names left) none in λ i. (do
+          v ← eval_alike left covered.1.0 both.1 i
+          needed ← needs_right t operator v
+          if needed then eval_alike right covered.1.1.0 both.0 i else give v)
+    logical_alike at _ covered none = refl
 
-    conditional_alike : (at : At) (parts : Pieces) → LendAlike parts
+    conditional_alike : (at : At) (parts : Pieces) → LendAlike parts → refusals t.names (Node at word.Cond parts) ≡ []
         → eval s (Node at word.Cond parts) ≡ eval t (Node at word.Cond parts)
-    conditional_alike at (Then condition (Then consequent (Then alternate End))) covered = λ i. (do
-      v ← eval_alike condition covered.0 i
-      met ← test t (truthy v)
-      if met then eval_alike consequent covered.1.0 i else eval_alike alternate covered.1.1.0 i)
-    conditional_alike at _ covered = refl
+    conditional_alike at (Then condition (Then consequent (Then alternate End))) covered none =
+        let first = nil_parts (refusals t.names consequent ++ refusals t.names alternate) (refusals t.names condition) none in
+        let both = nil_parts (refusals t.names consequent) (refusals t.names alternate) first.0 in λ i. (do
+          v ← eval_alike condition covered.0 first.1 i
+          met ← test t (truthy v)
+          if met then eval_alike consequent covered.1.0 both.0 i else eval_alike alternate covered.1.1.0 both.1 i)
+    conditional_alike at _ covered none = refl
 
-    sequence_alike : (at : At) (parts : Pieces) → LendAlike parts → eval s (Node at word.Seq parts) ≡ eval t (Node at word.Seq parts)
-    sequence_alike at (Then (Listed expressions) End) covered = last_alike expressions covered.0
-    sequence_alike at _ covered = refl
+    sequence_alike : (at : At) (parts : Pieces) → LendAlike parts → AreAccepted t.names parts
+        → eval s (Node at word.Seq parts) ≡ eval t (Node at word.Seq parts)
+    sequence_alike at (Then (Listed expressions) End) covered accepted = last_alike expressions covered.0 accepted.0
+    sequence_alike at _ covered accepted = refl
 
-    last_alike : (expressions : Pieces) → LendAlike expressions → eval_last s expressions ≡ eval_last t expressions
-    last_alike End covered = refl
-    last_alike (Then expression End) covered = eval_alike expression covered.0
-    last_alike (Then expression (Then next expressions)) covered = λ i. (do
-      eval_alike expression covered.0 i
-      last_alike (Then next expressions) covered.1 i)
+    last_alike : (expressions : Pieces) → LendAlike expressions → refusals_in t.names expressions ≡ []
+        → eval_last s expressions ≡ eval_last t expressions
+    last_alike End covered none = refl
+    last_alike (Then expression End) covered none = eval_alike expression covered.0 (nil_parts (refusals t.names expression) [] none).0
+    last_alike (Then expression (Then next expressions)) covered none =
+        let both = nil_parts (refusals t.names expression) (refusals_in t.names (Then next expressions)) none in λ i. (do
+          eval_alike expression covered.0 both.0 i
+          last_alike (Then next expressions) covered.1 both.1 i)
 
-    await_alike : (at : At) (parts : Pieces) → LendAlike parts → eval s (Node at word.Await parts) ≡ eval t (Node at word.Await parts)
-    await_alike at (Then argument End) covered = λ i. (do
-      v ← eval_alike argument covered.0 i
+    await_alike : (at : At) (parts : Pieces) → LendAlike parts → AreAccepted t.names parts
+        → eval s (Node at word.Await parts) ≡ eval t (Node at word.Await parts)
+    await_alike at (Then argument End) covered accepted = λ i. (do
+      v ← eval_alike argument covered.0 accepted.0 i
       ask t (events.event (codes "await") [] (v ∷ [])))
-    await_alike at _ covered = refl
+    await_alike at _ covered accepted = refl
 
-    member_alike : (at : At) (parts : Pieces) → LendAlike parts → eval s (Node at word.Member parts) ≡ eval t (Node at word.Member parts)
-    member_alike at (Then (Flag optional) (Then object (Then (Said name) End))) covered = λ i. (do
-      v ← eval_alike object covered.1.0 i
+    member_alike : (at : At) (parts : Pieces) → LendAlike parts → AreAccepted t.names parts
+        → eval s (Node at word.Member parts) ≡ eval t (Node at word.Member parts)
+    member_alike at (Then (Flag optional) (Then object (Then (Said name) End))) covered accepted = λ i. (do
+      v ← eval_alike object covered.1.0 accepted.1.0 i
       unless_nullish t optional v
       ask t (events.load v (events.fixed_key (value.Text name))))
-    member_alike at _ covered = refl
+    member_alike at _ covered accepted = refl
 
-    index_alike : (at : At) (parts : Pieces) → LendAlike parts → eval s (Node at word.Index parts) ≡ eval t (Node at word.Index parts)
-    index_alike at (Then (Flag optional) (Then object (Then property End))) covered = λ i. (do
-      v ← eval_alike object covered.1.0 i
+    index_alike : (at : At) (parts : Pieces) → LendAlike parts → AreAccepted t.names parts
+        → eval s (Node at word.Index parts) ≡ eval t (Node at word.Index parts)
+    index_alike at (Then (Flag optional) (Then object (Then property End))) covered accepted = λ i. (do
+      v ← eval_alike object covered.1.0 accepted.1.0 i
       unless_nullish t optional v
-      key ← key_in property (eval_alike property covered.1.1.0 i)
+      key ← key_in property (eval_alike property covered.1.1.0 accepted.1.1.0 i)
       ask t (events.load v key))
-    index_alike at _ covered = refl
+    index_alike at _ covered accepted = refl
 
-    call_alike : (at : At) (parts : Pieces) → lends_at word.Call parts ≡ false → LendAlike parts
+    call_alike : (at : At) (parts : Pieces) → lends_at word.Call parts ≡ false → LendAlike parts → AreAccepted t.names parts
         → eval s (Node at word.Call parts) ≡ eval t (Node at word.Call parts)
-    call_alike at (Then (Flag optional) (Then called_part (Then (Listed arguments) End))) none covered =
-        as_called s optional called_part arguments at none
+    call_alike at (Then (Flag optional) (Then called_part (Then (Listed arguments) End))) alone covered accepted =
+        as_called s optional called_part arguments at alone
         ∙ (λ i. call_by t optional
-        (head_alike called_part (is_link called_part) refl (callee_alike called_part covered.1.0) (eval_alike called_part covered.1.0) i)
-        (values_alike arguments covered.1.1.0 i) (shapes.shapes arguments))
-        ∙ sym (as_called t optional called_part arguments at none)
-    call_alike at _ none covered = refl
+        (head_alike called_part (is_link called_part) refl (callee_alike called_part covered.1.0 accepted.1.0)
+        (eval_alike called_part covered.1.0 accepted.1.0) i)
+        (values_alike arguments covered.1.1.0 accepted.1.1.0 i) (shapes.shapes arguments))
+        ∙ sym (as_called t optional called_part arguments at alone)
+    call_alike at _ alone covered accepted = refl
 
-    callee_alike : (e : Syntax) → LendsAlike e → is_link e ≡ true → callee s e ≡ callee t e
-    callee_alike (Node at word.Member parts) covered link = member_called at parts covered.2
-    callee_alike (Node at word.Index parts) covered link = index_called at parts covered.2
-    callee_alike (Node at word.Privatemember parts) covered link = refl
-    callee_alike _ covered link = absurd (true≢false (sym link))
+    callee_alike : (e : Syntax) → LendsAlike e → refusals t.names e ≡ [] → is_link e ≡ true → callee s e ≡ callee t e
+    callee_alike (Node at word.Member parts) covered none link = member_called at parts covered.2 (are_accepted t.names parts none)
+    callee_alike (Node at word.Index parts) covered none link = index_called at parts covered.2 (are_accepted t.names parts none)
+    callee_alike (Node at word.Privatemember parts) covered none link = refl
+    callee_alike _ covered none link = absurd (true≢false (sym link))
 
-    member_called : (at : At) (parts : Pieces) → LendAlike parts
+    member_called : (at : At) (parts : Pieces) → LendAlike parts → AreAccepted t.names parts
         → callee s (Node at word.Member parts) ≡ callee t (Node at word.Member parts)
-    member_called at (Then (Flag optional) (Then object (Then (Said name) End))) covered = λ i. (do
-      v ← eval_alike object covered.1.0 i
+    member_called at (Then (Flag optional) (Then object (Then (Said name) End))) covered accepted = λ i. (do
+      v ← eval_alike object covered.1.0 accepted.1.0 i
       unless_nullish t optional v
       f ← ask t (events.load v (events.fixed_key (value.Text name)))
       give (v ∷ f ∷ []))
-    member_called at _ covered = refl
+    member_called at _ covered accepted = refl
 
-    index_called : (at : At) (parts : Pieces) → LendAlike parts → callee s (Node at word.Index parts) ≡ callee t (Node at word.Index parts)
-    index_called at (Then (Flag optional) (Then object (Then property End))) covered = λ i. (do
-      v ← eval_alike object covered.1.0 i
+    index_called : (at : At) (parts : Pieces) → LendAlike parts → AreAccepted t.names parts
+        → callee s (Node at word.Index parts) ≡ callee t (Node at word.Index parts)
+    index_called at (Then (Flag optional) (Then object (Then property End))) covered accepted = λ i. (do
+      v ← eval_alike object covered.1.0 accepted.1.0 i
       unless_nullish t optional v
-      key ← key_in property (eval_alike property covered.1.1.0 i)
+      key ← key_in property (eval_alike property covered.1.1.0 accepted.1.1.0 i)
       f ← ask t (events.load v key)
       give (v ∷ f ∷ []))
-    index_called at _ covered = refl
+    index_called at _ covered accepted = refl
 
-    new_alike : (at : At) (parts : Pieces) → LendAlike parts → eval s (Node at word.New parts) ≡ eval t (Node at word.New parts)
-    new_alike at (Then called_part (Then (Listed arguments) End)) covered = λ i. (do
-      v ← eval_alike called_part covered.0 i
-      vs ← values_alike arguments covered.1.0 i
+    new_alike : (at : At) (parts : Pieces) → LendAlike parts → AreAccepted t.names parts
+        → eval s (Node at word.New parts) ≡ eval t (Node at word.New parts)
+    new_alike at (Then called_part (Then (Listed arguments) End)) covered accepted = λ i. (do
+      v ← eval_alike called_part covered.0 accepted.0 i
+      vs ← values_alike arguments covered.1.0 accepted.1.0 i
       ask t (events.event (codes "new") (shapes.shapes arguments) (v ∷ vs)))
-    new_alike at _ covered = refl
+    new_alike at _ covered accepted = refl
 
-    values_alike : (parts : Pieces) → LendAlike parts → values s parts ≡ values t parts
-    values_alike End covered = refl
-    values_alike (Then part parts) covered = λ i. (do
-      vs ← item_alike part covered.0 (eval_alike part covered.0) i
-      ws ← values_alike parts covered.1 i
-      give (vs ++ ws))
+    values_alike : (parts : Pieces) → LendAlike parts → refusals_in t.names parts ≡ [] → values s parts ≡ values t parts
+    values_alike End covered none = refl
+    values_alike (Then part parts) covered none =
+        let both = nil_parts (refusals t.names part) (refusals_in t.names parts) none in λ i. (do
+          vs ← item_alike part covered.0 both.0 (eval_alike part covered.0 both.0) i
+          ws ← values_alike parts covered.1 both.1 i
+          give (vs ++ ws))
 
     -- An argument, an element or a property.
-    item_alike : (part : Syntax) → LendsAlike part → eval s part ≡ eval t part
+    item_alike : (part : Syntax) → LendsAlike part → refusals t.names part ≡ [] → eval s part ≡ eval t part
         → values_of s part (eval s part) ≡ values_of t part (eval t part)
-    item_alike (Node at word.Hole parts) covered same = hole_alike at parts
-    item_alike (Node at word.Spread parts) covered same = spread_alike at parts covered.2
-    item_alike (Node at word.Attrspread parts) covered same = absurd (true≢false (sym covered.0))
-    item_alike (Node at word.Prop parts) covered same = prop_alike at parts covered.2
-    item_alike (Node at word.Method parts) covered same = absurd (true≢false (sym covered.0))
-    item_alike (Node at word.Get parts) covered same = absurd (true≢false (sym covered.0))
-    item_alike (Node at word.Set parts) covered same = absurd (true≢false (sym covered.0))
-    item_alike (Node at word.Attr parts) covered same = absurd (true≢false (sym covered.0))
-    item_alike (Node at word.Text parts) covered same = absurd (true≢false (sym covered.0))
-    item_alike (Node at word.Container parts) covered same = absurd (true≢false (sym covered.0))
-    item_alike (Node at word.Spreadchild parts) covered same = absurd (true≢false (sym covered.0))
-    item_alike part covered same = ap one_value same
+    item_alike (Node at word.Hole parts) covered none same = hole_alike at parts
+    item_alike (Node at word.Spread parts) covered none same = spread_alike at parts covered.2 (are_accepted t.names parts none)
+    item_alike (Node at word.Attrspread parts) covered none same = absurd (true≢false (sym covered.0))
+    item_alike (Node at word.Prop parts) covered none same = prop_alike at parts covered.2 none
+    item_alike (Node at word.Method parts) covered none same = absurd (true≢false (sym covered.0))
+    item_alike (Node at word.Get parts) covered none same = absurd (true≢false (sym covered.0))
+    item_alike (Node at word.Set parts) covered none same = absurd (true≢false (sym covered.0))
+    item_alike (Node at word.Attr parts) covered none same = absurd (true≢false (sym covered.0))
+    item_alike (Node at word.Text parts) covered none same = absurd (true≢false (sym covered.0))
+    item_alike (Node at word.Container parts) covered none same = absurd (true≢false (sym covered.0))
+    item_alike (Node at word.Spreadchild parts) covered none same = absurd (true≢false (sym covered.0))
+    item_alike part covered none same = ap one_value same
 
-    spread_alike : (at : At) (parts : Pieces) → LendAlike parts
+    spread_alike : (at : At) (parts : Pieces) → LendAlike parts → AreAccepted t.names parts
         → values_of s (Node at word.Spread parts) (eval s (Node at word.Spread parts))
         ≡ values_of t (Node at word.Spread parts) (eval t (Node at word.Spread parts))
-    spread_alike at (Then argument End) covered = λ i. one_value (eval_alike argument covered.0 i)
-    spread_alike at _ covered = refl
+    spread_alike at (Then argument End) covered accepted = λ i. one_value (eval_alike argument covered.0 accepted.0 i)
+    spread_alike at _ covered accepted = refl
 
-    prop_alike : (at : At) (parts : Pieces) → LendAlike parts
+    prop_alike : (at : At) (parts : Pieces) → LendAlike parts → refusals t.names (Node at word.Prop parts) ≡ []
         → values_of s (Node at word.Prop parts) (eval s (Node at word.Prop parts))
         ≡ values_of t (Node at word.Prop parts) (eval t (Node at word.Prop parts))
-    prop_alike at (Then (Flag computed) (Then key (Then expression End))) covered = λ i. (do
-      vs ← property_key computed key (eval_alike key covered.1.0 i)
-      v ← eval_alike expression covered.1.1.0 i
-      give (vs ++ v ∷ []))
-    prop_alike at _ covered = refl
+    prop_alike at (Then (Flag computed) (Then key (Then expression End))) covered none =
+        let told = none_then (is_known_key computed key) (refusals t.names key ++ refusals t.names expression) _ none in
+        let both = nil_parts (refusals t.names key) (refusals t.names expression) told in λ i. (do
+          vs ← property_key computed key (eval_alike key covered.1.0 both.0 i)
+          v ← eval_alike expression covered.1.1.0 both.1 i
+          give (vs ++ v ∷ []))
+    prop_alike at _ covered none = refl

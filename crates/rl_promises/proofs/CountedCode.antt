@@ -1,5 +1,6 @@
 -- The counted nodes of covered code: calls of functions and of methods, constructions and awaits, each counted by itself.
-use Rattle.std.proofs.Common.{◌≡◌, ℕ, Bool, true, false, true≢false, if◌then◌else◌, Some, List, [], ◌∷◌, ◌++◌, codes, refl, sym, ap, ◌∙◌, subst, arith, append_assoc}
+use Rattle.std.proofs.Common.{◌≡◌, ℕ, Bool, true, false, true≢false, if◌then◌else◌, Some, List, [], ◌∷◌, ◌++◌, codes, refl, sym, ap, ◌∙◌}
+use Rattle.std.proofs.Common.{subst, arith, append_assoc}
 use Rattle.std.specs.List.{AllByRecursion}
 use Rattle.rl_grammar.specs.Grammar.{each, every, fits}
 use Rattle.rl_grammar.specs.declared.kind.Field.TheVariants as field
@@ -12,8 +13,8 @@ use Rattle.rl_names.specs.Functions.{body_in, params_in}
 use Rattle.rl_promises.proofs.CoveredForms.{ParamNode, params_form, params_of}
 use Rattle.rl_promises.proofs.Unheld.{type_no_code, type_unheld, unheld_untallied}
 use Rattle.rl_promises.specs.Covered.{IsCovered, IsCoveredFunction, covers}
-use Rattle.rl_promises.specs.Tallies.{IsHeldKind, call_word, held_word, is_among, tallied, tallied_among}
-use Rattle.rl_promises.specs.Tallies.IsHeldKind.{Calls, Constructions, Awaits}
+use Rattle.rl_promises.specs.Tallies.{IsHeldKind, call_word, held_span, held_word, is_among, tallied, tallied_among}
+use Rattle.rl_promises.specs.Tallies.IsHeldKind.{Calls, Constructions, Awaits, Stores}
 use Rattle.rl_syntax.specs.Syntax.{Syntax, Node, Listed, Said, Pieces, End, Then}
 use Rattle.rl_syntax.specs.declared.numbered.At.{At}
 use Rattle.rl_syntax.specs.declared.word.Word.{Word}
@@ -43,7 +44,7 @@ flat_append f (x ∷ xs) ys = ap (λ (l : List _). f x ++ l) (flat_append f xs y
 -- The counted node of a node by itself.
 pub record IsOwn (at : At) (w : Word) (parts : Pieces) (key : Counted) : Type 0 where
   pub kind : IsHeldKind key.kinds
-  pub place : at.span ≡ key.span
+  pub place : held_span w parts at.span ≡ key.span
   pub word : is_among key.kinds (held_word w parts) ≡ true
 
 -- A call is one of a function, or of a method.
@@ -60,7 +61,14 @@ call_among : (parts : Pieces) → is_among call_kinds (held_word word.Call parts
 call_among (Then optional (Then callee arguments)) = callee_among callee
 call_among _ = refl
 
--- Of a covered node itself a call, a construction or an `await` is counted.
+-- An assignment to a name is counted.
+assign_counted : (methods : List ℕ) (at : At) (parts : Pieces)
+    → AllByRecursion (IsOwn at word.Assign parts) (counted_at methods (Node at word.Assign parts))
+assign_counted methods at (Then (Said operator) (Then (Node there word.Id parts) rest)) =
+    (record { kind = Stores; place = refl; word = refl }, tt)
+assign_counted methods at _ = tt
+
+-- Of a covered node itself a call, a construction, an `await` or an assignment to a name is counted.
 pub own_counted : (methods : List ℕ) (at : At) (w : Word) (parts : Pieces) → covers w parts ≡ true
     → AllByRecursion (IsOwn at w parts) (counted_at methods (Node at w parts))
 own_counted methods at word.Call parts covered = (record { kind = Calls; place = refl; word = call_among parts }, tt)
@@ -73,7 +81,7 @@ own_counted methods at word.Fundecl parts covered = absurd (true≢false (sym co
 own_counted methods at word.Method parts covered = absurd (true≢false (sym covered))
 own_counted methods at word.Get parts covered = absurd (true≢false (sym covered))
 own_counted methods at word.Set parts covered = absurd (true≢false (sym covered))
-own_counted methods at word.Assign parts covered = absurd (true≢false (sym covered))
+own_counted methods at word.Assign parts covered = assign_counted methods at parts
 own_counted methods at word.Funexpr parts covered = absurd (true≢false (sym covered))
 own_counted methods at _ parts covered = tt
 

@@ -1,19 +1,22 @@
 -- Each counted node of a covered function is one that a run may reach, or a node of a dead part.
-use Rattle.std.proofs.Common.{◌≡◌, ◌⊎◌, inl, inr, ℕ, Bool, true, false, true≢false, not, if◌then◌else◌, Option, Some, None, List, [], ◌∷◌, ◌++◌, All, Contains, refl, sym, ap, ◌∙◌, subst, arith, append-nil, append_assoc}
+use Rattle.std.proofs.Common.{◌≡◌, ◌⊎◌, inl, inr, ℕ, Bool, true, false, true≢false, not, if◌then◌else◌, Option, Some, None, List, [], ◌∷◌}
+use Rattle.std.proofs.Common.{◌++◌, All, Contains, refl, sym, ap, ◌∙◌, subst, arith, append-nil, append_assoc}
 use Rattle.std.specs.List.{AllByRecursion}
-use Rattle.std.proofs.lemmas.List.Elements.{All-contains_itself, All-from_recursion, Contains-append_left, Contains-append_right, recursion_from_All}
+use Rattle.std.proofs.lemmas.List.Elements.{All-contains_itself, All-from_recursion, Contains-append_left, Contains-append_right}
+use Rattle.std.proofs.lemmas.List.Elements.{recursion_from_All}
 use Rattle.rl_ast.specs.FunctionTrees.{is_function as fits_function}
 use Rattle.rl_model.specs.Actions.{Label}
 use Rattle.rl_model.specs.Code.{code, code_among, code_of, flat, is_function, is_instantiate, is_no_code, name_code}
 use Rattle.rl_model.specs.Counted.{Counted, counted_at, counted_in, method_at}
 use Rattle.rl_model.specs.Dead.{dead_among, dead_in, dead_in_cases, dead_parts, goes_on, lives, parts_if}
 use Rattle.rl_names.specs.Functions.{body_in, params_in}
-use Rattle.rl_promises.proofs.CountedCode.{HasTexts, IsOwn, IsParted, by_tests, each_append, each_both, each_weaker, flat_append, own_counted, parted}
+use Rattle.rl_promises.proofs.CountedCode.{HasTexts, IsOwn, IsParted, by_tests, each_append, each_both, each_weaker, flat_append}
+use Rattle.rl_promises.proofs.CountedCode.{own_counted, parted}
 use Rattle.rl_promises.proofs.CoveredWorlds.{body_covered, plain_word}
 use Rattle.rl_promises.specs.Covered.{AreCovered, IsCovered, IsCoveredFunction}
 use Rattle.rl_promises.specs.Held.{dead_nodes}
 use Rattle.rl_promises.specs.Live.{Held, LivesOn, held_among, held_as, held_at, held_in, live_all, live_cases, live_in, live_in_body}
-use Rattle.rl_promises.specs.Tallies.{held_word, is_among}
+use Rattle.rl_promises.specs.Tallies.{held_span, held_word, is_among}
 use Rattle.rl_syntax.specs.Syntax.{Syntax, Node, Listed, Said, Count, Flag, Absent, Pieces, End, Then}
 use Rattle.rl_syntax.specs.declared.numbered.At.{At}
 use Rattle.rl_syntax.specs.declared.word.Word.{Word}
@@ -31,10 +34,11 @@ lives_right xs ys key l =
 own_lives : (at : At) (w : Word) (parts : Pieces) (key : Counted) → IsOwn at w parts key → LivesOn (held_at w parts at) key
 own_lives at w parts key own = by_word (held_word w parts) own.word
   where
-    by_word : (o : Option (List ℕ)) → is_among key.kinds o ≡ true → LivesOn (held_as o at.span) key
+    by_word : (o : Option (List ℕ)) → is_among key.kinds o ≡ true → LivesOn (held_as o (held_span w parts at.span)) key
     by_word None none = absurd (true≢false (sym none))
     by_word (Some text) among =
-        record { held = record { word = text; span = at.span }; there = (0, omega arith, refl); span = own.place; word = among }
+        let held : Held = record { word = text; span = held_span w parts at.span } in
+        record { held = held; there = (0, omega arith, refl); span = own.place; word = among }
 
 -- The counted node is in dead code, or one of these nodes.
 abbrev IsEither : (D : Counted → Type 0) → List Held → Counted → Type 0
@@ -105,7 +109,8 @@ module _ (methods : List ℕ) where
     AreEither nodes parts = AllByRecursion (IsEither D nodes) (keys_of parts)
 
     held_either : (s : Syntax) → IsCovered s → AreEither (held_in s) (code s)
-    held_either s covered = each_weaker (LivesOn (held_in s)) (IsEither D (held_in s)) (λ key l. inr l) (keys_of (code s)) (all_held s covered)
+    held_either s covered =
+        each_weaker (LivesOn (held_in s)) (IsEither D (held_in s)) (λ key l. inr l) (keys_of (code s)) (all_held s covered)
 
     -- Nodes and code in two parts, and code at the end of a node's parts.
 
@@ -153,7 +158,8 @@ module _ (methods : List ℕ) where
         → AreDead (if acts then dead_in None body else Node there word.Catch (Then param (Then body End)) ∷ [])
         → AreEither (if acts then held_in param ++ live_in None body else []) (code (Node there word.Catch (Then param (Then body End))))
     catch_lives true there param body declared turn dead =
-        in_two (held_in param) (live_in None body) (code param) (code body ++ []) declared (at_end (live_in None body) (code body) (turn dead))
+        in_two (held_in param) (live_in None body) (code param) (code body ++ []) declared
+        (at_end (live_in None body) (code body) (turn dead))
     catch_lives false there param body declared turn dead =
         let handler : Syntax = Node there word.Catch (Then param (Then body End)) in
         each_weaker D (IsEither D []) (λ key d. inl d) (keys_of (code handler))
@@ -165,7 +171,8 @@ module _ (methods : List ℕ) where
           at_end (live_all statements) (code_among statements) (statements_live statements covered.1.0 dead)
       statement_lives own (Node at word.If (Then condition (Then consequent (Then alternate End)))) covered dead =
           let apart = dead_apart (dead_in None consequent) (dead_in None alternate) dead in
-          in_three (held_in condition) (live_in None consequent) (live_in None alternate) (code condition) (code consequent) (code alternate)
+          in_three (held_in condition) (live_in None consequent) (live_in None alternate)
+          (code condition) (code consequent) (code alternate)
           (held_either condition covered.1.0) (statement_lives None consequent covered.1.1.0 apart.0)
           (statement_lives None alternate covered.1.1.1.0 apart.1)
       statement_lives own (Node at word.While (Then condition (Then body End))) covered dead =
@@ -190,7 +197,8 @@ module _ (methods : List ℕ) where
           in_three (held_in head) (held_in right) (live_in None body) (code head) (code right) (code body) (held_either head covered.1.1.0)
           (held_either right covered.1.1.1.0) (statement_lives None body covered.1.1.1.1.0 dead)
       statement_lives own (Node at word.Switch (Then discriminant (Then (Listed cases) End))) covered dead =
-          in_two (held_in discriminant) (live_cases cases) (code discriminant) (code_among cases ++ []) (held_either discriminant covered.1.0)
+          in_two (held_in discriminant) (live_cases cases) (code discriminant) (code_among cases ++ [])
+          (held_either discriminant covered.1.0)
           (at_end (live_cases cases) (code_among cases) (cases_live cases covered.1.1.0 dead))
       statement_lives own (Node at word.Try (Then block (Then (Node there word.Catch (Then param (Then body End))) (Then finalizer End))))
           covered dead =
@@ -211,7 +219,8 @@ module _ (methods : List ℕ) where
       statements_live (Then s statements) covered dead =
           let apart = dead_apart (dead_in None s) (dead_among (lives None s).outs.falls statements) dead in
           keys_in_row (IsEither D (live_all (Then s statements))) (code s) (code_among statements)
-          (each_weaker _ _ (either_left D (live_in None s) (if (lives None s).outs.falls then live_all statements else [])) (keys_of (code s))
+          (each_weaker _ _ (either_left D (live_in None s) (if (lives None s).outs.falls then live_all statements else []))
+          (keys_of (code s))
           (statement_lives None s covered.0 apart.0))
           (each_weaker _ _ (either_right D (live_in None s) (if (lives None s).outs.falls then live_all statements else []))
           (keys_of (code_among statements))

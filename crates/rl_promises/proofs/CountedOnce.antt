@@ -1,6 +1,8 @@
 -- Each counted node of a covered function is one node of its tree: no two nodes end at one byte.
-use Rattle.std.proofs.Common.{◌≡◌, ◌⊎◌, inl, inr, ℕ, ◌+◌, ◌<◌, ◌≤◌, nat_eq, Bool, true, false, ◌&&◌, if◌then◌else◌, Some, List, ◌++◌, All, length, length-append, refl, sym, ap, ◌∙◌, subst, arith, eq-eqb}
+use Rattle.std.proofs.Common.{◌≡◌, ◌⊎◌, inl, inr, ℕ, ◌+◌, ◌<◌, ◌≤◌, nat_eq, Bool, true, false, true≢false, ◌&&◌, if◌then◌else◌, Option}
+use Rattle.std.proofs.Common.{Some, None, List, codes, ◌++◌, All, length, length-append, refl, sym, ap, ◌∙◌, subst, arith, eq-eqb}
 use Rattle.std.specs.List.{AllByRecursion}
+use Rattle.std.specs.Str.{bytes_eq}
 use Rattle.std.proofs.lemmas.Bool.Decides.{eqb_tells}
 use Rattle.std.proofs.lemmas.List.Elements.{All-from_recursion}
 use Rattle.rl_base.specs.declared.span.Span.{Span}
@@ -16,8 +18,9 @@ use Rattle.rl_promises.proofs.CountedCode.{IsOwn, IsParted, by_tests, each_appen
 use Rattle.rl_promises.proofs.CoveredWorlds.{body_covered, plain_word}
 use Rattle.rl_promises.specs.Covered.{AreCovered, IsCovered, IsCoveredFunction}
 use Rattle.rl_promises.specs.Held.{is_span}
-use Rattle.rl_promises.specs.Tallies.{IsHeldKind, held_word, is_among, tallied, tallied_among, tally_at}
-use Rattle.rl_syntax.specs.Syntax.{Syntax, Node, Listed, Said, Count, Flag, Absent, Pieces, End, Then, IsPlaced, ArePlaced, behind, inside, next_byte, outset, plain, plain_parts, width}
+use Rattle.rl_promises.specs.Tallies.{IsHeldKind, held_span, held_word, is_among, tallied, tallied_among, tally_at}
+use Rattle.rl_syntax.specs.Syntax.{Syntax, Node, Listed, Said, Count, Flag, Absent, Pieces, End, Then, IsPlaced, ArePlaced, behind, inside}
+use Rattle.rl_syntax.specs.Syntax.{next_byte, outset, plain, plain_parts, width}
 use Rattle.rl_syntax.specs.Words.{word_text}
 use Rattle.rl_syntax.specs.declared.numbered.At.{At}
 use Rattle.rl_syntax.specs.declared.numbered.Position.{Position}
@@ -52,15 +55,75 @@ and_false : (b : Bool) → b && false ≡ false
 and_false true = refl
 and_false false = refl
 
--- A node that ends elsewhere is not the counted one.
-tally_none : (key : Counted) (w : Word) (parts : Pieces) (at : At) → (at.span.end ≡ key.span.end → ⊥) → tally_at key w parts at ≡ 0
-tally_none key w parts at other = elim (eqb_tells at.span.end key.span.end) [
-  | inl same ↦ absurd (other same.1)
-  | inr apart ↦
-      ap (λ (b : Bool). if is_among key.kinds (held_word w parts) && (nat_eq at.span.start key.span.start && b) then 1 else 0) apart.0
-      ∙ ap (λ (b : Bool). if is_among key.kinds (held_word w parts) && b then 1 else 0) (and_false (nat_eq at.span.start key.span.start))
-      ∙ ap (λ (b : Bool). if b then 1 else 0) (and_false (is_among key.kinds (held_word w parts)))
-]
+-- The end of the instruction of a node.
+abbrev held_end : Word → Pieces → At → ℕ
+held_end w parts at = (held_span w parts at.span).end
+
+-- A node whose instruction ends elsewhere is not the counted one.
+tally_none : (key : Counted) (w : Word) (parts : Pieces) (at : At) → (held_end w parts at ≡ key.span.end → ⊥) → tally_at key w parts at ≡ 0
+tally_none key w parts at other =
+    let start : ℕ = (held_span w parts at.span).start in elim (eqb_tells (held_end w parts at) key.span.end) [
+      | inl same ↦ absurd (other same.1)
+      | inr apart ↦
+          ap (λ (b : Bool). if is_among key.kinds (held_word w parts) && (nat_eq start key.span.start && b) then 1 else 0) apart.0
+          ∙ ap (λ (b : Bool). if is_among key.kinds (held_word w parts) && b then 1 else 0) (and_false (nat_eq start key.span.start))
+          ∙ ap (λ (b : Bool). if b then 1 else 0) (and_false (is_among key.kinds (held_word w parts)))
+    ]
+
+-- A node whose instruction is not counted.
+tally_unheld : (key : Counted) (w : Word) (parts : Pieces) (at : At) → held_word w parts ≡ None → tally_at key w parts at ≡ 0
+tally_unheld key w parts at none =
+    ap (λ (o : Option (List ℕ)). if is_among key.kinds o && is_span key.span (Some (held_span w parts at.span)) then 1 else 0) none
+
+-- The instruction of a node that opens at `from` ends in the node, where it is counted.
+abbrev EndsWithin : (from : Position) → Word → Pieces → At → Type 0
+EndsWithin from w parts at =
+    (from.byte < held_end w parts at) × (held_end w parts at ≤ from.byte + 1 + length (word_text w) + long 41 parts)
+
+by_itself : (at : At) (w : Word) (parts : Pieces) (from : Position) → IsPlaced from (Node at w parts)
+    → (from.byte < at.span.end) × (at.span.end ≤ from.byte + 1 + length (word_text w) + long 41 parts)
+by_itself at w parts from placed = let end = node_end at w parts from placed in (omega (arith, end), omega (arith, end))
+
+-- A target in front of other parts, which stand from `inner` on.
+by_target : (there : At) (ps rest : Pieces) (inner : Position) → ArePlaced inner (Then (Node there word.Id ps) rest)
+    → (inner.byte < there.span.end) × (there.span.end ≤ inner.byte + long 41 (Then (Node there word.Id ps) rest))
+by_target there ps rest inner placed =
+    let end = node_end there word.Id ps (next_byte inner) placed.0 in
+    let stands = placed.0.0.end in
+    let whole = long_then 41 (Node there word.Id ps) rest in
+    (omega (arith, end), omega (arith, stands, whole))
+
+within : (at : At) (w : Word) (parts : Pieces) (from : Position) → IsPlaced from (Node at w parts)
+    → (held_word w parts ≡ None) ⊎ EndsWithin from w parts at
+within at word.Call parts from placed = inr (by_itself at word.Call parts from placed)
+within at word.New parts from placed = inr (by_itself at word.New parts from placed)
+within at word.Await parts from placed = inr (by_itself at word.Await parts from placed)
+within at word.Assign (Then (Said operator) (Then (Node there word.Id ps) rest)) from placed =
+    inr (by_operator (bytes_eq operator (codes "=")))
+  where
+    by_operator : (plain : Bool)
+        → (from.byte < (if plain then there.span else at.span).end)
+        × ((if plain then there.span else at.span).end
+        ≤ from.byte + 1 + length (word_text word.Assign) + long 41 (Then (Said operator) (Then (Node there word.Id ps) rest)))
+    by_operator true =
+        let both = by_target there ps rest (behind (next_byte (inside from word.Assign)) (Said operator)) placed.1.1 in
+        let first = both.0 in
+        let second = both.1 in
+        let whole = long_then 41 (Said operator) (Then (Node there word.Id ps) rest) in
+        (omega (arith, first), omega (arith, second, whole))
+    by_operator false = by_itself at word.Assign (Then (Said operator) (Then (Node there word.Id ps) rest)) from placed
+within at word.Forin (Then (Node there word.Id ps) rest) from placed =
+    let both = by_target there ps rest (inside from word.Forin) placed.1 in
+    let first = both.0 in
+    let second = both.1 in
+    inr (omega (arith, first), omega (arith, second))
+within at word.Forof (Then is_await (Then (Node there word.Id ps) rest)) from placed =
+    let both = by_target there ps rest (behind (next_byte (inside from word.Forof)) is_await) placed.1.1 in
+    let first = both.0 in
+    let second = both.1 in
+    let whole = long_then 41 is_await (Then (Node there word.Id ps) rest) in
+    inr (omega (arith, first), omega (arith, second, whole))
+within at _ parts from placed = inl refl
 
 span_itself : (span : Span) → is_span span (Some span) ≡ true
 span_itself span =
@@ -68,7 +131,7 @@ span_itself span =
 
 tally_own : (key : Counted) (w : Word) (parts : Pieces) (at : At) → IsOwn at w parts key → tally_at key w parts at ≡ 1
 tally_own key w parts at own =
-    ap (λ (b : Bool). if b && is_span key.span (Some at.span) then 1 else 0) own.word
+    ap (λ (b : Bool). if b && is_span key.span (Some (held_span w parts at.span)) then 1 else 0) own.word
     ∙ ap (λ (s : Span). if is_span key.span (Some s) then 1 else 0) own.place
     ∙ ap (λ (b : Bool). if b then 1 else 0) (span_itself key.span)
 
@@ -80,10 +143,13 @@ module _ (key : Counted) where
     none_in (Node at w parts) from placed out =
         let end = node_end at w parts from placed in
         let stands = placed.0.end in
-        let itself : tally_at key w parts at ≡ 0 = tally_none key w parts at (λ same. elim out [
-          | inl before ↦ omega (arith, end, same, before)
-          | inr after ↦ omega (arith, stands, same, after)
-        ]) in
+        let itself : tally_at key w parts at ≡ 0 = elim (within at w parts from placed) [
+          | inl none ↦ tally_unheld key w parts at none
+          | inr ends ↦ (let first = ends.0 in let second = ends.1 in tally_none key w parts at (λ same. elim out [
+            | inl before ↦ omega (arith, first, same, before)
+            | inr after ↦ omega (arith, second, end, stands, same, after)
+          ]))
+        ] in
         let rest : tallied_among key parts ≡ 0 = none_among 41 parts (inside from w) placed.1 (elim out [
           | inl before ↦ inl (omega (arith, before))
           | inr after ↦ inr (omega (arith, end, stands, after))
@@ -118,6 +184,49 @@ module _ (key : Counted) where
         ]) in
         omega (arith, here, rest)
 
+-- The parts of a node whose instruction ends where that of the counted node does.
+module _ (key : Counted) where
+  behind_none : (at : At) (w : Word) (parts : Pieces) (from : Position) → IsPlaced from (Node at w parts) → at.span.end ≡ key.span.end
+      → tallied_among key parts ≡ 0
+  behind_none at w parts from placed same =
+      let end = node_end at w parts from placed in
+      none_among key 41 parts (inside from w) placed.1 (inr (omega (arith, end, same)))
+
+  target_none : (there : At) (ps rest : Pieces) (inner : Position) → ArePlaced inner (Then (Node there word.Id ps) rest)
+      → there.span.end ≡ key.span.end → tallied_among key (Then (Node there word.Id ps) rest) ≡ 0
+  target_none there ps rest inner placed same =
+      let stands = placed.0.0.end in
+      let inside_none : tallied_among key ps ≡ 0 = behind_none there word.Id ps (next_byte inner) placed.0 same in
+      let rest_none : tallied_among key rest ≡ 0 =
+      none_among key 41 rest (behind (next_byte inner) (Node there word.Id ps)) placed.1 (inl (omega (arith, stands, same))) in
+      omega (arith, inside_none, rest_none)
+
+  parts_none : (at : At) (w : Word) (parts : Pieces) (from : Position) → IsPlaced from (Node at w parts)
+      → held_end w parts at ≡ key.span.end → (held_word w parts ≡ None) ⊎ (tallied_among key parts ≡ 0)
+  parts_none at word.Call parts from placed same = inr (behind_none at word.Call parts from placed same)
+  parts_none at word.New parts from placed same = inr (behind_none at word.New parts from placed same)
+  parts_none at word.Await parts from placed same = inr (behind_none at word.Await parts from placed same)
+  parts_none at word.Assign (Then (Said operator) (Then (Node there word.Id ps) rest)) from placed same =
+      inr (by_operator (bytes_eq operator (codes "=")) same)
+    where
+      by_operator : (plain : Bool) → (if plain then there.span else at.span).end ≡ key.span.end
+          → tallied_among key (Then (Said operator) (Then (Node there word.Id ps) rest)) ≡ 0
+      by_operator true same =
+          let later : tallied_among key (Then (Node there word.Id ps) rest) ≡ 0 =
+          target_none there ps rest (behind (next_byte (inside from word.Assign)) (Said operator)) placed.1.1 same in
+          omega (arith, later)
+      by_operator false same = behind_none at word.Assign (Then (Said operator) (Then (Node there word.Id ps) rest)) from placed same
+  parts_none at word.Forin (Then (Node there word.Id ps) rest) from placed same =
+      inr (target_none there ps rest (inside from word.Forin) placed.1 same)
+  parts_none at word.Forof (Then is_await (Then (Node there word.Id ps) rest)) from placed same =
+      let later : tallied_among key (Then (Node there word.Id ps) rest) ≡ 0 =
+      target_none there ps rest (behind (next_byte (inside from word.Forof)) is_await) placed.1.1 same in
+      let end = node_end there word.Id ps (next_byte (behind (next_byte (inside from word.Forof)) is_await)) placed.1.1.0 in
+      let first : tallied key is_await ≡ 0 =
+      none_in key is_await (next_byte (inside from word.Forof)) placed.1.0 (inr (omega (arith, end, same))) in
+      inr (omega (arith, first, later))
+  parts_none at _ parts from placed same = inl refl
+
 -- The counted node is one node of the tree, and ends inside it.
 record IsOnce (s : Syntax) (from : Position) (key : Counted) : Type 0 where
   kind : IsHeldKind key.kinds
@@ -138,15 +247,21 @@ own_once : (at : At) (w : Word) (parts : Pieces) (from : Position) → IsPlaced 
 own_once at w parts from placed key own =
     let end = node_end at w parts from placed in
     let stands = placed.0.end in
-    let same : at.span.end ≡ key.span.end = ap (λ (s : Span). s.end) own.place in
+    let same : held_end w parts at ≡ key.span.end = ap (λ (s : Span). s.end) own.place in
     let itself : tally_at key w parts at ≡ 1 = tally_own key w parts at own in
-    let rest : tallied_among key parts ≡ 0 = none_among key 41 parts (inside from w) placed.1 (inr (omega (arith, end, same))) in
-    record {
-      kind = own.kind;
-      once = omega (arith, itself, rest);
-      after = omega (arith, end, same);
-      before = omega (arith, stands, same);
-    }
+    let never : held_word w parts ≡ None → ⊥ = λ none. omega (arith, itself, tally_unheld key w parts at none) in
+    let rest : tallied_among key parts ≡ 0 = elim (parts_none key at w parts from placed same) [
+      | inl none ↦ absurd (never none)
+      | inr none ↦ none
+    ] in elim (within at w parts from placed) [
+      | inl none ↦ absurd (never none)
+      | inr ends ↦ (let first = ends.0 in let second = ends.1 in record {
+        kind = own.kind;
+        once = omega (arith, itself, rest);
+        after = omega (arith, first, same);
+        before = omega (arith, second, end, stands, same);
+      })
+    ]
 
 inner_once : (at : At) (w : Word) (parts : Pieces) (from : Position) → IsPlaced from (Node at w parts) → (key : Counted)
     → IsOnceAmong 41 parts (inside from w) key → IsOnce (Node at w parts) from key
@@ -156,7 +271,13 @@ inner_once at w parts from placed key inner =
     let after = inner.after in
     let before = inner.before in
     let rest = inner.once in
-    let itself : tally_at key w parts at ≡ 0 = tally_none key w parts at (λ same. omega (arith, end, same, before)) in
+    let itself : tally_at key w parts at ≡ 0 = elim (eqb_tells (held_end w parts at) key.span.end) [
+      | inl same ↦ elim (parts_none key at w parts from placed same.1) [
+        | inl none ↦ tally_unheld key w parts at none
+        | inr none ↦ (let never : ⊥ = omega (arith, rest, none) in absurd never)
+      ]
+      | inr apart ↦ tally_none key w parts at (λ same. absurd (true≢false (sym (eq-eqb (held_end w parts at) key.span.end same) ∙ apart.0)))
+    ] in
     record {
       kind = inner.kind;
       once = omega (arith, itself, rest);
@@ -214,7 +335,8 @@ module _ (methods : List ℕ) where
     once_in (Node at w parts) from placed covered =
         by_tests methods (IsOnce (Node at w parts) from) (Node at w parts) (is_no_code w parts) (is_function w) (is_instantiate w)
         (name_code w parts) parts (plain_word w parts covered.0)
-        (each_weaker _ _ (own_once at w parts from placed) (counted_at methods (Node at w parts)) (own_counted methods at w parts covered.0))
+        (each_weaker _ _ (own_once at w parts from placed) (counted_at methods (Node at w parts))
+        (own_counted methods at w parts covered.0))
         (each_weaker _ _ (inner_once at w parts from placed) (keys_of (code_among parts))
         (once_among 41 parts (inside from w) placed.1 covered.1))
     once_in (Listed End) from placed covered = tt
@@ -247,10 +369,12 @@ body_stands : (f : Syntax) (from : Position) → IsPlaced from f → IsCoveredFu
 body_stands (Node at word.Arrow (Then marked (Then is_async (Then params (Then body End))))) from placed covered =
     record { from = _; placed = placed.1.1.1.1.0 }
 body_stands (Node at word.Arrow _) from placed covered = record { from = from; placed = tt }
-body_stands (Node at word.Fundecl (Then marked (Then is_async (Then generator (Then name (Then params (Then body End))))))) from placed covered =
+body_stands (Node at word.Fundecl (Then marked (Then is_async (Then generator (Then name (Then params (Then body End))))))) from placed
+    covered =
     record { from = _; placed = placed.1.1.1.1.1.1.0 }
 body_stands (Node at word.Fundecl _) from placed covered = record { from = from; placed = tt }
-body_stands (Node at word.Funexpr (Then marked (Then is_async (Then generator (Then name (Then params (Then body End))))))) from placed covered =
+body_stands (Node at word.Funexpr (Then marked (Then is_async (Then generator (Then name (Then params (Then body End))))))) from placed
+    covered =
     record { from = _; placed = placed.1.1.1.1.1.1.0 }
 body_stands (Node at word.Funexpr _) from placed covered = record { from = from; placed = tt }
 body_stands _ from placed covered = absurd covered

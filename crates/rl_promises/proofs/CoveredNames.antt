@@ -5,7 +5,12 @@ use Rattle.rl_syntax.specs.Syntax.{Syntax, Node, Listed, Said, Count, Flag, Abse
 use Rattle.rl_syntax.specs.declared.word.Word.{Word}
 use Rattle.rl_syntax.specs.declared.word.Word.TheVariants as word
 use Rattle.rl_grammar.specs.Grammar.{fits, each, every}
-use Rattle.rl_grammar.specs.Rules.{rule, argument_rule, array_element_rule, arrow_body_rule, assignment_target_rule, binding_identifier_rule, binding_pattern_rule, binding_rest_element_rule, block_statement_rule, catch_clause_rule, expression_rule, for_head_rule, for_init_rule, formal_parameter_rule, formal_parameters_rule, function_body_rule, identifier_reference_rule, object_property_rule, property_key_rule, statement_rule, switch_case_rule, template_element_rule, template_literal_rule, type_annotation_rule, variable_declarator_rule}
+use Rattle.rl_grammar.specs.Rules.{rule, argument_rule, array_element_rule, arrow_body_rule, assignment_target_rule}
+use Rattle.rl_grammar.specs.Rules.{binding_identifier_rule, binding_pattern_rule, binding_rest_element_rule, block_statement_rule}
+use Rattle.rl_grammar.specs.Rules.{catch_clause_rule, expression_rule, for_head_rule, for_init_rule, formal_parameter_rule}
+use Rattle.rl_grammar.specs.Rules.{formal_parameters_rule, function_body_rule, identifier_reference_rule, object_property_rule}
+use Rattle.rl_grammar.specs.Rules.{property_key_rule, statement_rule, switch_case_rule, template_element_rule, template_literal_rule}
+use Rattle.rl_grammar.specs.Rules.{type_annotation_rule, variable_declarator_rule}
 use Rattle.rl_grammar.specs.declared.kind.Field.{Field}
 use Rattle.rl_grammar.specs.declared.kind.Field.TheVariants as field
 use Rattle.rl_grammar.specs.declared.kind.Kind.{Kind}
@@ -47,6 +52,7 @@ is_inner named kind.VariableKind = true
 is_inner named kind.TypeKind = true
 is_inner named kind.UnaryOperator = true
 is_inner named kind.UpdateOperator = true
+is_inner named kind.AssignmentOperator = true
 is_inner named kind.BinaryOperator = true
 is_inner named kind.LogicalOperator = true
 is_inner named _ = false
@@ -77,7 +83,6 @@ module _ (named : Bool) where
   expression_inner : (w : Word) (ps : Pieces) → covers w ps ≡ true → each (expression_rule w) ps ≡ true
       → IsInner named w (expression_rule w)
   expression_inner word.Bind ps covered h = absurd (none_fits ps h)
-  expression_inner word.Assign ps covered h = never covered
   expression_inner word.Funexpr ps covered h = never covered
   expression_inner word.Classexpr ps covered h = never covered
   expression_inner word.Element ps covered h = never covered
@@ -239,6 +244,7 @@ node_inner named kind.UnaryOperator w ps inner covered h = absurd (none_fits ps 
 node_inner named kind.UpdateOperator w ps inner covered h = absurd (none_fits ps h)
 node_inner named kind.BinaryOperator w ps inner covered h = absurd (none_fits ps h)
 node_inner named kind.LogicalOperator w ps inner covered h = absurd (none_fits ps h)
+node_inner named kind.AssignmentOperator w ps inner covered h = absurd (none_fits ps h)
 node_inner named _ w ps inner covered h = never inner
 
 mutual

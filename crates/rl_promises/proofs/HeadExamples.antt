@@ -136,7 +136,7 @@ none_declared : pending (of (keys 11 (node 12 word.Var (Said (codes "let") ∷ L
     ≡ Some 8
 none_declared = refl
 
--- What is behind such a loop is live, whatever its body does. All of it is live but what is dead in its body.
+-- The code behind such a loop is live, whatever its body does. All of it is live but what is dead in its body.
 
 abbrev call_at : (start : ℕ) → Syntax
 call_at start = called start (name (start + 1) (codes "f")) []

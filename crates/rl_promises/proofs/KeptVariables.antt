@@ -1,5 +1,6 @@
 -- Expressions of a covered function keep each variable that no lowered function assigns: behind an expression it has its old value.
-use Rattle.std.proofs.Common.{◌≡◌, ℕ, Bool, true, false, true≢false, ◌||◌, nat_eq, eqb-true, eq-eqb, not, if◌then◌else◌, List, [], ◌∷◌, ◌++◌, codes, refl, sym, ap, ◌∙◌}
+use Rattle.std.proofs.Common.{◌≡◌, ℕ, Bool, true, false, true≢false, ◌||◌, nat_eq, eqb-true, eq-eqb, not, if◌then◌else◌, List, [], ◌∷◌}
+use Rattle.std.proofs.Common.{◌++◌, codes, refl, sym, ap, ◌∙◌}
 use Rattle.std.specs.Str.{bytes_eq}
 use Rattle.rl_machine.specs.Traces.{Cont, Store, by_kind, emit, nullish, set, set_open, truthy}
 use Rattle.rl_machine.specs.declared.trace.Answer.{Answer}
@@ -8,15 +9,17 @@ use Rattle.rl_machine.specs.declared.trace.Event.{Event}
 use Rattle.rl_machine.specs.declared.trace.Value.{Value}
 use Rattle.rl_machine.specs.declared.trace.Value.TheVariants as value
 use Rattle.rl_model.specs.Actions.{Action, Ways, ◌>>=◌, ◌>>◌, answer_to, ask, assign, end_short, give, no_meaning, test, variable}
-use Rattle.rl_model.specs.Code.{contains, local_of}
+use Rattle.rl_model.specs.Code.{assigned_by, contains, local_of}
 use Rattle.rl_model.specs.Events as events
-use Rattle.rl_model.specs.Expressions.{callee, called, delete_property, eval, eval_last, key_in, needs_right, one_value, place, property_key, read, unless_nullish, update_name, update_property, values, values_of}
+use Rattle.rl_model.specs.Expressions.{assign_to, assignment, assignment_in, callee, called, compound, delete_property, eval, eval_last}
+use Rattle.rl_model.specs.Expressions.{key_in, needs_right, one_value, place, property_key, read, unless_nullish, update_name}
+use Rattle.rl_model.specs.Expressions.{update_property, values, values_of, write, write_property}
 use Rattle.rl_model.specs.Scene.{Scene}
 use Rattle.rl_model.specs.Shapes as shapes
 use Rattle.rl_names.specs.declared.names.Meaning.{Meaning}
 use Rattle.rl_names.specs.declared.names.Meaning.TheVariants.{Local, Outer}
 use Rattle.rl_promises.proofs.OrderlyCalls.{IsOrderlyAt, LendAlike, LendsAlike, LendsFirst}
-use Rattle.rl_syntax.specs.Syntax.{Syntax, Node, Listed, Said, Flag, Pieces, End, Then}
+use Rattle.rl_syntax.specs.Syntax.{Syntax, Node, Listed, Said, Flag, Absent, Pieces, End, Then}
 use Rattle.rl_syntax.specs.declared.numbered.At.{At}
 use Rattle.rl_syntax.specs.declared.word.Word.TheVariants as word
 
@@ -57,7 +60,8 @@ module _ (t : Scene) (assigned : List ℕ) (closed : (symbol : ℕ) → t.world.
         (λ b last left agrees. same b last left (agree_then last after store agrees agree)));
   }
 
-  pub keeps_row : {A B : Type 0} (action : Action A) (next : Action B) → Keeps assigned action → Keeps assigned next → Keeps assigned (action >> next)
+  pub keeps_row : {A B : Type 0} (action : Action A) (next : Action B) → Keeps assigned action → Keeps assigned next
+      → Keeps assigned (action >> next)
   keeps_row action next first second = record {
     holds = λ ways f g store answers same.
         first.holds ways (λ a. next ways f) (λ a. next ways g) store answers
@@ -65,7 +69,8 @@ module _ (t : Scene) (assigned : List ℕ) (closed : (symbol : ℕ) → t.world.
         (λ b last left agrees. same b last left (agree_then last after store agrees agree)));
   }
 
-  keeps_if : {A : Type 0} (test : Bool) (first second : Action A) → Keeps assigned first → Keeps assigned second → Keeps assigned (if test then first else second)
+  keeps_if : {A : Type 0} (test : Bool) (first second : Action A) → Keeps assigned first → Keeps assigned second
+      → Keeps assigned (if test then first else second)
   keeps_if true first second one other = one
   keeps_if false first second one other = other
 
@@ -141,7 +146,36 @@ module _ (t : Scene) (assigned : List ℕ) (closed : (symbol : ℕ) → t.world.
       (keeps_give (if prefix then new else old))))
   keeps_update prefix operator (Outer binding) assigns = keeps_none
 
-  keeps_property : (prefix : Bool) (operator : List ℕ) (object : Value) (key : events.Key) → Keeps assigned (update_property t prefix operator object key)
+  -- A store to a name that the function assigns, and to a property.
+
+  keeps_write : (meaning : Meaning) (name : List ℕ) (v : Value)
+      → ((symbol : ℕ) → contains (local_of meaning) symbol ≡ true → contains assigned symbol ≡ true)
+      → Keeps assigned (write t meaning name v)
+  keeps_write (Local symbol) name v assigns =
+      keeps_row _ _ (keeps_assign symbol.0 v (assigns symbol.0 (ap (λ (b : Bool). b || false) (eq-eqb symbol.0 symbol.0 refl))))
+      (keeps_give v)
+  keeps_write (Outer binding) name v assigns = keeps_row _ _ (keeps_answer (events.store_global name v)) (keeps_give v)
+
+  keeps_stored : (object : Value) (key : events.Key) (v : Value) → Keeps assigned (write_property t object key v)
+  keeps_stored object key v = keeps_row _ _ (keeps_answer (events.store_in object key v)) (keeps_give v)
+
+  keeps_in : (object_and_key : Action (Value × events.Key)) (right : Action Value) → Keeps assigned object_and_key → Keeps assigned right
+      → Keeps assigned (assignment_in t object_and_key right)
+  keeps_in object_and_key right keeps also =
+      keeps_if t.ported _ _
+      (keeps_bind _ _ also (λ v. keeps_bind _ _ keeps (λ p. keeps_stored p.0 p.1 v)))
+      (keeps_bind _ _ keeps (λ p. keeps_bind _ _ also (λ v. keeps_stored p.0 p.1 v)))
+
+  keeps_computed : (operator : List ℕ) (object_and_key : Action (Value × events.Key)) (right : Action Value) → Keeps assigned object_and_key
+      → Keeps assigned right
+      → Keeps assigned (object_and_key >>= (λ p. ask t (events.load p.0 p.1) >>= (λ old. right >>= (λ w.
+      ask t (events.binary operator old w) >>= (λ v. write_property t p.0 p.1 v)))))
+  keeps_computed operator object_and_key right keeps also =
+      keeps_bind _ _ keeps (λ p. keeps_bind _ _ (keeps_ask (events.load p.0 p.1)) (λ old.
+      keeps_bind _ _ also (λ w. keeps_bind _ _ (keeps_ask (events.binary operator old w)) (λ v. keeps_stored p.0 p.1 v))))
+
+  keeps_property : (prefix : Bool) (operator : List ℕ) (object : Value) (key : events.Key)
+      → Keeps assigned (update_property t prefix operator object key)
   keeps_property prefix operator object key =
       keeps_bind _ _ (keeps_ask (events.load object key)) (λ old.
       keeps_bind _ _ (keeps_ask _) (λ new.
@@ -166,7 +200,8 @@ module _ (t : Scene) (assigned : List ℕ) (closed : (symbol : ℕ) → t.world.
   keeps_key (Node at word.Num (Then (Said text) End)) computed keeps = keeps_if _ (give _) no_meaning (keeps_give _) keeps_none
   keeps_key _ computed keeps = keeps_bind _ _ keeps (λ v. keeps_give (events.computed_key v))
 
-  keeps_property_key : (computed : Bool) (key : Syntax) (action : Action Value) → Keeps assigned action → Keeps assigned (property_key computed key action)
+  keeps_property_key : (computed : Bool) (key : Syntax) (action : Action Value) → Keeps assigned action
+      → Keeps assigned (property_key computed key action)
   keeps_property_key computed key action keeps =
       keeps_if (shapes.is_computed computed key) _ _ (keeps_one action keeps) (keeps_if _ (give []) no_meaning (keeps_give []) keeps_none)
 
@@ -206,6 +241,10 @@ module _ (t : Scene) (assigned : List ℕ) (closed : (symbol : ℕ) → t.world.
   abbrev AreAllCovered : Pieces → Type 0
   AreAllCovered = LendAlike t.names assigned
 
+  -- The function assigns the variables of the target.
+  abbrev Assigns : (target : Syntax) → Type 0
+  Assigns target = (symbol : ℕ) → contains (assigned_by t.names target) symbol ≡ true → contains assigned symbol ≡ true
+
   mutual
     pub eval_keeps : (e : Syntax) → Covered e → Keeps assigned (eval t e)
     eval_keeps (Node at word.Null parts) covered = null_keeps at parts
@@ -236,7 +275,7 @@ module _ (t : Scene) (assigned : List ℕ) (closed : (symbol : ℕ) → t.world.
     eval_keeps (Node at word.Index parts) covered = index_keeps at parts covered.2
     eval_keeps (Node at word.Call parts) covered = call_keeps at parts covered.2
     eval_keeps (Node at word.New parts) covered = new_keeps at parts covered.2
-    eval_keeps (Node at word.Assign parts) covered = absurd (true≢false (sym covered.0))
+    eval_keeps (Node at word.Assign parts) covered = assign_keeps at parts covered.1 covered.2
     eval_keeps (Node at word.Chain parts) covered = absurd (true≢false (sym covered.0))
     eval_keeps (Node at word.Arrow parts) covered = absurd (true≢false (sym covered.0))
     eval_keeps (Node at word.Funexpr parts) covered = absurd (true≢false (sym covered.0))
@@ -264,7 +303,8 @@ module _ (t : Scene) (assigned : List ℕ) (closed : (symbol : ℕ) → t.world.
     assert_keeps at (Then type (Then expression End)) covered = eval_keeps expression covered.1.0
     assert_keeps at _ covered = keeps_none
 
-    instantiate_keeps : (at : At) (parts : Pieces) → LendsFirst t.names assigned parts → Keeps assigned (eval t (Node at word.Instantiate parts))
+    instantiate_keeps : (at : At) (parts : Pieces) → LendsFirst t.names assigned parts
+        → Keeps assigned (eval t (Node at word.Instantiate parts))
     instantiate_keeps at (Then expression (Then names End)) covered = eval_keeps expression covered
     instantiate_keeps at _ covered = keeps_none
 
@@ -332,14 +372,57 @@ module _ (t : Scene) (assigned : List ℕ) (closed : (symbol : ℕ) → t.world.
     name_keeps operator prefix at there _ End orderly = record { holds = λ ways f g store answers same. refl }
     name_keeps operator prefix at there _ (Then first rest) orderly = record { holds = λ ways f g store answers same. refl }
 
+    -- Assignments.
+
+    assign_keeps : (at : At) (parts : Pieces) → IsOrderlyAt t.names assigned at word.Assign parts → AreAllCovered parts
+        → Keeps assigned (eval t (Node at word.Assign parts))
+    assign_keeps at (Then (Said operator) (Then target (Then right End))) orderly covered =
+        keeps_if (bytes_eq operator (codes "=")) _ _
+        (equals_keeps target right orderly.assigns covered.1.0 (eval_keeps right covered.1.1.0))
+        (keeps_if (shapes.is_logical operator) no_meaning _ keeps_none
+        (compound_keeps (shapes.operator_in operator) target right orderly.assigns covered.1.0 (eval_keeps right covered.1.1.0)))
+    assign_keeps at _ orderly covered = keeps_none
+
+    equals_keeps : (target right : Syntax) → Assigns target → Covered target → Keeps assigned (eval t right)
+        → Keeps assigned (assignment t target (place t target) (assign_to t target) (eval t right))
+    equals_keeps (Node there word.Id (Then (Said name) End)) right assigns covered also =
+        keeps_bind _ _ also (λ v. keeps_write (t.names.meaning there.reference.0 name) name v assigns)
+    equals_keeps (Node there word.Member parts) right assigns covered also =
+        keeps_in _ _ (member_placed there parts covered.2) also
+    equals_keeps (Node there word.Index parts) right assigns covered also =
+        keeps_in _ _ (index_placed there parts covered.2) also
+    equals_keeps (Node there word.Privatemember parts) right assigns covered also = keeps_none
+    equals_keeps (Node there word.Arraytarget parts) right assigns covered also = absurd (true≢false (sym covered.0))
+    equals_keeps (Node there word.Objecttarget parts) right assigns covered also = absurd (true≢false (sym covered.0))
+    equals_keeps (Node there word.Default parts) right assigns covered also = absurd (true≢false (sym covered.0))
+    equals_keeps (Node there word.Short parts) right assigns covered also = absurd (true≢false (sym covered.0))
+    equals_keeps (Node there word.Keyed parts) right assigns covered also = absurd (true≢false (sym covered.0))
+    equals_keeps (Node there word.Rest parts) right assigns covered also = absurd (true≢false (sym covered.0))
+    equals_keeps Absent right assigns covered also =
+        keeps_bind _ _ also (λ v. keeps_row _ _ (keeps_give (tt {0})) (keeps_give v))
+    equals_keeps _ right assigns covered also = keeps_bind _ _ also (λ v. keeps_row {A = Unit {0}} _ _ keeps_none (keeps_give v))
+
+    compound_keeps : (operator : List ℕ) (target right : Syntax) → Assigns target → Covered target → Keeps assigned (eval t right)
+        → Keeps assigned (compound t operator target (place t target) (eval t right))
+    compound_keeps operator (Node there word.Id (Then (Said name) End)) right assigns covered also =
+        keeps_bind _ _ (keeps_read (t.names.meaning there.reference.0 name)) (λ old.
+        keeps_bind _ _ also (λ w.
+        keeps_bind _ _ (keeps_ask (events.binary operator old w)) (λ v.
+        keeps_write (t.names.meaning there.reference.0 name) name v assigns)))
+    compound_keeps operator (Node there word.Member parts) right assigns covered also =
+        keeps_computed operator _ _ (member_placed there parts covered.2) also
+    compound_keeps operator (Node there word.Index parts) right assigns covered also =
+        keeps_computed operator _ _ (index_placed there parts covered.2) also
+    compound_keeps operator _ right assigns covered also = keeps_computed operator _ _ keeps_none also
+
     -- The object and the key of a property.
 
-    member_placed : (at : At) (parts : Pieces) → AreAllCovered parts → Keeps assigned (place t (Node at word.Member parts))
+    pub member_placed : (at : At) (parts : Pieces) → AreAllCovered parts → Keeps assigned (place t (Node at word.Member parts))
     member_placed at (Then optional (Then object (Then (Said name) End))) covered =
         keeps_bind _ _ (eval_keeps object covered.1.0) (λ v. keeps_give _)
     member_placed at _ covered = keeps_none
 
-    index_placed : (at : At) (parts : Pieces) → AreAllCovered parts → Keeps assigned (place t (Node at word.Index parts))
+    pub index_placed : (at : At) (parts : Pieces) → AreAllCovered parts → Keeps assigned (place t (Node at word.Index parts))
     index_placed at (Then optional (Then object (Then property End))) covered =
         keeps_bind _ _ (eval_keeps object covered.1.0) (λ v.
         keeps_bind _ _ (keeps_key property _ (eval_keeps property covered.1.1.0)) (λ key. keeps_give _))
@@ -393,7 +476,8 @@ module _ (t : Scene) (assigned : List ℕ) (closed : (symbol : ℕ) → t.world.
     call_keeps : (at : At) (parts : Pieces) → AreAllCovered parts → Keeps assigned (eval t (Node at word.Call parts))
     call_keeps at (Then (Flag optional) (Then called_part (Then (Listed arguments) End))) covered =
         keeps_bind _ _
-        (keeps_if (shapes.lends_receiver t called_part) _ _ (callee_keeps called_part covered.1.0) (keeps_one _ (eval_keeps called_part covered.1.0)))
+        (keeps_if (shapes.lends_receiver t called_part) _ _ (callee_keeps called_part covered.1.0)
+        (keeps_one _ (eval_keeps called_part covered.1.0)))
         (λ head. keeps_row _ _ (keeps_missing optional (called head))
         (keeps_bind _ _ (values_keep arguments covered.1.1.0) (λ vs. keeps_ask _)))
     call_keeps at _ covered = keeps_none

@@ -1,8 +1,8 @@
+pub mod Accepted
 pub mod Alike
 pub mod AlikeExpressions
 pub mod BodyStopping
 pub mod CaseStopping
-pub mod CaseTests
 pub mod CountedCode
 pub mod CountedLives
 pub mod CountedOnce
@@ -14,6 +14,7 @@ pub mod Covering
 mod Examples
 pub mod DeclarationSpans
 pub mod FirstDeclarations
+pub mod FormedParts
 pub mod FunctionParts
 mod HeadExamples
 pub mod HeldOnce
@@ -31,8 +32,10 @@ mod RowExamples
 pub mod Shaping
 pub mod Skipping
 pub mod SmallNames
+pub mod SteadyTargets
 pub mod SteadyTests
 pub mod Stopping
 mod SwitchExamples
 pub mod Unheld
+pub mod Unwrapped
 pub mod VariableTrees

@@ -5,7 +5,7 @@ use Rattle.rl_promises.specs.PartForms.{second_list}
 use Rattle.rl_syntax.specs.Shapes.{is_flag, is_one}
 use Rattle.rl_syntax.specs.Syntax.{Syntax, Listed, Flag, Pieces, End, Then}
 
--- One declarator.
+-- A declarator alone.
 
 pub none_declared : (ps : Pieces) → None ≡ second_list ps → false ≡ declares_one ps
 none_declared (Then kind (Then (Listed declarators) End)) none = absurd (cc)

@@ -2,7 +2,8 @@
 use Rattle.std.proofs.Common.{◌≡◌, ℕ, Bool, true, false, true≢false, ◌&&◌, ◌||◌, nat_eq, not, None, List, [], ◌∷◌, ◌++◌, refl, sym, ap, ◌∙◌}
 use Rattle.std.proofs.lemmas.List.Folds.{list_all-append}
 use Rattle.std.specs.List.{AllByRecursion, list_all}
-use Rattle.rl_model.specs.Code.{assigned_at, assigned_in, code, code_among, code_of, contains, first_code, flat, inner_functions, lowered_functions}
+use Rattle.rl_model.specs.Code.{assigned_at, assigned_in, code, code_among, code_of, contains, first_code, flat, inner_functions}
+use Rattle.rl_model.specs.Code.{lowered_functions}
 use Rattle.rl_model.specs.Marked.{marked}
 use Rattle.rl_model.specs.Orderly.{is_link_inside, is_orderly_node}
 use Rattle.rl_model.specs.Shapes.{is_link, lends}
@@ -11,8 +12,8 @@ use Rattle.rl_model.specs.Units.{names_of}
 use Rattle.rl_names.proofs.Items.{each_left, each_right}
 use Rattle.rl_names.specs.Functions.{body_in, params_in}
 use Rattle.rl_names.specs.Names.{Names}
-use Rattle.rl_promises.proofs.CaseTests.{HasTest, HasTests, HaveTests}
 use Rattle.rl_promises.proofs.CoveredWorlds.{body_covered}
+use Rattle.rl_promises.proofs.FormedParts.{AreFormed, HasFormedParts, IsFormed}
 use Rattle.rl_promises.specs.Covered.{AreCovered, IsCovered, IsCoveredFunction, covers}
 use Rattle.rl_syntax.specs.Syntax.{Syntax, Node, Listed, Said, Count, Flag, Absent, Pieces, End, Then}
 use Rattle.rl_syntax.specs.declared.numbered.At.{At}
@@ -32,12 +33,12 @@ Within word.Instantiate first all = first
 Within _ first all = all
 
 -- Facts of a node by itself: it lends one receiver, as it is written and as it is ported, it is orderly, no function assigns a variable
--- beside those `assigned` that it assigns, and the test of a case is an expression.
+-- beside those `assigned` that it assigns, and its parts that the port evaluates in another order fit the grammar.
 pub record IsOrderlyAt (names : Names) (assigned : List ℕ) (at : At) (w : Word) (parts : Pieces) : Type 0 where
   pub lends : lends_at w parts ≡ false
   pub orderly : is_orderly_node names assigned (Node at w parts) ≡ true
   pub assigns : (symbol : ℕ) → contains (assigned_at names (Node at w parts)) symbol ≡ true → contains assigned symbol ≡ true
-  pub formed : HasTest w parts
+  pub formed : HasFormedParts w parts
 
 module _ (names : Names) (assigned : List ℕ) where
   abbrev mutual
@@ -112,11 +113,13 @@ or_second false b h = h
 -- The nodes of some code assign no other variables.
 abbrev AreAssigning : Names → (assigned : List ℕ) → List Syntax → Type 0
 AreAssigning names assigned nodes =
-    AllByRecursion (λ (node : Syntax). (symbol : ℕ) → contains (assigned_at names node) symbol ≡ true → contains assigned symbol ≡ true) nodes
+    AllByRecursion (λ (node : Syntax).
+    (symbol : ℕ) → contains (assigned_at names node) symbol ≡ true → contains assigned symbol ≡ true) nodes
 
 contains_left : (xs ys : List ℕ) (symbol : ℕ) → contains xs symbol ≡ true → contains (xs ++ ys) symbol ≡ true
 contains_left [] ys symbol there = absurd (true≢false (sym there))
-contains_left (x ∷ xs) ys symbol there = or_either (nat_eq symbol x) (contains xs symbol) (contains (xs ++ ys) symbol) (contains_left xs ys symbol) there
+contains_left (x ∷ xs) ys symbol there =
+    or_either (nat_eq symbol x) (contains xs symbol) (contains (xs ++ ys) symbol) (contains_left xs ys symbol) there
 
 contains_right : (xs ys : List ℕ) (symbol : ℕ) → contains ys symbol ≡ true → contains (xs ++ ys) symbol ≡ true
 contains_right [] ys symbol there = there
@@ -150,7 +153,7 @@ module _ (names : Names) (assigned : List ℕ) where
 
   -- A covered node is code, but for a type: itself, and then its parts.
   itself : (at : At) (w : Word) (parts : Pieces) → covers w parts ≡ true → list_all orderly_node (code (Node at w parts)) ≡ true
-      → Assigning (code (Node at w parts)) → HasTest w parts → IsOrderlyAt names assigned at w parts
+      → Assigning (code (Node at w parts)) → HasFormedParts w parts → IsOrderlyAt names assigned at w parts
   itself at word.Type parts covered orderly assigns formed = record {
     lends = refl;
     orderly = refl;
@@ -181,7 +184,7 @@ module _ (names : Names) (assigned : List ℕ) where
       each (both_true (orderly_node (Node at w parts)) (list_all orderly_node (code_among parts)) orderly).1 assigns.1
 
   mutual
-    lends_in : (e : Syntax) → IsCovered e → list_all orderly_node (code e) ≡ true → Assigning (code e) → HasTests e → Lends e
+    lends_in : (e : Syntax) → IsCovered e → list_all orderly_node (code e) ≡ true → Assigning (code e) → IsFormed e → Lends e
     lends_in (Node at w parts) covered orderly assigns formed = (
       covered.0,
       itself at w parts covered.0 orderly assigns formed.0,
@@ -195,13 +198,13 @@ module _ (names : Names) (assigned : List ℕ) where
     lends_in Absent covered orderly assigns formed = tt
 
     lends_first : (parts : Pieces) → AreCovered parts → list_all orderly_node (first_code parts) ≡ true → Assigning (first_code parts)
-        → HaveTests parts
+        → AreFormed parts
         → LendsFirst names assigned parts
     lends_first End covered orderly assigns formed = tt
     lends_first (Then part parts) covered orderly assigns formed = lends_in part covered.0 orderly assigns formed.0
 
     lends_among : (parts : Pieces) → AreCovered parts → list_all orderly_node (code_among parts) ≡ true → Assigning (code_among parts)
-        → HaveTests parts
+        → AreFormed parts
         → LendAlike names assigned parts
     lends_among End covered orderly assigns formed = tt
     lends_among (Then part parts) covered orderly assigns formed =
@@ -217,13 +220,14 @@ assigned_of u = flat (assigned_in (names_of u)) (lowered_functions (marked u))
 
 -- The body of the marked function lends one receiver to each call and tag, as it is written and as it is ported, if it is covered and
 -- orderly.
-pub body_lends : (u : Syntax) → IsCoveredFunction (marked u) → HasTests (body_in (marked u)) → is_orderly u None ≡ true
+pub body_lends : (u : Syntax) → IsCoveredFunction (marked u) → IsFormed (body_in (marked u)) → is_orderly u None ≡ true
     → LendsAlike (names_of u) (assigned_of u) (body_in (marked u))
 body_lends u covered formed orderly =
     let names : Names = names_of u in
     let assigned : List ℕ = assigned_of u in
     let nodes : list_all (is_orderly_node names assigned) (code_of (marked u)) ≡ true = (both_true _ _ (both_true _ _ orderly).0).0 in
-    let both = both_true _ _ (sym (list_all-append (is_orderly_node names assigned) (code (params_in (marked u))) (code (body_in (marked u)))) ∙ nodes) in
+    let parted = list_all-append (is_orderly_node names assigned) (code (params_in (marked u))) (code (body_in (marked u))) in
+    let both = both_true _ _ (sym parted ∙ nodes) in
     let assigns = assigning names assigned (code_of (marked u))
     (contains_left (assigned_in names (marked u)) (flat (assigned_in names) (inner_functions (marked u)))) in
     lends_in names assigned (body_in (marked u)) (body_covered (marked u) covered) both.1

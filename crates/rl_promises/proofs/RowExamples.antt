@@ -215,6 +215,72 @@ module_updated : refusals_in (unit (
     ≡ refusal row.F21 (span 17) ∷ []
 module_updated = refl
 
+-- Assignments: of a constant, of one named `fbt`, of a global, of properties, and of one of a private name; by a logical operator.
+abbrev assigned : (operator : List ℕ) → (target right : Syntax) → Syntax
+assigned operator target right = node 17 word.Assign (Said operator ∷ target ∷ right ∷ [])
+
+abbrev private_of : (start : ℕ) → (object : Syntax) → Syntax
+private_of start object = node start word.Privatemember (Flag false ∷ object ∷ Said (codes "p") ∷ [])
+
+abbrev assigns : (kind declared operator : List ℕ) → (target : Syntax) → List Diagnostic
+assigns kind declared operator target =
+    refusals_in (unit_of (function [] (declared_as kind declared (node 14 word.Null [])
+    ∷ node 16 word.Expr (assigned operator target (node 30 word.This []) ∷ []) ∷ [])))
+
+constant_assigned : assigns (codes "const") (codes "a") (codes "=") (name 18 (codes "a"))
+    ≡ refusal row.F18 (span 30) ∷ diagnostic_at row.F6 (codes "a") (span 18) ∷ []
+constant_assigned = refl
+
+constant_compound : assigns (codes "const") (codes "a") (codes "+=") (name 18 (codes "a"))
+    ≡ refusal row.F18 (span 30) ∷ diagnostic_at row.F6 (codes "a") (span 18) ∷ []
+constant_compound = refl
+
+fbt_assigned : assigns (codes "let") (codes "fbt") (codes "=") (name 18 (codes "fbt"))
+    ≡ refusal row.F40 (span 13) ∷ refusal row.F18 (span 30) ∷ refusal row.F40 (span 13) ∷ []
+fbt_assigned = refl
+
+fbt_compound : assigns (codes "let") (codes "fbt") (codes "**=") (name 18 (codes "fbt"))
+    ≡ refusal row.F40 (span 13) ∷ refusal row.F40 (span 13) ∷ refusal row.F18 (span 30) ∷ refusal row.F40 (span 13) ∷ []
+fbt_compound = refl
+
+global_assigned : assigns (codes "let") (codes "a") (codes "=") (name 18 (codes "eval")) ≡ refusal row.F18 (span 30) ∷ []
+global_assigned = refl
+
+global_compound : assigns (codes "let") (codes "a") (codes "-=") (name 18 (codes "eval"))
+    ≡ refusal row.F2 (span 18) ∷ refusal row.F18 (span 30) ∷ []
+global_compound = refl
+
+property_assigned : assigns (codes "let") (codes "a") (codes "=") (property_of 18 (node 19 word.This []))
+    ≡ refusal row.F18 (span 30) ∷ refusal row.F18 (span 19) ∷ []
+property_assigned = refl
+
+property_compound : assigns (codes "let") (codes "a") (codes ">>>=") (property_of 18 (node 19 word.This []))
+    ≡ refusal row.F18 (span 19) ∷ refusal row.F18 (span 30) ∷ []
+property_compound = refl
+
+private_assigned : assigns (codes "let") (codes "a") (codes "=") (private_of 18 (node 19 word.This []))
+    ≡ refusal row.F18 (span 30) ∷ refusal row.F18 (span 19) ∷ refusal row.F5 (span 17) ∷ []
+private_assigned = refl
+
+private_compound : assigns (codes "let") (codes "a") (codes "+=") (private_of 18 (node 19 word.This []))
+    ≡ refusal row.F18 (span 19) ∷ refusal row.F3 (span 18) ∷ refusal row.F18 (span 30) ∷ []
+private_compound = refl
+
+logical_assigned : assigns (codes "let") (codes "a") (codes "??=") (private_of 18 (node 19 word.This [])) ≡ refusal row.F23 (span 17) ∷ []
+logical_assigned = refl
+
+-- A wrapped target ends the lowering before a reserved name in front of it, and behind a parameter `this`.
+abbrev wraps : (parameters : List (List ℕ)) → (declared operator : List ℕ) → Option Diagnostic
+wraps parameters declared operator =
+    stop_in (unit_of (function parameters (declared_as (codes "let") declared (node 14 word.Null [])
+    ∷ node 16 word.Expr (assigned operator (node 18 word.Nonnull (node 19 word.This [] ∷ [])) (node 30 word.Null []) ∷ []) ∷ [])))
+
+wrapped_assigned : wraps [] (codes "class") (codes "||=") ≡ Some (diagnostic_at row.S3 (codes "TSNonNullExpression") (span 18))
+wrapped_assigned = refl
+
+wrapped_behind : wraps (codes "this" ∷ []) (codes "a") (codes "=") ≡ Some (diagnostic_at row.S2 (codes "this") (span 6))
+wrapped_behind = refl
+
 -- A declaration by `using`, for which a unit is skipped.
 skipped : has_using (body_in (marked (unit_of (function [] (declared_as (codes "using") (codes "a") (node 14 word.Null []) ∷ []))))) ≡ true
 skipped = refl

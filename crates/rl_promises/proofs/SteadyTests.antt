@@ -1,5 +1,6 @@
 -- The tests of a `switch` in an orderly function: a run that evaluates them before the discriminant is one that evaluates them behind it.
-use Rattle.std.proofs.Common.{◌≡◌, ℕ, Bool, true, false, true≢false, not, if◌then◌else◌, List, [], ◌∷◌, ◌++◌, Option, Some, None, refl, sym, ap, subst, ◌∙◌}
+use Rattle.std.proofs.Common.{◌≡◌, ℕ, Bool, true, false, true≢false, not, if◌then◌else◌, List, [], ◌∷◌, Option, Some, None, refl, sym}
+use Rattle.std.proofs.Common.{ap, subst, ◌∙◌}
 use Rattle.std.proofs.lemmas.Bool.{and_parts}
 use Rattle.rl_base.specs.declared.diagnostic.Diagnostic.{Diagnostic}
 use Rattle.rl_grammar.specs.Grammar.{fits, each}
@@ -17,6 +18,7 @@ use Rattle.rl_model.specs.Scene.{Scene}
 use Rattle.rl_model.specs.Statements.{eval_tests, exec_all, exec_cases, try_cases}
 use Rattle.rl_names.specs.declared.names.Meaning.{Meaning}
 use Rattle.rl_names.specs.declared.names.Meaning.TheVariants.{Local, Outer}
+use Rattle.rl_promises.proofs.Accepted.{nil_parts}
 use Rattle.rl_promises.proofs.CoveredForms.{text_form}
 use Rattle.rl_promises.proofs.FunctionParts.{flag_form}
 use Rattle.rl_promises.proofs.KeptVariables.{Agree, Keeps, agree_then, keeps_test}
@@ -26,20 +28,15 @@ use Rattle.rl_syntax.specs.declared.numbered.At.{At}
 use Rattle.rl_syntax.specs.declared.word.Word.TheVariants as word
 use Rattle.rl_text.specs.Numeral.{is_numeral, number_of}
 
--- Two lists that are empty together.
-pub nil_parts : {X : Type 0} (xs ys : List X) → xs ++ ys ≡ [] → (xs ≡ []) × (ys ≡ [])
-nil_parts [] ys none = (refl, none)
-nil_parts (x ∷ xs) ys none = absurd (cc)
-
--- An expression that gives a value without an event, and the same one as long as no variable of the function is assigned.
-pub record IsSteady (assigned : List ℕ) (action : Action Value) : Type 0 where
-  pub of : Store → Value
-  pub gives : (ways : Ways) (f : Value → Cont) (store : Store) (answers : List Answer)
+-- An action that gives a value without an event, and the same one as long as no variable of the function is assigned.
+pub record IsSteady (assigned : List ℕ) {A : Type 0} (action : Action A) : Type 0 where
+  pub of : Store → A
+  pub gives : (ways : Ways) (f : A → Cont) (store : Store) (answers : List Answer)
       → action ways f store answers ≡ f (of store) store answers
   pub same : (after before : Store) → Agree assigned after before → of after ≡ of before
 
 module _ (t : Scene) (assigned : List ℕ) (closed : (symbol : ℕ) → t.world.opens symbol ≡ false) where
-  steady_give : (v : Value) → IsSteady assigned (give v)
+  steady_give : {A : Type 0} (v : A) → IsSteady assigned (give v)
   steady_give v = record { of = λ store. v; gives = λ ways f store answers. refl; same = λ after before agree. refl }
 
   steady_read : (meaning : Meaning) → is_steady_name assigned meaning ≡ true → IsSteady assigned (read t meaning)
@@ -84,13 +81,13 @@ module _ (t : Scene) (assigned : List ℕ) (closed : (symbol : ℕ) → t.world.
       ended text End h = steady_give (value.Text text)
       ended text (Then p ps) h = absurd (true≢false (sym h))
 
-  numeral_steady : (b : Bool) (v : Value) (d : Diagnostic) → (if b then [] else d ∷ []) ≡ []
+  pub numeral_steady : {A : Type 0} (b : Bool) (v : A) (d : Diagnostic) → (if b then [] else d ∷ []) ≡ []
       → IsSteady assigned (if b then give v else no_meaning)
   numeral_steady true v d none = steady_give v
   numeral_steady false v d none = absurd (cc)
 
-  steady_num : (at : At) (parts : Pieces) → each (Some (field.One kind.Text ∷ [])) parts ≡ true → refusals t.names (Node at word.Num parts) ≡ []
-      → IsSteady assigned (eval t (Node at word.Num parts))
+  steady_num : (at : At) (parts : Pieces) → each (Some (field.One kind.Text ∷ [])) parts ≡ true
+      → refusals t.names (Node at word.Num parts) ≡ [] → IsSteady assigned (eval t (Node at word.Num parts))
   steady_num at End h none = absurd (true≢false (sym h))
   steady_num at (Then p ps) h none =
       let fit = and_parts (fits (field.One kind.Text) p) (each (Some []) ps) h in
@@ -160,8 +157,8 @@ module _ (t : Scene) (assigned : List ℕ) (closed : (symbol : ℕ) → t.world.
   known (Then (Node at word.Case (Then condition parts)) cases) are store = absurd are
   known _ are store = []
 
-  evaluated : (cases : Pieces) (are : AreSteady cases) (ways : Ways) (f : List (Option Value) → Cont) (store : Store) (answers : List Answer)
-      → eval_tests t cases ways f store answers ≡ f (known cases are store) store answers
+  evaluated : (cases : Pieces) (are : AreSteady cases) (ways : Ways) (f : List (Option Value) → Cont) (store : Store)
+      (answers : List Answer) → eval_tests t cases ways f store answers ≡ f (known cases are store) store answers
   unfolding known
   evaluated (Then (Node at word.Case (Then Absent parts)) cases) are ways f store answers =
       evaluated cases are ways (λ vs. f (None ∷ vs)) store answers
@@ -191,8 +188,8 @@ module _ (t : Scene) (assigned : List ℕ) (closed : (symbol : ℕ) → t.world.
   unfolding known
   compared (Then (Node at word.Case (Then Absent parts)) cases) are first store agree v other ways onward answers =
       compared cases are first store agree v other ways onward answers
-  compared (Then (Node at word.Case (Then (Node there w ps) (Then (Listed statements) End))) cases) are first store agree v other ways onward
-      answers =
+  compared (Then (Node at word.Case (Then (Node there w ps) (Then (Listed statements) End))) cases) are first store agree v other ways
+      onward answers =
       let matched : Action (Unit {0}) = exec_all t statements >> exec_cases t cases in
       let later : Action (Unit {0}) = try_cases t cases v (known cases are.1 first) other in
       let late : Action (Unit {0}) = try_cases t cases v [] other in

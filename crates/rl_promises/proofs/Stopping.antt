@@ -1,10 +1,12 @@
 -- The first stop of a node, by its word and the form of its parts.
-use Rattle.std.proofs.Common.{◌≡◌, ◌<◌, ◌+◌, ℕ, Bool, true, false, if◌then◌else◌, Option, Some, None, List, ap, sym, refl, ◌∙◌, arith}
+use Rattle.std.proofs.Common.{◌≡◌, ◌<◌, ◌+◌, ℕ, Bool, true, false, if◌then◌else◌, Option, Some, None, List, codes, ap, sym, refl, ◌∙◌}
+use Rattle.std.proofs.Common.{arith}
 use Rattle.std.proofs.lemmas.Option.{some_pair_parts}
 use Rattle.std.specs.Option.{option_or}
+use Rattle.std.specs.Str.{bytes_eq}
 use Rattle.rl_base.specs.declared.diagnostic.Diagnostic.{Diagnostic}
 use Rattle.rl_base.specs.declared.ids.SymbolId.{SymbolId}
-use Rattle.rl_model.specs.Shapes.{are_raw}
+use Rattle.rl_model.specs.Shapes.{are_raw, is_logical}
 use Rattle.rl_names.specs.Names.{Names, local_of}
 use Rattle.rl_promises.specs.Outs.{is_known_key, is_lost_delete, is_wrapped}
 use Rattle.rl_promises.specs.PartForms.{is_flag_and_trees, is_text_ahead, is_text_alone, is_text_and_tree, template_lists, two_lists}
@@ -58,7 +60,8 @@ logical_stop n at ps rest operator a b r is both e =
 
 pub logical_other : (n : Names) (at : At) (ps rest : Pieces) (operator : List ℕ) (r : Option Diagnostic) → ps ≡ Then (Said operator) rest
     → is_two rest ≡ false → r ≡ first_among n ps → r ≡ first_stop n (Node at word.Logical ps)
-logical_other n at (Then (Said text) (Then a (Then b End))) rest operator r is other e = absurd (let same : rest ≡ Then a (Then b End) = cc in cc)
+logical_other n at (Then (Said text) (Then a (Then b End))) rest operator r is other e =
+    absurd (let same : rest ≡ Then a (Then b End) = cc in cc)
 logical_other n at _ rest operator r is other e = e
 
 pub logical_parts : (n : Names) (at : At) (ps : Pieces) (r : Option Diagnostic) → is_text_ahead ps ≡ false → r ≡ first_among n ps
@@ -119,6 +122,49 @@ update_parts n at _ r other e = e
 pub ruleset unaries =
     (instantiate_stop, instantiate_none, unary_lost, unary_stop, unary_parts, update_wrapped, update_stop, update_parts)
 
+-- Assignments, by their operators.
+assign_is : (n : Names) (at : At) (ps rest : Pieces) (operator : List ℕ) (a b : Syntax) (plain : Bool) → ps ≡ Then (Said operator) rest
+    → rest ≡ Then a (Then b End) → bytes_eq operator (codes "=") ≡ plain
+    → first_stop n (Node at word.Assign ps)
+    ≡ (if plain then option_or (first_stop n b) (first_stop n a)
+    else if is_logical operator then None else option_or (first_stop n a) (first_stop n b))
+assign_is n at ps rest operator a b plain is both told =
+    ap (λ q. first_stop n (Node at word.Assign q)) (is ∙ ap (Then (Said operator)) both)
+    ∙ ap (λ (t : Bool). if t then option_or (first_stop n b) (first_stop n a)
+    else if is_logical operator then None else option_or (first_stop n a) (first_stop n b)) told
+
+pub assign_plain : (n : Names) (at : At) (ps rest : Pieces) (operator : List ℕ) (a b : Syntax) (r : Option Diagnostic)
+    → ps ≡ Then (Said operator) rest → rest ≡ Then a (Then b End) → bytes_eq operator (codes "=") ≡ true
+    → r ≡ option_or (first_stop n b) (first_stop n a) → r ≡ first_stop n (Node at word.Assign ps)
+assign_plain n at ps rest operator a b r is both told e = e ∙ sym (assign_is n at ps rest operator a b true is both told)
+
+pub assign_logical : (n : Names) (at : At) (ps rest : Pieces) (operator : List ℕ) (a b : Syntax)
+    → ps ≡ Then (Said operator) rest → rest ≡ Then a (Then b End) → bytes_eq operator (codes "=") ≡ false → is_logical operator ≡ true
+    → None ≡ first_stop n (Node at word.Assign ps)
+assign_logical n at ps rest operator a b is both told logical =
+    sym (assign_is n at ps rest operator a b false is both told
+    ∙ ap (λ (t : Bool). if t then None else option_or (first_stop n a) (first_stop n b)) logical)
+
+pub assign_compound : (n : Names) (at : At) (ps rest : Pieces) (operator : List ℕ) (a b : Syntax) (r : Option Diagnostic)
+    → ps ≡ Then (Said operator) rest → rest ≡ Then a (Then b End) → bytes_eq operator (codes "=") ≡ false → is_logical operator ≡ false
+    → r ≡ option_or (first_stop n a) (first_stop n b) → r ≡ first_stop n (Node at word.Assign ps)
+assign_compound n at ps rest operator a b r is both told logical e =
+    e ∙ sym (assign_is n at ps rest operator a b false is both told
+    ∙ ap (λ (t : Bool). if t then None else option_or (first_stop n a) (first_stop n b)) logical)
+
+pub assign_other : (n : Names) (at : At) (ps rest : Pieces) (operator : List ℕ) (r : Option Diagnostic) → ps ≡ Then (Said operator) rest
+    → is_two rest ≡ false → r ≡ first_among n ps → r ≡ first_stop n (Node at word.Assign ps)
+assign_other n at (Then (Said text) (Then a (Then b End))) rest operator r is other e =
+    absurd (let same : rest ≡ Then a (Then b End) = cc in cc)
+assign_other n at _ rest operator r is other e = e
+
+pub assign_parts : (n : Names) (at : At) (ps : Pieces) (r : Option Diagnostic) → is_text_ahead ps ≡ false → r ≡ first_among n ps
+    → r ≡ first_stop n (Node at word.Assign ps)
+assign_parts n at (Then (Said operator) (Then a (Then b End))) r other e = absurd (cc)
+assign_parts n at _ r other e = e
+
+pub ruleset assignments = (assign_plain, assign_logical, assign_compound, assign_other, assign_parts)
+
 -- A template by its lists.
 template_is : (t : Syntax) (quasis expressions : Pieces) → Some (quasis, expressions) ≡ template_lists t
     → (there : At) × (t ≡ Node there word.Template (Then (Listed quasis) (Then (Listed expressions) End)))
@@ -153,7 +199,8 @@ tagged_stop n at ps tag t quasis expressions r is lists raw e =
 
 -- A tag behind which no template stands.
 not_lists : (n : Names) (at there : At) (tag : Syntax) (parts : Pieces) → None ≡ two_lists parts
-    → first_among n (Then tag (Then (Node there word.Template parts) End)) ≡ first_stop n (Node at word.Tagged (Then tag (Then (Node there word.Template parts) End)))
+    → first_among n (Then tag (Then (Node there word.Template parts) End))
+    ≡ first_stop n (Node at word.Tagged (Then tag (Then (Node there word.Template parts) End)))
 not_lists n at there tag (Then (Listed qs) (Then (Listed es) End)) none = absurd (cc)
 not_lists n at there tag _ none = refl
 
@@ -170,7 +217,8 @@ tagged_other n at ps tag t r is none e =
 pub tagged_parts : (n : Names) (at : At) (ps : Pieces) (r : Option Diagnostic) → is_two ps ≡ false → r ≡ first_among n ps
     → r ≡ first_stop n (Node at word.Tagged ps)
 tagged_parts n at (Then a (Then b End)) r other e = absurd (cc)
-tagged_parts n at (Then a (Then (Node there word.Template (Then (Listed quasis) (Then (Listed expressions) End))) (Then c ps))) r other e = e
+tagged_parts n at (Then a (Then (Node there word.Template (Then (Listed quasis) (Then (Listed expressions) End))) (Then c ps))) r other e =
+    e
 tagged_parts n at _ r other e = e
 
 pub ruleset tags = (tagged_cooked, tagged_stop, tagged_other, tagged_parts)

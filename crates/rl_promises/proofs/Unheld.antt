@@ -12,7 +12,7 @@ use Rattle.rl_promises.proofs.CoveredForms.{none_fits, two_form}
 use Rattle.rl_promises.proofs.Covering.{none_in}
 use Rattle.rl_promises.specs.Held.{is_span}
 use Rattle.rl_promises.specs.Live.{held_among, held_as, held_at, held_in}
-use Rattle.rl_promises.specs.Tallies.{held_word, is_among, tallied, tallied_among}
+use Rattle.rl_promises.specs.Tallies.{held_span, held_word, is_among, tallied, tallied_among}
 use Rattle.rl_syntax.specs.Syntax.{Syntax, Node, Listed, Said, Count, Flag, Absent, Pieces, End, Then}
 use Rattle.rl_syntax.specs.declared.word.Word.TheVariants as word
 
@@ -29,7 +29,8 @@ mutual
   pub unheld_untallied : (key : Counted) (t : Syntax) → held_in t ≡ [] → tallied key t ≡ 0
   unheld_untallied key (Node at w parts) none =
       let both = none_in (held_at w parts at) (held_among parts) none in
-      let itself : tally_by key (held_word w parts) at.span ≡ 0 = node_untallied key (held_word w parts) at.span both.0 in
+      let itself : tally_by key (held_word w parts) (held_span w parts at.span) ≡ 0 =
+      node_untallied key (held_word w parts) (held_span w parts at.span) both.0 in
       let rest = unheld_untallied_among key parts both.1 in
       omega (arith, itself, rest)
   unheld_untallied key (Listed parts) none = unheld_untallied_among key parts none

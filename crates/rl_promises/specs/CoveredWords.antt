@@ -53,6 +53,7 @@ covers word.Binary parts = true
 covers word.Privatein parts = true
 covers word.Logical parts = true
 covers word.Cond parts = true
+covers word.Assign parts = true
 covers word.Seq parts = not_empty parts
 covers word.New parts = true
 covers word.Await parts = true

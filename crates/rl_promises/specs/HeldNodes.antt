@@ -1,21 +1,18 @@
 -- The instructions of a graph for the nodes of its function that are counted, as the lowering of a function without refusals tells them.
-use Rattle.std.specs.Prelude.{◌≡◌, ◌≤◌, List, [], ◌∷◌, All}
+use Rattle.std.specs.Prelude.{◌≡◌, ◌≤◌, List}
 use Rattle.rl_names.specs.Functions.{body_in}
 use Rattle.rl_hir.specs.Blocks.{Pair as BlockPair}
 use Rattle.rl_hir.specs.declared.function.HirFunction.{HirFunction}
 use Rattle.rl_model.specs.Counted.{Counted}
 use Rattle.rl_promises.specs.Held.{listed, times}
-use Rattle.rl_promises.specs.Live.{Held, live_in_body}
+use Rattle.rl_promises.specs.Live.{LivesOn, live_in_body}
 use Rattle.rl_promises.specs.Tallies.{IsHeldKind, tallied}
 use Rattle.rl_syntax.specs.Syntax.{Syntax}
 
--- A held node, as one that is counted by its own word.
-abbrev pub counted_by : Held → Counted
-counted_by h = record { node = 0; kinds = h.word ∷ []; span = h.span }
-
 -- The table has as many instructions of a kind and a span as the body has nodes. The blocks list no more of them than the table has, and
--- list one at least of the word and the span of each node that a run may reach.
+-- list one at least where a run may reach one of the nodes.
 pub record HoldsNodes (function : Syntax) (f : HirFunction (List BlockPair)) : Type 0 where
   pub table : (key : Counted) → IsHeldKind key.kinds → times key f.instructions ≡ tallied key (body_in function)
   pub once : (key : Counted) → times key (listed f.instructions f.body.blocks) ≤ times key f.instructions
-  pub live : All (λ (h : Held). 1 ≤ times (counted_by h) (listed f.instructions f.body.blocks)) (live_in_body (body_in function))
+  pub live : (key : Counted) → IsHeldKind key.kinds → LivesOn (live_in_body (body_in function)) key
+      → 1 ≤ times key (listed f.instructions f.body.blocks)

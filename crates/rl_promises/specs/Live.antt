@@ -4,13 +4,13 @@ use Rattle.rl_base.specs.declared.span.Span.{Span}
 use Rattle.rl_model.specs.Actions.{Label}
 use Rattle.rl_model.specs.Counted.{Counted}
 use Rattle.rl_model.specs.Dead.{goes_on, lives}
-use Rattle.rl_promises.specs.Tallies.{held_word, is_among}
+use Rattle.rl_promises.specs.Tallies.{held_span, held_word, is_among}
 use Rattle.rl_syntax.specs.Syntax.{Syntax, Node, Listed, Said, Count, Flag, Absent, Pieces, End, Then}
 use Rattle.rl_syntax.specs.declared.numbered.At.{At}
 use Rattle.rl_syntax.specs.declared.word.Word.{Word}
 use Rattle.rl_syntax.specs.declared.word.Word.TheVariants as word
 
--- A node whose instruction is counted: the word of the instruction, and the span of both.
+-- A node whose instruction is counted: the word and the span of the instruction.
 pub record Held : Type 0 where
   pub word : List ℕ
   pub span : Span
@@ -22,7 +22,7 @@ held_as (Some text) span = record { word = text; span = span } ∷ []
 
 -- The node itself, without its parts, where its instruction is counted.
 abbrev pub held_at : Word → Pieces → At → List Held
-held_at w parts at = held_as (held_word w parts) at.span
+held_at w parts at = held_as (held_word w parts) (held_span w parts at.span)
 
 abbrev mutual
   -- The nodes of a tree whose instructions are counted, each before those in its parts.

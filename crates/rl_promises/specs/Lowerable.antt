@@ -3,7 +3,7 @@ use Rattle.std.specs.Prelude.{◌≡◌, Bool, true, false, not, Option, Some, N
 use Rattle.rl_base.specs.Reserved.{is_reserved}
 use Rattle.rl_base.specs.declared.ids.SymbolId.{SymbolId}
 use Rattle.rl_model.specs.Actions.{Label}
-use Rattle.rl_model.specs.Shapes.{are_raw}
+use Rattle.rl_model.specs.Shapes.{are_raw, is_logical}
 use Rattle.rl_names.specs.Names.{Names, local_of}
 use Rattle.rl_promises.specs.Conditions.{is_plain_head}
 use Rattle.rl_promises.specs.CoveredWords.{covers}
@@ -42,6 +42,8 @@ abbrev mutual
       Where (not (is_lost_delete operator argument)) (IsLowerable names argument)
   IsLowerable names (Node at word.Update (Then operator (Then prefix (Then target End)))) =
       Where (not (is_wrapped target)) (IsLowerable names target)
+  IsLowerable names (Node at word.Assign (Then (Said operator) (Then target (Then right End)))) =
+      (is_wrapped target ≡ false) × Where (not (is_logical operator)) (IsLowerable names target × IsLowerable names right)
   IsLowerable names
       (Node at word.Tagged (Then tag (Then (Node there word.Template (Then (Listed quasis) (Then (Listed expressions) End))) End))) =
       Where (are_raw quasis) (IsLowerable names tag × AreLowerable names expressions)

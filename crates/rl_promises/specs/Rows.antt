@@ -20,7 +20,7 @@ use Rattle.rl_promises.specs.Outs.{is_known_key, is_lost_delete, is_lost_head, i
 use Rattle.rl_promises.specs.Stops.{has_using, stop_of}
 use Rattle.rl_names.specs.declared.names.Meaning.{Meaning}
 use Rattle.rl_names.specs.declared.names.Meaning.TheVariants.{Local, Outer}
-use Rattle.rl_model.specs.Shapes.{are_raw, is_absent}
+use Rattle.rl_model.specs.Shapes.{are_raw, is_absent, is_logical}
 use Rattle.rl_semantic.specs.Items.{of_item}
 
 -- The text is the given word.
@@ -88,13 +88,26 @@ said_of names (Node at word.This parts) = refusal row.F18 at.span ∷ []
 said_of names (Node at word.Bigint parts) = refusal row.F42 at.span ∷ []
 said_of names _ = []
 
--- The diagnostics of a name at `at` that the head of a loop assigns: a local is resolved, and none that is constant (row F6). Any other
--- is stored as a global.
+-- The diagnostics of a name at `at` that an assignment or the head of a loop stores to: a local is resolved, and none that is constant
+-- (row F6). Any other is stored as a global.
 abbrev pub said_of_stored : Names → (at : Span) → Meaning → List Diagnostic
 said_of_stored names at (Local symbol) =
     said_of_local (names.name symbol.0) (label_of names symbol at)
     ++ (if names.is_const symbol.0 then diagnostic_at row.F6 (names.name symbol.0) at ∷ [] else [])
 said_of_stored names at (Outer b) = []
+
+-- The diagnostics of the target of an assignment at `at` with the operator `=`, behind those of its value: a name is stored to, and a
+-- private name is met behind its object (row F5), whose diagnostics are `inside`.
+abbrev pub said_of_assigned : Names → (at : Span) → (target : Syntax) → (inside : List Diagnostic) → List Diagnostic
+said_of_assigned names at (Node there word.Id (Then (Said name) End)) inside =
+    said_of_stored names there.span (names.meaning there.reference.0 name)
+said_of_assigned names at (Node there word.Privatemember parts) inside = inside ++ refusal row.F5 at ∷ []
+said_of_assigned names at target inside = inside
+
+-- The diagnostics of the target of a compound assignment, behind those of its parts: a name, which was read, is stored to.
+abbrev pub said_of_updated : Names → (target : Syntax) → List Diagnostic
+said_of_updated names (Node there word.Id (Then (Said name) End)) = said_of_stored names there.span (names.meaning there.reference.0 name)
+said_of_updated names target = []
 
 -- The row of a target that is left out in the head of a loop: F11 of a private property, F45 of a target under a wrapper.
 abbrev pub row_of_head : Word → Row
@@ -114,8 +127,9 @@ said_of_test at condition = []
 
 abbrev mutual
   -- The diagnostics of a tree without statements in it, in the order in which the lowering meets the nodes: a node by itself, and then its
-  -- parts from left to right. Branches are lowered before the test that leads to them, a variable is declared behind its initializer, and
-  -- a private name is met behind its object. Types, the argument of a `yield`, and what a row leaves out are not lowered.
+  -- parts from left to right. Branches are lowered before the test that leads to them, a variable is declared behind its initializer, the
+  -- value of `=` comes before its target, and a private name is met behind its object. A logical assignment is left out (row F23). Types,
+  -- the argument of a `yield`, and what a row leaves out are not lowered.
   pub refusals : Names → Syntax → List Diagnostic
   refusals names (Node at word.Cond (Then condition (Then consequent (Then alternate End)))) =
       refusals names consequent ++ refusals names alternate ++ refusals names condition
@@ -131,6 +145,10 @@ abbrev mutual
       if is_lost_delete operator argument then refusal row.F12 at.span ∷ [] else refusals names argument
   refusals names (Node at word.Update (Then operator (Then prefix (Then target End)))) =
       said_of_target names at.span target (refusals names target)
+  refusals names (Node at word.Assign (Then (Said operator) (Then target (Then right End)))) =
+      if bytes_eq operator (codes "=") then refusals names right ++ said_of_assigned names at.span target (refusals_below names target)
+      else if is_logical operator then refusal row.F23 at.span ∷ []
+      else refusals names target ++ refusals names right ++ said_of_updated names target
   refusals names
       (Node at word.Tagged (Then tag (Then (Node there word.Template (Then (Listed quasis) (Then (Listed expressions) End))) End))) =
       if are_raw quasis then refusals names tag ++ refusals_in names expressions else refusal row.F13 at.span ∷ []
@@ -144,6 +162,11 @@ abbrev mutual
   pub refusals_in : Names → Pieces → List Diagnostic
   refusals_in names End = []
   refusals_in names (Then piece pieces) = refusals names piece ++ refusals_in names pieces
+
+  -- As `refusals`, for the parts of a node.
+  pub refusals_below : Names → Syntax → List Diagnostic
+  refusals_below names (Node at word parts) = refusals_in names parts
+  refusals_below names _ = []
 
 -- As `refusals`, for the head of a `for`-`in` or `for`-`of` loop, which may declare by `var`.
 abbrev pub refusals_at_head : Names → Syntax → List Diagnostic

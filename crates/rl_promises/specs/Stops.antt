@@ -9,8 +9,10 @@ use Rattle.rl_base.specs.declared.ids.SymbolId.{SymbolId}
 use Rattle.rl_base.specs.declared.row.Row.{Row}
 use Rattle.rl_base.specs.declared.row.Row.TheVariants as row
 use Rattle.rl_base.specs.declared.span.Span.{Span}
+use Rattle.rl_context.specs.Sites.{sites_in}
+use Rattle.rl_context.specs.Wrapped as wrapped
 use Rattle.rl_model.specs.Actions.{Label}
-use Rattle.rl_model.specs.Shapes.{are_raw}
+use Rattle.rl_model.specs.Shapes.{are_raw, is_logical}
 use Rattle.rl_model.specs.Statements.{is_using}
 use Rattle.rl_names.specs.Functions.{body_in, params_in, parameters_of}
 use Rattle.rl_names.specs.Names.{Names, local_of}
@@ -45,6 +47,10 @@ abbrev mutual
       if is_lost_delete operator argument then None else first_stop names argument
   first_stop names (Node at word.Update (Then operator (Then prefix (Then target End)))) =
       if is_wrapped target then None else first_stop names target
+  first_stop names (Node at word.Assign (Then (Said operator) (Then target (Then right End)))) =
+      if bytes_eq operator (codes "=") then option_or (first_stop names right) (first_stop names target)
+      else if is_logical operator then None
+      else option_or (first_stop names target) (first_stop names right)
   first_stop names
       (Node at word.Tagged (Then tag (Then (Node there word.Template (Then (Listed quasis) (Then (Listed expressions) End))) End))) =
       if are_raw quasis then option_or (first_stop names tag) (first_among names expressions) else None
@@ -127,11 +133,13 @@ abbrev pub stop_at : Row → Option Parameter → Option Diagnostic
 stop_at r None = None
 stop_at r (Some p) = Some (diagnostic_at r p.name p.declaration)
 
--- The stop of a function: S2 at a parameter `this`, else the first S1 in the parameters, and the first S1, S6 or S7 in the body.
+-- The stop of a function: S2 at a parameter `this`, else S3 at the first wrapped target of an assignment, else the first S1 in the
+-- parameters, and the first S1, S6 or S7 in the body.
 abbrev pub stop_of : Names → (function : Syntax) → Option Diagnostic
 stop_of names function =
     option_or (stop_at row.S2 (first_named (λ name. bytes_eq name (codes "this")) (parameters_of names function)))
-    (option_or (first_stop names (params_in function)) (stop_in_body names (body_in function)))
+    (option_or (wrapped.stop_among (sites_in function))
+    (option_or (first_stop names (params_in function)) (stop_in_body names (body_in function))))
 
 abbrev mutual
   -- True of a tree with a declaration by `using` or `await using` (skips K2 and K3).

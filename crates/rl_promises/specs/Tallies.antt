@@ -3,8 +3,9 @@ use Rattle.std.specs.Prelude.{ℕ, ◌+◌, Bool, false, ◌&&◌, if◌then◌e
 use Rattle.std.specs.List.{list_any}
 use Rattle.std.specs.Str.{bytes_eq}
 use Rattle.rl_model.specs.Counted.{Counted}
+use Rattle.rl_base.specs.declared.span.Span.{Span}
 use Rattle.rl_promises.specs.Held.{is_span}
-use Rattle.rl_syntax.specs.Syntax.{Syntax, Node, Listed, Said, Count, Flag, Absent, Pieces, End, Then}
+use Rattle.rl_syntax.specs.Syntax.{Syntax, Node, Listed, Said, Count, Flag, Absent, Pieces, End, Then, span_of}
 use Rattle.rl_syntax.specs.declared.numbered.At.{At}
 use Rattle.rl_syntax.specs.declared.word.Word.{Word}
 use Rattle.rl_syntax.specs.declared.word.Word.TheVariants as word
@@ -15,31 +16,48 @@ call_word (Node at word.Member parts) = codes "methodcall"
 call_word (Node at word.Index parts) = codes "methodcall"
 call_word callee = codes "call"
 
--- The word of a node's instruction, where the instruction is counted. None of any other node.
+-- The word of a store to a target, where that is a name: one of the three that stores have.
+abbrev pub store_word : (target : Syntax) → Option (List ℕ)
+store_word (Node at word.Id parts) = Some (codes "storelocal")
+store_word target = None
+
+-- The word of a node's instruction, where the instruction is counted. None of any other node. A store has any of its words.
 abbrev pub held_word : Word → Pieces → Option (List ℕ)
 held_word word.Call (Then optional (Then callee arguments)) = Some (call_word callee)
 held_word word.Call parts = Some (codes "call")
 held_word word.New parts = Some (codes "new")
 held_word word.Await parts = Some (codes "await")
+held_word word.Assign (Then (Said operator) (Then target parts)) = store_word target
+held_word word.Forin (Then head parts) = store_word head
+held_word word.Forof (Then is_await (Then head parts)) = store_word head
 held_word _ parts = None
+
+-- The span of a node's instruction: `=` and the head of a loop have that of the target.
+abbrev pub held_span : Word → Pieces → Span → Span
+held_span word.Assign (Then (Said operator) (Then target parts)) at = if bytes_eq operator (codes "=") then span_of target else at
+held_span word.Forin (Then head parts) at = span_of head
+held_span word.Forof (Then is_await (Then head parts)) at = span_of head
+held_span _ parts at = at
 
 -- The kinds that a counted node has in a covered function.
 pub data IsHeldKind : (kinds : List (List ℕ)) → Type 0 where
   Calls : IsHeldKind (codes "call" ∷ codes "methodcall" ∷ [])
   Constructions : IsHeldKind (codes "new" ∷ [])
   Awaits : IsHeldKind (codes "await" ∷ [])
+  Stores : IsHeldKind (codes "storeglobal" ∷ codes "storelocal" ∷ codes "storecontext" ∷ [])
 
 -- True of a word that is one of the kinds.
 abbrev pub is_among : (kinds : List (List ℕ)) → Option (List ℕ) → Bool
 is_among kinds None = false
 is_among kinds (Some text) = list_any (bytes_eq text) kinds
 
--- 1 of a node with the counted node's span whose instruction has one of its kinds, else 0.
+-- 1 of a node whose instruction has the counted node's span and one of its kinds, else 0.
 abbrev pub tally_at : Counted → Word → Pieces → At → ℕ
-tally_at key w parts at = if is_among key.kinds (held_word w parts) && is_span key.span (Some at.span) then 1 else 0
+tally_at key w parts at =
+    if is_among key.kinds (held_word w parts) && is_span key.span (Some (held_span w parts at.span)) then 1 else 0
 
 abbrev mutual
-  -- The number of nodes of a tree that have the counted node's span and whose instructions have one of its kinds.
+  -- The number of nodes of a tree whose instructions have the counted node's span and one of its kinds.
   pub tallied : Counted → Syntax → ℕ
   tallied key (Node at w parts) = tally_at key w parts at + tallied_among key parts
   tallied key (Listed parts) = tallied_among key parts

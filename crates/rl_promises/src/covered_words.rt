@@ -85,7 +85,7 @@ pub(crate) fn covers(word: Word, parts: &[Numbered]) -> bool
         Word::Privatein => true,
         Word::Logical => true,
         Word::Cond => true,
-        Word::Assign => false,
+        Word::Assign => true,
         Word::Seq => not_empty(parts),
         Word::New => true,
         Word::Await => true,

@@ -1,6 +1,7 @@
 //! Nodes of which a row leaves out a part.
 
-ghost use Rattle.std.specs.Prelude.{◌≡◌, true, false, map, option_map};
+ghost use Rattle.std.specs.Prelude.{◌≡◌, true, false, codes, map, option_map};
+ghost use Rattle.std.specs.Str.{bytes_eq};
 ghost use Rattle.rl_model.specs.Applied as rows;
 ghost use Rattle.rl_model.specs.Shapes as shapes;
 ghost use Rattle.rl_promises.specs.Outs as spec;
@@ -174,6 +175,20 @@ fn paren_deletes(parts: &[Numbered]) -> bool
         },
         None => false,
     }
+}
+
+/// True of the operator `=`.
+pub(crate) fn is_equals(operator: &Text) -> bool
+    ensures { result ≡ bytes_eq operator.now (codes "=") }
+{
+    operator.as_str() == "="
+}
+
+/// True of the operator of a logical assignment.
+pub(crate) fn is_logical(operator: &Text) -> bool
+    ensures { result ≡ shapes.is_logical operator.now }
+{
+    operator.as_str() == "&&=" || operator.as_str() == "||=" || operator.as_str() == "??="
 }
 
 /// True of a `delete` of what is no property.

@@ -8,7 +8,7 @@ ghost use Rattle.rl_promises.specs.Stops as spec;
 ghost use Rattle.rl_syntax.specs.Syntax.{Node, pieces_of, syntax};
 
 use crate::found_stop::FoundStop;
-use crate::outs::{are_raw, is_known_key, is_lost_delete, is_wrapped};
+use crate::outs::{are_raw, is_equals, is_known_key, is_logical, is_lost_delete, is_wrapped};
 use crate::part_forms::{
     flag_and_trees, template_lists, text_ahead, text_alone, text_and_tree, three, two,
 };
@@ -55,7 +55,7 @@ pub fn first_stop(names: &FunctionNames<'_>, tree: &Numbered) -> Option<FoundSto
 
 /// As `first_stop`, of a node.
 #[cycle(stopping)]
-#[tactic(auto, using(crate::proofs::Stopping::names, crate::proofs::Stopping::reordered, crate::proofs::Stopping::unaries, crate::proofs::Stopping::tags, crate::proofs::Stopping::props, crate::proofs::Stopping::smaller))]
+#[tactic(auto, using(crate::proofs::Stopping::names, crate::proofs::Stopping::reordered, crate::proofs::Stopping::unaries, crate::proofs::Stopping::assignments, crate::proofs::Stopping::tags, crate::proofs::Stopping::props, crate::proofs::Stopping::smaller))]
 pub(crate) fn stop_in_node(
     names: &FunctionNames<'_>,
     at: At,
@@ -125,6 +125,21 @@ pub(crate) fn stop_in_node(
                     first_stop(names, target)
                 }
             }
+            None => first_among(names, parts),
+        },
+        Word::Assign => match text_ahead(parts) {
+            Some((operator, operands)) => match two(operands) {
+                Some((target, right)) => {
+                    if is_equals(operator) {
+                        first_of_two(names, right, target)
+                    } else if is_logical(operator) {
+                        None
+                    } else {
+                        first_of_two(names, target, right)
+                    }
+                }
+                None => first_among(names, parts),
+            },
             None => first_among(names, parts),
         },
         Word::Tagged => match two(parts) {

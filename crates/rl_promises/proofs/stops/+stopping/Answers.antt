@@ -1,7 +1,9 @@
 use Rattle.std.proofs.Common.{map, sym, ◌∙◌}
 use Rattle.rl_names.specs.Seen.{seen}
-use Rattle.rl_promises.proofs.Stopping.{bind_parts, cond_parts, cond_stop, declarator_parts, declarator_stop, id_parts, instantiate_none, instantiate_stop, logical_other}
-use Rattle.rl_promises.proofs.Stopping.{logical_parts, logical_stop, prop_parts, prop_stop, tagged_other, tagged_parts, tagged_stop, unary_parts, unary_stop, update_parts, update_stop, worded}
+use Rattle.rl_promises.proofs.Stopping.{assign_compound, assign_other, assign_parts, assign_plain, bind_parts, cond_parts, cond_stop}
+use Rattle.rl_promises.proofs.Stopping.{declarator_parts, declarator_stop, id_parts, instantiate_none, instantiate_stop, logical_other}
+use Rattle.rl_promises.proofs.Stopping.{logical_parts, logical_stop, prop_parts, prop_stop, tagged_other, tagged_parts, tagged_stop}
+use Rattle.rl_promises.proofs.Stopping.{unary_parts, unary_stop, update_parts, update_stop, worded}
 use Rattle.rl_syntax.specs.Syntax.{pieces_of, syntax}
 use Rattle.rl_promises.proofs.stops.+stopping.Goals as goal
 
@@ -33,13 +35,15 @@ pub stop_in_node-returns-in-Some-two : goal.stop_in_node-returns-in-Some-two
 stop_in_node-returns-in-Some-two t c =
     let ps = pieces_of (map syntax c.args.parts.now) in
     worded (seen c.args.names.now) c.args.at ps _ _ _ c.in-Logical.is
-    (logical_stop (seen c.args.names.now) c.args.at ps (pieces_of (map syntax c.in-Some-text_ahead-2.operands.now)) _ _ _ _ c.in-Some-text_ahead-2.ensures c.in-Some-two.ensures c.first_of_two.ensures)
+    (logical_stop (seen c.args.names.now) c.args.at ps (pieces_of (map syntax c.in-Some-text_ahead-2.operands.now)) _ _ _ _
+    c.in-Some-text_ahead-2.ensures c.in-Some-two.ensures c.first_of_two.ensures)
 
 pub stop_in_node-returns-in-None-two : goal.stop_in_node-returns-in-None-two
 stop_in_node-returns-in-None-two t c =
     let ps = pieces_of (map syntax c.args.parts.now) in
     worded (seen c.args.names.now) c.args.at ps _ _ _ c.in-Logical.is
-    (logical_other (seen c.args.names.now) c.args.at ps (pieces_of (map syntax c.in-Some-text_ahead-2.operands.now)) _ _ c.in-Some-text_ahead-2.ensures c.in-None-two.ensures c.first_among-in-None-two.ensures)
+    (logical_other (seen c.args.names.now) c.args.at ps (pieces_of (map syntax c.in-Some-text_ahead-2.operands.now)) _ _
+    c.in-Some-text_ahead-2.ensures c.in-None-two.ensures c.first_among-in-None-two.ensures)
 
 pub stop_in_node-returns-in-None-text_ahead-2 : goal.stop_in_node-returns-in-None-text_ahead-2
 stop_in_node-returns-in-None-text_ahead-2 t c =
@@ -63,7 +67,8 @@ pub stop_in_node-returns-in-Some-split_first : goal.stop_in_node-returns-in-Some
 stop_in_node-returns-in-Some-split_first t c =
     let ps = pieces_of (map syntax c.args.parts.now) in
     worded (seen c.args.names.now) c.args.at ps _ _ _ c.in-Instantiate.is
-    (instantiate_stop (seen c.args.names.now) c.args.at ps (pieces_of (map syntax c.in-Some-split_first._types.now)) _ _ c.in-Some-split_first.ensures c.first_stop.ensures)
+    (instantiate_stop (seen c.args.names.now) c.args.at ps (pieces_of (map syntax c.in-Some-split_first._types.now)) _ _
+    c.in-Some-split_first.ensures c.first_stop.ensures)
 
 pub stop_in_node-returns-in-None-split_first : goal.stop_in_node-returns-in-None-split_first
 stop_in_node-returns-in-None-split_first t c =
@@ -75,7 +80,8 @@ pub stop_in_node-returns-else-is_lost_delete : goal.stop_in_node-returns-else-is
 stop_in_node-returns-else-is_lost_delete t c =
     let ps = pieces_of (map syntax c.args.parts.now) in
     worded (seen c.args.names.now) c.args.at ps _ _ _ c.in-Unary.is
-    (unary_stop (seen c.args.names.now) c.args.at ps _ _ _ c.in-Some-text_and_tree.ensures (sym c.is_lost_delete.ensures ∙ c.if-is_lost_delete.false) c.first_stop-else-is_lost_delete.ensures)
+    (unary_stop (seen c.args.names.now) c.args.at ps _ _ _ c.in-Some-text_and_tree.ensures
+    (sym c.is_lost_delete.ensures ∙ c.if-is_lost_delete.false) c.first_stop-else-is_lost_delete.ensures)
 
 pub stop_in_node-returns-in-None-text_and_tree : goal.stop_in_node-returns-in-None-text_and_tree
 stop_in_node-returns-in-None-text_and_tree t c =
@@ -87,7 +93,8 @@ pub stop_in_node-returns-else-is_wrapped : goal.stop_in_node-returns-else-is_wra
 stop_in_node-returns-else-is_wrapped t c =
     let ps = pieces_of (map syntax c.args.parts.now) in
     worded (seen c.args.names.now) c.args.at ps _ _ _ c.in-Update.is
-    (update_stop (seen c.args.names.now) c.args.at ps _ _ _ _ c.in-Some-three-2.ensures (sym c.is_wrapped.ensures ∙ c.if-is_wrapped.false) c.first_stop-else-is_wrapped.ensures)
+    (update_stop (seen c.args.names.now) c.args.at ps _ _ _ _ c.in-Some-three-2.ensures
+    (sym c.is_wrapped.ensures ∙ c.if-is_wrapped.false) c.first_stop-else-is_wrapped.ensures)
 
 pub stop_in_node-returns-in-None-three-2 : goal.stop_in_node-returns-in-None-three-2
 stop_in_node-returns-in-None-three-2 t c =
@@ -95,29 +102,62 @@ stop_in_node-returns-in-None-three-2 t c =
     worded (seen c.args.names.now) c.args.at ps _ _ _ c.in-Update.is
     (update_parts (seen c.args.names.now) c.args.at ps _ c.in-None-three-2.ensures c.first_among-in-None-three-2.ensures)
 
+pub stop_in_node-returns-then-is_equals : goal.stop_in_node-returns-then-is_equals
+stop_in_node-returns-then-is_equals t c =
+    let ps = pieces_of (map syntax c.args.parts.now) in
+    worded (seen c.args.names.now) c.args.at ps _ _ _ c.in-Assign.is
+    (assign_plain (seen c.args.names.now) c.args.at ps (pieces_of (map syntax c.in-Some-text_ahead-3.operands.now)) _ _ _ _
+    c.in-Some-text_ahead-3.ensures c.in-Some-two-3.ensures (sym c.is_equals.ensures ∙ c.if-is_equals.true)
+    c.first_of_two-then-is_equals.ensures)
+
+pub stop_in_node-returns-else-is_logical : goal.stop_in_node-returns-else-is_logical
+stop_in_node-returns-else-is_logical t c =
+    let ps = pieces_of (map syntax c.args.parts.now) in
+    worded (seen c.args.names.now) c.args.at ps _ _ _ c.in-Assign.is
+    (assign_compound (seen c.args.names.now) c.args.at ps (pieces_of (map syntax c.in-Some-text_ahead-3.operands.now)) _ _ _ _
+    c.in-Some-text_ahead-3.ensures c.in-Some-two-3.ensures (sym c.is_equals.ensures ∙ c.if-is_equals.false)
+    (sym c.is_logical.ensures ∙ c.if-is_logical.false) c.first_of_two-else-is_logical.ensures)
+
+pub stop_in_node-returns-in-None-two-3 : goal.stop_in_node-returns-in-None-two-3
+stop_in_node-returns-in-None-two-3 t c =
+    let ps = pieces_of (map syntax c.args.parts.now) in
+    worded (seen c.args.names.now) c.args.at ps _ _ _ c.in-Assign.is
+    (assign_other (seen c.args.names.now) c.args.at ps (pieces_of (map syntax c.in-Some-text_ahead-3.operands.now)) _ _
+    c.in-Some-text_ahead-3.ensures c.in-None-two-3.ensures c.first_among-in-None-two-3.ensures)
+
+pub stop_in_node-returns-in-None-text_ahead-3 : goal.stop_in_node-returns-in-None-text_ahead-3
+stop_in_node-returns-in-None-text_ahead-3 t c =
+    let ps = pieces_of (map syntax c.args.parts.now) in
+    worded (seen c.args.names.now) c.args.at ps _ _ _ c.in-Assign.is
+    (assign_parts (seen c.args.names.now) c.args.at ps _ c.in-None-text_ahead-3.ensures c.first_among-in-None-text_ahead-3.ensures)
+
 pub stop_in_node-returns-then-are_raw : goal.stop_in_node-returns-then-are_raw
 stop_in_node-returns-then-are_raw t c =
     let ps = pieces_of (map syntax c.args.parts.now) in
     worded (seen c.args.names.now) c.args.at ps _ _ _ c.in-Tagged.is
-    (tagged_stop (seen c.args.names.now) c.args.at ps _ _ (pieces_of (map syntax c.in-Some-template_lists.quasis.now)) (pieces_of (map syntax c.in-Some-template_lists.expressions.now)) _ c.in-Some-two-3.ensures c.in-Some-template_lists.ensures (sym c.are_raw.ensures ∙ c.if-are_raw.true) c.first_of_tagged.ensures)
+    (tagged_stop (seen c.args.names.now) c.args.at ps _ _ (pieces_of (map syntax c.in-Some-template_lists.quasis.now))
+    (pieces_of (map syntax c.in-Some-template_lists.expressions.now)) _ c.in-Some-two-4.ensures c.in-Some-template_lists.ensures
+    (sym c.are_raw.ensures ∙ c.if-are_raw.true) c.first_of_tagged.ensures)
 
 pub stop_in_node-returns-in-None-template_lists : goal.stop_in_node-returns-in-None-template_lists
 stop_in_node-returns-in-None-template_lists t c =
     let ps = pieces_of (map syntax c.args.parts.now) in
     worded (seen c.args.names.now) c.args.at ps _ _ _ c.in-Tagged.is
-    (tagged_other (seen c.args.names.now) c.args.at ps _ _ _ c.in-Some-two-3.ensures c.in-None-template_lists.ensures c.first_among-in-None-template_lists.ensures)
+    (tagged_other (seen c.args.names.now) c.args.at ps _ _ _ c.in-Some-two-4.ensures c.in-None-template_lists.ensures
+    c.first_among-in-None-template_lists.ensures)
 
-pub stop_in_node-returns-in-None-two-3 : goal.stop_in_node-returns-in-None-two-3
-stop_in_node-returns-in-None-two-3 t c =
+pub stop_in_node-returns-in-None-two-4 : goal.stop_in_node-returns-in-None-two-4
+stop_in_node-returns-in-None-two-4 t c =
     let ps = pieces_of (map syntax c.args.parts.now) in
     worded (seen c.args.names.now) c.args.at ps _ _ _ c.in-Tagged.is
-    (tagged_parts (seen c.args.names.now) c.args.at ps _ c.in-None-two-3.ensures c.first_among-in-None-two-3.ensures)
+    (tagged_parts (seen c.args.names.now) c.args.at ps _ c.in-None-two-4.ensures c.first_among-in-None-two-4.ensures)
 
 pub stop_in_node-returns-then-is_known_key : goal.stop_in_node-returns-then-is_known_key
 stop_in_node-returns-then-is_known_key t c =
     let ps = pieces_of (map syntax c.args.parts.now) in
     worded (seen c.args.names.now) c.args.at ps _ _ _ c.in-Prop.is
-    (prop_stop (seen c.args.names.now) c.args.at ps _ _ _ _ c.in-Some-flag_and_trees.ensures (sym c.is_known_key.ensures ∙ c.if-is_known_key.true) c.first_of_two-then-is_known_key.ensures)
+    (prop_stop (seen c.args.names.now) c.args.at ps _ _ _ _ c.in-Some-flag_and_trees.ensures
+    (sym c.is_known_key.ensures ∙ c.if-is_known_key.true) c.first_of_two-then-is_known_key.ensures)
 
 pub stop_in_node-returns-in-None-flag_and_trees : goal.stop_in_node-returns-in-None-flag_and_trees
 stop_in_node-returns-in-None-flag_and_trees t c =

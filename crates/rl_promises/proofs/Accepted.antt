@@ -1,0 +1,30 @@
+-- Trees without refusals: none of the parts that are lowered has one.
+use Rattle.std.proofs.Common.{◌≡◌, Bool, true, false, if◌then◌else◌, List, [], ◌∷◌, ◌++◌, refl}
+use Rattle.rl_names.specs.Names.{Names}
+use Rattle.rl_promises.specs.Rows.{refusals, refusals_in}
+use Rattle.rl_syntax.specs.Syntax.{Pieces, End, Then}
+
+-- Two lists that are empty together.
+pub nil_parts : {X : Type 0} (xs ys : List X) → xs ++ ys ≡ [] → (xs ≡ []) × (ys ≡ [])
+nil_parts [] ys none = (refl, none)
+nil_parts (x ∷ xs) ys none = absurd (cc)
+
+-- A list that is empty where a test holds, and where it does not.
+
+pub none_then : {X : Type 0} (test : Bool) (xs : List X) (x : X) → (if test then xs else x ∷ []) ≡ [] → xs ≡ []
+none_then true xs x none = none
+none_then false xs x none = absurd (cc)
+
+pub none_else : {X : Type 0} (test : Bool) (x : X) (xs : List X) → (if test then x ∷ [] else xs) ≡ [] → xs ≡ []
+none_else true x xs none = absurd (cc)
+none_else false x xs none = none
+
+-- Each of some parts has no refusals.
+abbrev pub AreAccepted : Names → Pieces → Type 0
+AreAccepted names End = Unit {0}
+AreAccepted names (Then piece pieces) = (refusals names piece ≡ []) × AreAccepted names pieces
+
+pub are_accepted : (names : Names) (parts : Pieces) → refusals_in names parts ≡ [] → AreAccepted names parts
+are_accepted names End none = tt
+are_accepted names (Then piece pieces) none =
+    let both = nil_parts (refusals names piece) (refusals_in names pieces) none in (both.0, are_accepted names pieces both.1)
