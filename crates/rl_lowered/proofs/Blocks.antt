@@ -2,6 +2,7 @@
 use Rattle.std.proofs.Common.{◌≡◌, ℕ, ◌+◌, ◌<◌, inl, inr, Bool, true, false, List, [], ◌∷◌, Option, Some, None, refl, arith}
 use Rattle.rl_base.specs.declared.diagnostic.Diagnostic.{Diagnostic}
 use Rattle.rl_base.specs.declared.ids.SymbolId.{SymbolId}
+use Rattle.rl_base.specs.declared.operator.BinaryOperator.{BinaryOperator}
 use Rattle.rl_base.specs.declared.operator.UpdateOperator.{UpdateOperator}
 use Rattle.rl_base.specs.declared.row.Row.TheVariants as row
 use Rattle.rl_base.specs.declared.span.Span.{Span}
@@ -47,8 +48,9 @@ use Rattle.rl_lowered.proofs.Redeclared.{blocks_redeclared}
 use Rattle.rl_lowered.specs.Forms.{MemberKey, load_of, store_of, type_of, typed}
 use Rattle.rl_lowered.specs.Lowered.{Lowered, LoweredBody, LoweredCaseTest, LoweredCases, LoweredDeclarators, LoweredHead, LoweredInit}
 use Rattle.rl_lowered.specs.Lowered.{LoweredLast, LoweredLoop, LoweredParts, LoweredStatement, LoweredStatements, LoweredTest}
-use Rattle.rl_lowered.specs.Lowered.{catch_begun, catch_bound, caught, declaring, found_again, kind_of, member_loaded, member_one}
-use Rattle.rl_lowered.specs.Lowered.{member_stored, member_updated, part_span, promoted, throwing, update_of, value_span}
+use Rattle.rl_lowered.specs.Lowered.{assigned_to, catch_begun, catch_bound, caught, declaring, found_again, kind_of, member_assigned}
+use Rattle.rl_lowered.specs.Lowered.{member_computed, member_loaded, member_one, member_stored, member_updated, name_computed}
+use Rattle.rl_lowered.specs.Lowered.{name_reloaded, name_stored, part_span, promoted, throwing, update_of, value_span, variable_at}
 use Rattle.rl_lowered.specs.Lowered as lowered
 use Rattle.rl_lowered.specs.Named.{IsFound, found}
 use Rattle.rl_model.specs.Actions.{Label}
@@ -128,7 +130,7 @@ blocks_found : (names : Names) (s : State) (symbol : SymbolId) (at : Span) (iden
     → PreservesBlocks s (found names s symbol at)
 blocks_found names s symbol at identifier f = blocks_resolved s (names.name symbol.0) symbol.0 (Some at) f.agree
 
-blocks_found_value : (names : Names) (s : State) (symbol : SymbolId) (at : Span) (identifier : ℕ) (v : InstructionValue)
+pub blocks_found_value : (names : Names) (s : State) (symbol : SymbolId) (at : Span) (identifier : ℕ) (v : InstructionValue)
     (span : Option Span) → IsFound names s symbol at identifier → PreservesBlocks s (with_value (found names s symbol at) v span)
 blocks_found_value names s symbol at identifier v span f =
     blocks_then s (found names s symbol at) _ (blocks_found names s symbol at identifier f) (blocks_value (found names s symbol at) v span)
@@ -157,6 +159,37 @@ blocks_member t object key operator there =
     (blocks_then one updated _ (blocks_value one _ (Some there))
     (blocks_value updated (store_of object key (temporary one (Some there))) (Some there))))
 
+-- A constant that was looked up is refused.
+pub blocks_constant : (names : Names) (s : State) (symbol : SymbolId) (there span : Span) (identifier : ℕ)
+    → IsFound names s symbol there identifier
+    → PreservesBlocks s
+    (with_value (recorded (found names s symbol there) (diagnostic_at row.F6 (names.name symbol.0) there))
+    (values.Primitive primitives.Undefined) (Some span))
+blocks_constant names s symbol there span identifier f =
+    let first : State = found names s symbol there in
+    blocks_then s first _ (blocks_found names s symbol there identifier f)
+    (blocks_noted_value first (diagnostic_at row.F6 (names.name symbol.0) there) (values.Primitive primitives.Undefined) (Some span))
+
+-- Compound assignments, behind their right part.
+
+pub blocks_reloaded : (names : Names) (u : State) (operator : BinaryOperator) (q p : Place) (at there : Span) (symbol : SymbolId)
+    (identifier : ℕ) → IsFound names (name_computed u operator q p at) symbol there identifier
+    → PreservesBlocks u (name_reloaded names u operator q p at there symbol identifier)
+blocks_reloaded names u operator q p at there symbol identifier f =
+    let computed : State = name_computed u operator q p at in
+    let stored : State = name_stored names u operator q p at there symbol identifier in
+    blocks_then u computed _ (blocks_value u (values.BinaryExpression operator q p) (Some at))
+    (blocks_then computed stored _
+    (blocks_found_value names computed symbol there identifier (assigned_to identifier there (temporary u (Some at))) (Some at) f)
+    (blocks_value stored (values.LoadLocal (variable_at identifier there)) (Some at)))
+
+pub blocks_assigned : (t u : State) (object : Place) (key : MemberKey) (operator : BinaryOperator) (p : Place) (there : Span)
+    → PreservesBlocks u (member_assigned t u object key operator p there)
+blocks_assigned t u object key operator p there =
+    let computed : State = member_computed t u operator p there in
+    blocks_then u computed _ (blocks_value u (values.BinaryExpression operator (temporary t (Some there)) p) (Some there))
+    (blocks_value computed (store_of object key (temporary u (Some there))) (Some there))
+
 mutual
   pub expression_blocks : {names : Names} {e : Syntax} {s t : State} {p : Place} → Lowered names e s t p → PreservesBlocks s t
   expression_blocks (lowered.Literal at w fields p s is) = blocks_value s (values.Primitive p) (Some at.span)
@@ -177,12 +210,45 @@ mutual
       blocks_then s first _ (blocks_found names s symbol there.span identifier f)
       (blocks_found_value names first symbol there.span identifier _ (Some at.span) g)
   expression_blocks {names} (lowered.UpdatedConstant at there name symbol identifier operator prefix s is constant f) =
-      let first : State = found names s symbol there.span in
-      blocks_then s first _ (blocks_found names s symbol there.span identifier f)
-      (blocks_noted_value first (diagnostic_at row.F6 (names.name symbol.0) there.span) (values.Primitive primitives.Undefined)
-      (Some at.span))
+      blocks_constant names s symbol there.span at.span identifier f
   expression_blocks (lowered.UpdatedMember at there w fields parts pieces object key operator prefix s t is l) =
       blocks_then s t _ (all_blocks l) (blocks_member t object key operator there.span)
+  expression_blocks {names} (lowered.AssignedVariable at there name right symbol identifier s t p is mutable l f) =
+      blocks_then s t _ (expression_blocks l)
+      (blocks_found_value names t symbol there.span identifier (assigned_to identifier there.span p) (Some there.span) f)
+  expression_blocks {names} (lowered.AssignedConstant at there name right symbol identifier s t p is constant l f) =
+      blocks_then s t _ (expression_blocks l) (blocks_constant names t symbol there.span there.span identifier f)
+  expression_blocks (lowered.AssignedGlobal at there name right binding s t p is l) =
+      blocks_then s t _ (expression_blocks l) (blocks_value t (values.StoreGlobal name p) (Some there.span))
+  expression_blocks (lowered.AssignedMember at there w fields parts pieces object key right s t u p is l ls) =
+      blocks_then s t _ (expression_blocks l)
+      (blocks_then t u _ (all_blocks ls) (blocks_value u (store_of object key p) (Some there.span)))
+  expression_blocks (lowered.AssignedPrivate at there object name right s t u p q l m) =
+      blocks_then s t _ (expression_blocks l)
+      (blocks_then t u _ (expression_blocks m)
+      (blocks_noted_value u (refusal row.F5 at.span) (values.Primitive primitives.Undefined) (Some at.span)))
+  expression_blocks {names}
+      (lowered.CompoundVariable at there name operator applied right symbol identifier s t u q p is mutable applies l m f) =
+      blocks_then s t _ (expression_blocks l)
+      (blocks_then t u _ (expression_blocks m) (blocks_reloaded names u applied q p at.span there.span symbol identifier f))
+  expression_blocks {names}
+      (lowered.CompoundConstant at there name operator applied right symbol identifier s t u q p is constant applies l m f) =
+      blocks_then s t _ (expression_blocks l)
+      (blocks_then t u _ (expression_blocks m) (blocks_constant names u symbol there.span at.span identifier f))
+  expression_blocks (lowered.CompoundGlobal at there name operator applied right binding s t u q p is applies l m) =
+      let computed : State = name_computed u applied q p at.span in
+      blocks_then s t _ (expression_blocks l)
+      (blocks_then t u _ (expression_blocks m)
+      (blocks_then u computed _ (blocks_value u (values.BinaryExpression applied q p) (Some at.span))
+      (blocks_value computed (values.StoreGlobal name (temporary u (Some at.span))) (Some at.span))))
+  expression_blocks (lowered.CompoundMember at there w fields parts pieces object key operator applied right s t u p is applies ls l) =
+      let loaded : State = with_value t (load_of object key) (Some there.span) in
+      blocks_then s t _ (all_blocks ls)
+      (blocks_then t loaded _ (blocks_value t (load_of object key) (Some there.span))
+      (blocks_then loaded u _ (expression_blocks l) (blocks_assigned t u object key applied p there.span)))
+  expression_blocks (lowered.CompoundPrivate at there fields operator applied right s t u q p applies l m) =
+      blocks_then s t _ (expression_blocks l)
+      (blocks_then t u _ (expression_blocks m) (blocks_value u (values.Primitive primitives.Undefined) (Some at.span)))
   expression_blocks (lowered.Method at there w fields parts es pieces given_pieces object key given s t u is l given_are m) =
       let loaded : State = with_value t (load_of object key) (Some there.span) in
       blocks_then s t _ (all_blocks l)
@@ -296,6 +362,26 @@ member_passes t object key operator there =
     (passes_value t one _ (Some there)
     (passes_value t loaded (values.Primitive (primitives.Number 1)) None (value_passes t (load_of object key) (Some there))))
 
+constant_passes : (names : Names) (s : State) (symbol : SymbolId) (there span : Span)
+    → Passes s
+    (with_value (recorded (found names s symbol there) (diagnostic_at row.F6 (names.name symbol.0) there))
+    (values.Primitive primitives.Undefined) (Some span))
+constant_passes names s symbol there span =
+    value_passes (recorded (found names s symbol there) (diagnostic_at row.F6 (names.name symbol.0) there))
+    (values.Primitive primitives.Undefined) (Some span)
+
+reloaded_passes : (names : Names) (u : State) (operator : BinaryOperator) (q p : Place) (at there : Span) (symbol : SymbolId)
+    (identifier : ℕ) → IsFound names (name_computed u operator q p at) symbol there identifier
+    → Passes u (name_reloaded names u operator q p at there symbol identifier)
+reloaded_passes names u operator q p at there symbol identifier f =
+    let computed : State = name_computed u operator q p at in
+    let stored : State = name_stored names u operator q p at there symbol identifier in
+    let value : InstructionValue = assigned_to identifier there (temporary u (Some at)) in
+    passes_value u stored (values.LoadLocal (variable_at identifier there)) (Some at)
+    (passes_then u (blocks_found_value names computed symbol there identifier value (Some at) f).extends
+    (value_passes u (values.BinaryExpression operator q p) (Some at))
+    (value_passes (found names computed symbol there) value (Some at)))
+
 mutual
   pub expression_passes : {names : Names} {e : Syntax} {s t : State} {p : Place} → Lowered names e s t p → Passes s t
   expression_passes (lowered.Literal at w fields p s is) = value_passes s (values.Primitive p) (Some at.span)
@@ -314,10 +400,48 @@ mutual
       value_passes (found names (found names s symbol there.span) symbol there.span)
       (update_of prefix operator (record { identifier = record { 0 = identifier }; span = Some there.span })) (Some at.span)
   expression_passes {names} (lowered.UpdatedConstant at there name symbol identifier operator prefix s is constant f) =
-      value_passes (recorded (found names s symbol there.span) (diagnostic_at row.F6 (names.name symbol.0) there.span))
-      (values.Primitive primitives.Undefined) (Some at.span)
+      constant_passes names s symbol there.span at.span
   expression_passes (lowered.UpdatedMember at there w fields parts pieces object key operator prefix s t is l) =
       passes_then s (blocks_member t object key operator there.span).extends (all_passes l) (member_passes t object key operator there.span)
+  expression_passes {names} (lowered.AssignedVariable at there name right symbol identifier s t p is mutable l f) =
+      passes_then s
+      (blocks_found_value names t symbol there.span identifier (assigned_to identifier there.span p) (Some there.span) f).extends
+      (expression_passes l)
+      (value_passes (found names t symbol there.span) (assigned_to identifier there.span p) (Some there.span))
+  expression_passes {names} (lowered.AssignedConstant at there name right symbol identifier s t p is constant l f) =
+      passes_then s (blocks_constant names t symbol there.span there.span identifier f).extends (expression_passes l)
+      (constant_passes names t symbol there.span there.span)
+  expression_passes (lowered.AssignedGlobal at there name right binding s t p is l) =
+      passes_value s t (values.StoreGlobal name p) (Some there.span) (expression_passes l)
+  expression_passes (lowered.AssignedMember at there w fields parts pieces object key right s t u p is l ls) =
+      passes_value s u (store_of object key p) (Some there.span)
+      (passes_then s (all_blocks ls).extends (expression_passes l) (all_passes ls))
+  expression_passes (lowered.AssignedPrivate at there object name right s t u p q l m) =
+      passes_then s (blocks_noted_value u (refusal row.F5 at.span) (values.Primitive primitives.Undefined) (Some at.span)).extends
+      (passes_then s (expression_blocks m).extends (expression_passes l) (expression_passes m))
+      (value_passes (recorded u (refusal row.F5 at.span)) (values.Primitive primitives.Undefined) (Some at.span))
+  expression_passes {names}
+      (lowered.CompoundVariable at there name operator applied right symbol identifier s t u q p is mutable applies l m f) =
+      passes_then s (blocks_reloaded names u applied q p at.span there.span symbol identifier f).extends
+      (passes_then s (expression_blocks m).extends (expression_passes l) (expression_passes m))
+      (reloaded_passes names u applied q p at.span there.span symbol identifier f)
+  expression_passes {names}
+      (lowered.CompoundConstant at there name operator applied right symbol identifier s t u q p is constant applies l m f) =
+      passes_then s (blocks_constant names u symbol there.span at.span identifier f).extends
+      (passes_then s (expression_blocks m).extends (expression_passes l) (expression_passes m))
+      (constant_passes names u symbol there.span at.span)
+  expression_passes (lowered.CompoundGlobal at there name operator applied right binding s t u q p is applies l m) =
+      passes_value s (name_computed u applied q p at.span) (values.StoreGlobal name (temporary u (Some at.span))) (Some at.span)
+      (passes_value s u (values.BinaryExpression applied q p) (Some at.span)
+      (passes_then s (expression_blocks m).extends (expression_passes l) (expression_passes m)))
+  expression_passes (lowered.CompoundMember at there w fields parts pieces object key operator applied right s t u p is applies ls l) =
+      passes_value s (member_computed t u applied p there.span) (store_of object key (temporary u (Some there.span))) (Some there.span)
+      (passes_value s u (values.BinaryExpression applied (temporary t (Some there.span)) p) (Some there.span)
+      (passes_then s (expression_blocks l).extends (passes_value s t (load_of object key) (Some there.span) (all_passes ls))
+      (expression_passes l)))
+  expression_passes (lowered.CompoundPrivate at there fields operator applied right s t u q p applies l m) =
+      passes_value s u (values.Primitive primitives.Undefined) (Some at.span)
+      (passes_then s (expression_blocks m).extends (expression_passes l) (expression_passes m))
   expression_passes (lowered.Method at there w fields parts es pieces given_pieces object key given s t u is l given_are m) =
       let loaded : State = with_value t (load_of object key) (Some there.span) in
       passes_value s u _ (Some at.span)

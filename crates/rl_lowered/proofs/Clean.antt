@@ -1,28 +1,32 @@
 -- Nodes without refusals: their parts have none, and a kind that is refused is none of them.
-use Rattle.std.proofs.Common.{◌≡◌, ℕ, ◌++◌, Bool, true, false, if◌then◌else◌, List, [], ◌∷◌, Some, refl, sym, ap, ◌∙◌}
+use Rattle.std.proofs.Common.{◌≡◌, ℕ, ◌++◌, Bool, true, false, if◌then◌else◌, List, [], ◌∷◌, Some, codes, refl, sym, ap, ◌∙◌}
 use Rattle.rl_base.specs.declared.diagnostic.Diagnostic.{Diagnostic}
 use Rattle.rl_base.specs.declared.ids.SymbolId.{SymbolId}
+use Rattle.rl_base.specs.declared.operator.AssignmentOperator.{AssignmentOperator}
+use Rattle.rl_base.specs.declared.operator.BinaryOperator.{BinaryOperator}
 use Rattle.rl_base.specs.declared.row.Row.{Row}
 use Rattle.rl_base.specs.declared.row.Row.TheVariants as row
 use Rattle.rl_base.specs.declared.span.Span.{Span}
 use Rattle.rl_base.specs.Diagnostics.{diagnostic_at}
+use Rattle.rl_base.specs.Operators.{assignment_text}
 use Rattle.rl_hir.specs.declared.instruction.InstructionValue.{InstructionValue}
 use Rattle.rl_hir.specs.declared.instruction.NonLocalBinding.{NonLocalBinding}
 use Rattle.rl_hir.specs.declared.instruction.Place.{Place}
 use Rattle.rl_hir.specs.Pieces.{Piece}
-use Rattle.rl_lowered.proofs.Refusals.{cast_refuses, computed_refuses, constant_refuses, form_refuses, fraction_refuses}
-use Rattle.rl_lowered.proofs.Refusals.{lost_head_refuses, member_head_refuses, member_refuses, method_refuses, outer_refuses}
-use Rattle.rl_lowered.proofs.Refusals.{private_refuses, property_refuses, refused_refuses, refusing_refuses, stored_head_refuses}
-use Rattle.rl_lowered.proofs.Refusals.{unknown_refuses, updated_member_refuses, wrapper_refuses}
-use Rattle.rl_lowered.specs.Forms.{IsCast, IsForm, IsMember, IsPrivate, IsRefused, IsRefusing, IsWrapper, MemberKey}
+use Rattle.rl_lowered.proofs.Refusals.{assigned_member_refuses, cast_refuses, compound_member_refuses, compound_refuses, computed_refuses}
+use Rattle.rl_lowered.proofs.Refusals.{constant_refuses, form_refuses, fraction_refuses, lost_head_refuses, member_head_refuses}
+use Rattle.rl_lowered.proofs.Refusals.{member_refuses, method_refuses, outer_refuses, private_refuses, property_refuses, refused_refuses}
+use Rattle.rl_lowered.proofs.Refusals.{refusing_refuses, stored_head_refuses, unknown_refuses, updated_member_refuses, wrapper_refuses}
+use Rattle.rl_lowered.specs.Forms.{IsCast, IsForm, IsMember, IsPrivate, IsRefused, IsRefusing, IsWrapper, MemberKey, applied_by}
 use Rattle.rl_model.specs.Shapes.{is_absent, key_text}
 use Rattle.rl_names.specs.declared.names.Meaning.TheVariants.{Local, Outer}
 use Rattle.rl_names.specs.Names.{Names}
 use Rattle.rl_promises.proofs.Covering.{none_in}
 use Rattle.rl_promises.specs.Moved.{may_move, said_of_moved, type_name}
 use Rattle.rl_promises.specs.Outs.{is_known_key, is_lost_head}
-use Rattle.rl_promises.specs.Rows.{is_eval, label_of, refusal, refusals, refusals_among, refusals_at, refusals_at_head, refusals_in}
-use Rattle.rl_promises.specs.Rows.{refusals_in_cases, said_of_finalizer, said_of_init, said_of_local, said_of_test, said_of_throw}
+use Rattle.rl_promises.specs.Rows.{is_eval, label_of, refusal, refusals, refusals_among, refusals_at, refusals_at_head, refusals_below}
+use Rattle.rl_promises.specs.Rows.{refusals_in, refusals_in_cases, said_of_assigned, said_of_finalizer, said_of_init, said_of_local}
+use Rattle.rl_promises.specs.Rows.{said_of_test, said_of_throw, said_of_updated}
 use Rattle.rl_syntax.specs.declared.numbered.At.{At}
 use Rattle.rl_syntax.specs.declared.word.Word.{Word}
 use Rattle.rl_syntax.specs.declared.word.Word.TheVariants as word
@@ -186,6 +190,69 @@ pub member_head_clean : {w : Word} {fields parts : Pieces} {pieces : List Piece}
     → refusals_in names parts ≡ []
 member_head_clean is names at none = sym (member_head_refuses names at is) ∙ none
 
+-- Assignments.
+
+pub assigned_clean : (names : Names) (at : At) (target right : Syntax)
+    → refusals names (Node at word.Assign (Then (Said (codes "=")) (Then target (Then right End)))) ≡ []
+    → (refusals names right ≡ []) × (said_of_assigned names at.span target (refusals_below names target) ≡ [])
+assigned_clean names at target right none =
+    none_in (refusals names right) (said_of_assigned names at.span target (refusals_below names target)) none
+
+pub assigned_member_clean : {w : Word} {fields parts : Pieces} {pieces : List Piece} {object : Place} {key : MemberKey}
+    → IsMember w fields parts pieces object key → (names : Names) (at there : At) (right : Syntax)
+    → refusals names (Node at word.Assign (Then (Said (codes "=")) (Then (Node there w fields) (Then right End)))) ≡ []
+    → (refusals names right ≡ []) × (refusals_in names parts ≡ [])
+assigned_member_clean {parts} is names at there right none =
+    none_in (refusals names right) (refusals_in names parts) (sym (assigned_member_refuses names at there right is) ∙ none)
+
+pub constant_assigned_never : (names : Names) (at there : At) (name : List ℕ) (right : Syntax) (symbol : SymbolId)
+    → names.meaning there.reference.0 name ≡ Local symbol → names.is_const symbol.0 ≡ true
+    → refusals names
+    (Node at word.Assign (Then (Said (codes "=")) (Then (Node there word.Id (Then (Said name) End)) (Then right End)))) ≡ [] → ⊥
+constant_assigned_never names at there name right symbol is constant none =
+    constant_head_never names there name symbol is constant
+    (assigned_clean names at (Node there word.Id (Then (Said name) End)) right none).1
+
+pub private_assigned_never : (names : Names) (at there : At) (object : Syntax) (name : List ℕ) (right : Syntax)
+    → refusals names
+    (Node at word.Assign
+    (Then (Said (codes "="))
+    (Then (Node there word.Privatemember (Then (Flag false) (Then object (Then (Said name) End)))) (Then right End)))) ≡ []
+    → ⊥
+private_assigned_never names at there object name right none =
+    let fields : Pieces = Then (Flag false) (Then object (Then (Said name) End)) in
+    behind_none (refusals_in names fields) (refusal row.F5 at.span)
+    (assigned_clean names at (Node there word.Privatemember fields) right none).1
+
+pub compound_clean : (names : Names) (at : At) (target right : Syntax) (operator : AssignmentOperator) (applied : BinaryOperator)
+    → applied_by operator ≡ Some applied
+    → refusals names (Node at word.Assign (Then (Said (assignment_text operator)) (Then target (Then right End)))) ≡ []
+    → (refusals names target ≡ []) × (refusals names right ≡ []) × (said_of_updated names target ≡ [])
+compound_clean names at target right operator applied applies none =
+    let whole = none_in (refusals names target ++ refusals names right) (said_of_updated names target)
+    (sym (compound_refuses names at target right operator applied applies) ∙ none) in
+    let front = none_in (refusals names target) (refusals names right) whole.0 in
+    (front.0, front.1, whole.1)
+
+pub compound_member_clean : {w : Word} {fields parts : Pieces} {pieces : List Piece} {object : Place} {key : MemberKey}
+    → IsMember w fields parts pieces object key → (names : Names) (at there : At) (right : Syntax) (operator : AssignmentOperator)
+    (applied : BinaryOperator) → applied_by operator ≡ Some applied
+    → refusals names (Node at word.Assign (Then (Said (assignment_text operator)) (Then (Node there w fields) (Then right End)))) ≡ []
+    → (refusals_in names parts ≡ []) × (refusals names right ≡ [])
+compound_member_clean {parts} is names at there right operator applied applies none =
+    none_in (refusals_in names parts) (refusals names right)
+    (sym (compound_member_refuses names at there right operator applied applies is) ∙ none)
+
+pub constant_compound_never : (names : Names) (at there : At) (name : List ℕ) (right : Syntax) (operator : AssignmentOperator)
+    (applied : BinaryOperator) → applied_by operator ≡ Some applied → (symbol : SymbolId)
+    → names.meaning there.reference.0 name ≡ Local symbol → names.is_const symbol.0 ≡ true
+    → refusals names
+    (Node at word.Assign (Then (Said (assignment_text operator)) (Then (Node there word.Id (Then (Said name) End)) (Then right End)))) ≡ []
+    → ⊥
+constant_compound_never names at there name right operator applied applies symbol is constant none =
+    constant_head_never names there name symbol is constant
+    (compound_clean names at (Node there word.Id (Then (Said name) End)) right operator applied applies none).2
+
 -- Kinds that are refused.
 
 pub refused_never : (names : Names) (at : At) {w : Word} {fields : Pieces} {r : Row} → IsRefused names w fields r
@@ -235,7 +302,8 @@ member_clean is names at none = sym (member_refuses names at is) ∙ none
 
 pub updated_member_clean : {w : Word} {fields parts : Pieces} {pieces : List Piece} {object : Place} {key : MemberKey}
     → IsMember w fields parts pieces object key → (names : Names) (at there : At) (operator prefix : Syntax)
-    → refusals names (Node at word.Update (Then operator (Then prefix (Then (Node there w fields) End)))) ≡ [] → refusals_in names parts ≡ []
+    → refusals names (Node at word.Update (Then operator (Then prefix (Then (Node there w fields) End)))) ≡ []
+    → refusals_in names parts ≡ []
 updated_member_clean is names at there operator prefix none = sym (updated_member_refuses names at there operator prefix is) ∙ none
 
 pub method_clean : {w : Word} {fields parts : Pieces} {pieces : List Piece} {object : Place} {key : MemberKey}

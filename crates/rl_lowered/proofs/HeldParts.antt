@@ -1,5 +1,9 @@
 -- The counted nodes of what is lowered, from those of its parts.
-use Rattle.std.proofs.Common.{◌≡◌, ℕ, ◌++◌, Bool, true, false, List, [], ◌∷◌, Option, Some, None, codes, refl, ap, ◌∙◌, append-nil}
+use Rattle.std.proofs.Common.{◌≡◌, ℕ, ◌++◌, ◌&&◌, if◌then◌else◌, Bool, true, false, List, [], ◌∷◌, Option, Some, None, codes, refl, ap, ◌∙◌}
+use Rattle.std.proofs.Common.{append-nil}
+use Rattle.std.specs.List.{list_any}
+use Rattle.std.specs.Str.{bytes_eq}
+use Rattle.rl_base.specs.declared.span.Span.{Span}
 use Rattle.rl_hir.specs.declared.instruction.InstructionValue.{InstructionValue}
 use Rattle.rl_hir.specs.declared.instruction.InstructionValue.TheVariants as values
 use Rattle.rl_hir.specs.declared.instruction.Place.{Place}
@@ -10,11 +14,13 @@ use Rattle.rl_hir.specs.Written.{value_word}
 use Rattle.rl_lowered.proofs.Keys.{HasText, Name, has_text}
 use Rattle.rl_lowered.specs.Forms.{AreQuasis, IsAnnotation, IsCast, IsForm, IsInside, IsLiteral, IsMember, IsWrapper, MemberKey}
 use Rattle.rl_lowered.specs.Forms as forms
+use Rattle.rl_lowered.specs.Promised.{counted_word}
 use Rattle.rl_model.specs.Shapes.{key_text}
+use Rattle.rl_model.specs.Worlds.{is_reassign}
 use Rattle.rl_promises.proofs.Unheld.{names_unheld, type_unheld}
-use Rattle.rl_promises.specs.Held.{is_counted}
-use Rattle.rl_promises.specs.Live.{Held, held_among, held_in}
-use Rattle.rl_promises.specs.Tallies.{held_word}
+use Rattle.rl_promises.specs.Held.{is_of}
+use Rattle.rl_promises.specs.Live.{Held, held_among, held_as, held_in}
+use Rattle.rl_promises.specs.Tallies.{Awaits, Calls, Constructions, IsHeldKind, Stores, held_span, held_word, is_among, store_word}
 use Rattle.rl_syntax.specs.declared.numbered.At.{At}
 use Rattle.rl_syntax.specs.declared.word.Word.{Word}
 use Rattle.rl_syntax.specs.declared.word.Word.TheVariants as word
@@ -26,12 +32,48 @@ is_held (values.CallExpression callee given) = true
 is_held (values.MethodCall call) = true
 is_held (values.NewExpression callee given) = true
 is_held (values.Await value) = true
+is_held (values.StoreLocal kind place value) = is_reassign kind
+is_held (values.StoreContext kind place value) = is_reassign kind
+is_held (values.StoreGlobal name value) = true
 is_held _ = false
 
--- The instruction of a kind is held for its node, or no instruction is.
+-- The instruction of a kind is counted as its node is, or neither is.
 pub data IsHeldAs (word : Option (List ℕ)) (v : InstructionValue) : Type 0 where
   Unheld : word ≡ None → is_held v ≡ false → IsHeldAs word v
-  HeldBy : word ≡ Some (value_word v) → is_counted v ≡ true → IsHeldAs word v
+  HeldBy : (text : List ℕ) → word ≡ Some text → counted_word v ≡ Some text → IsHeldAs word v
+
+-- Values are of counted kinds where the words are by which they are counted.
+
+and_true : (b : Bool) → b && true ≡ b
+and_true true = refl
+and_true false = refl
+
+and_false : (b : Bool) → b && false ≡ false
+and_false true = refl
+and_false false = refl
+
+-- The three words of stores are of the same kinds.
+stores_alike : {kinds : List (List ℕ)} → IsHeldKind kinds
+    → (list_any (bytes_eq (codes "storecontext")) kinds ≡ list_any (bytes_eq (codes "storelocal")) kinds)
+    × (list_any (bytes_eq (codes "storeglobal")) kinds ≡ list_any (bytes_eq (codes "storelocal")) kinds)
+stores_alike Calls = (refl, refl)
+stores_alike Constructions = (refl, refl)
+stores_alike Awaits = (refl, refl)
+stores_alike Stores = (refl, refl)
+
+store_among : (kinds : List (List ℕ)) (own again : Bool) → own ≡ list_any (bytes_eq (codes "storelocal")) kinds
+    → own && again ≡ is_among kinds (if again then Some (codes "storelocal") else None)
+store_among kinds own true same = and_true own ∙ same
+store_among kinds own false same = and_false own
+
+pub counted_among : {kinds : List (List ℕ)} → IsHeldKind kinds → (v : InstructionValue) → is_of kinds v ≡ is_among kinds (counted_word v)
+counted_among {kinds} held (values.StoreLocal kind place value) =
+    store_among kinds (list_any (bytes_eq (codes "storelocal")) kinds) (is_reassign kind) refl
+counted_among {kinds} held (values.StoreContext kind place value) =
+    store_among kinds (list_any (bytes_eq (codes "storecontext")) kinds) (is_reassign kind) (stores_alike held).0
+counted_among {kinds} held (values.StoreGlobal name value) =
+    and_true (list_any (bytes_eq (codes "storeglobal")) kinds) ∙ (stores_alike held).1
+counted_among {kinds} held v = and_true (list_any (bytes_eq (value_word v)) kinds)
 
 -- Literals, texts of templates, and wrappers.
 
@@ -73,6 +115,17 @@ member_word : {w : Word} {fields parts : Pieces} {pieces : List Piece} {object :
 member_word forms.Static = refl
 member_word _ = refl
 
+member_span : {w : Word} {fields parts : Pieces} {pieces : List Piece} {object : Place} {key : MemberKey}
+    → IsMember w fields parts pieces object key → (at : Span) → held_span w fields at ≡ at
+member_span forms.Static at = refl
+member_span _ at = refl
+
+-- A store to a property is not counted.
+pub member_unstored : {w : Word} {fields parts : Pieces} {pieces : List Piece} {object : Place} {key : MemberKey}
+    → IsMember w fields parts pieces object key → (there : At) → store_word (Node there w fields) ≡ None
+member_unstored forms.Static there = refl
+member_unstored _ there = refl
+
 member_unheld : {w : Word} {fields parts : Pieces} {pieces : List Piece} {object : Place} {key : MemberKey}
     → IsMember w fields parts pieces object key
     → (is_held (forms.load_of object key) ≡ false) × (is_held (forms.delete_of object key) ≡ false)
@@ -100,12 +153,38 @@ pub method_held : {w : Word} {fields parts : Pieces} {pieces : List Piece} {obje
     → held_in (Node at word.Call (Then (Flag false) (Then (Node there w fields) (Then (Listed es) End))))
     ≡ record { word = codes "methodcall"; span = at.span } ∷ (held_among parts ++ held_among es)
 method_held (forms.Static {object}) at there es =
-    ap (λ (l : List Held). record { word = codes "methodcall"; span = at.span } ∷ ((held_in object ++ []) ++ l)) (append-nil (held_among es))
+    ap (λ (l : List Held). record { word = codes "methodcall"; span = at.span } ∷ ((held_in object ++ []) ++ l))
+    (append-nil (held_among es))
 method_held (forms.Indexed {object} {property} other) at there es =
     ap (λ (l : List Held). record { word = codes "methodcall"; span = at.span } ∷ ((held_in object ++ (held_in property ++ [])) ++ l))
     (append-nil (held_among es))
 method_held (forms.Numbered {object} is) at there es =
-    ap (λ (l : List Held). record { word = codes "methodcall"; span = at.span } ∷ ((held_in object ++ []) ++ l)) (append-nil (held_among es))
+    ap (λ (l : List Held). record { word = codes "methodcall"; span = at.span } ∷ ((held_in object ++ []) ++ l))
+    (append-nil (held_among es))
+
+-- Assignments: that to a name is counted by its store, and one to a property is not.
+
+pub assigned_held : (at there : At) (name : List ℕ) (right : Syntax)
+    → held_in (Node at word.Assign (Then (Said (codes "=")) (Then (Node there word.Id (Then (Said name) End)) (Then right End))))
+    ≡ record { word = codes "storelocal"; span = there.span } ∷ held_in right
+assigned_held at there name right =
+    ap (λ (l : List Held). record { word = codes "storelocal"; span = there.span } ∷ l) (append-nil (held_in right))
+
+pub compound_held : (at there : At) (name operator : List ℕ) (right : Syntax) → bytes_eq operator (codes "=") ≡ false
+    → held_in (Node at word.Assign (Then (Said operator) (Then (Node there word.Id (Then (Said name) End)) (Then right End))))
+    ≡ record { word = codes "storelocal"; span = at.span } ∷ held_in right
+compound_held at there name operator right other =
+    ap (λ (b : Bool). record { word = codes "storelocal"; span = if b then there.span else at.span } ∷ (held_in right ++ [])) other
+    ∙ ap (λ (l : List Held). record { word = codes "storelocal"; span = at.span } ∷ l) (append-nil (held_in right))
+
+pub assigned_member_held : {w : Word} {fields parts : Pieces} {pieces : List Piece} {object : Place} {key : MemberKey}
+    → IsMember w fields parts pieces object key → (at there : At) (operator : List ℕ) (right : Syntax)
+    → held_in (Node at word.Assign (Then (Said operator) (Then (Node there w fields) (Then right End)))) ≡ held_among parts ++ held_in right
+assigned_member_held {w} {fields} {parts} is at there operator right =
+    let span : Span = held_span word.Assign (Then (Said operator) (Then (Node there w fields) (Then right End))) at.span in
+    ap (λ (o : Option (List ℕ)). held_as o span ++ (held_in (Node there w fields) ++ (held_in right ++ []))) (member_unstored is there)
+    ∙ ap (λ (l : List Held). l ++ (held_in right ++ [])) (member_held is there)
+    ∙ ap (λ (l : List Held). held_among parts ++ l) (append-nil (held_in right))
 
 -- A kind of the table: the parts that are lowered hold what the fields do.
 pub form_held : {w : Word} {fields parts : Pieces} {pieces : List Piece} {v : InstructionValue} → IsForm w fields parts pieces v
@@ -125,12 +204,18 @@ form_held _ = refl
 
 pub form_word : {w : Word} {fields parts : Pieces} {pieces : List Piece} {v : InstructionValue} → IsForm w fields parts pieces v
     → IsHeldAs (held_word w fields) v
-form_word (forms.Call plain given) = HeldBy (ap (λ (text : List ℕ). Some text) plain) refl
-form_word (forms.New given) = HeldBy refl refl
-form_word forms.Await = HeldBy refl refl
+form_word (forms.Call plain given) = HeldBy (codes "call") (ap (λ (text : List ℕ). Some text) plain) refl
+form_word (forms.New given) = HeldBy (codes "new") refl refl
+form_word forms.Await = HeldBy (codes "await") refl refl
 form_word (forms.Load is) = Unheld (member_word is) (member_unheld is).0
 form_word (forms.Delete operator deletes inside is) = Unheld refl (member_unheld is).1
 form_word _ = Unheld refl refl
+
+-- The instruction has the span of the node.
+pub form_span : {w : Word} {fields parts : Pieces} {pieces : List Piece} {v : InstructionValue} → IsForm w fields parts pieces v
+    → (at : Span) → held_span w fields at ≡ at
+form_span (forms.Load is) at = member_span is at
+form_span _ at = refl
 
 -- Properties of object literals.
 

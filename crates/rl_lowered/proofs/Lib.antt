@@ -1,6 +1,8 @@
 pub mod Arounds
+pub mod AssignmentRuns
 pub mod Blocks
 pub mod Bodies
+pub mod Carried
 pub mod CatchRuns
 pub mod Catches
 pub mod Clean
@@ -24,6 +26,7 @@ pub mod Respanned
 pub mod Runs
 pub mod Sizes
 pub mod Sound
+pub mod SoundAssignments
 pub mod SoundCatches
 pub mod SoundForms
 pub mod SoundFrames
@@ -35,6 +38,7 @@ pub mod SoundNames
 pub mod SoundRounds
 pub mod SoundStatements
 pub mod SoundTrees
+pub mod SoundValues
 pub mod Spanned
 pub mod SpannedForms
 pub mod SpannedFrames

@@ -4,6 +4,7 @@ use Rattle.rl_base.specs.declared.diagnostic.Diagnostic.{Diagnostic}
 use Rattle.rl_base.specs.declared.ids.BlockId.{BlockId}
 use Rattle.rl_base.specs.declared.ids.InstructionId.{InstructionId}
 use Rattle.rl_base.specs.declared.ids.SymbolId.{SymbolId}
+use Rattle.rl_base.specs.declared.operator.BinaryOperator.{BinaryOperator}
 use Rattle.rl_base.specs.declared.operator.UpdateOperator.{UpdateOperator}
 use Rattle.rl_base.specs.declared.row.Row.TheVariants as row
 use Rattle.rl_base.specs.declared.span.Span.{Span}
@@ -46,9 +47,10 @@ use Rattle.rl_lowered.specs.Forms.{IsForm, MemberKey, delete_of, load_of, store_
 use Rattle.rl_lowered.specs.Forms as forms
 use Rattle.rl_lowered.specs.Listing.{ListsSince}
 use Rattle.rl_lowered.specs.Lowered.{Lowered, LoweredBody, LoweredCaseTest, LoweredCases, LoweredDeclarators, LoweredHead, LoweredInit}
-use Rattle.rl_lowered.specs.Lowered.{LoweredLast, LoweredLoop, LoweredParts, LoweredStatement, LoweredStatements, LoweredTest, catch_begun}
-use Rattle.rl_lowered.specs.Lowered.{catch_bound, caught, declaring, found_again, member_loaded, member_one, member_stored, member_updated}
-use Rattle.rl_lowered.specs.Lowered.{part_span, promoted, throwing, throwing_under, update_of, value_span}
+use Rattle.rl_lowered.specs.Lowered.{LoweredLast, LoweredLoop, LoweredParts, LoweredStatement, LoweredStatements, LoweredTest, assigned_to}
+use Rattle.rl_lowered.specs.Lowered.{catch_begun, catch_bound, caught, declaring, found_again, member_assigned, member_computed}
+use Rattle.rl_lowered.specs.Lowered.{member_loaded, member_one, member_stored, member_updated, name_computed, name_reloaded, name_stored}
+use Rattle.rl_lowered.specs.Lowered.{part_span, promoted, throwing, throwing_under, update_of, value_span, variable_at}
 use Rattle.rl_lowered.specs.Lowered as lowered
 use Rattle.rl_lowered.specs.Named.{found}
 use Rattle.rl_model.specs.Actions.{Label}
@@ -126,6 +128,36 @@ lists_member t object key operator there =
     (lists_then one updated _ (lists_value one _ (Some there) refl)
     (lists_value updated (store_of object key kept) (Some there) (store_plain object key kept))))
 
+-- A constant that was looked up is refused.
+lists_constant : (names : Names) (s : State) (symbol : SymbolId) (there span : Span)
+    → ListsSince s
+    (with_value (recorded (found names s symbol there) (diagnostic_at row.F6 (names.name symbol.0) there))
+    (values.Primitive primitives.Undefined) (Some span))
+lists_constant names s symbol there span =
+    let first : State = found names s symbol there in
+    lists_then s first _ (lists_found names s symbol there)
+    (lists_undefined first (diagnostic_at row.F6 (names.name symbol.0) there) span)
+
+-- Compound assignments, behind their right part.
+
+lists_reloaded : (names : Names) (u : State) (operator : BinaryOperator) (q p : Place) (at there : Span) (symbol : SymbolId)
+    (identifier : ℕ) → ListsSince u (name_reloaded names u operator q p at there symbol identifier)
+lists_reloaded names u operator q p at there symbol identifier =
+    let computed : State = name_computed u operator q p at in
+    let stored : State = name_stored names u operator q p at there symbol identifier in
+    lists_then u computed _ (lists_value u (values.BinaryExpression operator q p) (Some at) refl)
+    (lists_then computed stored _
+    (lists_found_value names computed symbol there (assigned_to identifier there (temporary u (Some at))) (Some at) refl)
+    (lists_value stored (values.LoadLocal (variable_at identifier there)) (Some at) refl))
+
+lists_assigned : (t u : State) (object : Place) (key : MemberKey) (operator : BinaryOperator) (p : Place) (there : Span)
+    → ListsSince u (member_assigned t u object key operator p there)
+lists_assigned t u object key operator p there =
+    let computed : State = member_computed t u operator p there in
+    let kept : Place = temporary u (Some there) in
+    lists_then u computed _ (lists_value u (values.BinaryExpression operator (temporary t (Some there)) p) (Some there) refl)
+    (lists_value computed (store_of object key kept) (Some there) (store_plain object key kept))
+
 mutual
   pub expression_lists : {names : Names} {e : Syntax} {s t : State} {p : Place} → Lowered names e s t p → ListsSince s t
   expression_lists (lowered.Literal at w fields p s is) = lists_value s (values.Primitive p) (Some at.span) refl
@@ -145,11 +177,43 @@ mutual
       (lists_found_value names first symbol there.span _ (Some at.span)
       (update_plain prefix operator (record { identifier = record { 0 = identifier }; span = Some there.span })))
   expression_lists {names} (lowered.UpdatedConstant at there name symbol identifier operator prefix s is constant f) =
-      let first : State = found names s symbol there.span in
-      lists_then s first _ (lists_found names s symbol there.span)
-      (lists_undefined first (diagnostic_at row.F6 (names.name symbol.0) there.span) at.span)
+      lists_constant names s symbol there.span at.span
   expression_lists (lowered.UpdatedMember at there w fields parts pieces object key operator prefix s t is l) =
       lists_then s t _ (all_lists l) (lists_member t object key operator there.span)
+  expression_lists {names} (lowered.AssignedVariable at there name right symbol identifier s t p is mutable l f) =
+      lists_then s t _ (expression_lists l)
+      (lists_found_value names t symbol there.span (assigned_to identifier there.span p) (Some there.span) refl)
+  expression_lists {names} (lowered.AssignedConstant at there name right symbol identifier s t p is constant l f) =
+      lists_then s t _ (expression_lists l) (lists_constant names t symbol there.span there.span)
+  expression_lists (lowered.AssignedGlobal at there name right binding s t p is l) =
+      lists_then s t _ (expression_lists l) (lists_value t (values.StoreGlobal name p) (Some there.span) refl)
+  expression_lists (lowered.AssignedMember at there w fields parts pieces object key right s t u p is l ls) =
+      lists_then s t _ (expression_lists l)
+      (lists_then t u _ (all_lists ls) (lists_value u (store_of object key p) (Some there.span) (store_plain object key p)))
+  expression_lists (lowered.AssignedPrivate at there object name right s t u p q l m) =
+      lists_then s t _ (expression_lists l)
+      (lists_then t u _ (expression_lists m) (lists_undefined u (refusal row.F5 at.span) at.span))
+  expression_lists {names}
+      (lowered.CompoundVariable at there name operator applied right symbol identifier s t u q p is mutable applies l m f) =
+      lists_then s t _ (expression_lists l)
+      (lists_then t u _ (expression_lists m) (lists_reloaded names u applied q p at.span there.span symbol identifier))
+  expression_lists {names}
+      (lowered.CompoundConstant at there name operator applied right symbol identifier s t u q p is constant applies l m f) =
+      lists_then s t _ (expression_lists l) (lists_then t u _ (expression_lists m) (lists_constant names u symbol there.span at.span))
+  expression_lists (lowered.CompoundGlobal at there name operator applied right binding s t u q p is applies l m) =
+      let computed : State = name_computed u applied q p at.span in
+      lists_then s t _ (expression_lists l)
+      (lists_then t u _ (expression_lists m)
+      (lists_then u computed _ (lists_value u (values.BinaryExpression applied q p) (Some at.span) refl)
+      (lists_value computed (values.StoreGlobal name (temporary u (Some at.span))) (Some at.span) refl)))
+  expression_lists (lowered.CompoundMember at there w fields parts pieces object key operator applied right s t u p is applies ls l) =
+      let loaded : State = with_value t (load_of object key) (Some there.span) in
+      lists_then s t _ (all_lists ls)
+      (lists_then t loaded _ (lists_value t (load_of object key) (Some there.span) (load_plain object key))
+      (lists_then loaded u _ (expression_lists l) (lists_assigned t u object key applied p there.span)))
+  expression_lists (lowered.CompoundPrivate at there fields operator applied right s t u q p applies l m) =
+      lists_then s t _ (expression_lists l)
+      (lists_then t u _ (expression_lists m) (lists_value u (values.Primitive primitives.Undefined) (Some at.span) refl))
   expression_lists (lowered.Method at there w fields parts es pieces given_pieces object key given s t u is l given_are m) =
       let loaded : State = with_value t (load_of object key) (Some there.span) in
       lists_then s t _ (all_lists l)

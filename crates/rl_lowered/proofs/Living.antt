@@ -1,14 +1,16 @@
--- Live calls, constructions and awaits have an instruction in a block that is reached, where nothing was refused.
-use Rattle.std.proofs.Common.{◌≡◌, ℕ, ◌++◌, Bool, true, false, List, [], ◌∷◌, Option, Some, None, codes, refl, sym, ap, subst}
+-- Live calls, constructions, awaits and stores have an instruction in a block that is reached, where nothing was refused.
+use Rattle.std.proofs.Common.{◌≡◌, ℕ, ◌++◌, Bool, true, false, List, [], ◌∷◌, Option, Some, None, codes, refl, sym, ap, ◌∙◌, subst}
 use Rattle.std.proofs.Common.{append-nil}
 use Rattle.rl_base.specs.declared.ids.SymbolId.{SymbolId}
+use Rattle.rl_base.specs.declared.operator.AssignmentOperator.{AssignmentOperator}
+use Rattle.rl_base.specs.declared.operator.BinaryOperator.{BinaryOperator}
 use Rattle.rl_base.specs.declared.operator.UpdateOperator.{UpdateOperator}
 use Rattle.rl_base.specs.declared.span.Span.{Span}
 use Rattle.rl_base.specs.declared.type_kind.TypeKind.{TypeKind}
 use Rattle.rl_base.specs.declared.type_kind.TypeKind.TheVariants as types
 use Rattle.rl_base.specs.declared.variable_kind.VariableKind.{VariableKind}
 use Rattle.rl_base.specs.declared.variable_kind.VariableKind.TheVariants as kinds
-use Rattle.rl_base.specs.Operators.{update_text}
+use Rattle.rl_base.specs.Operators.{assignment_text, update_text}
 use Rattle.rl_builder.specs.Builder.{State}
 use Rattle.rl_builder.specs.Temporaries.{temporary, with_value}
 use Rattle.rl_hir.specs.declared.instruction.InstructionKind.{InstructionKind}
@@ -17,26 +19,30 @@ use Rattle.rl_hir.specs.declared.instruction.InstructionValue.TheVariants as val
 use Rattle.rl_hir.specs.declared.instruction.Place.{Place}
 use Rattle.rl_hir.specs.declared.instruction.PrimitiveValue.TheVariants as primitives
 use Rattle.rl_hir.specs.Pieces.{Piece}
-use Rattle.rl_hir.specs.Written.{value_word}
 use Rattle.rl_lowered.proofs.Blocks.{all_blocks, blocks_cast, blocks_member, declarators_blocks, expression_blocks, last_blocks}
-use Rattle.rl_lowered.proofs.Clean.{branches_clean, cast_clean, computed_row_clean, constant_update_never, first_none, form_clean}
-use Rattle.rl_lowered.proofs.Clean.{fraction_row_never, method_clean, outer_never, private_clean, private_never, property_row_clean}
-use Rattle.rl_lowered.proofs.Clean.{refused_never, refusing_never, row_clean, second_none, spread_row_clean, unknown_row_never}
-use Rattle.rl_lowered.proofs.Clean.{updated_member_clean, wrapper_clean}
-use Rattle.rl_lowered.proofs.HeldParts.{HeldBy, IsHeldAs, Unheld, cast_held, computed_held, declarator_held, form_held, form_word}
-use Rattle.rl_lowered.proofs.HeldParts.{literal_held, method_held, property_held, updated_held, wrapper_held}
+use Rattle.rl_lowered.proofs.Clean.{assigned_clean, assigned_member_clean, branches_clean, cast_clean, compound_clean}
+use Rattle.rl_lowered.proofs.Clean.{compound_member_clean, computed_row_clean, constant_assigned_never, constant_compound_never}
+use Rattle.rl_lowered.proofs.Clean.{constant_update_never, first_none, form_clean, fraction_row_never, method_clean, outer_never}
+use Rattle.rl_lowered.proofs.Clean.{private_assigned_never, private_clean, private_never, property_row_clean, refused_never, refusing_never}
+use Rattle.rl_lowered.proofs.Clean.{row_clean, second_none, spread_row_clean, unknown_row_never, updated_member_clean, wrapper_clean}
+use Rattle.rl_lowered.proofs.HeldParts.{HeldBy, IsHeldAs, Unheld, assigned_held, assigned_member_held, cast_held, compound_held}
+use Rattle.rl_lowered.proofs.HeldParts.{computed_held, declarator_held, form_held, form_span, form_word, literal_held, method_held}
+use Rattle.rl_lowered.proofs.HeldParts.{property_held, updated_held, wrapper_held}
 use Rattle.rl_lowered.proofs.LiveFrames.{lives_ahead, lives_on, logical_lives, sequence_lives, ternary_lives, value_keyed, value_keyless}
 use Rattle.rl_lowered.proofs.Meant.{private_member_never}
 use Rattle.rl_lowered.proofs.Plain.{lowered_plain}
-use Rattle.rl_lowered.specs.Forms.{MemberKey, load_of, store_of, type_of, typed}
-use Rattle.rl_lowered.specs.Lowered.{Asked, Cast, Conditional, EarlierPart, Global, LastPart, Literal, Logical, Lowered, LoweredDeclarators}
-use Rattle.rl_lowered.specs.Lowered.{LoweredLast, LoweredParts, Method, NextComputed, NextDeclared, NextFraction, NextHole, NextInitialized}
-use Rattle.rl_lowered.specs.Lowered.{NextPart, NextProperty, NextSpread, NextUnknown, NoDeclarator, NoPart, Object, Private, Refused}
-use Rattle.rl_lowered.specs.Lowered.{RefusedBefore, RefusedBehind, RefusedGlobal, Same, Sequence, UpdatedConstant, UpdatedMember}
-use Rattle.rl_lowered.specs.Lowered.{UpdatedVariable, Variable, declaring, member_loaded, member_one, member_stored, member_updated}
-use Rattle.rl_lowered.specs.Lowered.{update_of, value_span}
+use Rattle.rl_lowered.proofs.Refusals.{applied_plain}
+use Rattle.rl_lowered.specs.Forms.{IsPrivate, MemberKey, PrivateUpdate, applied_by, load_of, store_of, type_of, typed}
+use Rattle.rl_lowered.specs.Lowered.{Asked, AssignedConstant, AssignedGlobal, AssignedMember, AssignedPrivate, AssignedVariable, Cast}
+use Rattle.rl_lowered.specs.Lowered.{CompoundConstant, CompoundGlobal, CompoundMember, CompoundPrivate, CompoundVariable, Conditional}
+use Rattle.rl_lowered.specs.Lowered.{EarlierPart, Global, LastPart, Literal, Logical, Lowered, LoweredDeclarators, LoweredLast}
+use Rattle.rl_lowered.specs.Lowered.{LoweredParts, Method, NextComputed, NextDeclared, NextFraction, NextHole, NextInitialized, NextPart}
+use Rattle.rl_lowered.specs.Lowered.{NextProperty, NextSpread, NextUnknown, NoDeclarator, NoPart, Object, Private, Refused, RefusedBefore}
+use Rattle.rl_lowered.specs.Lowered.{RefusedBehind, RefusedGlobal, Same, Sequence, UpdatedConstant, UpdatedMember, UpdatedVariable}
+use Rattle.rl_lowered.specs.Lowered.{Variable, assigned_to, declaring, member_computed, member_loaded, member_one, member_stored}
+use Rattle.rl_lowered.specs.Lowered.{member_updated, name_computed, name_stored, update_of, value_span, variable_at}
 use Rattle.rl_lowered.specs.Named.{found}
-use Rattle.rl_lowered.specs.Promised.{held_by}
+use Rattle.rl_lowered.specs.Promised.{held_by, held_of}
 use Rattle.rl_names.specs.Names.{Names}
 use Rattle.rl_promises.specs.Live.{Held, held_among, held_as, held_in}
 use Rattle.rl_promises.specs.Rows.{refusals, refusals_in}
@@ -45,6 +51,7 @@ use Rattle.rl_runs.proofs.Living.{lives_refl, lives_then}
 use Rattle.rl_runs.proofs.Moves.{extends_resolved, extends_then, extends_value}
 use Rattle.rl_runs.specs.Blocks.{Lives}
 use Rattle.rl_runs.specs.Facts.{Extends}
+use Rattle.rl_syntax.specs.declared.numbered.At.{At}
 use Rattle.rl_syntax.specs.declared.word.Word.TheVariants as word
 use Rattle.rl_syntax.specs.Syntax.{Absent, End, Flag, Node, Pieces, Said, Syntax, Then, span_of}
 
@@ -54,9 +61,10 @@ computed_lives : (word : Option (List ℕ)) (s : State) (v : InstructionValue) (
 computed_lives word s v span (Unheld is unheld) =
     subst (λ (w : Option (List ℕ)). Lives held_by (held_as w span) true s (with_value s v (Some span))) (sym is)
     (value_keyless held_by s v (Some span))
-computed_lives word s v span (HeldBy is counted) =
+computed_lives word s v span (HeldBy text is counted) =
     subst (λ (w : Option (List ℕ)). Lives held_by (held_as w span) true s (with_value s v (Some span))) (sym is)
-    (value_keyed held_by s v (Some span) (record { word = value_word v; span = span }) refl)
+    (value_keyed held_by s v (Some span) (record { word = text; span = span })
+    (ap (λ (w : Option (List ℕ)). held_of w (Some span)) counted))
 
 none_behind_two : (l m : List Held) → l ++ (m ++ []) ≡ l ++ m
 none_behind_two l m = ap (λ (k : List Held). l ++ k) (append-nil m)
@@ -72,6 +80,18 @@ lives_same {completes} {s} {t} is l = subst (λ (keys : List Held). Lives held_b
 pub falls_same : {live : List Held} {falls other : Bool} {s t : State} → other ≡ falls → Lives held_by live falls s t
     → Lives held_by live other s t
 falls_same {live} {falls} {other} {s} {t} is l = subst (λ (b : Bool). Lives held_by live b s t) (sym is) l
+
+-- A compound assignment to a property of a private name has refusals.
+pub private_compound_never : {names : Names} {s t : State} {q : Place} (at there : At) (fields : Pieces) (right : Syntax)
+    (operator : AssignmentOperator) (applied : BinaryOperator) → applied_by operator ≡ Some applied
+    → Lowered names (Node there word.Privatemember fields) s t q
+    → refusals names
+    (Node at word.Assign (Then (Said (assignment_text operator)) (Then (Node there word.Privatemember fields) (Then right End)))) ≡ [] → ⊥
+private_compound_never {names} at there fields right operator applied applies d none =
+    let update : Pieces = Then Absent (Then Absent (Then (Node there word.Privatemember fields) End)) in
+    let is : IsPrivate word.Update update (Node there word.Privatemember fields) = PrivateUpdate in
+    private_member_never is d
+    (compound_clean names at (Node there word.Privatemember fields) right operator applied applies none).0
 
 -- Moves without live instructions behind a part, and before it.
 
@@ -90,6 +110,22 @@ pub found_lives : (names : Names) (s : State) (symbol : SymbolId) (at : Span) (v
     → Lives held_by [] true s (with_value (found names s symbol at) v span)
 found_lives names s symbol at v span =
     let l = value_keyless held_by (found names s symbol at) v span in record { onward = l.onward; stands = l.stands }
+
+-- The store to a name, behind its look-up.
+stored_lives : (names : Names) (s : State) (symbol : SymbolId) (there : Span) (identifier : ℕ) (value : Place) (span : Span)
+    → Lives held_by (record { word = codes "storelocal"; span = span } ∷ []) true s
+    (with_value (found names s symbol there) (assigned_to identifier there value) (Some span))
+stored_lives names s symbol there identifier value span =
+    let l = value_keyed held_by (found names s symbol there) (assigned_to identifier there value) (Some span)
+    (record { word = codes "storelocal"; span = span }) refl in
+    record { onward = l.onward; stands = l.stands }
+
+-- A part, and then the store to a name.
+assigned_lives : {live : List Held} (s t u : State) (span : Span) → Extends t u → Lives held_by live true s t
+    → Lives held_by (record { word = codes "storelocal"; span = span } ∷ []) true t u
+    → Lives held_by (record { word = codes "storelocal"; span = span } ∷ live) true s u
+assigned_lives {live} s t u span g first store =
+    lives_ahead held_by s t u live (record { word = codes "storelocal"; span = span } ∷ []) g first store
 
 pub declaring_lives : {live : List Held} (s t : State) (k : VariableKind) (at : Span) → Lives held_by live true (declaring s k at) t
     → Lives held_by live true s t
@@ -131,6 +167,77 @@ mutual
       lives_same (updated_held is at there text prefix)
       (lives_behind s (blocks_member t object key operator there.span).extends (member_lives t object key operator there.span)
       (all_lives d (updated_member_clean is names at there (Said text) (Flag prefix) none)))
+  expression_lives {names} (AssignedVariable at there name right symbol identifier s t p is mutable d f) none =
+      let stored : State = with_value (found names t symbol there.span) (assigned_to identifier there.span p) (Some there.span) in
+      lives_same (assigned_held at there name right)
+      (assigned_lives s t stored there.span
+      (extends_then (extends_resolved t (names.name symbol.0) symbol.0 (Some there.span) f.agree)
+      (extends_value (found names t symbol there.span) (assigned_to identifier there.span p) (Some there.span)))
+      (expression_lives d (assigned_clean names at (Node there word.Id (Then (Said name) End)) right none).0)
+      (stored_lives names t symbol there.span identifier p there.span))
+  expression_lives {names} (AssignedConstant at there name right symbol identifier s t p is constant d f) none =
+      absurd (constant_assigned_never names at there name right symbol is constant none)
+  expression_lives {names} (AssignedGlobal at there name right binding s t p is d) none =
+      lives_same (assigned_held at there name right)
+      (assigned_lives s t (with_value t (values.StoreGlobal name p) (Some there.span)) there.span
+      (extends_value t (values.StoreGlobal name p) (Some there.span))
+      (expression_lives d (assigned_clean names at (Node there word.Id (Then (Said name) End)) right none).0)
+      (value_keyed held_by t (values.StoreGlobal name p) (Some there.span) (record { word = codes "storelocal"; span = there.span }) refl))
+  expression_lives {names} (AssignedMember at there w fields parts pieces object key right s t u p is d ds) none =
+      let clean = assigned_member_clean is names at there right none in
+      lives_same (assigned_member_held is at there (codes "=") right)
+      (lives_behind s (extends_value u (store_of object key p) (Some there.span))
+      (value_keyless held_by u (store_of object key p) (Some there.span))
+      (lives_ahead held_by s t u (held_in right) (held_among parts) (all_blocks ds).extends (expression_lives d clean.0)
+      (all_lives ds clean.1)))
+  expression_lives {names} (AssignedPrivate at there object name right s t u p q d ds) none =
+      absurd (private_assigned_never names at there object name right none)
+  expression_lives {names} (CompoundVariable at there name operator applied right symbol identifier s t u q p is mutable applies dq d f)
+      none =
+      let clean = compound_clean names at (Node there word.Id (Then (Said name) End)) right operator applied applies none in
+      let computed : State = name_computed u applied q p at.span in
+      let stored : State = name_stored names u applied q p at.span there.span symbol identifier in
+      lives_same (compound_held at there name (assignment_text operator) right (applied_plain operator applied applies).0)
+      (lives_behind s (extends_value stored (values.LoadLocal (variable_at identifier there.span)) (Some at.span))
+      (value_keyless held_by stored (values.LoadLocal (variable_at identifier there.span)) (Some at.span))
+      (assigned_lives s computed stored at.span
+      (extends_then (extends_resolved computed (names.name symbol.0) symbol.0 (Some there.span) f.agree)
+      (extends_value (found names computed symbol there.span) (assigned_to identifier there.span (temporary u (Some at.span)))
+      (Some at.span)))
+      (lives_behind s (extends_value u (values.BinaryExpression applied q p) (Some at.span))
+      (value_keyless held_by u (values.BinaryExpression applied q p) (Some at.span))
+      (lives_then held_by s t u [] (held_in right) true true (expression_blocks d).extends refl (expression_lives dq clean.0)
+      (expression_lives d clean.1)))
+      (stored_lives names computed symbol there.span identifier (temporary u (Some at.span)) at.span)))
+  expression_lives {names} (CompoundConstant at there name operator applied right symbol identifier s t u q p is constant applies dq d f)
+      none =
+      absurd (constant_compound_never names at there name right operator applied applies symbol is constant none)
+  expression_lives {names} (CompoundGlobal at there name operator applied right binding s t u q p is applies dq d) none =
+      let clean = compound_clean names at (Node there word.Id (Then (Said name) End)) right operator applied applies none in
+      let computed : State = name_computed u applied q p at.span in
+      let store : InstructionValue = values.StoreGlobal name (temporary u (Some at.span)) in
+      lives_same (compound_held at there name (assignment_text operator) right (applied_plain operator applied applies).0)
+      (assigned_lives s computed (with_value computed store (Some at.span)) at.span (extends_value computed store (Some at.span))
+      (lives_behind s (extends_value u (values.BinaryExpression applied q p) (Some at.span))
+      (value_keyless held_by u (values.BinaryExpression applied q p) (Some at.span))
+      (lives_then held_by s t u [] (held_in right) true true (expression_blocks d).extends refl (expression_lives dq clean.0)
+      (expression_lives d clean.1)))
+      (value_keyed held_by computed store (Some at.span) (record { word = codes "storelocal"; span = at.span }) refl))
+  expression_lives {names} (CompoundMember at there w fields parts pieces object key operator applied right s t u p is applies ds d) none =
+      let clean = compound_member_clean is names at there right operator applied applies none in
+      let loaded : State = with_value t (load_of object key) (Some there.span) in
+      let computed : State = member_computed t u applied p there.span in
+      let store : InstructionValue = store_of object key (temporary u (Some there.span)) in
+      lives_same (assigned_member_held is at there (assignment_text operator) right)
+      (lives_behind s (extends_value computed store (Some there.span)) (value_keyless held_by computed store (Some there.span))
+      (lives_behind s (extends_value u (values.BinaryExpression applied (temporary t (Some there.span)) p) (Some there.span))
+      (value_keyless held_by u (values.BinaryExpression applied (temporary t (Some there.span)) p) (Some there.span))
+      (lives_then held_by s loaded u (held_among parts) (held_in right) true true (expression_blocks d).extends refl
+      (lives_behind s (extends_value t (load_of object key) (Some there.span))
+      (value_keyless held_by t (load_of object key) (Some there.span)) (all_lives ds clean.0))
+      (expression_lives d clean.1))))
+  expression_lives {names} (CompoundPrivate at there fields operator applied right s t u q p applies dq d) none =
+      absurd (private_compound_never at there fields right operator applied applies dq none)
   expression_lives {names} (Method at there w fields parts es pieces given_pieces object key given s t u is d ds given_are) none =
       let clean = method_clean is names at there es none in
       let loaded : State = with_value t (load_of object key) (Some there.span) in
@@ -154,7 +261,9 @@ mutual
   expression_lives {names} (Same at w fields e s t p is d) none =
       lives_same (wrapper_held is at) (expression_lives d (wrapper_clean is names at none))
   expression_lives {names} (Asked at w fields parts pieces v s t form d) none =
-      lives_same (ap (λ (l : List Held). held_as (held_word w fields) at.span ++ l) (form_held form))
+      lives_same
+      (ap (λ (span : Span). held_as (held_word w fields) span ++ held_among fields) (form_span form at.span)
+      ∙ ap (λ (l : List Held). held_as (held_word w fields) at.span ++ l) (form_held form))
       (lives_ahead held_by s t _ (held_among parts) (held_as (held_word w fields) at.span) (extends_value t v (Some at.span))
       (all_lives d (form_clean form names at none)) (computed_lives (held_word w fields) t v at.span (form_word form)))
   expression_lives {names} (Object at es pieces properties s t is d) none =

@@ -1,11 +1,15 @@
 -- The refusals of nodes that were lowered, from those of their parts.
-use Rattle.std.proofs.Common.{◌≡◌, ℕ, ◌&&◌, not, ◌++◌, Bool, true, false, if◌then◌else◌, List, [], ◌∷◌, Option, Some, codes}
-use Rattle.std.proofs.Common.{append-nil, refl, sym, ap, ◌∙◌}
+use Rattle.std.proofs.Common.{◌≡◌, ℕ, ◌&&◌, not, ◌++◌, Bool, true, false, if◌then◌else◌, List, [], ◌∷◌, Option, Some, codes, append-nil}
+use Rattle.std.proofs.Common.{refl, sym, ap, ◌∙◌}
+use Rattle.std.proofs.lemmas.Slice.Eq.{bytes_eq-Decides}
 use Rattle.std.specs.Str.{bytes_eq}
 use Rattle.rl_base.specs.Diagnostics.{diagnostic_at}
-use Rattle.rl_base.specs.Operators.{unary_text}
+use Rattle.rl_base.specs.Operators.{assignment_text, unary_text}
 use Rattle.rl_base.specs.declared.diagnostic.Diagnostic.{Diagnostic}
 use Rattle.rl_base.specs.declared.ids.SymbolId.{SymbolId}
+use Rattle.rl_base.specs.declared.operator.AssignmentOperator.{AssignmentOperator}
+use Rattle.rl_base.specs.declared.operator.AssignmentOperator.TheVariants as assignments
+use Rattle.rl_base.specs.declared.operator.BinaryOperator.{BinaryOperator}
 use Rattle.rl_base.specs.declared.operator.UnaryOperator.{UnaryOperator}
 use Rattle.rl_base.specs.declared.row.Row.{Row}
 use Rattle.rl_base.specs.declared.row.Row.TheVariants as row
@@ -21,17 +25,18 @@ use Rattle.rl_hir.specs.declared.instruction.PrimitiveValue.{PrimitiveValue}
 use Rattle.rl_hir.specs.declared.instruction.TemplateQuasi.{TemplateQuasi}
 use Rattle.rl_lowered.proofs.Keys.{Bracketed, HasText, Name, Number, Word, has_text}
 use Rattle.rl_lowered.specs.Forms.{AreQuasis, IsAnnotation, IsCast, IsForm, IsInside, IsLiteral, IsMember, IsPrivate, IsRefused, IsRefusing}
-use Rattle.rl_lowered.specs.Forms.{IsWrapper, MemberKey}
+use Rattle.rl_lowered.specs.Forms.{IsWrapper, MemberKey, applied_by}
 use Rattle.rl_lowered.specs.Forms as forms
 use Rattle.rl_model.specs.Applied.{deletes}
-use Rattle.rl_model.specs.Shapes.{is_link, key_text}
+use Rattle.rl_model.specs.Shapes.{is_link, is_logical, key_text}
 use Rattle.rl_names.specs.Names.{Names}
 use Rattle.rl_names.specs.declared.names.Meaning.{Meaning}
 use Rattle.rl_names.specs.declared.names.Meaning.TheVariants.{Local, Outer}
 use Rattle.rl_promises.proofs.CoveredForms.{none_fits}
 use Rattle.rl_promises.specs.Outs.{is_known_key, is_lost_head, is_wrapped}
-use Rattle.rl_promises.specs.Rows.{is_eval, label_of, refusal, refusals, refusals_at_head, refusals_in, row_of_head, said_of_local}
-use Rattle.rl_promises.specs.Rows.{said_of_name, said_of_stored, said_of_target, said_of_update}
+use Rattle.rl_promises.specs.Rows.{is_eval, label_of, refusal, refusals, refusals_at_head, refusals_below, refusals_in, row_of_head}
+use Rattle.rl_promises.specs.Rows.{said_of_assigned, said_of_local, said_of_name, said_of_stored, said_of_target, said_of_update}
+use Rattle.rl_promises.specs.Rows.{said_of_updated}
 use Rattle.rl_semantic.specs.Items.{of_item}
 use Rattle.rl_syntax.specs.Syntax.{Syntax, Node, Listed, Said, Flag, Absent, Pieces, End, Then, span_of}
 use Rattle.rl_syntax.specs.declared.numbered.At.{At}
@@ -128,8 +133,8 @@ cast_refuses names at there (forms.Assert {e}) = append-nil (refusals names e)
 
 -- Properties, and what is deleted.
 
-pub member_refuses : (names : Names) (at : At) {w : NodeWord} {fields parts : Pieces} {pieces : List Piece} {object : Place} {key : MemberKey}
-    → IsMember w fields parts pieces object key → refusals names (Node at w fields) ≡ refusals_in names parts
+pub member_refuses : (names : Names) (at : At) {w : NodeWord} {fields parts : Pieces} {pieces : List Piece} {object : Place}
+    {key : MemberKey} → IsMember w fields parts pieces object key → refusals names (Node at w fields) ≡ refusals_in names parts
 member_refuses names at forms.Static = refl
 member_refuses names at (forms.Indexed other) = refl
 member_refuses names at (forms.Numbered {object} {there} {text} is) =
@@ -198,6 +203,72 @@ form_refuses names at (forms.Tagged {tag} {es} raw are given) =
     ap (λ (b : Bool). if b then refusals names tag ++ refusals_in names es else refusal row.F13 at.span ∷ []) raw
 form_refuses names at _ = refl
 
+-- Assignments: the operator of a compound one is neither `=` nor logical.
+
+pub applied_plain : (operator : AssignmentOperator) (applied : BinaryOperator) → applied_by operator ≡ Some applied
+    → (bytes_eq (assignment_text operator) (codes "=") ≡ false) × (is_logical (assignment_text operator) ≡ false)
+applied_plain assignments.Assign applied is = absurd (cc)
+applied_plain assignments.LogicalOr applied is = absurd (cc)
+applied_plain assignments.LogicalAnd applied is = absurd (cc)
+applied_plain assignments.LogicalNullish applied is = absurd (cc)
+applied_plain _ applied is = (refl, refl)
+
+logical_other : (operator : List ℕ) → is_logical operator ≡ true → bytes_eq operator (codes "=") ≡ false
+logical_other operator is = by_test (bytes_eq operator (codes "=")) refl
+  where
+    by_test : (b : Bool) → bytes_eq operator (codes "=") ≡ b → b ≡ false
+    by_test true same =
+        let equals : operator ≡ codes "=" = (bytes_eq-Decides operator (codes "=")).0 same in
+        absurd (let never : false ≡ true = ap (λ (l : List ℕ). is_logical l) (sym equals) ∙ is in cc)
+    by_test false same = refl
+
+-- An assignment by its operator: `=`, or none of the logical ones.
+assign_refuses : (names : Names) (at : At) (operator : List ℕ) (target right : Syntax) (logical : Bool)
+    → bytes_eq operator (codes "=") ≡ false → is_logical operator ≡ logical
+    → refusals names (Node at word.Assign (Then (Said operator) (Then target (Then right End))))
+    ≡ (if logical then refusal row.F23 at.span ∷ []
+    else refusals names target ++ refusals names right ++ said_of_updated names target)
+assign_refuses names at operator target right logical other is =
+    ap (λ (b : Bool). if b then refusals names right ++ said_of_assigned names at.span target (refusals_below names target)
+    else if is_logical operator then refusal row.F23 at.span ∷ []
+    else refusals names target ++ refusals names right ++ said_of_updated names target) other
+    ∙ ap (λ (b : Bool). if b then refusal row.F23 at.span ∷ []
+    else refusals names target ++ refusals names right ++ said_of_updated names target) is
+
+pub compound_refuses : (names : Names) (at : At) (target right : Syntax) (operator : AssignmentOperator) (applied : BinaryOperator)
+    → applied_by operator ≡ Some applied
+    → refusals names (Node at word.Assign (Then (Said (assignment_text operator)) (Then target (Then right End))))
+    ≡ refusals names target ++ refusals names right ++ said_of_updated names target
+compound_refuses names at target right operator applied applies =
+    let plain = applied_plain operator applied applies in
+    assign_refuses names at (assignment_text operator) target right false plain.0 plain.1
+
+pub assigned_member_refuses : (names : Names) (at there : At) (right : Syntax) {w : NodeWord} {fields parts : Pieces}
+    {pieces : List Piece} {object : Place} {key : MemberKey} → IsMember w fields parts pieces object key
+    → refusals names (Node at word.Assign (Then (Said (codes "=")) (Then (Node there w fields) (Then right End))))
+    ≡ refusals names right ++ refusals_in names parts
+assigned_member_refuses names at there right forms.Static = refl
+assigned_member_refuses names at there right (forms.Indexed other) = refl
+assigned_member_refuses names at there right (forms.Numbered {object} {there = inner} {text} is) =
+    ap (λ (b : Bool). refusals names right
+    ++ (refusals names object ++ (((if b then [] else refusal row.F43 inner.span ∷ []) ++ []) ++ []))) is
+
+member_unsaid : (names : Names) (there : At) {w : NodeWord} {fields parts : Pieces} {pieces : List Piece} {object : Place}
+    {key : MemberKey} → IsMember w fields parts pieces object key → said_of_updated names (Node there w fields) ≡ []
+member_unsaid names there forms.Static = refl
+member_unsaid names there _ = refl
+
+pub compound_member_refuses : (names : Names) (at there : At) (right : Syntax) (operator : AssignmentOperator) (applied : BinaryOperator)
+    → applied_by operator ≡ Some applied → {w : NodeWord} {fields parts : Pieces} {pieces : List Piece} {object : Place}
+    {key : MemberKey} → IsMember w fields parts pieces object key
+    → refusals names (Node at word.Assign (Then (Said (assignment_text operator)) (Then (Node there w fields) (Then right End))))
+    ≡ refusals_in names parts ++ refusals names right
+compound_member_refuses names at there right operator applied applies {w} {fields} is =
+    compound_refuses names at (Node there w fields) right operator applied applies
+    ∙ ap (λ (l : List Diagnostic). refusals names (Node there w fields) ++ refusals names right ++ l) (member_unsaid names there is)
+    ∙ append-nil (refusals names (Node there w fields) ++ refusals names right)
+    ∙ ap (λ (l : List Diagnostic). l ++ refusals names right) (member_refuses names there is)
+
 -- Kinds that are refused.
 
 wrapped_said : (names : Names) (at : Span) (target : Syntax) (inside : List Diagnostic) → is_wrapped target ≡ true
@@ -217,6 +288,8 @@ refused_refuses names at (forms.LostDelete operator {e} is) =
     ap (λ (b : Bool). if b then refusal row.F12 at.span ∷ [] else refusals names e) is
 refused_refuses names at (forms.WrappedUpdate {target} is) = wrapped_said names at.span target (refusals names target) is
 refused_refuses names at (forms.OuterUpdate {there} is) = ap (λ (m : Meaning). said_of_update names at.span there.span m) is
+refused_refuses names at (forms.LogicalAssignment {operator} {target} {right} is) =
+    assign_refuses names at operator target right true (logical_other operator is) is
 refused_refuses names at _ = refl
 
 pub refusing_refuses : (names : Names) (at : At) {w : NodeWord} {fields parts : Pieces} {r : Row} → IsRefusing w fields parts r

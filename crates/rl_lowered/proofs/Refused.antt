@@ -39,16 +39,18 @@ use Rattle.rl_lowered.proofs.Blocks.{blocks_caught, cases_blocks, declares_of, e
 use Rattle.rl_lowered.proofs.Catches.{catch_declared, declares_caught, stores_caught}
 use Rattle.rl_lowered.proofs.Clean.{finalizer_said}
 use Rattle.rl_lowered.proofs.Plain.{init_said, lowered_plain, test_unsaid}
-use Rattle.rl_lowered.proofs.Refusals.{bind_refuses, cast_refuses, computed_refuses, constant_refuses, declared_head_refuses}
-use Rattle.rl_lowered.proofs.Refusals.{form_refuses, fraction_refuses, literal_refuses, lost_head_refuses, member_head_refuses}
-use Rattle.rl_lowered.proofs.Refusals.{method_refuses, name_refuses, outer_head_refuses, outer_refuses, private_refuses, property_refuses}
-use Rattle.rl_lowered.proofs.Refusals.{refused_refuses, refusing_refuses, stored_head_refuses, unknown_refuses, update_refuses}
-use Rattle.rl_lowered.proofs.Refusals.{updated_member_refuses, wrapper_refuses}
+use Rattle.rl_lowered.proofs.Refusals.{assigned_member_refuses, bind_refuses, cast_refuses, compound_member_refuses, compound_refuses}
+use Rattle.rl_lowered.proofs.Refusals.{computed_refuses, constant_refuses, declared_head_refuses, form_refuses, fraction_refuses}
+use Rattle.rl_lowered.proofs.Refusals.{literal_refuses, lost_head_refuses, member_head_refuses, method_refuses, name_refuses}
+use Rattle.rl_lowered.proofs.Refusals.{outer_head_refuses, outer_refuses, private_refuses, property_refuses, refused_refuses}
+use Rattle.rl_lowered.proofs.Refusals.{refusing_refuses, stored_head_refuses, unknown_refuses, update_refuses, updated_member_refuses}
+use Rattle.rl_lowered.proofs.Refusals.{wrapper_refuses}
 use Rattle.rl_lowered.specs.Forms.{IsAnnotation, MemberKey, load_of, store_of, typed}
 use Rattle.rl_lowered.specs.Lowered.{Lowered, LoweredBody, LoweredCaseTest, LoweredCases, LoweredDeclarators, LoweredHead, LoweredInit}
-use Rattle.rl_lowered.specs.Lowered.{LoweredLast, LoweredLoop, LoweredParts, LoweredStatement, LoweredStatements, LoweredTest}
-use Rattle.rl_lowered.specs.Lowered.{catch_begun, catch_bound, declaring, found_again, label_part, member_loaded, member_one}
-use Rattle.rl_lowered.specs.Lowered.{member_stored, member_updated, promoted, throwing, throwing_under, value_span}
+use Rattle.rl_lowered.specs.Lowered.{LoweredLast, LoweredLoop, LoweredParts, LoweredStatement, LoweredStatements, LoweredTest, catch_begun}
+use Rattle.rl_lowered.specs.Lowered.{catch_bound, declaring, found_again, label_part, member_computed, member_loaded, member_one}
+use Rattle.rl_lowered.specs.Lowered.{member_stored, member_updated, name_computed, name_stored, promoted, throwing, throwing_under}
+use Rattle.rl_lowered.specs.Lowered.{value_span, variable_at}
 use Rattle.rl_lowered.specs.Lowered as lowered
 use Rattle.rl_lowered.specs.Named.{IsFound, TellDeclarations, found}
 use Rattle.rl_model.specs.Actions.{Label}
@@ -209,6 +211,18 @@ found_said names s symbol at identifier f =
     (ap (λ (label : Span). said_of_local (names.name symbol.0) label) (sym (label_told names s symbol at f.named.declared)))
     (found_by names s symbol at identifier (identifier_of s.bindings symbol.0) refl f)
 
+-- A constant is looked up, and refused (row F6).
+constant_said : (names : Names) (s : State) (symbol : SymbolId) (at : Span) (identifier : ℕ) (span : Option Span)
+    → IsFound names s symbol at identifier
+    → Records (said_of_local (names.name symbol.0) (label_of names symbol at) ++ diagnostic_at row.F6 (names.name symbol.0) at ∷ [])
+    (said s)
+    (said (with_value (recorded (found names s symbol at) (diagnostic_at row.F6 (names.name symbol.0) at))
+    (values.Primitive primitives.Undefined) span))
+constant_said names s symbol at identifier span f =
+    let first : State = found names s symbol at in
+    records_then _ _ (said s) (said first) _ (found_said names s symbol at identifier f)
+    (noted_said first (diagnostic_at row.F6 (names.name symbol.0) at) (values.Primitive primitives.Undefined) span)
+
 -- A value behind a look-up.
 found_value_said : (names : Names) (s : State) (symbol : SymbolId) (at : Span) (identifier : ℕ) (v : InstructionValue) (span : Option Span)
     → IsFound names s symbol at identifier
@@ -244,13 +258,80 @@ mutual
       (records_then _ _ (said s) (said first) _ (found_said names s symbol there.span identifier f)
       (found_value_said names first symbol there.span identifier _ (Some at.span) g))
   expression_refused {names} (lowered.UpdatedConstant at there name symbol identifier operator prefix s is constant f) =
-      let first : State = found names s symbol there.span in
       records_same _ _ (said s) _ (constant_refuses names at there operator prefix name symbol is constant)
-      (records_then _ _ (said s) (said first) _ (found_said names s symbol there.span identifier f)
-      (noted_said first (diagnostic_at row.F6 (names.name symbol.0) there.span) (values.Primitive primitives.Undefined) (Some at.span)))
+      (constant_said names s symbol there.span identifier (Some at.span) f)
   expression_refused {names} (lowered.UpdatedMember at there w fields parts pieces object key operator prefix s t is l) =
       records_same _ _ (said s) _ (updated_member_refuses names at there (Said (update_text operator)) (Flag prefix) is)
       (records_behind _ (said s) (said t) _ (member_said t object key operator there.span) (all_refused l))
+  expression_refused {names} (lowered.AssignedVariable at there name right symbol identifier s t p is mutable l f) =
+      records_then (refusals names right) _ (said s) (said t) _ (expression_refused l)
+      (records_same _ _ (said t) _
+      (stored_head_refuses names there name symbol false is mutable
+      ∙ append-nil (said_of_local (names.name symbol.0) (label_of names symbol there.span)))
+      (found_value_said names t symbol there.span identifier _ (Some there.span) f))
+  expression_refused {names} (lowered.AssignedConstant at there name right symbol identifier s t p is constant l f) =
+      records_then (refusals names right) _ (said s) (said t) _ (expression_refused l)
+      (records_same _ _ (said t) _ (stored_head_refuses names there name symbol true is constant)
+      (constant_said names t symbol there.span identifier (Some there.span) f))
+  expression_refused {names} (lowered.AssignedGlobal at there name right binding s t p is l) =
+      records_then (refusals names right) _ (said s) (said t) _ (expression_refused l)
+      (records_none _ (said t) _ (outer_head_refuses names there name binding is)
+      (value_said t (values.StoreGlobal name p) (Some there.span)))
+  expression_refused {names} (lowered.AssignedMember at there w fields parts pieces object key right s t u p is l all) =
+      records_same _ _ (said s) _ (assigned_member_refuses names at there right is)
+      (records_behind _ (said s) (said u) _ (value_said u (store_of object key p) (Some there.span))
+      (records_then (refusals names right) (refusals_in names parts) (said s) (said t) (said u) (expression_refused l) (all_refused all)))
+  expression_refused {names} (lowered.AssignedPrivate at there object name right s t u p q l inside) =
+      records_then (refusals names right) _ (said s) (said t) _ (expression_refused l)
+      (records_then (refusals names object ++ []) (refusal row.F5 at.span ∷ []) (said t) (said u) _
+      (records_unit (refusals names object) (said t) (said u) (expression_refused inside))
+      (noted_said u (refusal row.F5 at.span) (values.Primitive primitives.Undefined) (Some at.span)))
+  expression_refused {names}
+      (lowered.CompoundVariable at there name operator applied right symbol identifier s t u q p is mutable applies l m f) =
+      let target : Syntax = Node there word.Id (Then (Said name) End) in
+      let computed : State = name_computed u applied q p at.span in
+      let stored : State = name_stored names u applied q p at.span there.span symbol identifier in
+      records_same _ _ (said s) _ (compound_refuses names at target right operator applied applies)
+      (records_then (refusals names target ++ refusals names right) _ (said s) (said u) _
+      (records_then (refusals names target) (refusals names right) (said s) (said t) (said u) (expression_refused l) (expression_refused m))
+      (records_same _ _ (said u) _
+      (stored_head_refuses names there name symbol false is mutable
+      ∙ append-nil (said_of_local (names.name symbol.0) (label_of names symbol there.span)))
+      (records_behind _ (said u) (said stored) _ (value_said stored (values.LoadLocal (variable_at identifier there.span)) (Some at.span))
+      (records_before _ (said u) (said computed) (said stored) (value_said u (values.BinaryExpression applied q p) (Some at.span))
+      (found_value_said names computed symbol there.span identifier _ (Some at.span) f)))))
+  expression_refused {names}
+      (lowered.CompoundConstant at there name operator applied right symbol identifier s t u q p is constant applies l m f) =
+      let target : Syntax = Node there word.Id (Then (Said name) End) in
+      records_same _ _ (said s) _ (compound_refuses names at target right operator applied applies)
+      (records_then (refusals names target ++ refusals names right) _ (said s) (said u) _
+      (records_then (refusals names target) (refusals names right) (said s) (said t) (said u) (expression_refused l) (expression_refused m))
+      (records_same _ _ (said u) _ (stored_head_refuses names there name symbol true is constant)
+      (constant_said names u symbol there.span identifier (Some at.span) f)))
+  expression_refused {names} (lowered.CompoundGlobal at there name operator applied right binding s t u q p is applies l m) =
+      let target : Syntax = Node there word.Id (Then (Said name) End) in
+      let computed : State = name_computed u applied q p at.span in
+      records_same _ _ (said s) _ (compound_refuses names at target right operator applied applies)
+      (records_then (refusals names target ++ refusals names right) _ (said s) (said u) _
+      (records_then (refusals names target) (refusals names right) (said s) (said t) (said u) (expression_refused l) (expression_refused m))
+      (records_none _ (said u) _ (outer_head_refuses names there name binding is)
+      (value_said computed (values.StoreGlobal name (temporary u (Some at.span))) (Some at.span)
+      ∙ value_said u (values.BinaryExpression applied q p) (Some at.span))))
+  expression_refused {names}
+      (lowered.CompoundMember at there w fields parts pieces object key operator applied right s t u p is applies all l) =
+      records_same _ _ (said s) _ (compound_member_refuses names at there right operator applied applies is)
+      (records_behind _ (said s) (said u) _
+      (value_said (member_computed t u applied p there.span) (store_of object key (temporary u (Some there.span))) (Some there.span)
+      ∙ value_said u (values.BinaryExpression applied (temporary t (Some there.span)) p) (Some there.span))
+      (records_then (refusals_in names parts) (refusals names right) (said s) (said t) (said u) (all_refused all)
+      (records_before _ (said t) _ (said u) (value_said t (load_of object key) (Some there.span)) (expression_refused l))))
+  expression_refused {names} (lowered.CompoundPrivate at there fields operator applied right s t u q p applies l m) =
+      let target : Syntax = Node there word.Privatemember fields in
+      records_same _ _ (said s) _ (compound_refuses names at target right operator applied applies)
+      (records_unit (refusals names target ++ refusals names right) (said s) _
+      (records_behind _ (said s) (said u) _ (value_said u (values.Primitive primitives.Undefined) (Some at.span))
+      (records_then (refusals names target) (refusals names right) (said s) (said t) (said u) (expression_refused l)
+      (expression_refused m))))
   expression_refused {names} (lowered.Method at there w fields parts es pieces given_pieces object key given s t u is l given_are m) =
       records_same _ _ (said s) _ (method_refuses names at there es is)
       (records_behind _ (said s) (said u) _ (value_said u _ (Some at.span))
@@ -260,7 +341,8 @@ mutual
       records_same _ _ (said s) _ (cast_refuses names at there is)
       (records_behind _ (said s) (said t) _ (value_said (typed t k) _ (Some at.span) ∙ typed_said t k) (expression_refused l))
   expression_refused {names} (lowered.Global at name binding s is plain) =
-      records_none _ (said s) _ (outer_refuses names at name binding false is plain) (value_said s (values.LoadGlobal binding) (Some at.span))
+      records_none _ (said s) _ (outer_refuses names at name binding false is plain)
+      (value_said s (values.LoadGlobal binding) (Some at.span))
   expression_refused {names} (lowered.RefusedGlobal at name binding s is refused) =
       records_same _ _ (said s) _ (outer_refuses names at name binding true is refused)
       (noted_said s (refusal row.F2 at.span) (values.LoadGlobal binding) (Some at.span))
@@ -288,8 +370,8 @@ mutual
       records_behind _ (said s) (said s2) _ (stored_said s2 (sequence_at s at.span).place p at.span)
       (records_unit (refusals_in names (Then e es)) (said s) (said s2) (last_refused l))
 
-  pub all_refused : {names : Names} {of_object : Bool} {es : Pieces} {s t : State} {pieces : List Piece} → LoweredParts names of_object es s t pieces
-      → Records (refusals_in names es) (said s) (said t)
+  pub all_refused : {names : Names} {of_object : Bool} {es : Pieces} {s t : State} {pieces : List Piece}
+      → LoweredParts names of_object es s t pieces → Records (refusals_in names es) (said s) (said t)
   all_refused (lowered.NoPart s) = records_none [] (said s) (said s) refl refl
   all_refused {names} (lowered.NextPart e es s t u p pieces l more) =
       records_then (refusals names e) (refusals_in names es) (said s) (said t) (said u) (expression_refused l) (all_refused more)
@@ -322,7 +404,8 @@ mutual
       → Records (refusals_in names es) (said s) (said t)
   last_refused {names} (lowered.LastPart e s t p l) = records_unit (refusals names e) (said s) (said t) (expression_refused l)
   last_refused {names} (lowered.EarlierPart e next es s t u p q l more) =
-      records_then (refusals names e) (refusals_in names (Then next es)) (said s) (said t) (said u) (expression_refused l) (last_refused more)
+      records_then (refusals names e) (refusals_in names (Then next es)) (said s) (said t) (said u) (expression_refused l)
+      (last_refused more)
 
 declarators_refused : {names : Names} {at : Span} {k : InstructionKind} {es : Pieces} {s t : State} → LoweredDeclarators names at k es s t
     → Records (refusals_in names es) (said s) (said t)

@@ -1,6 +1,6 @@
 -- Lowered expressions have the runs of the source, where nothing of them was refused.
 use Rattle.std.proofs.Common.{◌≡◌, ℕ, ◌++◌, Bool, true, false, if◌then◌else◌, is_some, List, [], ◌∷◌, length, map, codes, Option, Some, refl, sym}
-use Rattle.std.proofs.Common.{ap, ◌∙◌, subst, arith}
+use Rattle.std.proofs.Common.{ap, ◌∙◌, subst}
 use Rattle.rl_base.specs.Operators.{logical_text, operator_text, update_text}
 use Rattle.rl_base.specs.declared.ids.SymbolId.{SymbolId}
 use Rattle.rl_base.specs.declared.operator.LogicalOperator.{LogicalOperator}
@@ -28,12 +28,17 @@ use Rattle.rl_hir.specs.declared.instruction.PrimitiveValue.TheVariants as primi
 use Rattle.rl_hir.specs.declared.instruction.PropertyLiteral.TheVariants as keys
 use Rattle.rl_hir.specs.Instructions.{binding_texts}
 use Rattle.rl_hir.specs.Pieces.{Piece, argument_pieces, gathered, property_pieces, texts}
+use Rattle.rl_lowered.proofs.AssignmentRuns.{assigned_member_runs, behind_runs, combined, combined_runs, compound_member_runs}
+use Rattle.rl_lowered.proofs.AssignmentRuns.{name_compound, name_written, outer_runs, reloaded_runs, variable_runs}
 use Rattle.rl_lowered.proofs.Blocks.{all_blocks, expression_blocks, last_blocks}
-use Rattle.rl_lowered.proofs.Clean.{branches_clean, cast_clean, computed_row_clean, constant_update_never, first_none, form_clean}
-use Rattle.rl_lowered.proofs.Clean.{fraction_row_never, method_clean, outer_never, private_clean, private_never, property_row_clean}
-use Rattle.rl_lowered.proofs.Clean.{refused_never, refusing_never, second_none, unknown_row_never, updated_member_clean, wrapper_clean}
+use Rattle.rl_lowered.proofs.Clean.{assigned_clean, assigned_member_clean, branches_clean, cast_clean, compound_clean}
+use Rattle.rl_lowered.proofs.Clean.{compound_member_clean, computed_row_clean, constant_assigned_never, constant_compound_never}
+use Rattle.rl_lowered.proofs.Clean.{constant_update_never, first_none, form_clean, fraction_row_never, method_clean, outer_never}
+use Rattle.rl_lowered.proofs.Clean.{private_assigned_never, private_clean, private_never, property_row_clean, refused_never, refusing_never}
+use Rattle.rl_lowered.proofs.Clean.{second_none, unknown_row_never, updated_member_clean, wrapper_clean}
 use Rattle.rl_lowered.proofs.Forms.{event_with, form_acts, form_event, given_values, identifiers_in, key_by, load_acts, object_acts, store_acts}
 use Rattle.rl_lowered.proofs.Keys.{HasText, Name, has_text}
+use Rattle.rl_lowered.proofs.Living.{private_compound_never}
 use Rattle.rl_lowered.proofs.Meant.{form_means, member_means, private_member_never}
 use Rattle.rl_lowered.proofs.Plain.{all_shapes, first_value, lowered_plain}
 use Rattle.rl_lowered.specs.Forms.{IsCast, IsLiteral, IsMember, IsWrapper, MemberKey, load_of, places_in, store_of, type_of, typed}
@@ -41,8 +46,10 @@ use Rattle.rl_lowered.specs.Forms.{As, Boolean, Computed, Fixed, Indexed, Null, 
 use Rattle.rl_lowered.specs.Lowered.{Asked, Cast, Conditional, EarlierPart, Global, LastPart, Literal, Logical, Lowered, LoweredLast}
 use Rattle.rl_lowered.specs.Lowered.{LoweredParts, Method, NextComputed, NextFraction, NextHole, NextPart, NextProperty, NextSpread}
 use Rattle.rl_lowered.specs.Lowered.{NextUnknown, NoPart, Object, Private, Refused, RefusedBefore, RefusedBehind, RefusedGlobal, Same}
+use Rattle.rl_lowered.specs.Lowered.{AssignedConstant, AssignedGlobal, AssignedMember, AssignedPrivate, AssignedVariable}
+use Rattle.rl_lowered.specs.Lowered.{CompoundConstant, CompoundGlobal, CompoundMember, CompoundPrivate, CompoundVariable}
 use Rattle.rl_lowered.specs.Lowered.{Sequence, UpdatedConstant, UpdatedMember, UpdatedVariable, Variable}
-use Rattle.rl_lowered.specs.Lowered.{binary_of, member_one, member_result, member_stored, update_of, value_span}
+use Rattle.rl_lowered.specs.Lowered.{binary_of, member_one, member_result, member_stored, name_computed, update_of, value_span}
 use Rattle.rl_lowered.specs.Named.{IsFound, found}
 use Rattle.rl_machine.specs.Acts.{Asks, act, gives}
 use Rattle.rl_machine.specs.declared.trace.Answer.{Answer}
@@ -61,13 +68,10 @@ use Rattle.rl_names.specs.declared.names.Meaning.{Meaning}
 use Rattle.rl_names.specs.declared.names.Meaning.TheVariants.{Local, Outer}
 use Rattle.rl_promises.specs.Rows.{refusals, refusals_in}
 use Rattle.rl_runs.proofs.Expressions.{all_asked, literal_runs, means_same, next_runs, none_run}
-use Rattle.rl_runs.proofs.Holes.{same_throws, use_expression}
-use Rattle.rl_runs.proofs.Moves.{contained_before, extends_refl, extends_resolved, extends_then, inside}
+use Rattle.rl_runs.proofs.Moves.{extends_refl, extends_resolved, extends_then, extends_value}
 use Rattle.rl_runs.proofs.Properties.{method_runs, property_postfix_runs, property_prefix_runs}
-use Rattle.rl_runs.proofs.Steps.{since_start}
 use Rattle.rl_runs.proofs.Types.{cast_runs, variable_cast_runs}
 use Rattle.rl_runs.proofs.Variables.{postfix_runs, prefix_runs, read_runs}
-use Rattle.rl_runs.specs.Continuations.{between}
 use Rattle.rl_runs.specs.Facts.{Extends}
 use Rattle.rl_runs.specs.Simulation.{RunsAll, RunsExpression}
 use Rattle.rl_syntax.specs.declared.numbered.At.{At}
@@ -151,22 +155,6 @@ global_runs : (scene : Scene) (s : State) (binding : NonLocalBinding) (span : Op
 global_runs scene s binding span =
     all_asked scene.world s s (give []) [] (values.LoadGlobal binding) span (extends_refl s) (λ vs. global (binding_texts binding))
     (λ store. global_acts binding (length s.env.identifiers) store) (none_run scene.world s)
-
--- An expression whose value is dropped, and another behind it.
-behind_runs : (world : World) (s mid new : State) (d e : Action Value) (first second : ℕ) → Extends s mid → Extends mid new
-    → RunsExpression world d s mid first → RunsExpression world e mid new second
-    → RunsExpression world (λ ways k. d ways (λ v. e ways k)) s new second
-behind_runs world s mid new d e first second g1 g2 r1 r2 = record {
-  fresh = omega (arith, r2.fresh, g1.identifiers);
-  made = r2.made;
-  free = λ c cover sound. r2.free c cover (g1.sound sound);
-  runs = λ c cover sound shares ways k source store notes answers a throws onward.
-      use_expression ways (λ v. e ways k) r1 (contained_before g2 cover) sound shares (inside (extends_refl s) g2) throws (since_start a)
-      (λ v source1 store1 notes1 answers1 t u is.
-      use_expression ways k r2 cover (g1.sound sound) shares (inside g1 (extends_refl new))
-      (same_throws c (between s new) store notes answers s mid ways.throws g1.handlers throws) t
-      (λ w source2 store2 notes2 answers2 t2 u2 is2. onward.goes w source2 store2 notes2 answers2 t2 is2));
-}
 
 -- The operator of a logical expression tells its meaning.
 logical_means : (scene : Scene) (at : At) (operator : LogicalOperator) (left right : Syntax) (ways : Ways) (k : ValueCont) (source : Store)
@@ -344,6 +332,61 @@ mutual
       member_means is all clean scene inner ways (λ p. update_property scene prefix (update_text operator) p.0 p.1 ways k) source answers
       ∙ ap (λ (a : Action Value). a ways k source answers) (update_means is scene at inner (update_text operator) prefix))
       (stored_property_runs is scene s t operator prefix inner.span (all_blocks all).extends (all_runs all clean scene same ported))
+  expression_runs {names} (AssignedVariable at inner name right symbol identifier s t p is mutable by f) none scene same ported =
+      means_same scene.world s _ (length (found names t symbol inner.span).env.identifiers)
+      (λ ways k source answers. ap (λ (a : Action Value). a ways k source answers)
+      (name_written scene names inner name (Local symbol) same is (eval scene right)))
+      (variable_runs scene names s t (eval scene right) symbol name inner.span identifier p (Some inner.span)
+      (expression_blocks by).extends f
+      (expression_runs by (assigned_clean names at (Node inner word.Id (Then (Said name) End)) right none).0 scene same ported))
+  expression_runs {names} (AssignedConstant at inner name right symbol identifier s t p is constant by f) none scene same ported =
+      absurd (constant_assigned_never names at inner name right symbol is constant none)
+  expression_runs {names} (AssignedGlobal at inner name right binding s t p is by) none scene same ported =
+      means_same scene.world s _ (length t.env.identifiers)
+      (λ ways k source answers. ap (λ (a : Action Value). a ways k source answers)
+      (name_written scene names inner name (Outer binding) same is (eval scene right)))
+      (outer_runs scene s t (eval scene right) binding name p (Some inner.span) (expression_blocks by).extends
+      (expression_runs by (assigned_clean names at (Node inner word.Id (Then (Said name) End)) right none).0 scene same ported))
+  expression_runs {names} (AssignedMember at inner w fields parts pieces object key right s t u p is by all) none scene same ported =
+      let clean = assigned_member_clean is names at inner right none in
+      assigned_member_runs is scene at inner right s t u p ported all clean.1 (expression_blocks by).extends (all_blocks all).extends
+      (expression_runs by clean.0 scene same ported) (all_runs all clean.1 scene same ported)
+  expression_runs {names} (AssignedPrivate at inner object name right s t u p q by more) none scene same ported =
+      absurd (private_assigned_never names at inner object name right none)
+  expression_runs {names} (CompoundVariable at inner name operator applied right symbol identifier s t u q p is mutable applies by more f)
+      none scene same ported =
+      let target : Syntax = Node inner word.Id (Then (Said name) End) in
+      let clean = compound_clean names at target right operator applied applies none in
+      let g : Extends s u = extends_then (expression_blocks by).extends (expression_blocks more).extends in
+      means_same scene.world s _ _
+      (λ ways k source answers. ap (λ (a : Action Value). a ways k source answers)
+      (name_compound scene names at inner name (Local symbol) operator applied right same is applies))
+      (reloaded_runs scene names s u (combined scene applied (eval scene target) (eval scene right)) symbol name applied q p at.span
+      inner.span identifier g f
+      (combined_runs scene s t u (eval scene target) (eval scene right) applied q p at.span (expression_blocks by).extends
+      (expression_blocks more).extends (expression_runs by clean.0 scene same ported) (expression_runs more clean.1 scene same ported)))
+  expression_runs {names} (CompoundConstant at inner name operator applied right symbol identifier s t u q p is constant applies by more f)
+      none scene same ported =
+      absurd (constant_compound_never names at inner name right operator applied applies symbol is constant none)
+  expression_runs {names} (CompoundGlobal at inner name operator applied right binding s t u q p is applies by more) none scene same
+      ported =
+      let target : Syntax = Node inner word.Id (Then (Said name) End) in
+      let clean = compound_clean names at target right operator applied applies none in
+      let g : Extends s u = extends_then (expression_blocks by).extends (expression_blocks more).extends in
+      means_same scene.world s _ _
+      (λ ways k source answers. ap (λ (a : Action Value). a ways k source answers)
+      (name_compound scene names at inner name (Outer binding) operator applied right same is applies))
+      (outer_runs scene s (name_computed u applied q p at.span) (combined scene applied (eval scene target) (eval scene right)) binding name
+      (temporary u (Some at.span)) (Some at.span) (extends_then g (extends_value u _ (Some at.span)))
+      (combined_runs scene s t u (eval scene target) (eval scene right) applied q p at.span (expression_blocks by).extends
+      (expression_blocks more).extends (expression_runs by clean.0 scene same ported) (expression_runs more clean.1 scene same ported)))
+  expression_runs {names} (CompoundMember at inner w fields parts pieces object key operator applied right s t u p is applies all by) none
+      scene same ported =
+      let clean = compound_member_clean is names at inner right operator applied applies none in
+      compound_member_runs is scene at inner operator applied right s t u p applies all clean.0 (all_blocks all).extends
+      (expression_blocks by).extends (all_runs all clean.0 scene same ported) (expression_runs by clean.1 scene same ported)
+  expression_runs {names} (CompoundPrivate at inner fields operator applied right s t u q p applies by more) none scene same ported =
+      absurd (private_compound_never at inner fields right operator applied applies by none)
   expression_runs {names} (Method at inner w fields parts es pieces given_pieces object key given s t u is all more given_are) none
       scene same ported =
       let clean = method_clean is names at inner es none in

@@ -12,13 +12,13 @@ use Rattle.rl_base.specs.declared.variable_kind.VariableKind.TheVariants as kind
 use Rattle.rl_base.specs.Diagnostics.{diagnostic_at}
 use Rattle.rl_builder.specs.Builder.{State, recorded}
 use Rattle.rl_builder.specs.Names.{fresh_identifier, new_span, resolved_by}
-use Rattle.rl_builder.specs.Temporaries.{temporary}
+use Rattle.rl_builder.specs.Temporaries.{temporary, with_value}
 use Rattle.rl_frames.proofs.FrameSizes.{if_alternate_size, if_begun_size, if_consequent_size, logical_begun_size, logical_ended_size}
 use Rattle.rl_frames.proofs.FrameSizes.{logical_righted_size, sequence_begun_size, sequence_ended_size, ternary_alternated_size}
 use Rattle.rl_frames.proofs.FrameSizes.{ternary_begun_size, ternary_consequent_size, try_size}
 use Rattle.rl_frames.proofs.RoundSizes.{forin_size, forof_size}
-use Rattle.rl_frames.specs.Frames.{IfParts, LogicalParts, TernaryParts, if_after_consequent, if_at, logical_after, logical_at}
-use Rattle.rl_frames.specs.Frames.{sequence_at, ternary_at, ternary_parted}
+use Rattle.rl_frames.specs.Frames.{IfParts, LogicalParts, TernaryParts, if_after_consequent, if_at, logical_after, logical_at, sequence_at}
+use Rattle.rl_frames.specs.Frames.{ternary_at, ternary_parted}
 use Rattle.rl_hir.specs.declared.instruction.InstructionKind.{InstructionKind}
 use Rattle.rl_hir.specs.declared.instruction.InstructionKind.TheVariants as variables
 use Rattle.rl_hir.specs.declared.instruction.InstructionValue.{InstructionValue}
@@ -35,8 +35,9 @@ use Rattle.rl_lowered.specs.Forms.{type_of, typed}
 use Rattle.rl_lowered.specs.Forms as forms
 use Rattle.rl_lowered.specs.Lowered.{Lowered, LoweredBody, LoweredCaseTest, LoweredCases, LoweredDeclarators, LoweredHead, LoweredInit}
 use Rattle.rl_lowered.specs.Lowered.{LoweredLast, LoweredLoop, LoweredParts, LoweredStatement, LoweredStatements, LoweredTest, binary_of}
-use Rattle.rl_lowered.specs.Lowered.{catch_begun, caught, declaring, found_again, member_loaded, member_one, member_stored}
-use Rattle.rl_lowered.specs.Lowered.{member_updated, promoted, update_of, value_span}
+use Rattle.rl_lowered.specs.Lowered.{assigned_to, catch_begun, caught, declaring, found_again, member_computed, member_loaded, member_one}
+use Rattle.rl_lowered.specs.Lowered.{member_stored, member_updated, name_computed, name_stored, promoted, update_of, value_span}
+use Rattle.rl_lowered.specs.Lowered.{variable_at}
 use Rattle.rl_lowered.specs.Lowered as lowered
 use Rattle.rl_lowered.specs.Named.{found}
 use Rattle.rl_lowered.specs.Promised.{share}
@@ -83,6 +84,25 @@ member_size t object key operator there =
     (values.BinaryExpression (binary_of operator) (temporary t (Some there)) (temporary loaded None)) (Some there) in
     let fourth = size_value updated (store_of object key (temporary one (Some there))) (Some there) in
     omega (arith, first, second, third, fourth)
+
+-- The states of a store to a variable, behind its look-up, and of an assignment to a constant.
+
+stored_size : (names : Names) (s : State) (symbol : SymbolId) (there : Span) (identifier : ℕ) (value : Place) (span : Option Span)
+    → size_of (with_value (found names s symbol there) (assigned_to identifier there value) span) ≤ size_of s + 6
+stored_size names s symbol there identifier value span =
+    let first = found_size names s symbol there in
+    let second = size_value (found names s symbol there) (assigned_to identifier there value) span in
+    omega (arith, first, second)
+
+constant_size : (names : Names) (s : State) (symbol : SymbolId) (there : Span) (span : Option Span)
+    → size_of
+    (with_value (recorded (found names s symbol there) (diagnostic_at row.F6 (names.name symbol.0) there))
+    (values.Primitive primitives.Undefined) span) ≤ size_of s + 6
+constant_size names s symbol there span =
+    let noted : State = recorded (found names s symbol there) (diagnostic_at row.F6 (names.name symbol.0) there) in
+    let first = found_size names s symbol there in
+    let second = size_value noted (values.Primitive primitives.Undefined) span in
+    omega (arith, first, second)
 
 -- Parts in fields.
 
@@ -140,7 +160,8 @@ mutual
   expression_size (lowered.RefusedBefore at w fields parts r pieces s t is l) =
       omega (arith, refusing_nodes is, all_size l, size_value t (values.Primitive primitives.Undefined) (Some at.span))
   expression_size (lowered.RefusedBehind at object name s t p l) =
-      omega (arith, expression_size l, size_value (recorded t (refusal row.F3 at.span)) (values.Primitive primitives.Undefined) (Some at.span))
+      let noted : State = recorded t (refusal row.F3 at.span) in
+      omega (arith, expression_size l, size_value noted (values.Primitive primitives.Undefined) (Some at.span))
   expression_size (lowered.Private at w fields e s t p is l) = omega (arith, private_nodes is, expression_size l)
   expression_size {names} (lowered.Variable at name symbol identifier s is f) =
       let place : Place = record { identifier = record { 0 = identifier }; span = Some at.span } in
@@ -155,10 +176,61 @@ mutual
         size_value (found names first symbol there.span) (update_of prefix operator place) (Some at.span),
       )
   expression_size {names} (lowered.UpdatedConstant at there name symbol identifier operator prefix s is constant f) =
-      let noted : State = recorded (found names s symbol there.span) (diagnostic_at row.F6 (names.name symbol.0) there.span) in
-      omega (arith, found_size names s symbol there.span, size_value noted (values.Primitive primitives.Undefined) (Some at.span))
+      omega (arith, constant_size names s symbol there.span (Some at.span))
   expression_size (lowered.UpdatedMember at there w fields parts pieces object key operator prefix s t is l) =
       omega (arith, member_nodes is, all_size l, member_size t object key operator there.span)
+  expression_size {names} (lowered.AssignedVariable at there name right symbol identifier s t p is mutable l f) =
+      omega (arith, expression_size l, stored_size names t symbol there.span identifier p (Some there.span))
+  expression_size {names} (lowered.AssignedConstant at there name right symbol identifier s t p is constant l f) =
+      omega (arith, expression_size l, constant_size names t symbol there.span (Some there.span))
+  expression_size (lowered.AssignedGlobal at there name right binding s t p is l) =
+      omega (arith, expression_size l, size_value t (values.StoreGlobal name p) (Some there.span))
+  expression_size (lowered.AssignedMember at there w fields parts pieces object key right s t u p is l all) =
+      omega (arith, member_nodes is, expression_size l, all_size all, size_value u (store_of object key p) (Some there.span))
+  expression_size (lowered.AssignedPrivate at there object name right s t u p q l inside) =
+      omega (
+        arith,
+        expression_size l,
+        expression_size inside,
+        size_value (recorded u (refusal row.F5 at.span)) (values.Primitive primitives.Undefined) (Some at.span),
+      )
+  expression_size {names}
+      (lowered.CompoundVariable at there name operator applied right symbol identifier s t u q p is mutable applies l m f) =
+      let computed : State = name_computed u applied q p at.span in
+      let stored : State = name_stored names u applied q p at.span there.span symbol identifier in
+      omega (
+        arith,
+        expression_size l,
+        expression_size m,
+        size_value u (values.BinaryExpression applied q p) (Some at.span),
+        stored_size names computed symbol there.span identifier (temporary u (Some at.span)) (Some at.span),
+        size_value stored (values.LoadLocal (variable_at identifier there.span)) (Some at.span),
+      )
+  expression_size {names}
+      (lowered.CompoundConstant at there name operator applied right symbol identifier s t u q p is constant applies l m f) =
+      omega (arith, expression_size l, expression_size m, constant_size names u symbol there.span (Some at.span))
+  expression_size (lowered.CompoundGlobal at there name operator applied right binding s t u q p is applies l m) =
+      let computed : State = name_computed u applied q p at.span in
+      omega (
+        arith,
+        expression_size l,
+        expression_size m,
+        size_value u (values.BinaryExpression applied q p) (Some at.span),
+        size_value computed (values.StoreGlobal name (temporary u (Some at.span))) (Some at.span),
+      )
+  expression_size (lowered.CompoundMember at there w fields parts pieces object key operator applied right s t u p is applies all l) =
+      let computed : State = member_computed t u applied p there.span in
+      omega (
+        arith,
+        member_nodes is,
+        all_size all,
+        size_value t (load_of object key) (Some there.span),
+        expression_size l,
+        size_value u (values.BinaryExpression applied (temporary t (Some there.span)) p) (Some there.span),
+        size_value computed (store_of object key (temporary u (Some there.span))) (Some there.span),
+      )
+  expression_size (lowered.CompoundPrivate at there fields operator applied right s t u q p applies l m) =
+      omega (arith, expression_size l, expression_size m, size_value u (values.Primitive primitives.Undefined) (Some at.span))
   expression_size (lowered.Method at there w fields parts es pieces given_pieces object key given s t u is l given_are m) =
       omega (
         arith,
@@ -200,8 +272,8 @@ mutual
   expression_size (lowered.Sequence at e es s s2 p l) =
       omega (arith, last_size l, sequence_begun_size s at.span, sequence_ended_size (sequence_at s at.span) s2 p at.span)
 
-  pub all_size : {names : Names} {of_object : Bool} {es : Pieces} {s t : State} {pieces : List Piece} → LoweredParts names of_object es s t pieces
-      → size_of t ≤ size_of s + share (nodes_of es)
+  pub all_size : {names : Names} {of_object : Bool} {es : Pieces} {s t : State} {pieces : List Piece}
+      → LoweredParts names of_object es s t pieces → size_of t ≤ size_of s + share (nodes_of es)
   all_size (lowered.NoPart s) = omega arith
   all_size (lowered.NextPart e es s t u p pieces l more) = omega (arith, expression_size l, all_size more)
   all_size (lowered.NextSpread at e es s t u p pieces l more) = omega (arith, expression_size l, all_size more)
@@ -263,12 +335,7 @@ head_size {names} {value} (lowered.Declared at there bind kind name type symbol 
       size_value (found_again names s symbol identifier bind.span) (values.StoreLocal variables.Let place value) (Some at.span),
     )
 head_size {names} {value} (lowered.Reassigned at name symbol identifier s is mutable f) =
-    let place : Place = record { identifier = record { 0 = identifier }; span = Some at.span } in
-    omega (
-      arith,
-      found_size names s symbol at.span,
-      size_value (found names s symbol at.span) (values.StoreLocal variables.Reassign place value) (Some at.span),
-    )
+    omega (arith, stored_size names s symbol at.span identifier value (Some at.span))
 head_size {names} (lowered.ReassignedConstant at name symbol identifier s is constant f) =
     omega (arith, found_size names s symbol at.span)
 head_size {value} (lowered.StoredGlobal at name binding s is) =

@@ -1,8 +1,8 @@
 -- Lowering an expression keeps places known and parts writable, and its value is in a place that was made.
-use Rattle.std.proofs.Common.{◌≡◌, ℕ, ◌++◌, ◌<◌, Bool, true, false, List, [], ◌∷◌, length, map, All, Some, None, refl, sym, subst, arith}
-use Rattle.std.proofs.lemmas.List.Elements.{All-append, All-cons, All-head, All-nil, All-weaker}
-use Rattle.rl_base.specs.Diagnostics.{diagnostic_at}
-use Rattle.rl_base.specs.Operators.{logical_text, update_text}
+use Rattle.std.proofs.Common.{◌≡◌, ℕ, ◌<◌, Bool, true, false, List, [], ◌∷◌, length, map, All, Some, None, codes, refl}
+use Rattle.std.proofs.Common.{sym, subst, arith}
+use Rattle.std.proofs.lemmas.List.Elements.{All-cons, All-head, All-nil, All-weaker}
+use Rattle.rl_base.specs.Operators.{assignment_text, logical_text, update_text}
 use Rattle.rl_base.specs.declared.ids.SymbolId.{SymbolId}
 use Rattle.rl_base.specs.declared.operator.LogicalOperator.{LogicalOperator}
 use Rattle.rl_base.specs.declared.operator.UpdateOperator.{UpdateOperator}
@@ -35,8 +35,10 @@ use Rattle.rl_syntax.specs.declared.word.Word.{Word}
 use Rattle.rl_syntax.specs.declared.word.Word.TheVariants as word
 use Rattle.rl_syntax.specs.Syntax.{Syntax, Node, Listed, Said, Flag, Pieces, End, Then, span_of}
 use Rattle.rl_text.specs.Notation.{IsWritable}
-use Rattle.rl_lowered.specs.Forms.{IsForm, IsMember, Indexed, MemberKey, Numbered, Static, load_of, places_in, store_of, type_of, typed}
+use Rattle.rl_lowered.specs.Forms.{IsForm, IsMember, Indexed, MemberKey, Numbered, Static, load_of, places_in, type_of, typed}
 use Rattle.rl_lowered.specs.Lowered.{Lowered, LoweredLast, LoweredParts}
+use Rattle.rl_lowered.specs.Lowered.{AssignedConstant, AssignedGlobal, AssignedMember, AssignedPrivate, AssignedVariable}
+use Rattle.rl_lowered.specs.Lowered.{CompoundConstant, CompoundGlobal, CompoundMember, CompoundPrivate, CompoundVariable}
 use Rattle.rl_lowered.specs.Lowered.{Asked, Cast, Conditional, Global, Literal, Logical, Method, Object, Private, Refused, RefusedBefore}
 use Rattle.rl_lowered.specs.Lowered.{RefusedBehind, RefusedGlobal, Same, Sequence, UpdatedConstant, UpdatedMember, UpdatedVariable, Variable}
 use Rattle.rl_lowered.specs.Lowered.{EarlierPart, LastPart, NextComputed, NextFraction, NextHole, NextPart, NextProperty, NextSpread}
@@ -44,78 +46,30 @@ use Rattle.rl_lowered.specs.Lowered.{NextUnknown, NoPart}
 use Rattle.rl_lowered.specs.Lowered.{binary_of, member_loaded, member_one, member_result, member_stored, member_updated, update_of}
 use Rattle.rl_lowered.specs.Lowered.{value_span}
 use Rattle.rl_lowered.specs.Named.{IsFound, found}
-use Rattle.rl_lowered.specs.Sound.{AreSmallTrees, HasSmallCounters, IsSmallTree, IsSoundPlace, StaysSound}
+use Rattle.rl_lowered.specs.Sound.{AreSmallTrees, IsSmallTree, IsSoundPlace, StaysSound}
 use Rattle.rl_lowered.proofs.Keys.{has_text}
+use Rattle.rl_lowered.proofs.SoundAssignments.{assigned_constant_sound, assigned_global_sound, assigned_member_sound}
+use Rattle.rl_lowered.proofs.SoundAssignments.{assigned_private_sound, assigned_variable_sound, compound_constant_sound}
+use Rattle.rl_lowered.proofs.SoundAssignments.{compound_global_sound, compound_member_sound, compound_private_sound}
+use Rattle.rl_lowered.proofs.SoundAssignments.{compound_variable_sound, constant_sound}
 use Rattle.rl_lowered.proofs.SoundForms.{AreWritten, cast_small, form_places, form_small, form_writable, hole_utf8}
-use Rattle.rl_lowered.proofs.SoundForms.{key_utf8, literal_writable, load_writable, member_places, member_small, method_places}
-use Rattle.rl_lowered.proofs.SoundForms.{method_writable, object_places, object_writable, private_small, refusing_small, store_writable}
-use Rattle.rl_lowered.proofs.SoundForms.{stored_places, wrapper_small}
+use Rattle.rl_lowered.proofs.SoundForms.{key_utf8, literal_writable, member_small, method_places}
+use Rattle.rl_lowered.proofs.SoundForms.{method_writable, object_places, object_writable, private_small, refusing_small}
+use Rattle.rl_lowered.proofs.SoundForms.{wrapper_small}
 use Rattle.rl_lowered.proofs.SoundFrames.{logical_sound, sequence_sound, ternary_sound}
 use Rattle.rl_lowered.proofs.SoundListing.{binary_writable, cast_writable, local_writable}
-use Rattle.rl_lowered.proofs.SoundListing.{number_writable, outer_writable, span_writable, sum_utf8, type_writable, undefined_writable}
+use Rattle.rl_lowered.proofs.SoundListing.{number_writable, outer_writable, sum_utf8, type_writable, undefined_writable}
 use Rattle.rl_lowered.proofs.SoundListing.{updated_writable}
-use Rattle.rl_lowered.proofs.SoundMoves.{counters_before, none_known, one_known, place_later, place_made, place_next}
+use Rattle.rl_lowered.proofs.SoundMoves.{counters_before, none_known, one_known, place_later, place_next}
 use Rattle.rl_lowered.proofs.SoundMoves.{place_weaker, sound_next, sound_recorded, sound_refl}
 use Rattle.rl_lowered.proofs.SoundMoves.{sound_then, sound_typed, sound_value, sound_weaker, value_place}
-use Rattle.rl_lowered.proofs.SoundNames.{found_below, sound_found}
+use Rattle.rl_lowered.proofs.SoundNames.{sound_found}
 use Rattle.rl_lowered.proofs.SoundTrees.{each_small, span_small}
+use Rattle.rl_lowered.proofs.SoundValues.{IsSound, loaded_sound, one_place, over_sound, places_next, places_weaker, property_stored}
+use Rattle.rl_lowered.proofs.SoundValues.{value_sound, variable_place}
 use Rattle.rl_lowered.proofs.Spanned.{value_spanned}
 
--- A value behind what came before
-
-pub value_sound : (small : Type 0) (s t : State) (v : InstructionValue) (span : Span) → StaysSound small s t
-    → AreKnown (length t.env.identifiers) (value_places v) → (small → HasSmallCounters t → IsWritable (listing.value v))
-    → (small → IsSmallSpan span)
-    → StaysSound small s (with_value t v (Some span)) × IsSoundPlace small (with_value t v (Some span)) (temporary t (Some span))
-value_sound small s t v span before places written at = (
-  sound_next small s t _ before (sound_value small t v (Some span) places written (λ holds. span_writable span (at holds))),
-  value_place small t v (Some span) places written (λ holds. span_writable span (at holds)),
-)
-
--- Places that were made
-
-places_known : (small : Type 0) (t : State) (ps : List Place) → All (IsSoundPlace small t) ps → AreKnown (length t.env.identifiers) ps
-places_known small t ps all =
-    All-weaker (IsSoundPlace small t) (λ (q : Place). q.identifier.0 < length t.env.identifiers) (λ q known. known.known) ps all
-
-places_written : (small : Type 0) (t : State) (ps : List Place) → All (IsSoundPlace small t) ps → small → HasSmallCounters t
-    → All (λ (q : Place). IsWritable (listing.place q)) ps
-places_written small t ps all holds fits =
-    All-weaker (IsSoundPlace small t) (λ (q : Place). IsWritable (listing.place q)) (λ q known. known.writable holds fits) ps all
-
-places_next : (small : Type 0) (mid new : State) (ps : List Place) → StaysSound small mid new → All (IsSoundPlace small mid) ps
-    → All (IsSoundPlace small new) ps
-places_next small mid new ps j all =
-    All-weaker (IsSoundPlace small mid) (IsSoundPlace small new) (λ q known. place_next small mid new q j known) ps all
-
-pub places_weaker : (P R : Type 0) (t : State) (ps : List Place) → (R → P) → All (IsSoundPlace P t) ps → All (IsSoundPlace R t) ps
-places_weaker P R t ps first all =
-    All-weaker (IsSoundPlace P t) (IsSoundPlace R t) (λ q known. place_weaker P R t q first known) ps all
-
-pub one_place : (small : Type 0) (t : State) (p : Place) → IsSoundPlace small t p → All (IsSoundPlace small t) (p ∷ [])
-one_place small t p place = All-cons (IsSoundPlace small t) p [] place (All-nil (IsSoundPlace small t))
-
-abbrev pub IsSound : (small : Type 0) → (s t : State) → Place → Type 0
-IsSound small s t p = StaysSound small s t × IsSoundPlace small t p
-
--- A value over places
-
-pub over_sound : (small : Type 0) (s t : State) (v : InstructionValue) (span : Span) (ps : List Place) → StaysSound small s t
-    → All (IsSoundPlace small t) ps → value_places v ≡ ps
-    → (small → HasSmallCounters t → All (λ (q : Place). IsWritable (listing.place q)) ps → IsWritable (listing.value v))
-    → (small → IsSmallSpan span)
-    → StaysSound small s (with_value t v (Some span)) × IsSoundPlace small (with_value t v (Some span)) (temporary t (Some span))
-over_sound small s t v span ps before all same written at =
-    value_sound small s t v span before (subst (AreKnown (length t.env.identifiers)) (sym same) (places_known small t ps all))
-    (λ holds fits. written holds fits (places_written small t ps all holds fits)) at
-
 -- A variable
-
-pub variable_place : (small : Type 0) (names : Names) (s : State) (symbol : SymbolId) (at span : Span) (identifier : ℕ)
-    → IsFound names s symbol at identifier → (small → IsSmallSpan span)
-    → IsSoundPlace small (found names s symbol at) (record { identifier = record { 0 = identifier }; span = Some span })
-variable_place small names s symbol at span identifier f small_span =
-    place_made small (found names s symbol at) identifier span (found_below names s symbol at identifier f) small_span
 
 variable_sound : (names : Names) (at : At) (text : List ℕ) (symbol : SymbolId) (identifier : ℕ) (s : State)
     → IsFound names s symbol at.span identifier
@@ -231,14 +185,6 @@ member_object P (Static {p}) all = All-head P p [] all
 member_object P (Indexed {p} {q} other) all = All-head P p (q ∷ []) all
 member_object P (Numbered {p} numeral) all = All-head P p [] all
 
-loaded_sound : (small : Type 0) (t : State) (there : At) {w : Word} {fields parts : Pieces} {pieces : List Piece} {object : Place}
-    {key : MemberKey} → IsMember w fields parts pieces object key → All (IsSoundPlace small t) (places_in pieces)
-    → (small → IsSmallTree (Node there w fields))
-    → IsSound small t (with_value t (load_of object key) (Some there.span)) (temporary t (Some there.span))
-loaded_sound small t there {pieces} {object} {key} is all inner =
-    over_sound small t t (load_of object key) there.span (places_in pieces) (sound_refl small t) all (member_places is).0
-    (λ holds fits written. load_writable is there (inner holds) written) (λ holds. (inner holds).0.0)
-
 member_update_sound : (small : Type 0) (s t : State) (there : At) (operator : UpdateOperator) (prefix : Bool) {w : Word}
     {fields parts : Pieces} {pieces : List Piece} {object : Place} {key : MemberKey} → IsMember w fields parts pieces object key
     → StaysSound small s t → All (IsSoundPlace small t) (places_in pieces) → (small → IsSmallTree (Node there w fields))
@@ -291,18 +237,11 @@ member_update_sound small s t there operator prefix {pieces} {object} {key} is b
         (λ holds fits. binary_writable (binary_of operator) old (temporary loaded None) (sum_utf8 operator) (old_one.writable holds fits)
         (one_made.writable holds fits)) (λ holds. (inner holds).0.0)
 
-    those : All (IsSoundPlace small updated) (places_in pieces ++ new ∷ [])
-    those =
-        All-append (IsSoundPlace small updated) (places_in pieces) (new ∷ [])
-        (places_next small t updated (places_in pieces)
-        (sound_next small t loaded updated first.0 (sound_next small loaded one updated second third.0)) all)
-        (one_place small updated new third.1)
-
     fourth : IsSound small updated stored (temporary updated (Some there.span))
     fourth =
-        over_sound small updated updated (store_of object key new) there.span (places_in pieces ++ new ∷ []) (sound_refl small updated)
-        those (stored_places is new) (λ holds fits written. store_writable is there new (inner holds) written)
-        (λ holds. (inner holds).0.0)
+        property_stored small updated updated there new is (sound_refl small updated)
+        (places_next small t updated (places_in pieces)
+        (sound_next small t loaded updated first.0 (sound_next small loaded one updated second third.0)) all) third.1 inner
 
     result : (prefix : Bool) → IsSoundPlace small stored (member_result t object key operator prefix there.span)
     result true = fourth.1
@@ -469,12 +408,8 @@ mutual
   expression_sound {names} knows (UpdatedConstant at there name symbol identifier operator prefix s is constant f) =
       let small : Type 0 =
       IsSmallTree (Node at word.Update (Then operator (Then prefix (Then (Node there word.Id (Then (Said name) End)) End)))) in
-      let first : State = found names s symbol there.span in
-      let noted : State = recorded first (diagnostic_at row.F6 (names.name symbol.0) there.span) in
-      value_sound small s noted (values.Primitive primitives.Undefined) at.span
-      (sound_next small s first noted (sound_found small names s symbol there.span identifier f (λ holds. holds.0.1.1.1.0.0))
-      (sound_recorded small first (diagnostic_at row.F6 (names.name symbol.0) there.span)))
-      (none_known (length first.env.identifiers)) (λ holds fits. undefined_writable) (λ holds. holds.0.0)
+      constant_sound small names s s symbol there.span at.span identifier (sound_refl small s) f (λ holds. holds.0.1.1.1.0.0)
+      (λ holds. holds.0.0)
   expression_sound knows (UpdatedMember at there w fields parts pieces object key operator prefix s t is all) =
       let small : Type 0 =
       IsSmallTree (Node at word.Update (Then (Said (update_text operator)) (Then (Flag prefix) (Then (Node there w fields) End)))) in
@@ -483,6 +418,32 @@ mutual
       let parts_small : small → AreSmallTrees parts = λ holds. member_small is there (node holds) in
       member_update_sound small s t there operator prefix is (sound_weaker (AreSmallTrees parts) small s t parts_small inner.0)
       (places_weaker (AreSmallTrees parts) small t (places_in pieces) parts_small inner.1) node
+  expression_sound {names} knows (AssignedVariable at there name right symbol identifier s t p is mutable by f) =
+      assigned_variable_sound names at there name right symbol identifier s t p (expression_sound knows by) f
+  expression_sound {names} knows (AssignedConstant at there name right symbol identifier s t p is constant by f) =
+      assigned_constant_sound names at there name right symbol identifier s t p (expression_sound knows by) f
+  expression_sound knows (AssignedGlobal at there name right binding s t p is by) =
+      assigned_global_sound at there name right s t p (expression_sound knows by)
+  expression_sound knows (AssignedMember at there w fields parts pieces object key right s t u p is by all) =
+      assigned_member_sound at there (codes "=") right is s t u p (expression_sound knows by) (all_sound knows all)
+  expression_sound knows (AssignedPrivate at there object name right s t u p q by more) =
+      assigned_private_sound at there object name right s t u p q (expression_sound knows by) (expression_sound knows more)
+  expression_sound {names} knows
+      (CompoundVariable at there name operator applied right symbol identifier s t u q p is mutable applies by more f) =
+      compound_variable_sound names at there name (assignment_text operator) applied right symbol identifier s t u q p
+      (expression_sound knows by) (expression_sound knows more) f
+  expression_sound {names} knows
+      (CompoundConstant at there name operator applied right symbol identifier s t u q p is constant applies by more f) =
+      compound_constant_sound names at there name (assignment_text operator) right symbol identifier s t u q p
+      (expression_sound knows by) (expression_sound knows more) f
+  expression_sound knows (CompoundGlobal at there name operator applied right binding s t u q p is applies by more) =
+      compound_global_sound at there name (assignment_text operator) applied right s t u q p (expression_sound knows by)
+      (expression_sound knows more)
+  expression_sound knows (CompoundMember at there w fields parts pieces object key operator applied right s t u p is applies all by) =
+      compound_member_sound at there (assignment_text operator) right is applied s t u p (all_sound knows all) (expression_sound knows by)
+  expression_sound knows (CompoundPrivate at there fields operator applied right s t u q p applies by more) =
+      compound_private_sound at (assignment_text operator) (Node there word.Privatemember fields) right s t u q p
+      (expression_sound knows by) (expression_sound knows more)
   expression_sound knows (Method at there w fields parts es pieces given_pieces object key given s t u is all more given_are) =
       let small : Type 0 =
       IsSmallTree (Node at word.Call (Then (Flag false) (Then (Node there w fields) (Then (Listed es) End)))) in

@@ -24,8 +24,6 @@ use Rattle.rl_hir.specs.declared.terminal.Terminal.{Terminal}
 use Rattle.rl_hir.specs.declared.terminal.TerminalKind.TheVariants as ends
 use Rattle.rl_hir.specs.Listing as listing
 use Rattle.rl_lowered.proofs.Catches.{catch_declared, declares_caught, length_promoted}
-use Rattle.rl_lowered.proofs.Sound.{IsSound, one_place, over_sound}
-use Rattle.rl_lowered.proofs.SoundHeads.{variable_stored}
 use Rattle.rl_lowered.proofs.SoundListing.{all_writable, declared_writable, span_writable}
 use Rattle.rl_lowered.proofs.SoundMoves.{counters_before, empty_writable, none_known, one_known, place_later, place_made, place_next}
 use Rattle.rl_lowered.proofs.SoundMoves.{place_weaker, sound_completed, sound_ended, sound_entered, sound_last_hole, sound_next}
@@ -33,6 +31,7 @@ use Rattle.rl_lowered.proofs.SoundMoves.{sound_next_hole, sound_recorded, sound_
 use Rattle.rl_lowered.proofs.SoundMoves.{table_more, terminals_more}
 use Rattle.rl_lowered.proofs.SoundNames.{decimal_ascii, found_below, sound_found}
 use Rattle.rl_lowered.proofs.SoundTrees.{span_small}
+use Rattle.rl_lowered.proofs.SoundValues.{IsSound, one_place, over_sound, variable_stored}
 use Rattle.rl_lowered.specs.Lowered.{catch_at, catch_begun, catch_bound, caught, promoted, promoted_identifier, throwing, throwing_under}
 use Rattle.rl_lowered.specs.Named.{IsFound, found}
 use Rattle.rl_lowered.specs.Sound.{AreSmallTrees, CountersGrow, HasSmallCounters, HasSmallTargets, IsSmallTree, IsSoundPlace, StaysSound}
@@ -244,8 +243,8 @@ pub bound_sound : (small : Type 0) (names : Names) (s : State) (symbol : SymbolI
     → StaysSound small (catch_begun s param) (catch_bound names s symbol identifier param)
 bound_sound small names s symbol identifier param f at given =
     (variable_stored small (catch_begun s param) (found names (catch_begun s param) symbol param) kinds.Catch identifier param
-    (caught s param) (sound_found small names (catch_begun s param) symbol param identifier f at)
-    (found_below names (catch_begun s param) symbol param identifier f) given at).0
+    param (caught s param) (sound_found small names (catch_begun s param) symbol param identifier f at)
+    (found_below names (catch_begun s param) symbol param identifier f) given at at).0
 
 -- Cases
 

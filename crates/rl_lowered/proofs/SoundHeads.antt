@@ -1,28 +1,26 @@
 -- Lowering the head of a loop over keys or values keeps places known and parts writable.
-use Rattle.std.proofs.Common.{ℕ, ◌<◌, ◌++◌, [], ◌∷◌, length, Some, refl, arith}
-use Rattle.std.proofs.lemmas.List.Elements.{All-append, All-cons, All-head, All-tail}
+use Rattle.std.proofs.Common.{ℕ, length, arith}
 use Rattle.rl_base.specs.Diagnostics.{diagnostic_at}
 use Rattle.rl_base.specs.declared.diagnostic.Diagnostic.{Diagnostic}
 use Rattle.rl_base.specs.declared.row.Row.TheVariants as row
 use Rattle.rl_base.specs.declared.span.Span.{Span}
 use Rattle.rl_builder.specs.Builder.{State, recorded}
-use Rattle.rl_builder.specs.Temporaries.{temporary, with_value}
 use Rattle.rl_hir.specs.Identifiers.{with_span}
 use Rattle.rl_hir.specs.Listing as listing
 use Rattle.rl_hir.specs.declared.function.Identifier.{Identifier}
-use Rattle.rl_hir.specs.declared.instruction.InstructionKind.{InstructionKind}
 use Rattle.rl_hir.specs.declared.instruction.InstructionKind.TheVariants as variables
 use Rattle.rl_hir.specs.declared.instruction.InstructionValue.TheVariants as values
 use Rattle.rl_hir.specs.declared.instruction.Place.{Place}
 use Rattle.rl_lowered.proofs.Redeclared.{all_changed, length_redeclared}
-use Rattle.rl_lowered.proofs.Sound.{IsSound, all_sound, one_place, over_sound, places_weaker, value_sound}
-use Rattle.rl_lowered.proofs.SoundForms.{global_store_writable, member_small, store_writable, stored_places}
-use Rattle.rl_lowered.proofs.SoundListing.{initialized_writable, span_writable}
-use Rattle.rl_lowered.proofs.SoundMoves.{one_known, place_made, place_next, sound_next, sound_recorded, sound_refl, sound_weaker}
+use Rattle.rl_lowered.proofs.Sound.{all_sound}
+use Rattle.rl_lowered.proofs.SoundForms.{global_store_writable, member_small}
+use Rattle.rl_lowered.proofs.SoundListing.{span_writable}
+use Rattle.rl_lowered.proofs.SoundMoves.{one_known, place_next, sound_next, sound_recorded, sound_refl, sound_weaker}
 use Rattle.rl_lowered.proofs.SoundMoves.{table_more}
 use Rattle.rl_lowered.proofs.SoundMoves.{terminals_more}
 use Rattle.rl_lowered.proofs.SoundNames.{found_below, sound_found}
-use Rattle.rl_lowered.specs.Forms.{places_in, store_of}
+use Rattle.rl_lowered.proofs.SoundValues.{IsSound, places_weaker, property_stored, value_sound, variable_stored}
+use Rattle.rl_lowered.specs.Forms.{places_in}
 use Rattle.rl_lowered.specs.Lowered.{Declared, Lost, LoweredHead, Reassigned, ReassignedConstant, StoredGlobal, StoredMember, found_again}
 use Rattle.rl_lowered.specs.Lowered.{redeclared}
 use Rattle.rl_lowered.specs.Named.{found}
@@ -61,24 +59,6 @@ sound_redeclared small s identifier span at = record {
       instructions = omega arith;
     }
 
--- A variable that was looked up takes a value.
-pub variable_stored : (small : Type 0) (s mid : State) (k : InstructionKind) (identifier : ℕ) (at : Span) (value : Place)
-    → StaysSound small s mid → identifier < length mid.env.identifiers → IsSoundPlace small s value → (small → IsSmallSpan at)
-    → IsSound small s
-    (with_value mid (values.StoreLocal k (record { identifier = record { 0 = identifier }; span = Some at }) value) (Some at))
-    (temporary mid (Some at))
-variable_stored small s mid k identifier at value looked below given at_small =
-    over_sound small s mid (values.StoreLocal k variable value) at (variable ∷ value ∷ []) looked
-    (All-cons (IsSoundPlace small mid) variable (value ∷ []) (place_made small mid identifier at below at_small)
-    (one_place small mid value (place_next small s mid value looked given))) refl
-    (λ holds fits all. initialized_writable k variable value
-    (All-head (λ (q : Place). IsWritable (listing.place q)) variable (value ∷ []) all)
-    (All-head (λ (q : Place). IsWritable (listing.place q)) value []
-    (All-tail (λ (q : Place). IsWritable (listing.place q)) variable (value ∷ []) all))) at_small
-  where
-    variable : Place
-    variable = record { identifier = record { 0 = identifier }; span = Some at }
-
 -- Names are UTF-8, and spans of declarations are small.
 pub head_sound : {names : Names} {value : Place} {e : Syntax} {s t : State} {p : Place} → KnowsNames names
     → LoweredHead names value e s t p → IsSoundPlace (IsSmallTree e) s value → IsSound (IsSmallTree e) s t p
@@ -87,16 +67,16 @@ head_sound {names} {value} {e} knows (Declared at there bind kind name type symb
     let bind_small : small → IsSmallSpan bind.span = λ holds. holds.0.1.1.0.0.1.0.0 in
     let first : State = found names s symbol bind.span in
     let again : State = found_again names s symbol identifier bind.span in
-    variable_stored small s again variables.Let identifier at.span value
+    variable_stored small s again variables.Let identifier at.span at.span value
     (sound_next small s first again (sound_found small names s symbol bind.span identifier f bind_small)
     (sound_redeclared small first identifier bind.span bind_small))
     (omega (arith, found_below names s symbol bind.span identifier f, length_redeclared first identifier bind.span)) given
-    (λ holds. holds.0.0)
+    (λ holds. holds.0.0) (λ holds. holds.0.0)
 head_sound {names} {value} {e} knows (Reassigned at name symbol identifier s is mutable f) given =
     let small : Type 0 = IsSmallTree e in
-    variable_stored small s (found names s symbol at.span) variables.Reassign identifier at.span value
+    variable_stored small s (found names s symbol at.span) variables.Reassign identifier at.span at.span value
     (sound_found small names s symbol at.span identifier f (λ holds. holds.0.0)) (found_below names s symbol at.span identifier f) given
-    (λ holds. holds.0.0)
+    (λ holds. holds.0.0) (λ holds. holds.0.0)
 head_sound {names} {value} {e} knows (ReassignedConstant at name symbol identifier s is constant f) given =
     let small : Type 0 = IsSmallTree e in
     let first : State = found names s symbol at.span in
@@ -114,11 +94,8 @@ head_sound {value} {e} knows (StoredMember at w fields parts pieces object key s
     let inner = all_sound knows all in
     let parts_small : small → AreSmallTrees parts = λ holds. member_small is at holds in
     let before : StaysSound small s t = sound_weaker (AreSmallTrees parts) small s t parts_small inner.0 in
-    over_sound small s t (store_of object key value) at.span (places_in pieces ++ value ∷ []) before
-    (All-append (IsSoundPlace small t) (places_in pieces) (value ∷ [])
-    (places_weaker (AreSmallTrees parts) small t (places_in pieces) parts_small inner.1)
-    (one_place small t value (place_next small s t value before given)))
-    (stored_places is value) (λ holds fits written. store_writable is at value holds written) (λ holds. holds.0.0)
+    property_stored small s t at value is before (places_weaker (AreSmallTrees parts) small t (places_in pieces) parts_small inner.1)
+    (place_next small s t value before given) (λ holds. holds)
 head_sound {value} {e} knows (Lost at w fields s is) given =
     let d : Diagnostic = refusal (row_of_head w) at.span in
     (sound_recorded (IsSmallTree e) s d, place_next (IsSmallTree e) s (recorded s d) value (sound_recorded (IsSmallTree e) s d) given)

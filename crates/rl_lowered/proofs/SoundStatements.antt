@@ -26,7 +26,7 @@ use Rattle.rl_hir.specs.declared.instruction.PrimitiveValue.TheVariants as primi
 use Rattle.rl_hir.specs.declared.terminal.Case.{Case}
 use Rattle.rl_hir.specs.declared.terminal.ReturnVariant.TheVariants as returns
 use Rattle.rl_hir.specs.Listing as listing
-use Rattle.rl_lowered.proofs.Sound.{IsSound, expression_sound, one_place, over_sound, variable_place}
+use Rattle.rl_lowered.proofs.Sound.{expression_sound}
 use Rattle.rl_lowered.proofs.SoundCatches.{IsSoundCase, IsSoundTest, bound_tree_sound, case_tree_sound, switch_tree_sound}
 use Rattle.rl_lowered.proofs.SoundCatches.{throw_tree_sound, try_tree_sound}
 use Rattle.rl_lowered.proofs.SoundForms.{debugger_writable}
@@ -42,6 +42,7 @@ use Rattle.rl_lowered.proofs.SoundMoves.{value_place}
 use Rattle.rl_lowered.proofs.SoundNames.{sound_found}
 use Rattle.rl_lowered.proofs.SoundRounds.{forin_sound, forof_sound}
 use Rattle.rl_lowered.proofs.SoundTrees.{each_small, span_small}
+use Rattle.rl_lowered.proofs.SoundValues.{IsSound, one_place, over_sound, variable_place}
 use Rattle.rl_lowered.proofs.Spanned.{place_spanned}
 use Rattle.rl_lowered.specs.Lowered.{AwaitRefused, Block, Break, CaseMoved, CaseTested, Continue, Debugger, DeclaredInit, DoWhile, Empty}
 use Rattle.rl_lowered.specs.Lowered.{Expression, Finalized, ForIn, ForOf, ForPlain, ForUpdated, IfElse, IfThen, Labeled, LabeledLoop}

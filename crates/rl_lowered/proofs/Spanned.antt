@@ -2,6 +2,8 @@
 use Rattle.std.proofs.Common.{◌≡◌, ℕ, Bool, true, List, [], ◌∷◌, Some, None, sym, subst, Option}
 use Rattle.std.proofs.lemmas.List.Elements.{All-append}
 use Rattle.std.specs.Prelude.{IfSome}
+use Rattle.rl_base.specs.declared.ids.SymbolId.{SymbolId}
+use Rattle.rl_base.specs.declared.operator.BinaryOperator.{BinaryOperator}
 use Rattle.rl_base.specs.declared.row.Row.TheVariants as row
 use Rattle.rl_base.specs.declared.span.Span.{Span}
 use Rattle.rl_base.specs.declared.type_kind.TypeKind.{TypeKind}
@@ -33,16 +35,16 @@ use Rattle.rl_lowered.proofs.SpannedForms.{cast_each, form_cast, form_each, load
 use Rattle.rl_lowered.proofs.SpannedForms.{private_each, refusing_each, result_spanned, store_cast, update_cast, update_spanned}
 use Rattle.rl_lowered.proofs.SpannedForms.{update_spans, wrapper_each}
 use Rattle.rl_lowered.proofs.SpannedFrames.{bound_spans, case_begun_spans, case_ended_spans, declared_spans, do_while_spans}
-use Rattle.rl_lowered.proofs.SpannedFrames.{for_plain_spans, for_spans, forin_spans, forof_spans, if_else_spans, if_then_spans}
-use Rattle.rl_lowered.proofs.SpannedFrames.{label_spans, logical_spans, sequence_spans, switch_spans, ternary_spans, threw_spans}
-use Rattle.rl_lowered.proofs.SpannedFrames.{throwing_spans, tried_spans, while_spans}
+use Rattle.rl_lowered.proofs.SpannedFrames.{for_plain_spans, for_spans, forin_spans, forof_spans, if_else_spans, if_then_spans, label_spans}
+use Rattle.rl_lowered.proofs.SpannedFrames.{logical_spans, sequence_spans, switch_spans, ternary_spans, threw_spans, throwing_spans}
+use Rattle.rl_lowered.proofs.SpannedFrames.{tried_spans, while_spans}
 use Rattle.rl_lowered.proofs.SpannedMoves.{found_spans, more_spanned, next_hole_spans, none_spanned, one_spanned, recorded_spans}
-use Rattle.rl_lowered.proofs.SpannedMoves.{redeclared_spans, reserved_spans, return_spans, returned_spans, span_or, type_spans}
-use Rattle.rl_lowered.proofs.SpannedMoves.{value_spans}
+use Rattle.rl_lowered.proofs.SpannedMoves.{redeclared_spans, reserved_spans, return_spans, returned_spans, span_or, type_spans, value_spans}
 use Rattle.rl_lowered.specs.Forms.{IsMember, MemberKey, load_of, places_in, store_of, type_of, typed}
 use Rattle.rl_lowered.specs.Lowered.{Lowered, LoweredBody, LoweredCaseTest, LoweredCases, LoweredDeclarators, LoweredHead, LoweredInit}
 use Rattle.rl_lowered.specs.Lowered.{LoweredLast, LoweredLoop, LoweredParts, LoweredStatement, LoweredStatements, LoweredTest, caught}
-use Rattle.rl_lowered.specs.Lowered.{declaring, found_again, part_span, throwing, update_of, value_span}
+use Rattle.rl_lowered.specs.Lowered.{assigned_to, declaring, found_again, member_computed, name_computed, name_stored, part_span, throwing}
+use Rattle.rl_lowered.specs.Lowered.{update_of, value_span, variable_at}
 use Rattle.rl_lowered.specs.Lowered as lowered
 use Rattle.rl_lowered.specs.Named.{found}
 use Rattle.rl_lowered.specs.Spanned.{EachSpan, EachSpanAmong, KeepsSpans}
@@ -79,6 +81,12 @@ module _ (P : Span → Type 0) where
   place_spanned (lowered.Same at w fields e s t p wrapper by) each = place_spanned by (wrapper_each P wrapper each.1)
   place_spanned (lowered.UpdatedMember at there w fields parts pieces object key operator prefix s t is all) each =
       result_spanned P t object key operator prefix there.span each.1.1.1.0.0
+  place_spanned (lowered.AssignedVariable at there name right symbol identifier s t p is mutable by f) each = each.1.1.0.0
+  place_spanned (lowered.AssignedConstant at there name right symbol identifier s t p is constant by f) each = each.1.1.0.0
+  place_spanned (lowered.AssignedGlobal at there name right binding s t p is by) each = each.1.1.0.0
+  place_spanned (lowered.AssignedMember at there w fields parts pieces object key right s t u p is by all) each = each.1.1.0.0
+  place_spanned (lowered.CompoundMember at there w fields parts pieces object key operator applied right s t u p is applies all by) each =
+      each.1.1.0.0
   place_spanned _ each = each.0
 
   -- The place of the test of a `for` loop.
@@ -116,6 +124,47 @@ module _ (P : Span → Type 0) where
 
   undefined_spans : (s : State) (at : Span) → P at → KeepsSpans P s (with_value s (values.Primitive primitives.Undefined) (Some at))
   undefined_spans s at here h = value_spans P s (values.Primitive primitives.Undefined) (Some at) here tt (none_spanned P) h
+
+  -- A constant that is assigned.
+  constant_spans : (names : Names) (s : State) (symbol : SymbolId) (there span : Span) → P there → P span
+      → KeepsSpans P s
+      (with_value (recorded (found names s symbol there) (diagnostic_at row.F6 (names.name symbol.0) there))
+      (values.Primitive primitives.Undefined) (Some span))
+  constant_spans names s symbol there span at here h =
+      undefined_spans (recorded (found names s symbol there) (diagnostic_at row.F6 (names.name symbol.0) there)) span here
+      (recorded_spans P (found names s symbol there) (diagnostic_at row.F6 (names.name symbol.0) there)
+      (found_spans P names s symbol there at h))
+
+  -- The new value of a compound assignment.
+  applied_spans : (s : State) (operator : BinaryOperator) (q p : Place) (span : Span) → P span → IfSome q.span P → IfSome p.span P
+      → KeepsSpans P s (with_value s (values.BinaryExpression operator q p) (Some span))
+  applied_spans s operator q p span here first second h =
+      value_spans P s (values.BinaryExpression operator q p) (Some span) here tt
+      (more_spanned P q (p ∷ []) first (one_spanned P p second)) h
+
+  -- Stores to a variable, to a global, and to a property.
+
+  assigned_spans : (names : Names) (s : State) (symbol : SymbolId) (identifier : ℕ) (there : Span) (value : Place) (span : Span)
+      → P there → P span → IfSome value.span P
+      → KeepsSpans P s (with_value (found names s symbol there) (assigned_to identifier there value) (Some span))
+  assigned_spans names s symbol identifier there value span at here given h =
+      value_spans P (found names s symbol there) (assigned_to identifier there value) (Some span) here tt
+      (more_spanned P (variable_at identifier there) (value ∷ []) at (one_spanned P value given))
+      (found_spans P names s symbol there at h)
+
+  stored_global_spans : (s : State) (name : List ℕ) (value : Place) (span : Span) → P span → IfSome value.span P
+      → KeepsSpans P s (with_value s (values.StoreGlobal name value) (Some span))
+  stored_global_spans s name value span here given h =
+      value_spans P s (values.StoreGlobal name value) (Some span) here tt (one_spanned P value given) h
+
+  stored_member_spans : {w : Word} {fields parts : Pieces} {pieces : List Piece} {object : Place} {key : MemberKey}
+      → IsMember w fields parts pieces object key → (s : State) (value : Place) (span : Span) → P span → IfSome value.span P
+      → AreSpanned P (places_in pieces) → KeepsSpans P s (with_value s (store_of object key value) (Some span))
+  stored_member_spans {pieces} {object} {key} is s value span here given member h =
+      value_spans P s (store_of object key value) (Some span) here (store_cast P object key value)
+      (subst (AreSpanned P) (sym (stored_places is value))
+      (All-append (λ (p : Place). IfSome p.span P) (places_in pieces) (value ∷ []) member (one_spanned P value given)))
+      h
 
   global_spans : (s : State) (binding : NonLocalBinding) (at : Span) → P at
       → KeepsSpans P s (with_value s (values.LoadGlobal binding) (Some at))
@@ -176,12 +225,53 @@ module _ (P : Span → Type 0) where
         (found_spans P names (found names s symbol there.span) symbol there.span each.1.1.1.0.0
         (found_spans P names s symbol there.span each.1.1.1.0.0 h))
     expression_spans {names} (lowered.UpdatedConstant at there name symbol identifier operator prefix s is constant f) each h =
-        undefined_spans (recorded (found names s symbol there.span) (diagnostic_at row.F6 (names.name symbol.0) there.span)) at.span each.0
-        (recorded_spans P (found names s symbol there.span) (diagnostic_at row.F6 (names.name symbol.0) there.span)
-        (found_spans P names s symbol there.span each.1.1.1.0.0 h))
+        constant_spans names s symbol there.span at.span each.1.1.1.0.0 each.0 h
     expression_spans (lowered.UpdatedMember at there w fields parts pieces object key operator prefix s t is all) each h =
         update_spans P is t operator there.span each.1.1.1.0.0 (places_spanned all (member_each P is each.1.1.1.0.1))
         (all_spans all (member_each P is each.1.1.1.0.1) h)
+    expression_spans {names} (lowered.AssignedVariable at there name right symbol identifier s t p is mutable by f) each h =
+        assigned_spans names t symbol identifier there.span p there.span each.1.1.0.0 each.1.1.0.0 (place_spanned by each.1.1.1.0)
+        (expression_spans by each.1.1.1.0 h)
+    expression_spans {names} (lowered.AssignedConstant at there name right symbol identifier s t p is constant by f) each h =
+        constant_spans names t symbol there.span there.span each.1.1.0.0 each.1.1.0.0 (expression_spans by each.1.1.1.0 h)
+    expression_spans (lowered.AssignedGlobal at there name right binding s t p is by) each h =
+        stored_global_spans t name p there.span each.1.1.0.0 (place_spanned by each.1.1.1.0) (expression_spans by each.1.1.1.0 h)
+    expression_spans (lowered.AssignedMember at there w fields parts pieces object key right s t u p is by all) each h =
+        stored_member_spans is u p there.span each.1.1.0.0 (place_spanned by each.1.1.1.0)
+        (places_spanned all (member_each P is each.1.1.0.1))
+        (all_spans all (member_each P is each.1.1.0.1) (expression_spans by each.1.1.1.0 h))
+    expression_spans (lowered.AssignedPrivate at there object name right s t u p q by inside) each h =
+        undefined_spans (recorded u (refusal row.F5 at.span)) at.span each.0
+        (recorded_spans P u (refusal row.F5 at.span) (expression_spans inside each.1.1.0.1.1.0 (expression_spans by each.1.1.1.0 h)))
+    expression_spans {names}
+        (lowered.CompoundVariable at there name operator applied right symbol identifier s t u q p is mutable applies first second f) each
+        h =
+        value_spans P (name_stored names u applied q p at.span there.span symbol identifier)
+        (values.LoadLocal (variable_at identifier there.span)) (Some at.span) each.0 tt
+        (one_spanned P (variable_at identifier there.span) each.1.1.0.0)
+        (assigned_spans names (name_computed u applied q p at.span) symbol identifier there.span (temporary u (Some at.span)) at.span
+        each.1.1.0.0 each.0 each.0
+        (applied_spans u applied q p at.span each.0 (place_spanned first each.1.1.0) (place_spanned second each.1.1.1.0)
+        (expression_spans second each.1.1.1.0 (expression_spans first each.1.1.0 h))))
+    expression_spans {names}
+        (lowered.CompoundConstant at there name operator applied right symbol identifier s t u q p is constant applies first second f) each
+        h =
+        constant_spans names u symbol there.span at.span each.1.1.0.0 each.0
+        (expression_spans second each.1.1.1.0 (expression_spans first each.1.1.0 h))
+    expression_spans (lowered.CompoundGlobal at there name operator applied right binding s t u q p is applies first second) each h =
+        stored_global_spans (name_computed u applied q p at.span) name (temporary u (Some at.span)) at.span each.0 each.0
+        (applied_spans u applied q p at.span each.0 (place_spanned first each.1.1.0) (place_spanned second each.1.1.1.0)
+        (expression_spans second each.1.1.1.0 (expression_spans first each.1.1.0 h)))
+    expression_spans
+        (lowered.CompoundMember at there w fields parts pieces object key operator applied right s t u p is applies all by) each h =
+        let member = places_spanned all (member_each P is each.1.1.0.1) in
+        stored_member_spans is (member_computed t u applied p there.span) (temporary u (Some there.span)) there.span each.1.1.0.0
+        each.1.1.0.0 member
+        (applied_spans u applied (temporary t (Some there.span)) p there.span each.1.1.0.0 each.1.1.0.0 (place_spanned by each.1.1.1.0)
+        (expression_spans by each.1.1.1.0
+        (load_spans P is t there.span each.1.1.0.0 member (all_spans all (member_each P is each.1.1.0.1) h))))
+    expression_spans (lowered.CompoundPrivate at there fields operator applied right s t u q p applies first second) each h =
+        undefined_spans u at.span each.0 (expression_spans second each.1.1.1.0 (expression_spans first each.1.1.0 h))
     expression_spans (lowered.Method at there w fields parts es pieces given_pieces object key given s t u is all others given_are) each h =
         method_spans is t u given given_pieces at.span there.span given_are each.0 each.1.1.0.0
         (places_spanned all (member_each P is each.1.1.0.1)) (places_spanned others each.1.1.1.0)
@@ -292,22 +382,14 @@ module _ (P : Span → Type 0) where
       (redeclared_spans P (found names s symbol bind.span) identifier bind.span each.1.1.0.0.1.0.0
       (found_spans P names s symbol bind.span each.1.1.0.0.1.0.0 h))
   head_spans {names} {value} (lowered.Reassigned at name symbol identifier s is mutable f) given each h =
-      value_spans P (found names s symbol at.span)
-      (values.StoreLocal variables.Reassign (record { identifier = record { 0 = identifier }; span = Some at.span }) value) (Some at.span)
-      each.0 tt
-      (more_spanned P (record { identifier = record { 0 = identifier }; span = Some at.span }) (value ∷ []) each.0
-      (one_spanned P value given))
-      (found_spans P names s symbol at.span each.0 h)
+      assigned_spans names s symbol identifier at.span value at.span each.0 each.0 given h
   head_spans {names} (lowered.ReassignedConstant at name symbol identifier s is constant f) given each h =
       recorded_spans P (found names s symbol at.span) (diagnostic_at row.F6 (names.name symbol.0) at.span)
       (found_spans P names s symbol at.span each.0 h)
   head_spans {value} (lowered.StoredGlobal at name binding s is) given each h =
-      value_spans P s (values.StoreGlobal name value) (Some at.span) each.0 tt (one_spanned P value given) h
+      stored_global_spans s name value at.span each.0 given h
   head_spans {value} (lowered.StoredMember at w fields parts pieces object key s t is all) given each h =
-      value_spans P t (store_of object key value) (Some at.span) each.0 (store_cast P object key value)
-      (subst (AreSpanned P) (sym (stored_places is value))
-      (All-append (λ (p : Place). IfSome p.span P) (places_in pieces) (value ∷ []) (places_spanned all (member_each P is each.1))
-      (one_spanned P value given)))
+      stored_member_spans is t value at.span each.0 given (places_spanned all (member_each P is each.1))
       (all_spans all (member_each P is each.1) h)
   head_spans (lowered.Lost at w fields s is) given each h = recorded_spans P s (refusal (row_of_head w) at.span) h
 

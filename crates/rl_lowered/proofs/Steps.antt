@@ -3,6 +3,7 @@ use Rattle.std.proofs.Common.{◌≡◌, ℕ, ◌+◌, ◌≤◌, inl, inr, Bool
 use Rattle.rl_base.specs.declared.diagnostic.Diagnostic.{Diagnostic}
 use Rattle.rl_base.specs.declared.ids.BlockId.{BlockId}
 use Rattle.rl_base.specs.declared.ids.SymbolId.{SymbolId}
+use Rattle.rl_base.specs.declared.operator.BinaryOperator.{BinaryOperator}
 use Rattle.rl_base.specs.declared.operator.UpdateOperator.{UpdateOperator}
 use Rattle.rl_base.specs.declared.row.Row.TheVariants as row
 use Rattle.rl_base.specs.declared.span.Span.{Span}
@@ -44,8 +45,10 @@ use Rattle.rl_lowered.specs.Forms.{IsForm, MemberKey, delete_of, load_of, store_
 use Rattle.rl_lowered.specs.Forms as forms
 use Rattle.rl_lowered.specs.Lowered.{Lowered, LoweredBody, LoweredCaseTest, LoweredCases, LoweredDeclarators, LoweredHead, LoweredInit}
 use Rattle.rl_lowered.specs.Lowered.{LoweredLast, LoweredLoop, LoweredParts, LoweredStatement, LoweredStatements, LoweredTest}
-use Rattle.rl_lowered.specs.Lowered.{catch_begun, catch_bound, caught, declaring, found_again, member_loaded, member_one, member_stored}
-use Rattle.rl_lowered.specs.Lowered.{member_updated, part_span, promoted, throwing, throwing_under, update_of, value_span}
+use Rattle.rl_lowered.specs.Lowered.{assigned_to, catch_begun, catch_bound, caught, declaring, found_again, member_assigned}
+use Rattle.rl_lowered.specs.Lowered.{member_computed, member_loaded, member_one, member_stored, member_updated, name_computed}
+use Rattle.rl_lowered.specs.Lowered.{name_reloaded, name_stored, part_span, promoted, throwing, throwing_under, update_of, value_span}
+use Rattle.rl_lowered.specs.Lowered.{variable_at}
 use Rattle.rl_lowered.specs.Lowered as lowered
 use Rattle.rl_lowered.specs.Named.{found}
 use Rattle.rl_lowered.specs.Steps.{KeepsStepsApart}
@@ -126,6 +129,36 @@ apart_member t object key operator there =
     (apart_then one updated _ (apart_value one _ (Some there) refl)
     (apart_value updated (store_of object key kept) (Some there) (store_still object key kept))))
 
+-- A constant that was looked up is refused.
+apart_constant : (names : Names) (s : State) (symbol : SymbolId) (there span : Span)
+    → KeepsStepsApart s
+    (with_value (recorded (found names s symbol there) (diagnostic_at row.F6 (names.name symbol.0) there))
+    (values.Primitive primitives.Undefined) (Some span))
+apart_constant names s symbol there span =
+    let first : State = found names s symbol there in
+    apart_then s first _ (apart_found names s symbol there)
+    (apart_undefined first (diagnostic_at row.F6 (names.name symbol.0) there) span)
+
+-- Compound assignments, behind their right part.
+
+apart_reloaded : (names : Names) (u : State) (operator : BinaryOperator) (q p : Place) (at there : Span) (symbol : SymbolId)
+    (identifier : ℕ) → KeepsStepsApart u (name_reloaded names u operator q p at there symbol identifier)
+apart_reloaded names u operator q p at there symbol identifier =
+    let computed : State = name_computed u operator q p at in
+    let stored : State = name_stored names u operator q p at there symbol identifier in
+    apart_then u computed _ (apart_value u (values.BinaryExpression operator q p) (Some at) refl)
+    (apart_then computed stored _
+    (apart_found_value names computed symbol there (assigned_to identifier there (temporary u (Some at))) (Some at) refl)
+    (apart_value stored (values.LoadLocal (variable_at identifier there)) (Some at) refl))
+
+apart_assigned : (t u : State) (object : Place) (key : MemberKey) (operator : BinaryOperator) (p : Place) (there : Span)
+    → KeepsStepsApart u (member_assigned t u object key operator p there)
+apart_assigned t u object key operator p there =
+    let computed : State = member_computed t u operator p there in
+    let kept : Place = temporary u (Some there) in
+    apart_then u computed _ (apart_value u (values.BinaryExpression operator (temporary t (Some there)) p) (Some there) refl)
+    (apart_value computed (store_of object key kept) (Some there) (store_still object key kept))
+
 apart_loaded : (s : State) (place value : Place) (span : Span) → KeepsStepsApart s (pushed s (loads place value span))
 apart_loaded s place value span = apart_pushed s (loads place value span) (λ reads. reads.step)
 
@@ -154,11 +187,43 @@ mutual
       (apart_found_value names first symbol there.span _ (Some at.span)
       (update_still prefix operator (record { identifier = record { 0 = identifier }; span = Some there.span })))
   expression_steps {names} (lowered.UpdatedConstant at there name symbol identifier operator prefix s is constant f) =
-      let first : State = found names s symbol there.span in
-      apart_then s first _ (apart_found names s symbol there.span)
-      (apart_undefined first (diagnostic_at row.F6 (names.name symbol.0) there.span) at.span)
+      apart_constant names s symbol there.span at.span
   expression_steps (lowered.UpdatedMember at there w fields parts pieces object key operator prefix s t is l) =
       apart_then s t _ (all_steps l) (apart_member t object key operator there.span)
+  expression_steps {names} (lowered.AssignedVariable at there name right symbol identifier s t p is mutable l f) =
+      apart_then s t _ (expression_steps l)
+      (apart_found_value names t symbol there.span (assigned_to identifier there.span p) (Some there.span) refl)
+  expression_steps {names} (lowered.AssignedConstant at there name right symbol identifier s t p is constant l f) =
+      apart_then s t _ (expression_steps l) (apart_constant names t symbol there.span there.span)
+  expression_steps (lowered.AssignedGlobal at there name right binding s t p is l) =
+      apart_then s t _ (expression_steps l) (apart_value t (values.StoreGlobal name p) (Some there.span) refl)
+  expression_steps (lowered.AssignedMember at there w fields parts pieces object key right s t u p is l ls) =
+      apart_then s t _ (expression_steps l)
+      (apart_then t u _ (all_steps ls) (apart_value u (store_of object key p) (Some there.span) (store_still object key p)))
+  expression_steps (lowered.AssignedPrivate at there object name right s t u p q l m) =
+      apart_then s t _ (expression_steps l)
+      (apart_then t u _ (expression_steps m) (apart_undefined u (refusal row.F5 at.span) at.span))
+  expression_steps {names}
+      (lowered.CompoundVariable at there name operator applied right symbol identifier s t u q p is mutable applies l m f) =
+      apart_then s t _ (expression_steps l)
+      (apart_then t u _ (expression_steps m) (apart_reloaded names u applied q p at.span there.span symbol identifier))
+  expression_steps {names}
+      (lowered.CompoundConstant at there name operator applied right symbol identifier s t u q p is constant applies l m f) =
+      apart_then s t _ (expression_steps l) (apart_then t u _ (expression_steps m) (apart_constant names u symbol there.span at.span))
+  expression_steps (lowered.CompoundGlobal at there name operator applied right binding s t u q p is applies l m) =
+      let computed : State = name_computed u applied q p at.span in
+      apart_then s t _ (expression_steps l)
+      (apart_then t u _ (expression_steps m)
+      (apart_then u computed _ (apart_value u (values.BinaryExpression applied q p) (Some at.span) refl)
+      (apart_value computed (values.StoreGlobal name (temporary u (Some at.span))) (Some at.span) refl)))
+  expression_steps (lowered.CompoundMember at there w fields parts pieces object key operator applied right s t u p is applies ls l) =
+      let loaded : State = with_value t (load_of object key) (Some there.span) in
+      apart_then s t _ (all_steps ls)
+      (apart_then t loaded _ (apart_value t (load_of object key) (Some there.span) (load_still object key))
+      (apart_then loaded u _ (expression_steps l) (apart_assigned t u object key applied p there.span)))
+  expression_steps (lowered.CompoundPrivate at there fields operator applied right s t u q p applies l m) =
+      apart_then s t _ (expression_steps l)
+      (apart_then t u _ (expression_steps m) (apart_value u (values.Primitive primitives.Undefined) (Some at.span) refl))
   expression_steps (lowered.Method at there w fields parts es pieces given_pieces object key given s t u is l given_are m) =
       let loaded : State = with_value t (load_of object key) (Some there.span) in
       apart_then s t _ (all_steps l)

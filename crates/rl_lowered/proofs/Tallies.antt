@@ -1,8 +1,6 @@
--- The table has an instruction for each call, construction and await that was lowered, where nothing of it was refused.
+-- The table has an instruction for each call, construction, await and store that was lowered, where nothing of it was refused.
 use Rattle.std.proofs.Common.{◌≡◌, ℕ, ◌+◌, ◌++◌, ◌&&◌, if◌then◌else◌, Bool, true, false, List, [], ◌∷◌, Option, Some, None, codes, refl}
 use Rattle.std.proofs.Common.{sym, ap, ◌∙◌, arith, subst}
-use Rattle.std.specs.List.{list_any}
-use Rattle.std.specs.Str.{bytes_eq}
 use Rattle.rl_base.specs.declared.ids.BlockId.{BlockId}
 use Rattle.rl_base.specs.declared.operator.UpdateOperator.{UpdateOperator}
 use Rattle.rl_base.specs.declared.span.Span.{Span}
@@ -10,7 +8,7 @@ use Rattle.rl_base.specs.declared.type_kind.TypeKind.{TypeKind}
 use Rattle.rl_base.specs.declared.type_kind.TypeKind.TheVariants as types
 use Rattle.rl_base.specs.declared.variable_kind.VariableKind.{VariableKind}
 use Rattle.rl_base.specs.declared.variable_kind.VariableKind.TheVariants as kinds
-use Rattle.rl_base.specs.Operators.{update_text}
+use Rattle.rl_base.specs.Operators.{assignment_text, update_text}
 use Rattle.rl_base.specs.VariableKinds.{variable_text}
 use Rattle.rl_builder.specs.Builder.{State, innermost, pushed, pushed_under, reserved, with_temporary}
 use Rattle.rl_builder.specs.Temporaries.{temporary, unordered, with_value}
@@ -29,38 +27,45 @@ use Rattle.rl_hir.specs.declared.instruction.Place.{Place}
 use Rattle.rl_hir.specs.declared.instruction.PrimitiveValue.TheVariants as primitives
 use Rattle.rl_hir.specs.declared.terminal.Case.{Case}
 use Rattle.rl_hir.specs.Pieces.{Piece}
-use Rattle.rl_hir.specs.Written.{value_word}
 use Rattle.rl_lowered.proofs.Blocks.{declares_of}
 use Rattle.rl_lowered.proofs.Catches.{declares_caught, stores_caught}
-use Rattle.rl_lowered.proofs.Clean.{among_clean, branches_clean, branches_clean_at, case_clean, cast_clean, computed_row_clean}
-use Rattle.rl_lowered.proofs.Clean.{constant_head_never, constant_update_never, finalizer_never, first_none, for_clean, form_clean}
-use Rattle.rl_lowered.proofs.Clean.{fraction_row_never, lost_head_never, member_head_clean, method_clean, moved_never, never, outer_never}
-use Rattle.rl_lowered.proofs.Clean.{private_clean, private_never, property_row_clean, refused_never, refusing_never, rounds_clean}
-use Rattle.rl_lowered.proofs.Clean.{row_clean, second_none, spread_row_clean, switch_clean, throw_clean, try_clean, unknown_row_never}
-use Rattle.rl_lowered.proofs.Clean.{updated_member_clean, while_clean, wrapper_clean}
-use Rattle.rl_lowered.proofs.HeldParts.{HeldBy, IsHeldAs, Unheld, cast_held, declarator_held, declared_head_held, form_held, form_word}
-use Rattle.rl_lowered.proofs.HeldParts.{is_held, literal_held, member_held, method_held, param_held, property_held, updated_held}
+use Rattle.rl_lowered.proofs.Clean.{among_clean, assigned_clean, assigned_member_clean, branches_clean, branches_clean_at, case_clean}
+use Rattle.rl_lowered.proofs.Clean.{cast_clean, compound_clean, compound_member_clean, computed_row_clean, constant_assigned_never}
+use Rattle.rl_lowered.proofs.Clean.{constant_compound_never, constant_head_never, constant_update_never, finalizer_never, first_none}
+use Rattle.rl_lowered.proofs.Clean.{for_clean, form_clean, fraction_row_never, lost_head_never, member_head_clean, method_clean}
+use Rattle.rl_lowered.proofs.Clean.{moved_never, never, outer_never, private_assigned_never, private_clean, private_never}
+use Rattle.rl_lowered.proofs.Clean.{property_row_clean, refused_never, refusing_never, rounds_clean, row_clean, second_none}
+use Rattle.rl_lowered.proofs.Clean.{spread_row_clean, switch_clean, throw_clean, try_clean, unknown_row_never, updated_member_clean}
+use Rattle.rl_lowered.proofs.Clean.{while_clean, wrapper_clean}
+use Rattle.rl_lowered.proofs.HeldParts.{HeldBy, IsHeldAs, Unheld, assigned_held, assigned_member_held, cast_held, compound_held}
+use Rattle.rl_lowered.proofs.HeldParts.{counted_among, declarator_held, declared_head_held, form_held, form_span, form_word, is_held}
+use Rattle.rl_lowered.proofs.HeldParts.{literal_held, member_held, member_unstored, method_held, param_held, property_held, updated_held}
 use Rattle.rl_lowered.proofs.HeldParts.{wrapper_held}
+use Rattle.rl_lowered.proofs.Living.{private_compound_never}
 use Rattle.rl_lowered.proofs.Meant.{private_member_never}
 use Rattle.rl_lowered.proofs.Plain.{init_said, lowered_plain}
+use Rattle.rl_lowered.proofs.Refusals.{applied_plain}
 use Rattle.rl_lowered.specs.Forms.{Computed, Fixed, MemberKey, load_of, store_of, typed}
-use Rattle.rl_lowered.specs.Lowered.{Asked, AwaitRefused, Block, Break, CaseMoved, CaseTested, Cast, Conditional, Continue, Debugger}
-use Rattle.rl_lowered.specs.Lowered.{Declared, DeclaredInit, DoWhile, EarlierPart, Empty, Expression, Finalized, ForIn, ForOf, ForPlain}
-use Rattle.rl_lowered.specs.Lowered.{ForUpdated, Global, IfElse, IfThen, Labeled, LabeledLoop, LastPart, Literal, Logical, Lost, Lowered}
-use Rattle.rl_lowered.specs.Lowered.{LoweredBody, LoweredCaseTest, LoweredCases, LoweredDeclarators, LoweredHead, LoweredInit}
-use Rattle.rl_lowered.specs.Lowered.{LoweredLast, LoweredLoop, LoweredParts, LoweredStatement, LoweredStatements, LoweredTest, Method}
-use Rattle.rl_lowered.specs.Lowered.{NextCase, NextComputed, NextDeclared, NextFraction, NextHole, NextInitialized, NextPart}
-use Rattle.rl_lowered.specs.Lowered.{NextProperty, NextSpread, NextStatement, NextUnknown, NoCase, NoCaseTest, NoDeclarator, NoInit}
-use Rattle.rl_lowered.specs.Lowered.{NoPart, NoStatement, NoTest, Object, Private, Reassigned, ReassignedConstant, Refused, RefusedBefore}
-use Rattle.rl_lowered.specs.Lowered.{RefusedBehind, RefusedGlobal, RefusedInit, Return, ReturnNothing, Same, Sequence, Statements}
-use Rattle.rl_lowered.specs.Lowered.{Switch, Throw}
-use Rattle.rl_lowered.specs.Lowered.{StoredGlobal, StoredMember, Tested, TryBound, TryPlain, Uncaught, Unlabeled, UpdatedConstant}
-use Rattle.rl_lowered.specs.Lowered.{UpdatedMember, UpdatedVariable, Value, Variable, Variables, While, With, catch_begun, declaring}
-use Rattle.rl_lowered.specs.Lowered.{found_again, kind_of, label_part, member_loaded, member_one, member_stored, member_updated, promoted}
-use Rattle.rl_lowered.specs.Lowered.{throwing, throwing_under, update_of, value_span}
+use Rattle.rl_lowered.specs.Lowered.{Asked, AssignedConstant, AssignedGlobal, AssignedMember, AssignedPrivate, AssignedVariable}
+use Rattle.rl_lowered.specs.Lowered.{AwaitRefused, Block, Break, CaseMoved, CaseTested, Cast, CompoundConstant, CompoundGlobal}
+use Rattle.rl_lowered.specs.Lowered.{CompoundMember, CompoundPrivate, CompoundVariable, Conditional, Continue, Debugger, Declared}
+use Rattle.rl_lowered.specs.Lowered.{DeclaredInit, DoWhile, EarlierPart, Empty, Expression, Finalized, ForIn, ForOf, ForPlain, ForUpdated}
+use Rattle.rl_lowered.specs.Lowered.{Global, IfElse, IfThen, Labeled, LabeledLoop, LastPart, Literal, Logical, Lost, Lowered, LoweredBody}
+use Rattle.rl_lowered.specs.Lowered.{LoweredCaseTest, LoweredCases, LoweredDeclarators, LoweredHead, LoweredInit, LoweredLast, LoweredLoop}
+use Rattle.rl_lowered.specs.Lowered.{LoweredParts, LoweredStatement, LoweredStatements, LoweredTest, Method, NextCase, NextComputed}
+use Rattle.rl_lowered.specs.Lowered.{NextDeclared, NextFraction, NextHole, NextInitialized, NextPart, NextProperty, NextSpread}
+use Rattle.rl_lowered.specs.Lowered.{NextStatement, NextUnknown, NoCase, NoCaseTest, NoDeclarator, NoInit, NoPart, NoStatement, NoTest}
+use Rattle.rl_lowered.specs.Lowered.{Object, Private, Reassigned, ReassignedConstant, Refused, RefusedBefore, RefusedBehind, RefusedGlobal}
+use Rattle.rl_lowered.specs.Lowered.{RefusedInit, Return, ReturnNothing, Same, Sequence, Statements, Switch, Throw, StoredGlobal}
+use Rattle.rl_lowered.specs.Lowered.{StoredMember, Tested, TryBound, TryPlain, Uncaught, Unlabeled, UpdatedConstant, UpdatedMember}
+use Rattle.rl_lowered.specs.Lowered.{UpdatedVariable, Value, Variable, Variables, While, With, assigned_to, catch_begun, declaring}
+use Rattle.rl_lowered.specs.Lowered.{found_again, kind_of, label_part, member_computed, member_loaded, member_one, member_stored}
+use Rattle.rl_lowered.specs.Lowered.{member_updated, name_computed, name_stored, promoted, throwing, throwing_under, update_of, value_span}
+use Rattle.rl_lowered.specs.Lowered.{variable_at}
 use Rattle.rl_lowered.specs.Named.{found}
 use Rattle.rl_model.specs.Actions.{Label}
 use Rattle.rl_model.specs.Counted.{Counted}
+use Rattle.rl_model.specs.Worlds.{is_reassign}
 use Rattle.rl_names.specs.Names.{Names}
 use Rattle.rl_promises.proofs.Unheld.{unheld_untallied}
 use Rattle.rl_promises.specs.Held.{is_of, is_span, times}
@@ -68,7 +73,8 @@ use Rattle.rl_promises.specs.Live.{Held, held_among, held_as, held_in}
 use Rattle.rl_promises.specs.Moved.{said_of_moved}
 use Rattle.rl_promises.specs.Rows.{refusals, refusals_among, refusals_at, refusals_at_head, refusals_in, refusals_in_body}
 use Rattle.rl_promises.specs.Rows.{refusals_in_cases, said_of_init, said_of_test}
-use Rattle.rl_promises.specs.Tallies.{Awaits, Calls, Constructions, IsHeldKind, held_word, is_among, tallied, tallied_among}
+use Rattle.rl_promises.specs.Tallies.{Awaits, Calls, Constructions, IsHeldKind, Stores, held_span, held_word, is_among, store_word, tallied}
+use Rattle.rl_promises.specs.Tallies.{tallied_among}
 use Rattle.rl_runs.specs.Moves.{stored_in}
 use Rattle.rl_syntax.specs.declared.numbered.At.{At}
 use Rattle.rl_syntax.specs.declared.word.Word.TheVariants as word
@@ -102,6 +108,27 @@ added_same a b n m same is = omega (arith, same, is)
 
 added_four : (a b c d e : ℕ) → b ≡ a + 0 → c ≡ b + 0 → d ≡ c + 0 → e ≡ d + 0 → e ≡ a + 0
 added_four a b c d e p q r s = omega (arith, p, q, r, s)
+
+-- A store to a name, behind the value of `=` and behind the parts of a compound assignment, of which the variable is loaded again.
+
+added_stored : (a b own one : ℕ) → one ≡ own → b ≡ a + one → b ≡ a + (own + 0)
+added_stored a b own one is first = omega (arith, is, first)
+
+added_assigned : (a b c whole own one right : ℕ) → whole ≡ own + right → one ≡ own → b ≡ a + right → c ≡ b + one → c ≡ a + whole
+added_assigned a b c whole own one right same is p q = omega (arith, same, is, p, q)
+
+added_compound : (a b c d e whole own one right : ℕ) → whole ≡ own + right → one ≡ own → b ≡ a + 0 → c ≡ b + right → d ≡ c + 0
+    → e ≡ d + one → e ≡ a + whole
+added_compound a b c d e whole own one right same is p q r s = omega (arith, same, is, p, q, r, s)
+
+-- The parts of an assignment to a property, in the order of `=` and in that of a compound one.
+
+added_member : (a b c d whole parts right : ℕ) → whole ≡ parts + right → b ≡ a + right → c ≡ b + parts → d ≡ c + 0 → d ≡ a + whole
+added_member a b c d whole parts right same p q r = omega (arith, same, p, q, r)
+
+added_compound_member : (a b c d e f whole parts right : ℕ) → whole ≡ parts + right → b ≡ a + parts → c ≡ b + 0 → d ≡ c + right
+    → e ≡ d + 0 → f ≡ e + 0 → f ≡ a + whole
+added_compound_member a b c d e f whole parts right same p q r s t = omega (arith, same, p, q, r, s, t)
 
 added_method : (a b c d e fields own one parts given : ℕ) → fields ≡ own + (parts + given) → one ≡ own → b ≡ a + parts → c ≡ b + 0
     → d ≡ c + given → e ≡ d + one → e ≡ a + fields
@@ -143,13 +170,18 @@ added_plain_for : (a b c d init test body : ℕ) → b ≡ a + init → c ≡ b 
     → d ≡ a + (0 + (init + (test + (0 + (body + 0)))))
 added_plain_for a b c d init test body p q r = omega (arith, p, q, r)
 
-added_rounds : (a b c d e head right body : ℕ) → b ≡ a + body → c ≡ b + right → d ≡ c + 0 → e ≡ d + head
-    → e ≡ a + (0 + (head + (right + (body + 0))))
-added_rounds a b c d e head right body p q r s = omega (arith, p, q, r, s)
+-- The store of a head counts with its loop.
 
-added_iterated : (a b c d e f head right body : ℕ) → b ≡ a + body → c ≡ b + right → d ≡ c + 0 → e ≡ d + 0 → f ≡ e + head
-    → f ≡ a + (0 + (0 + (head + (right + (body + 0)))))
-added_iterated a b c d e f head right body p q r s t = omega (arith, p, q, r, s, t)
+added_rounds : (a b c d e own head right body : ℕ) → b ≡ a + body → c ≡ b + right → d ≡ c + 0 → e ≡ d + (own + head)
+    → e ≡ a + (own + (head + (right + (body + 0))))
+added_rounds a b c d e own head right body p q r s = omega (arith, p, q, r, s)
+
+added_iterated : (a b c d e f own head right body : ℕ) → b ≡ a + body → c ≡ b + right → d ≡ c + 0 → e ≡ d + 0 → f ≡ e + (own + head)
+    → f ≡ a + (own + (0 + (head + (right + (body + 0)))))
+added_iterated a b c d e f own head right body p q r s t = omega (arith, p, q, r, s, t)
+
+added_unstored : (a b own n : ℕ) → own ≡ 0 → b ≡ a + n → b ≡ a + (own + n)
+added_unstored a b own n none is = omega (arith, none, is)
 
 added_jump : (a n : ℕ) → n ≡ 0 → a ≡ a + (0 + (n + 0))
 added_jump a n none = omega (arith, none)
@@ -186,6 +218,10 @@ unheld_value Constructions (values.NewExpression callee given) is = absurd (cc)
 unheld_value Constructions _ is = refl
 unheld_value Awaits (values.Await value) is = absurd (cc)
 unheld_value Awaits _ is = refl
+unheld_value Stores (values.StoreLocal kind place value) is = is
+unheld_value Stores (values.StoreContext kind place value) is = is
+unheld_value Stores (values.StoreGlobal name value) is = absurd (cc)
+unheld_value Stores _ is = refl
 
 update_unheld : (prefix : Bool) (operator : UpdateOperator) (p : Place) → is_held (update_of prefix operator p) ≡ false
 update_unheld true operator p = refl
@@ -210,16 +246,17 @@ declaring_table : (s : State) (k : VariableKind) (at : Span) → (declaring s k 
 declaring_table s kinds.Var at = refl
 declaring_table s _ at = refl
 
+-- A declaration stores to a variable that it declares.
+declared_kind : (k : VariableKind) → is_reassign (kind_of k) ≡ false
+declared_kind kinds.Var = refl
+declared_kind _ = refl
+
 throwing_table_under : (o : Option BlockId) (s : State) (at : Span) → (throwing_under o s at).table ≡ s.table
 throwing_table_under None s at = refl
 throwing_table_under (Some handler) s at = refl
 
 throwing_table : (s : State) (at : Span) → (throwing s at).table ≡ s.table
 throwing_table s at = throwing_table_under (innermost s.handlers) s at
-
-and_true : (b : Bool) → b && true ≡ b
-and_true true = refl
-and_true false = refl
 
 -- The counted nodes of a list that the key counts.
 
@@ -242,8 +279,9 @@ mutual
   weighed : (key : Counted) (e : Syntax) → tallied key e ≡ weigh key (held_in e)
   weighed key (Node at w parts) =
       let rest = weighed_among key parts in
-      let itself = weigh_one key (held_word w parts) at.span in
-      omega (arith, itself, rest, weigh_append key (held_as (held_word w parts) at.span) (held_among parts))
+      let span : Span = held_span w parts at.span in
+      let itself = weigh_one key (held_word w parts) span in
+      omega (arith, itself, rest, weigh_append key (held_as (held_word w parts) span) (held_among parts))
   weighed key (Listed parts) = weighed_among key parts
   weighed key (Said text) = refl
   weighed key (Count number) = refl
@@ -326,21 +364,48 @@ module _ (key : Counted) (held : IsHeldKind key.kinds) where
       let second = weighed_among key es in
       omega (arith, whole, first, second, weigh_append key (held_among parts) (held_among es))
 
+  -- An assignment to a name counts by its store, and one to a property by its parts.
+
+  stored_tallied : (e right : Syntax) (span : Span) → held_in e ≡ record { word = codes "storelocal"; span = span } ∷ held_in right
+      → tallied key e ≡ tally_by key (Some (codes "storelocal")) span + tallied key right
+  stored_tallied e right span same =
+      let whole = weighed key e ∙ ap (weigh key) same in
+      let rest = weighed key right in
+      omega (arith, whole, rest)
+
+  parts_tallied : (e right : Syntax) (parts : Pieces) → held_in e ≡ held_among parts ++ held_in right
+      → tallied key e ≡ tallied_among key parts + tallied key right
+  parts_tallied e right parts same =
+      let whole = weighed key e ∙ ap (weigh key) same in
+      let first = weighed_among key parts in
+      let second = weighed key right in
+      omega (arith, whole, first, second, weigh_append key (held_among parts) (held_in right))
+
   -- The instruction of a node counts as the node does.
   weight : (o : Option (List ℕ)) (v : InstructionValue) (span : Span) → IsHeldAs o v → one v (Some span) ≡ tally_by key o span
   weight o v span (Unheld is none) =
       ap (λ (b : Bool). if b && is_span key.span (Some span) then 1 else 0) (unheld_value held v none)
       ∙ sym (ap (λ (o : Option (List ℕ)). tally_by key o span) is)
-  weight o v span (HeldBy is counted) =
-      ap (λ (c : Bool). if (list_any (bytes_eq (value_word v)) key.kinds && c) && is_span key.span (Some span) then 1 else 0) counted
-      ∙ ap (λ (b : Bool). if b && is_span key.span (Some span) then 1 else 0) (and_true (list_any (bytes_eq (value_word v)) key.kinds))
-      ∙ sym (ap (λ (o : Option (List ℕ)). tally_by key o span) is)
+  weight o v span (HeldBy text is counted) =
+      ap (λ (b : Bool). if b && is_span key.span (Some span) then 1 else 0) (counted_among held v)
+      ∙ ap (λ (o : Option (List ℕ)). tally_by key o span) (counted ∙ sym is)
+
+  store_weight : (identifier : ℕ) (there : Span) (value : Place) (span : Span)
+      → one (assigned_to identifier there value) (Some span) ≡ tally_by key (Some (codes "storelocal")) span
+  store_weight identifier there value span =
+      weight (Some (codes "storelocal")) (assigned_to identifier there value) span (HeldBy (codes "storelocal") refl refl)
+
+  global_weight : (name : List ℕ) (value : Place) (span : Span)
+      → one (values.StoreGlobal name value) (Some span) ≡ tally_by key (Some (codes "storelocal")) span
+  global_weight name value span =
+      weight (Some (codes "storelocal")) (values.StoreGlobal name value) span (HeldBy (codes "storelocal") refl refl)
 
   mutual
     pub expression_tallies : {names : Names} {e : Syntax} {s t : State} {p : Place} → Lowered names e s t p → refusals names e ≡ []
         → times key t.table ≡ times key s.table + tallied key e
     expression_tallies (Literal at w fields p s is) none =
-        added_leaf _ _ _ (unheld_untallied key (Node at w fields) (literal_held is at)) (unheld_tallies s (values.Primitive p) (Some at.span) refl)
+        added_leaf _ _ _ (unheld_untallied key (Node at w fields) (literal_held is at))
+        (unheld_tallies s (values.Primitive p) (Some at.span) refl)
     expression_tallies {names} (Refused at w fields r s is) none = absurd (refused_never names at is none)
     expression_tallies {names} (RefusedBefore at w fields parts r pieces s t is d) none = absurd (refusing_never names at is none)
     expression_tallies {names} (RefusedBehind at object name s t p d) none =
@@ -361,6 +426,75 @@ module _ (key : Counted) (held : IsHeldKind key.kinds) where
         (updated_held is at there text prefix))
         (added_behind _ _ _ _ (all_tallies d (updated_member_clean is names at there (Said text) (Flag prefix) none))
         (member_tallies t object k operator there.span))
+    expression_tallies {names} (AssignedVariable at there name right symbol identifier s t p is mutable d f) none =
+        let target : Syntax = Node there word.Id (Then (Said name) End) in
+        added_assigned _ _ _ _ _ _ _
+        (stored_tallied (Node at word.Assign (Then (Said (codes "=")) (Then target (Then right End)))) right there.span
+        (assigned_held at there name right))
+        (store_weight identifier there.span p there.span) (expression_tallies d (assigned_clean names at target right none).0)
+        (value_tallies (found names t symbol there.span) (assigned_to identifier there.span p) (Some there.span))
+    expression_tallies {names} (AssignedConstant at there name right symbol identifier s t p is constant d f) none =
+        absurd (constant_assigned_never names at there name right symbol is constant none)
+    expression_tallies {names} (AssignedGlobal at there name right binding s t p is d) none =
+        let target : Syntax = Node there word.Id (Then (Said name) End) in
+        added_assigned _ _ _ _ _ _ _
+        (stored_tallied (Node at word.Assign (Then (Said (codes "=")) (Then target (Then right End)))) right there.span
+        (assigned_held at there name right))
+        (global_weight name p there.span) (expression_tallies d (assigned_clean names at target right none).0)
+        (value_tallies t (values.StoreGlobal name p) (Some there.span))
+    expression_tallies {names} (AssignedMember at there w fields parts pieces object k right s t u p is d ds) none =
+        let clean = assigned_member_clean is names at there right none in
+        added_member _ _ _ _ _ _ _
+        (parts_tallied (Node at word.Assign (Then (Said (codes "=")) (Then (Node there w fields) (Then right End)))) right parts
+        (assigned_member_held is at there (codes "=") right))
+        (expression_tallies d clean.0) (all_tallies ds clean.1)
+        (unheld_tallies u (store_of object k p) (Some there.span) (store_unheld object k p))
+    expression_tallies {names} (AssignedPrivate at there object name right s t u p q d ds) none =
+        absurd (private_assigned_never names at there object name right none)
+    expression_tallies {names}
+        (CompoundVariable at there name operator applied right symbol identifier s t u q p is mutable applies dq d f) none =
+        let target : Syntax = Node there word.Id (Then (Said name) End) in
+        let clean = compound_clean names at target right operator applied applies none in
+        let computed : State = name_computed u applied q p at.span in
+        let stored : State = name_stored names u applied q p at.span there.span symbol identifier in
+        added_behind _ _ _ _
+        (added_compound _ _ _ _ _ _ _ _ _
+        (stored_tallied (Node at word.Assign (Then (Said (assignment_text operator)) (Then target (Then right End)))) right at.span
+        (compound_held at there name (assignment_text operator) right (applied_plain operator applied applies).0))
+        (store_weight identifier there.span (temporary u (Some at.span)) at.span) (expression_tallies dq clean.0)
+        (expression_tallies d clean.1) (unheld_tallies u (values.BinaryExpression applied q p) (Some at.span) refl)
+        (value_tallies (found names computed symbol there.span) (assigned_to identifier there.span (temporary u (Some at.span)))
+        (Some at.span)))
+        (unheld_tallies stored (values.LoadLocal (variable_at identifier there.span)) (Some at.span) refl)
+    expression_tallies {names}
+        (CompoundConstant at there name operator applied right symbol identifier s t u q p is constant applies dq d f) none =
+        absurd (constant_compound_never names at there name right operator applied applies symbol is constant none)
+    expression_tallies {names} (CompoundGlobal at there name operator applied right binding s t u q p is applies dq d) none =
+        let target : Syntax = Node there word.Id (Then (Said name) End) in
+        let clean = compound_clean names at target right operator applied applies none in
+        let computed : State = name_computed u applied q p at.span in
+        let value : Place = temporary u (Some at.span) in
+        added_compound _ _ _ _ _ _ _ _ _
+        (stored_tallied (Node at word.Assign (Then (Said (assignment_text operator)) (Then target (Then right End)))) right at.span
+        (compound_held at there name (assignment_text operator) right (applied_plain operator applied applies).0))
+        (global_weight name value at.span) (expression_tallies dq clean.0)
+        (expression_tallies d clean.1) (unheld_tallies u (values.BinaryExpression applied q p) (Some at.span) refl)
+        (value_tallies computed (values.StoreGlobal name value) (Some at.span))
+    expression_tallies {names} (CompoundMember at there w fields parts pieces object k operator applied right s t u p is applies ds d)
+        none =
+        let clean = compound_member_clean is names at there right operator applied applies none in
+        let text : List ℕ = assignment_text operator in
+        let value : Place = temporary u (Some there.span) in
+        added_compound_member _ _ _ _ _ _ _ _ _
+        (parts_tallied (Node at word.Assign (Then (Said text) (Then (Node there w fields) (Then right End)))) right parts
+        (assigned_member_held is at there text right))
+        (all_tallies ds clean.0) (unheld_tallies t (load_of object k) (Some there.span) (load_unheld object k))
+        (expression_tallies d clean.1)
+        (unheld_tallies u (values.BinaryExpression applied (temporary t (Some there.span)) p) (Some there.span) refl)
+        (unheld_tallies (member_computed t u applied p there.span) (store_of object k value) (Some there.span)
+        (store_unheld object k value))
+    expression_tallies (CompoundPrivate at there fields operator applied right s t u q p applies dq d) none =
+        absurd (private_compound_never at there fields right operator applied applies dq none)
     expression_tallies {names} (Method at there w fields parts es pieces given_pieces object k given s t u is d ds given_are) none =
         let clean = method_clean is names at there es none in
         added_method _ _ _ _ _ _ _ _ _ _
@@ -368,7 +502,7 @@ module _ (key : Counted) (held : IsHeldKind key.kinds) where
         (method_held is at there es))
         (weight (Some (codes "methodcall"))
         (values.MethodCall (record { receiver = object; property = temporary t (Some there.span); arguments = given })) at.span
-        (HeldBy refl refl))
+        (HeldBy (codes "methodcall") refl refl))
         (all_tallies d clean.0) (unheld_tallies t (load_of object k) (Some there.span) (load_unheld object k)) (all_tallies ds clean.1)
         (value_tallies u _ (Some at.span))
     expression_tallies {names} (Cast at there w fields e type k s t p is annotated d) none =
@@ -381,7 +515,9 @@ module _ (key : Counted) (held : IsHeldKind key.kinds) where
     expression_tallies {names} (Same at w fields e s t p is d) none =
         added_same _ _ _ _ (same_tallied (Node at w fields) e (wrapper_held is at)) (expression_tallies d (wrapper_clean is names at none))
     expression_tallies {names} (Asked at w fields parts pieces v s t form d) none =
-        added_asked _ _ _ _ _ _ _ (same_among fields parts (form_held form)) (weight (held_word w fields) v at.span (form_word form))
+        added_asked _ _ _ _ _ _ _ (same_among fields parts (form_held form))
+        (weight (held_word w fields) v at.span (form_word form)
+        ∙ ap (λ (span : Span). tally_by key (held_word w fields) span) (sym (form_span form at.span)))
         (all_tallies d (form_clean form names at none)) (value_tallies t v (Some at.span))
     expression_tallies {names} (Object at es pieces properties s t is d) none =
         added_inner _ _ _ _ refl
@@ -438,22 +574,25 @@ module _ (key : Counted) (held : IsHeldKind key.kinds) where
         added_row _ _ _ _ _ (expression_tallies d clean.0) (last_tallies ds clean.1)
 
   declarators_tallies : {names : Names} {at : Span} {k : InstructionKind} {es : Pieces} {s t : State} → LoweredDeclarators names at k es s t
-      → refusals_in names es ≡ [] → times key t.table ≡ times key s.table + tallied_among key es
-  declarators_tallies (NoDeclarator s) none = omega arith
-  declarators_tallies {names} (NextDeclared there bind name type more symbol identifier s u annotated is f d) none =
-      let declarator : Syntax = Node there word.Declarator (Then (Node bind word.Bind (Then (Said name) (Then type End))) (Then Absent End)) in
+      → is_reassign k ≡ false → refusals_in names es ≡ [] → times key t.table ≡ times key s.table + tallied_among key es
+  declarators_tallies (NoDeclarator s) new none = omega arith
+  declarators_tallies {names} (NextDeclared there bind name type more symbol identifier s u annotated is f d) new none =
+      let pattern : Syntax = Node bind word.Bind (Then (Said name) (Then type End)) in
+      let declarator : Syntax = Node there word.Declarator (Then pattern (Then Absent End)) in
       added_row _ _ _ _ _
       (added_leaf _ _ _ (same_tallied declarator Absent (declarator_held there bind name type Absent annotated))
       (unheld_tallies (found names s symbol bind.span) _ (Some bind.span) refl))
-      (declarators_tallies d (row_clean names declarator more none).1)
-  declarators_tallies {names} {at} (NextInitialized there bind name type init more symbol identifier s t u p annotated is d f ds) none =
+      (declarators_tallies d new (row_clean names declarator more none).1)
+  declarators_tallies {names} {at} {k} (NextInitialized there bind name type init more symbol identifier s t u p annotated is d f ds) new
+      none =
       let pattern : Syntax = Node bind word.Bind (Then (Said name) (Then type End)) in
       let declarator : Syntax = Node there word.Declarator (Then pattern (Then init End)) in
       let clean = row_clean names declarator more none in
       added_initialized _ _ _ _ _ _ _ (same_tallied declarator init (declarator_held there bind name type init annotated))
       (expression_tallies d (first_none (refusals names init) (refusals names pattern) clean.0))
-      (unheld_tallies (found names t symbol bind.span) _ (Some at) refl)
-      (declarators_tallies ds clean.1)
+      (unheld_tallies (found names t symbol bind.span)
+      (values.StoreLocal k (record { identifier = record { 0 = identifier }; span = Some at }) p) (Some at) new)
+      (declarators_tallies ds new clean.1)
 
   test_tallies : {names : Names} {at : Span} {e : Syntax} {s t : State} {p : Place} → LoweredTest names at e s t p
       → said_of_test at e ≡ [] → refusals names e ≡ [] → times key t.table ≡ times key s.table + tallied key e
@@ -462,20 +601,23 @@ module _ (key : Counted) (held : IsHeldKind key.kinds) where
 
   -- The head of a loop over keys or values.
   head_tallies : {names : Names} {value : Place} {e : Syntax} {s t : State} {p : Place} → LoweredHead names value e s t p
-      → refusals_at_head names e ≡ [] → times key t.table ≡ times key s.table + tallied key e
+      → refusals_at_head names e ≡ []
+      → times key t.table ≡ times key s.table + (tally_by key (store_word e) (span_of e) + tallied key e)
   head_tallies {names} {e = e} (Declared at there bind kind name type symbol identifier s annotated is f) none =
-      added_leaf _ _ _ (same_tallied e Absent (declared_head_held at there bind kind name type annotated))
+      added_leaf _ _ _ (none_more _ (same_tallied e Absent (declared_head_held at there bind kind name type annotated)))
       (unheld_tallies (found_again names s symbol identifier bind.span) _ (Some at.span) refl)
-  head_tallies {names} (Reassigned at name symbol identifier s is mutable f) none =
-      added_leaf _ _ _ refl (unheld_tallies (found names s symbol at.span) _ (Some at.span) refl)
+  head_tallies {names} {value} (Reassigned at name symbol identifier s is mutable f) none =
+      added_stored _ _ _ _ (store_weight identifier at.span value at.span)
+      (value_tallies (found names s symbol at.span) (assigned_to identifier at.span value) (Some at.span))
   head_tallies {names} (ReassignedConstant at name symbol identifier s is constant f) none =
       absurd (constant_head_never names at name symbol is constant none)
   head_tallies {value} (StoredGlobal at name binding s is) none =
-      added_leaf _ _ _ refl (unheld_tallies s (values.StoreGlobal name value) (Some at.span) refl)
+      added_stored _ _ _ _ (global_weight name value at.span) (value_tallies s (values.StoreGlobal name value) (Some at.span))
   head_tallies {names} {value} (StoredMember at w fields parts pieces object k s t is d) none =
-      added_same _ _ _ _ (row_tallied (Node at w fields) parts (member_held is at))
+      added_unstored _ _ _ _ (ap (λ (o : Option (List ℕ)). tally_by key o at.span) (member_unstored is at))
+      (added_same _ _ _ _ (row_tallied (Node at w fields) parts (member_held is at))
       (added_behind _ _ _ _ (all_tallies d (member_head_clean is names at none))
-      (unheld_tallies t (store_of object k value) (Some at.span) (store_unheld object k value)))
+      (unheld_tallies t (store_of object k value) (Some at.span) (store_unheld object k value))))
   head_tallies {names} (Lost at w fields s is) none = absurd (lost_head_never names at w fields is none)
 
   jump_tallied : (label : Label) → tallied key (label_part label) ≡ 0
@@ -495,7 +637,7 @@ module _ (key : Counted) (held : IsHeldKind key.kinds) where
       ≡ times key s.table + tallied key (Node at word.Var (Then (Said (variable_text k)) (Then (Listed declarators) End)))
   variables_tallies {names} at k declarators s t d none =
       added_declared _ _ _
-      (declarators_tallies d (second_none _ (refusals_in names declarators) none)
+      (declarators_tallies d (declared_kind k) (second_none _ (refusals_in names declarators) none)
       ∙ ap (λ (l : List Instruction). times key l + tallied_among key declarators) (declaring_table s k at.span))
 
   init_tallies : {names : Names} {at : Span} {e : Syntax} {s t : State} → LoweredInit names at e s t → said_of_init at e ≡ []
@@ -589,12 +731,12 @@ module _ (key : Counted) (held : IsHeldKind key.kinds) where
     loop_tallies {names} (ForIn at head right body s s2 s3 s4 collection p d dr dp) tried none =
         let f : RoundsParts = rounds_shut (forin_at s at.span) in
         let clean = rounds_clean names tried head right body none in
-        added_rounds _ _ _ _ _ _ _ _ (statement_tallies d tried clean.0) (expression_tallies dr clean.1)
+        added_rounds _ _ _ _ _ _ _ _ _ (statement_tallies d tried clean.0) (expression_tallies dr clean.1)
         (unheld_tallies (forin_headed f s3) (values.NextPropertyOf collection) (Some (span_of head)) refl) (head_tallies dp clean.2)
     loop_tallies {names} (ForOf at head right body s s2 s3 s4 collection p d dr dp) tried none =
         let f : ForOfParts = forof_shut (forof_at s at.span) in
         let clean = rounds_clean names tried head right body none in
-        added_iterated _ _ _ _ _ _ _ _ _ (statement_tallies d tried clean.0) (expression_tallies dr clean.1)
+        added_iterated _ _ _ _ _ _ _ _ _ _ (statement_tallies d tried clean.0) (expression_tallies dr clean.1)
         (unheld_tallies (forof_headed f s3) (values.GetIterator collection) collection.span refl)
         (unheld_tallies (forof_tested f s3 collection) (values.IteratorNext (forof_iterator f s3 collection) collection)
         (Some (span_of head)) refl) (head_tallies dp clean.2)

@@ -39,11 +39,11 @@ use Rattle.rl_hir.specs.declared.instruction.PrimitiveValue.TheVariants as primi
 use Rattle.rl_hir.specs.declared.terminal.Case.{Case}
 use Rattle.rl_hir.specs.declared.terminal.GotoVariant.TheVariants as gotos
 use Rattle.rl_hir.specs.declared.terminal.Terminal.{Terminal}
-use Rattle.rl_lowered.proofs.Blocks.{all_blocks, all_passes, blocks_cast, blocks_noted_value, declarators_blocks, expression_blocks}
-use Rattle.rl_lowered.proofs.Blocks.{last_blocks}
-use Rattle.rl_lowered.specs.Forms.{load_of, typed}
+use Rattle.rl_lowered.proofs.Blocks.{all_blocks, all_passes, blocks_assigned, blocks_cast, blocks_constant, blocks_found_value}
+use Rattle.rl_lowered.proofs.Blocks.{blocks_noted_value, blocks_reloaded, declarators_blocks, expression_blocks, last_blocks}
+use Rattle.rl_lowered.specs.Forms.{load_of, store_of, typed}
 use Rattle.rl_lowered.specs.Lowered.{Lowered, LoweredDeclarators, LoweredLast, declaring, member_loaded, member_one, member_updated}
-use Rattle.rl_lowered.specs.Lowered.{value_span}
+use Rattle.rl_lowered.specs.Lowered.{name_computed, value_span}
 use Rattle.rl_lowered.specs.Lowered as lowered
 use Rattle.rl_lowered.specs.Named.{found}
 use Rattle.rl_machine.specs.Machine.{Code}
@@ -198,6 +198,42 @@ mutual
       (extends_then (extends_value loaded (values.Primitive (primitives.Number 1)) None)
       (extends_then (extends_value one _ (Some there.span)) (extends_value updated _ (Some there.span))))
       (behind_throws h s t (load_of object key) (Some there.span) (all_blocks d).extends (all_passes d) on)
+  expression_throws {names} (lowered.AssignedVariable at there name right symbol identifier s t p is mutable d f) h on =
+      throws_on h s (blocks_found_value names t symbol there.span identifier _ (Some there.span) f).extends (expression_throws d h on)
+  expression_throws {names} (lowered.AssignedConstant at there name right symbol identifier s t p is constant d f) h on =
+      throws_on h s (blocks_constant names t symbol there.span there.span identifier f).extends (expression_throws d h on)
+  expression_throws (lowered.AssignedGlobal at there name right binding s t p is d) h on =
+      throws_on h s (extends_value t (values.StoreGlobal name p) (Some there.span)) (expression_throws d h on)
+  expression_throws (lowered.AssignedMember at there w fields parts pieces object key right s t u p is d ds) h on =
+      throws_on h s (extends_then (all_blocks ds).extends (extends_value u (store_of object key p) (Some there.span)))
+      (expression_throws d h on)
+  expression_throws (lowered.AssignedPrivate at there object name right s t u p q d more) h on =
+      throws_on h s
+      (extends_then (expression_blocks more).extends
+      (blocks_noted_value u (refusal row.F5 at.span) (values.Primitive primitives.Undefined) (Some at.span)).extends)
+      (expression_throws d h on)
+  expression_throws {names}
+      (lowered.CompoundVariable at there name operator applied right symbol identifier s t u q p is mutable applies d more f) h on =
+      throws_on h s
+      (extends_then (expression_blocks more).extends (blocks_reloaded names u applied q p at.span there.span symbol identifier f).extends)
+      (expression_throws d h on)
+  expression_throws {names}
+      (lowered.CompoundConstant at there name operator applied right symbol identifier s t u q p is constant applies d more f) h on =
+      throws_on h s (extends_then (expression_blocks more).extends (blocks_constant names u symbol there.span at.span identifier f).extends)
+      (expression_throws d h on)
+  expression_throws (lowered.CompoundGlobal at there name operator applied right binding s t u q p is applies d more) h on =
+      throws_on h s
+      (extends_then (expression_blocks more).extends
+      (extends_then (extends_value u (values.BinaryExpression applied q p) (Some at.span))
+      (extends_value (name_computed u applied q p at.span) (values.StoreGlobal name (temporary u (Some at.span))) (Some at.span))))
+      (expression_throws d h on)
+  expression_throws (lowered.CompoundMember at there w fields parts pieces object key operator applied right s t u p is applies ds d) h on =
+      throws_on h s (extends_then (expression_blocks d).extends (blocks_assigned t u object key applied p there.span).extends)
+      (behind_throws h s t (load_of object key) (Some there.span) (all_blocks ds).extends (all_passes ds) on)
+  expression_throws (lowered.CompoundPrivate at there fields operator applied right s t u q p applies d more) h on =
+      throws_on h s
+      (extends_then (expression_blocks more).extends (extends_value u (values.Primitive primitives.Undefined) (Some at.span)))
+      (expression_throws d h on)
   expression_throws (lowered.Method at there w fields parts es pieces given_pieces object key given s t u is d ds gathers) h on =
       throws_on h s (extends_then (all_blocks ds).extends (extends_value u _ (Some at.span)))
       (behind_throws h s t (load_of object key) (Some there.span) (all_blocks d).extends (all_passes d) on)

@@ -29,15 +29,17 @@ use Rattle.rl_hir.specs.declared.terminal.TerminalKind.TheVariants as kinds
 use Rattle.rl_hir.specs.Pieces.{Piece}
 use Rattle.rl_lowered.proofs.Blocks.{expression_blocks, head_blocks, statement_blocks}
 use Rattle.rl_lowered.proofs.Catches.{catch_declared, declares_caught, stores_caught}
-use Rattle.rl_lowered.proofs.UnreadMoves.{Unreads, own_note, unreads_declaring, unreads_ended, unreads_for_opened, unreads_found}
-use Rattle.rl_lowered.proofs.UnreadMoves.{unreads_found_value, unreads_frame, unreads_last, unreads_member, unreads_next, unreads_noted}
-use Rattle.rl_lowered.proofs.UnreadMoves.{unreads_noted_value, unreads_pushed, unreads_refl, unreads_same, unreads_scope_ended}
+use Rattle.rl_lowered.proofs.UnreadMoves.{Unreads, own_note, unreads_assigned, unreads_constant, unreads_declaring, unreads_ended}
+use Rattle.rl_lowered.proofs.UnreadMoves.{unreads_for_opened, unreads_found, unreads_found_value, unreads_frame, unreads_last}
+use Rattle.rl_lowered.proofs.UnreadMoves.{unreads_member, unreads_next, unreads_noted, unreads_noted_value, unreads_pushed}
+use Rattle.rl_lowered.proofs.UnreadMoves.{unreads_refl, unreads_reloaded, unreads_same, unreads_scope_ended}
 use Rattle.rl_lowered.proofs.UnreadMoves.{unreads_stored, unreads_then, unreads_throwing, unreads_tried, unreads_typed, unreads_undefined}
 use Rattle.rl_lowered.proofs.UnreadMoves.{unreads_value}
 use Rattle.rl_lowered.specs.Forms.{load_of, store_of, typed}
 use Rattle.rl_lowered.specs.Lowered.{Lowered, LoweredBody, LoweredCaseTest, LoweredCases, LoweredDeclarators, LoweredHead, LoweredInit}
 use Rattle.rl_lowered.specs.Lowered.{LoweredLast, LoweredLoop, LoweredParts, LoweredStatement, LoweredStatements, LoweredTest}
-use Rattle.rl_lowered.specs.Lowered.{catch_begun, catch_bound, caught, declaring, found_again, part_span, promoted, throwing, value_span}
+use Rattle.rl_lowered.specs.Lowered.{assigned_to, catch_begun, catch_bound, caught, declaring, found_again, name_computed, part_span}
+use Rattle.rl_lowered.specs.Lowered.{promoted, throwing, value_span}
 use Rattle.rl_lowered.specs.Lowered as lowered
 use Rattle.rl_lowered.specs.Named.{found}
 use Rattle.rl_model.specs.Actions.{Label}
@@ -66,11 +68,44 @@ mutual
       unreads_then s first _ (unreads_found names s symbol there.span)
       (unreads_found_value names first symbol there.span _ (Some at.span))
   expression_unread {names} (lowered.UpdatedConstant at there name symbol identifier operator prefix s is constant f) =
-      let first : State = found names s symbol there.span in
-      unreads_then s first _ (unreads_found names s symbol there.span)
-      (unreads_undefined first (diagnostic_at row.F6 (names.name symbol.0) there.span) at.span)
+      unreads_constant names s symbol there.span at.span
   expression_unread (lowered.UpdatedMember at there w fields parts pieces object key operator prefix s t is l) =
       unreads_then s t _ (all_unread l) (unreads_member t object key operator there.span)
+  expression_unread {names} (lowered.AssignedVariable at there name right symbol identifier s t p is mutable l f) =
+      unreads_then s t _ (expression_unread l)
+      (unreads_found_value names t symbol there.span (assigned_to identifier there.span p) (Some there.span))
+  expression_unread {names} (lowered.AssignedConstant at there name right symbol identifier s t p is constant l f) =
+      unreads_then s t _ (expression_unread l) (unreads_constant names t symbol there.span there.span)
+  expression_unread (lowered.AssignedGlobal at there name right binding s t p is l) =
+      unreads_then s t _ (expression_unread l) (unreads_value t (values.StoreGlobal name p) (Some there.span))
+  expression_unread (lowered.AssignedMember at there w fields parts pieces object key right s t u p is l ls) =
+      unreads_then s t _ (expression_unread l)
+      (unreads_then t u _ (all_unread ls) (unreads_value u (store_of object key p) (Some there.span)))
+  expression_unread (lowered.AssignedPrivate at there object name right s t u p q l m) =
+      unreads_then s t _ (expression_unread l)
+      (unreads_then t u _ (expression_unread m) (unreads_undefined u (refusal row.F5 at.span) at.span))
+  expression_unread {names}
+      (lowered.CompoundVariable at there name operator applied right symbol identifier s t u q p is mutable applies l m f) =
+      unreads_then s t _ (expression_unread l)
+      (unreads_then t u _ (expression_unread m) (unreads_reloaded names u applied q p at.span there.span symbol identifier))
+  expression_unread {names}
+      (lowered.CompoundConstant at there name operator applied right symbol identifier s t u q p is constant applies l m f) =
+      unreads_then s t _ (expression_unread l)
+      (unreads_then t u _ (expression_unread m) (unreads_constant names u symbol there.span at.span))
+  expression_unread (lowered.CompoundGlobal at there name operator applied right binding s t u q p is applies l m) =
+      let computed : State = name_computed u applied q p at.span in
+      unreads_then s t _ (expression_unread l)
+      (unreads_then t u _ (expression_unread m)
+      (unreads_then u computed _ (unreads_value u (values.BinaryExpression applied q p) (Some at.span))
+      (unreads_value computed (values.StoreGlobal name (temporary u (Some at.span))) (Some at.span))))
+  expression_unread (lowered.CompoundMember at there w fields parts pieces object key operator applied right s t u p is applies ls l) =
+      let loaded : State = with_value t (load_of object key) (Some there.span) in
+      unreads_then s t _ (all_unread ls)
+      (unreads_then t loaded _ (unreads_value t (load_of object key) (Some there.span))
+      (unreads_then loaded u _ (expression_unread l) (unreads_assigned t u object key applied p there.span)))
+  expression_unread (lowered.CompoundPrivate at there fields operator applied right s t u q p applies l m) =
+      unreads_then s t _ (expression_unread l)
+      (unreads_then t u _ (expression_unread m) (unreads_value u (values.Primitive primitives.Undefined) (Some at.span)))
   expression_unread (lowered.Method at there w fields parts es pieces given_pieces object key given s t u is l given_are m) =
       let loaded : State = with_value t (load_of object key) (Some there.span) in
       unreads_then s t _ (all_unread l)

@@ -5,6 +5,7 @@ use Rattle.std.specs.Prelude.{◌++◌, ◌-◌, ◌⊎◌}
 use Rattle.rl_base.specs.declared.diagnostic.Diagnostic.{Diagnostic}
 use Rattle.rl_base.specs.declared.ids.BlockId.{BlockId}
 use Rattle.rl_base.specs.declared.ids.SymbolId.{SymbolId}
+use Rattle.rl_base.specs.declared.operator.BinaryOperator.{BinaryOperator}
 use Rattle.rl_base.specs.declared.operator.UpdateOperator.{UpdateOperator}
 use Rattle.rl_base.specs.declared.row.Row.TheVariants as row
 use Rattle.rl_base.specs.declared.span.Span.{Span}
@@ -12,6 +13,7 @@ use Rattle.rl_base.specs.declared.type_kind.TypeKind.{TypeKind}
 use Rattle.rl_base.specs.declared.type_kind.TypeKind.TheVariants as types
 use Rattle.rl_base.specs.declared.variable_kind.VariableKind.{VariableKind}
 use Rattle.rl_base.specs.declared.variable_kind.VariableKind.TheVariants as declared
+use Rattle.rl_base.specs.Diagnostics.{diagnostic_at}
 use Rattle.rl_builder.specs.Builder.{State, completed_by, innermost, new_block, pushed, recorded, reserved, with_temporary, with_type}
 use Rattle.rl_builder.specs.declared.blocks.WipBlock.{WipBlock}
 use Rattle.rl_builder.specs.Temporaries.{temporary, unordered, with_value}
@@ -31,7 +33,8 @@ use Rattle.rl_hir.specs.declared.terminal.GotoVariant.TheVariants as gotos
 use Rattle.rl_hir.specs.declared.terminal.Terminal.{Terminal}
 use Rattle.rl_hir.specs.declared.terminal.TerminalKind.{TerminalKind}
 use Rattle.rl_lowered.specs.Forms.{MemberKey, load_of, store_of, typed}
-use Rattle.rl_lowered.specs.Lowered.{declaring, member_loaded, member_one, member_stored, member_updated, throwing, throwing_under}
+use Rattle.rl_lowered.specs.Lowered.{assigned_to, declaring, member_assigned, member_computed, member_loaded, member_one, member_stored}
+use Rattle.rl_lowered.specs.Lowered.{member_updated, name_computed, name_reloaded, name_stored, throwing, throwing_under, variable_at}
 use Rattle.rl_lowered.specs.Named.{found}
 use Rattle.rl_names.specs.Names.{Names}
 use Rattle.rl_promises.specs.Rows.{refusal}
@@ -146,6 +149,35 @@ unreads_member t object key operator there =
     (unreads_then loaded one _ (unreads_value loaded (values.Primitive (primitives.Number 1)) None)
     (unreads_then one updated _ (unreads_value one _ (Some there))
     (unreads_value updated (store_of object key (temporary one (Some there))) (Some there))))
+
+-- A constant that was looked up is refused.
+pub unreads_constant : (names : Names) (s : State) (symbol : SymbolId) (there span : Span)
+    → Unreads s
+    (with_value (recorded (found names s symbol there) (diagnostic_at row.F6 (names.name symbol.0) there))
+    (values.Primitive primitives.Undefined) (Some span))
+unreads_constant names s symbol there span =
+    let first : State = found names s symbol there in
+    unreads_then s first _ (unreads_found names s symbol there)
+    (unreads_undefined first (diagnostic_at row.F6 (names.name symbol.0) there) span)
+
+-- Compound assignments, behind their right part.
+
+pub unreads_reloaded : (names : Names) (u : State) (operator : BinaryOperator) (q p : Place) (at there : Span) (symbol : SymbolId)
+    (identifier : ℕ) → Unreads u (name_reloaded names u operator q p at there symbol identifier)
+unreads_reloaded names u operator q p at there symbol identifier =
+    let computed : State = name_computed u operator q p at in
+    let stored : State = name_stored names u operator q p at there symbol identifier in
+    unreads_then u computed _ (unreads_value u (values.BinaryExpression operator q p) (Some at))
+    (unreads_then computed stored _
+    (unreads_found_value names computed symbol there (assigned_to identifier there (temporary u (Some at))) (Some at))
+    (unreads_value stored (values.LoadLocal (variable_at identifier there)) (Some at)))
+
+pub unreads_assigned : (t u : State) (object : Place) (key : MemberKey) (operator : BinaryOperator) (p : Place) (there : Span)
+    → Unreads u (member_assigned t u object key operator p there)
+unreads_assigned t u object key operator p there =
+    let computed : State = member_computed t u operator p there in
+    unreads_then u computed _ (unreads_value u (values.BinaryExpression operator (temporary t (Some there)) p) (Some there))
+    (unreads_value computed (store_of object key (temporary u (Some there))) (Some there))
 
 -- Constructs whose last terminal reads the note of a block of their own, one that was numbered before the first hole opened in `begun`.
 module _ (s begun x : State) (t : Terminal) (next : WipBlock) (completed : begun.completed ≡ s.completed)

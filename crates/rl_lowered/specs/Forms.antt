@@ -1,8 +1,11 @@
 -- The table of kinds whose value is one instruction over the values of their parts, from left to right, and that of literals.
-use Rattle.std.specs.Prelude.{◌≡◌, ℕ, Bool, true, false, List, [], ◌∷◌, Some, None, codes}
+use Rattle.std.specs.Prelude.{◌≡◌, ℕ, Bool, true, false, List, [], ◌∷◌, Option, Some, None, codes}
 use Rattle.std.specs.Str.{bytes_eq}
 use Rattle.rl_base.specs.Operators.{operator_text, unary_text}
+use Rattle.rl_base.specs.declared.operator.AssignmentOperator.{AssignmentOperator}
+use Rattle.rl_base.specs.declared.operator.AssignmentOperator.TheVariants as assignments
 use Rattle.rl_base.specs.declared.operator.BinaryOperator.{BinaryOperator}
+use Rattle.rl_base.specs.declared.operator.BinaryOperator.TheVariants as binaries
 use Rattle.rl_base.specs.declared.operator.UnaryOperator.{UnaryOperator}
 use Rattle.rl_base.specs.declared.row.Row.{Row}
 use Rattle.rl_base.specs.declared.row.Row.TheVariants as row
@@ -26,7 +29,7 @@ use Rattle.rl_hir.specs.declared.instruction.PrimitiveValue.TheVariants as primi
 use Rattle.rl_hir.specs.declared.instruction.PropertyLiteral.{PropertyLiteral}
 use Rattle.rl_hir.specs.declared.instruction.PropertyLiteral.TheVariants as keys
 use Rattle.rl_hir.specs.declared.instruction.TemplateQuasi.{TemplateQuasi}
-use Rattle.rl_model.specs.Shapes.{are_raw}
+use Rattle.rl_model.specs.Shapes.{are_raw, is_logical}
 use Rattle.rl_names.specs.Names.{Names}
 use Rattle.rl_names.specs.declared.names.Meaning.TheVariants.{Outer}
 use Rattle.rl_promises.specs.Outs.{is_lost_delete, is_wrapped}
@@ -109,6 +112,22 @@ abbrev pub delete_of : (object : Place) → MemberKey → InstructionValue
 delete_of object (Fixed key) = values.PropertyDelete object key
 delete_of object (Computed key) = values.ComputedDelete object key
 
+-- The operator that a compound assignment applies. None of `=` and of the logical assignments.
+abbrev pub applied_by : AssignmentOperator → Option BinaryOperator
+applied_by assignments.Addition = Some binaries.Addition
+applied_by assignments.Subtraction = Some binaries.Subtraction
+applied_by assignments.Multiplication = Some binaries.Multiplication
+applied_by assignments.Division = Some binaries.Division
+applied_by assignments.Remainder = Some binaries.Remainder
+applied_by assignments.Exponential = Some binaries.Exponential
+applied_by assignments.ShiftLeft = Some binaries.ShiftLeft
+applied_by assignments.ShiftRight = Some binaries.ShiftRight
+applied_by assignments.ShiftRightZeroFill = Some binaries.ShiftRightZeroFill
+applied_by assignments.BitwiseOR = Some binaries.BitwiseOR
+applied_by assignments.BitwiseXOR = Some binaries.BitwiseXOR
+applied_by assignments.BitwiseAnd = Some binaries.BitwiseAnd
+applied_by _ = None
+
 -- The second expression is the first one without its parentheses.
 pub data IsInside : Syntax → Syntax → Type 0 where
   Bare : {e : Syntax} → IsInside e e
@@ -132,6 +151,8 @@ pub data IsRefused (names : Names) : Word → Pieces → Row → Type 0 where
   OuterUpdate : {operator prefix : Syntax} {there : At} {name : List ℕ} {b : NonLocalBinding}
       → names.meaning there.reference.0 name ≡ Outer b
       → IsRefused names word.Update (Then operator (Then prefix (Then (Node there word.Id (Then (Said name) End)) End))) (row_of_update b)
+  LogicalAssignment : {operator : List ℕ} {target right : Syntax} → is_logical operator ≡ true
+      → IsRefused names word.Assign (Then (Said operator) (Then target (Then right End))) row.F23
 
 -- A kind that is refused before its parts are lowered: its word and fields, the parts, and the row.
 pub data IsRefusing : Word → (fields parts : Pieces) → Row → Type 0 where

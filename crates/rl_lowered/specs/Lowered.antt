@@ -2,11 +2,12 @@
 use Rattle.std.specs.Prelude.{◌≡◌, ℕ, ◌+◌, Bool, true, false, List, [], ◌∷◌, ◌++◌, length, Option, Some, None, Ok, codes, unwrap_or}
 use Rattle.std.specs.Fmt.{decimal}
 use Rattle.rl_base.specs.Diagnostics.{diagnostic_at}
-use Rattle.rl_base.specs.Operators.{logical_text, update_text}
+use Rattle.rl_base.specs.Operators.{assignment_text, logical_text, update_text}
 use Rattle.rl_base.specs.TypeKinds.{type_text}
 use Rattle.rl_base.specs.VariableKinds.{variable_text}
 use Rattle.rl_base.specs.declared.ids.BlockId.{BlockId}
 use Rattle.rl_base.specs.declared.ids.SymbolId.{SymbolId}
+use Rattle.rl_base.specs.declared.operator.AssignmentOperator.{AssignmentOperator}
 use Rattle.rl_base.specs.declared.operator.BinaryOperator.{BinaryOperator}
 use Rattle.rl_base.specs.declared.operator.BinaryOperator.TheVariants as binaries
 use Rattle.rl_base.specs.declared.operator.LogicalOperator.{LogicalOperator}
@@ -54,7 +55,7 @@ use Rattle.rl_hir.specs.declared.terminal.Case.{Case}
 use Rattle.rl_hir.specs.declared.terminal.GotoVariant.TheVariants as gotos
 use Rattle.rl_hir.specs.declared.terminal.ReturnVariant.TheVariants as returns
 use Rattle.rl_lowered.specs.Forms.{IsAnnotation, IsCast, IsForm, IsLiteral, IsMember, IsPrivate, IsRefused, IsRefusing, IsWrapper}
-use Rattle.rl_lowered.specs.Forms.{MemberKey, load_of, store_of, type_of, typed}
+use Rattle.rl_lowered.specs.Forms.{MemberKey, applied_by, load_of, store_of, type_of, typed}
 use Rattle.rl_lowered.specs.Named.{IsFound, found}
 use Rattle.rl_model.specs.Actions.{Label}
 use Rattle.rl_model.specs.Shapes.{is_absent, is_computed, key_text, said}
@@ -102,6 +103,40 @@ member_stored t object key operator there =
 abbrev pub member_result : State → (object : Place) → MemberKey → UpdateOperator → (prefix : Bool) → Span → Place
 member_result t object key operator true there = temporary (member_updated t object key operator there) (Some there)
 member_result t object key operator false there = temporary t (Some there)
+
+-- The place of a variable at a name.
+abbrev pub variable_at : (identifier : ℕ) → Span → Place
+variable_at identifier there = record { identifier = record { 0 = identifier }; span = Some there }
+
+-- The value of an assignment to a variable.
+abbrev pub assigned_to : (identifier : ℕ) → Span → (value : Place) → InstructionValue
+assigned_to identifier there value = values.StoreLocal kinds.Reassign (variable_at identifier there) value
+
+-- The states of a compound assignment to a name at `there`, behind the value `p` of its right part: the new value of the old one, `q`, is
+-- computed; a variable is looked up, stored to and loaded again, and any other name is stored to.
+
+abbrev pub name_computed : State → BinaryOperator → (q p : Place) → (at : Span) → State
+name_computed u operator q p at = with_value u (values.BinaryExpression operator q p) (Some at)
+
+abbrev pub name_found : Names → State → BinaryOperator → (q p : Place) → (at there : Span) → SymbolId → State
+name_found names u operator q p at there symbol = found names (name_computed u operator q p at) symbol there
+
+abbrev pub name_stored : Names → State → BinaryOperator → (q p : Place) → (at there : Span) → SymbolId → (identifier : ℕ) → State
+name_stored names u operator q p at there symbol identifier =
+    with_value (name_found names u operator q p at there symbol) (assigned_to identifier there (temporary u (Some at))) (Some at)
+
+abbrev pub name_reloaded : Names → State → BinaryOperator → (q p : Place) → (at there : Span) → SymbolId → (identifier : ℕ) → State
+name_reloaded names u operator q p at there symbol identifier =
+    with_value (name_stored names u operator q p at there symbol identifier) (values.LoadLocal (variable_at identifier there)) (Some at)
+
+-- As `name_computed`, for a property: the old value was loaded from the state `t`; and the state behind the store.
+
+abbrev pub member_computed : (t u : State) → BinaryOperator → (p : Place) → (there : Span) → State
+member_computed t u operator p there = with_value u (values.BinaryExpression operator (temporary t (Some there)) p) (Some there)
+
+abbrev pub member_assigned : (t u : State) → (object : Place) → MemberKey → BinaryOperator → (p : Place) → (there : Span) → State
+member_assigned t u object key operator p there =
+    with_value (member_computed t u operator p there) (store_of object key (temporary u (Some there))) (Some there)
 
 -- The span of a part's value, and that of the part where its value has none.
 abbrev pub value_span : (value : Place) → (part : Syntax) → Span
@@ -160,6 +195,91 @@ mutual
         → Lowered names
         (Node at word.Update (Then (Said (update_text operator)) (Then (Flag prefix) (Then (Node there w fields) End)))) s
         (member_stored t object key operator there.span) (member_result t object key operator prefix there.span)
+    -- `=` to a local variable, whose value comes first.
+    AssignedVariable : (at there : At) (name : List ℕ) (right : Syntax) (symbol : SymbolId) (identifier : ℕ) (s t : State) (p : Place)
+        → names.meaning there.reference.0 name ≡ Local symbol → names.is_const symbol.0 ≡ false
+        → Lowered names right s t p → IsFound names t symbol there.span identifier
+        → Lowered names
+        (Node at word.Assign (Then (Said (codes "=")) (Then (Node there word.Id (Then (Said name) End)) (Then right End)))) s
+        (with_value (found names t symbol there.span) (assigned_to identifier there.span p) (Some there.span))
+        (temporary (found names t symbol there.span) (Some there.span))
+    -- `=` to a constant (row F6).
+    AssignedConstant : (at there : At) (name : List ℕ) (right : Syntax) (symbol : SymbolId) (identifier : ℕ) (s t : State) (p : Place)
+        → names.meaning there.reference.0 name ≡ Local symbol → names.is_const symbol.0 ≡ true
+        → Lowered names right s t p → IsFound names t symbol there.span identifier
+        → Lowered names
+        (Node at word.Assign (Then (Said (codes "=")) (Then (Node there word.Id (Then (Said name) End)) (Then right End)))) s
+        (with_value (recorded (found names t symbol there.span) (diagnostic_at row.F6 (names.name symbol.0) there.span))
+        (values.Primitive primitives.Undefined) (Some there.span))
+        (temporary (recorded (found names t symbol there.span) (diagnostic_at row.F6 (names.name symbol.0) there.span)) (Some there.span))
+    -- `=` to any other name.
+    AssignedGlobal : (at there : At) (name : List ℕ) (right : Syntax) (binding : NonLocalBinding) (s t : State) (p : Place)
+        → names.meaning there.reference.0 name ≡ Outer binding → Lowered names right s t p
+        → Lowered names
+        (Node at word.Assign (Then (Said (codes "=")) (Then (Node there word.Id (Then (Said name) End)) (Then right End)))) s
+        (with_value t (values.StoreGlobal name p) (Some there.span)) (temporary t (Some there.span))
+    -- `=` to a property: the value, and then the object and the key.
+    AssignedMember : (at there : At) (w : Word) (fields parts : Pieces) (pieces : List Piece) (object : Place) (key : MemberKey)
+        (right : Syntax) (s t u : State) (p : Place)
+        → IsMember w fields parts pieces object key → Lowered names right s t p → LoweredParts names false parts t u pieces
+        → Lowered names (Node at word.Assign (Then (Said (codes "=")) (Then (Node there w fields) (Then right End)))) s
+        (with_value u (store_of object key p) (Some there.span)) (temporary u (Some there.span))
+    -- `=` to a property of a private name, which is met behind the object (row F5).
+    AssignedPrivate : (at there : At) (object : Syntax) (name : List ℕ) (right : Syntax) (s t u : State) (p q : Place)
+        → Lowered names right s t p → Lowered names object t u q
+        → Lowered names
+        (Node at word.Assign
+        (Then (Said (codes "="))
+        (Then (Node there word.Privatemember (Then (Flag false) (Then object (Then (Said name) End)))) (Then right End)))) s
+        (with_value (recorded u (refusal row.F5 at.span)) (values.Primitive primitives.Undefined) (Some at.span))
+        (temporary (recorded u (refusal row.F5 at.span)) (Some at.span))
+    -- A compound assignment to a local variable, which is loaded before its right part is lowered.
+    CompoundVariable : (at there : At) (name : List ℕ) (operator : AssignmentOperator) (applied : BinaryOperator) (right : Syntax)
+        (symbol : SymbolId) (identifier : ℕ) (s t u : State) (q p : Place)
+        → names.meaning there.reference.0 name ≡ Local symbol → names.is_const symbol.0 ≡ false → applied_by operator ≡ Some applied
+        → Lowered names (Node there word.Id (Then (Said name) End)) s t q → Lowered names right t u p
+        → IsFound names (name_computed u applied q p at.span) symbol there.span identifier
+        → Lowered names
+        (Node at word.Assign
+        (Then (Said (assignment_text operator)) (Then (Node there word.Id (Then (Said name) End)) (Then right End)))) s
+        (name_reloaded names u applied q p at.span there.span symbol identifier)
+        (temporary (name_stored names u applied q p at.span there.span symbol identifier) (Some at.span))
+    -- A compound assignment to a constant (row F6).
+    CompoundConstant : (at there : At) (name : List ℕ) (operator : AssignmentOperator) (applied : BinaryOperator) (right : Syntax)
+        (symbol : SymbolId) (identifier : ℕ) (s t u : State) (q p : Place)
+        → names.meaning there.reference.0 name ≡ Local symbol → names.is_const symbol.0 ≡ true → applied_by operator ≡ Some applied
+        → Lowered names (Node there word.Id (Then (Said name) End)) s t q → Lowered names right t u p
+        → IsFound names u symbol there.span identifier
+        → Lowered names
+        (Node at word.Assign
+        (Then (Said (assignment_text operator)) (Then (Node there word.Id (Then (Said name) End)) (Then right End)))) s
+        (with_value (recorded (found names u symbol there.span) (diagnostic_at row.F6 (names.name symbol.0) there.span))
+        (values.Primitive primitives.Undefined) (Some at.span))
+        (temporary (recorded (found names u symbol there.span) (diagnostic_at row.F6 (names.name symbol.0) there.span)) (Some at.span))
+    -- A compound assignment to any other name.
+    CompoundGlobal : (at there : At) (name : List ℕ) (operator : AssignmentOperator) (applied : BinaryOperator) (right : Syntax)
+        (binding : NonLocalBinding) (s t u : State) (q p : Place)
+        → names.meaning there.reference.0 name ≡ Outer binding → applied_by operator ≡ Some applied
+        → Lowered names (Node there word.Id (Then (Said name) End)) s t q → Lowered names right t u p
+        → Lowered names
+        (Node at word.Assign
+        (Then (Said (assignment_text operator)) (Then (Node there word.Id (Then (Said name) End)) (Then right End)))) s
+        (with_value (name_computed u applied q p at.span) (values.StoreGlobal name (temporary u (Some at.span))) (Some at.span))
+        (temporary (name_computed u applied q p at.span) (Some at.span))
+    -- A compound assignment to a property: the old value is loaded before the right part is lowered.
+    CompoundMember : (at there : At) (w : Word) (fields parts : Pieces) (pieces : List Piece) (object : Place) (key : MemberKey)
+        (operator : AssignmentOperator) (applied : BinaryOperator) (right : Syntax) (s t u : State) (p : Place)
+        → IsMember w fields parts pieces object key → applied_by operator ≡ Some applied → LoweredParts names false parts s t pieces
+        → Lowered names right (with_value t (load_of object key) (Some there.span)) u p
+        → Lowered names (Node at word.Assign (Then (Said (assignment_text operator)) (Then (Node there w fields) (Then right End)))) s
+        (member_assigned t u object key applied p there.span) (temporary (member_computed t u applied p there.span) (Some there.span))
+    -- A compound assignment to a property of a private name, which is refused where it is loaded (row F3).
+    CompoundPrivate : (at there : At) (fields : Pieces) (operator : AssignmentOperator) (applied : BinaryOperator) (right : Syntax)
+        (s t u : State) (q p : Place)
+        → applied_by operator ≡ Some applied → Lowered names (Node there word.Privatemember fields) s t q → Lowered names right t u p
+        → Lowered names
+        (Node at word.Assign (Then (Said (assignment_text operator)) (Then (Node there word.Privatemember fields) (Then right End)))) s
+        (with_value u (values.Primitive primitives.Undefined) (Some at.span)) (temporary u (Some at.span))
     -- A call of a method: the function is loaded from the object before the arguments are lowered.
     Method : (at there : At) (w : Word) (fields parts es : Pieces) (pieces given_pieces : List Piece) (object : Place) (key : MemberKey)
         (given : List PlaceOrSpread) (s t u : State)

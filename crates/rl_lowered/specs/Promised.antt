@@ -1,9 +1,12 @@
 -- Promises of the lowering of a part.
-use Rattle.std.specs.Prelude.{◌≡◌, ℕ, ◌+◌, ◌*◌, ◌<◌, ◌≤◌, ◌^◌, Bool, true, false, List, [], Option, option_map}
+use Rattle.std.specs.Prelude.{◌≡◌, ℕ, ◌+◌, ◌*◌, ◌<◌, ◌≤◌, ◌^◌, Bool, true, false, if◌then◌else◌, List, [], Option, Some, None, codes}
+use Rattle.std.specs.Prelude.{option_map}
 use Rattle.rl_base.specs.declared.span.Span.{Span}
 use Rattle.rl_builder.specs.Builder.{State}
 use Rattle.rl_hir.specs.Pieces.{Piece}
 use Rattle.rl_hir.specs.declared.instruction.Instruction.{Instruction}
+use Rattle.rl_hir.specs.declared.instruction.InstructionValue.{InstructionValue}
+use Rattle.rl_hir.specs.declared.instruction.InstructionValue.TheVariants as values
 use Rattle.rl_hir.specs.declared.instruction.Place.{Place}
 use Rattle.rl_hir.specs.declared.terminal.Case.{Case}
 use Rattle.rl_hir.specs.declared.terminal.ReturnVariant.TheVariants as returns
@@ -18,6 +21,7 @@ use Rattle.rl_model.specs.Counted.{Counted}
 use Rattle.rl_model.specs.Expressions.{eval}
 use Rattle.rl_model.specs.Scene.{Scene}
 use Rattle.rl_model.specs.Statements.{exec_all}
+use Rattle.rl_model.specs.Worlds.{is_reassign}
 use Rattle.rl_names.specs.Names.{Names}
 use Rattle.rl_hir.specs.Written.{value_word}
 use Rattle.rl_promises.specs.Held.{times}
@@ -125,9 +129,21 @@ abbrev pub body_falls : Syntax → Bool
 body_falls (Node at word.Body (Then directives (Then (Listed statements) End))) = (lives_all statements).outs.falls
 body_falls body = false
 
--- The word and the span of an instruction. None of one without a span.
+-- The word by which an instruction is counted: a store to a variable that was declared before, or to a global, has one for the three that
+-- there are. None of any other store to a variable.
+abbrev pub counted_word : InstructionValue → Option (List ℕ)
+counted_word (values.StoreLocal kind place value) = if is_reassign kind then Some (codes "storelocal") else None
+counted_word (values.StoreContext kind place value) = if is_reassign kind then Some (codes "storelocal") else None
+counted_word (values.StoreGlobal name value) = Some (codes "storelocal")
+counted_word v = Some (value_word v)
+
+abbrev pub held_of : (word : Option (List ℕ)) → Option Span → Option Held
+held_of None span = None
+held_of (Some word) span = option_map (λ at. record { word = word; span = at }) span
+
+-- The word by which an instruction is counted, and its span. None of one that is not counted, or that has no span.
 abbrev pub held_by : Instruction → Option Held
-held_by i = option_map (λ span. record { word = value_word i.value; span = span }) i.span
+held_by i = held_of (counted_word i.value) i.span
 
 -- A body was lowered up to its end: all that the graph of its function is proved by. Where no node of it is refused, the graph has
 -- the port's run of it.
