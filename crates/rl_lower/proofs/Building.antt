@@ -42,7 +42,8 @@ pub record IsFresh (s : State) : Type 0 where
 pub closed_listed : (begun s : State) → IsFresh begun → ListsSince begun s → IsListed (closed_off s)
 closed_listed begun s fresh l =
     listed_completed (with_undefined s) (return_of None returns.Void (temporary s None)) placeholder refl
-    (listed_value s (values.Primitive primitives.Undefined) None refl (lists_whole begun s fresh.completed fresh.instructions fresh.table l))
+    (listed_value s (values.Primitive primitives.Undefined) None refl
+    (lists_whole begun s fresh.completed fresh.instructions fresh.table l))
 
 -- The end of a body adds four numbers at most.
 pub size_closed : (s : State) → size_of (closed_off s) ≤ size_of s + 4
@@ -75,7 +76,8 @@ sound_closed small s =
     pushing : StaysSound small new (with_undefined s)
     pushing =
         sound_pushed small new made (one_known (length new.env.identifiers) (temporary s None) (omega (arith, identifiers_longer s None)))
-        (λ holds fits. instruction_writable made (omega arith) (place_writable (temporary s None) (omega (arith, identifiers_longer s None, fits.identifiers)) tt) tt undefined_writable)
+        (λ holds fits. instruction_writable made (omega arith)
+        (place_writable (temporary s None) (omega (arith, identifiers_longer s None, fits.identifiers)) tt) tt undefined_writable)
 
 diagnostics_under : (o : Option BlockId) (s : State) (i : Instruction) → (pushed_under o s i).env.diagnostics ≡ s.env.diagnostics
 diagnostics_under None s i = refl
@@ -84,7 +86,8 @@ diagnostics_under (Some handler) s i = refl
 -- The end of a body refuses nothing.
 pub diagnostics_closed : (s : State) → (closed_off s).env.diagnostics ≡ s.env.diagnostics
 diagnostics_closed s =
-    diagnostics_under (innermost s.handlers) (with_temporary s None) (unordered (temporary s None) (values.Primitive primitives.Undefined) None)
+    diagnostics_under (innermost s.handlers) (with_temporary s None)
+    (unordered (temporary s None) (values.Primitive primitives.Undefined) None)
 
 identifiers_under : (o : Option BlockId) (s : State) (i : Instruction) → (pushed_under o s i).env.identifiers ≡ s.env.identifiers
 identifiers_under None s i = refl
@@ -95,5 +98,6 @@ pub identifiers_closed : (s : State) (identifier : ℕ) (known : Identifier) →
     → slice_get (closed_off s).env.identifiers identifier ≡ Some known
 identifiers_closed s identifier known there =
     ap (λ (l : List Identifier). slice_get l identifier)
-    (identifiers_under (innermost s.handlers) (with_temporary s None) (unordered (temporary s None) (values.Primitive primitives.Undefined) None))
+    (identifiers_under (innermost s.handlers) (with_temporary s None)
+    (unordered (temporary s None) (values.Primitive primitives.Undefined) None))
     ∙ get_more s.env.identifiers _ identifier known there

@@ -1,5 +1,6 @@
 -- A builder that was closed off can be built.
-use Rattle.std.proofs.Common.{◌≡◌, ◌+◌, ◌*◌, ◌<◌, ◌≤◌, ◌^◌, Bool, true, false, if◌then◌else◌, Option, Some, None, is_some, List, [], ◌∷◌, ◌++◌}
+use Rattle.std.proofs.Common.{◌≡◌, ◌+◌, ◌*◌, ◌<◌, ◌≤◌, ◌^◌, Bool, true, false, if◌then◌else◌, Option, Some, None, is_some, List, [], ◌∷◌}
+use Rattle.std.proofs.Common.{◌++◌}
 use Rattle.std.proofs.Common.{All, length, slice_get, append-nil, arith, refl, sym, ap, ◌∙◌, subst}
 use Rattle.rl_base.specs.declared.diagnostic.Diagnostic.{Diagnostic}
 use Rattle.rl_base.specs.declared.ids.InstructionId.{InstructionId}
@@ -35,7 +36,9 @@ none_found table plain (id ∷ ids) = by_item (slice_get table id.0) refl (none_
     by_item : (o : Option Instruction) → slice_get table id.0 ≡ o → first_function table ids ≡ None
         → function_or o (first_function table ids) ≡ None
     by_item None is rest = rest
-    by_item (Some i) is rest = ap (λ (b : Bool). if b then Some i else first_function table ids) (all_at (λ i. is_function_expression i.value ≡ false) table id.0 i is plain) ∙ rest
+    by_item (Some i) is rest =
+        ap (λ (b : Bool). if b then Some i else first_function table ids)
+        (all_at (λ i. is_function_expression i.value ≡ false) table id.0 i is plain) ∙ rest
 
 none_refused : (table : List Instruction) (ordered : List BlockPair) → All (λ i. is_function_expression i.value ≡ false) table
     → (pairs : List BlockPair) → refused_blocks table ordered pairs ≡ []
@@ -78,7 +81,8 @@ module _ (names : Names) (begun : State) (body : Syntax) (s : State) (fresh : Is
   few_parts =
       let size : size_of (closed_off s) ≤ size_of begun + (64 * (nodes body + 1) + 4) = closed_size names begun body s l in
       let grows : CountersGrow begun (closed_off s) = closed_grows names begun body s l in
-      let blocks : length (closed_off s).completed + begun.current.id.0 ≤ (closed_off s).env.next_block = few_completed begun s fresh l.blocks fits in
+      let blocks : length (closed_off s).completed + begun.current.id.0 ≤ (closed_off s).env.next_block =
+      few_completed begun s fresh l.blocks fits in
       let table : length begun.table ≡ 0 = ap (λ (t : List Instruction). length t) fresh.table in
       omega (arith, size, grows.types, grows.identifiers, blocks, table, fresh.last)
 
@@ -101,5 +105,6 @@ module _ (names : Names) (begun : State) (body : Syntax) (s : State) (fresh : Is
   closed_env built env is_built =
       is_built.refused
       ∙ ap (λ (said : List Diagnostic). record (closed_off s).env { diagnostics = (closed_off s).env.diagnostics ++ said })
-      (none_refused (closed_off s).table is_built.pruned.ordered (closed_listed begun s fresh l.lists).no_functions (graph_of (closed_off s)))
+      (none_refused (closed_off s).table is_built.pruned.ordered (closed_listed begun s fresh l.lists).no_functions
+      (graph_of (closed_off s)))
       ∙ ap (λ (said : List Diagnostic). record (closed_off s).env { diagnostics = said }) (append-nil (closed_off s).env.diagnostics)

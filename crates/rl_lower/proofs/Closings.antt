@@ -36,7 +36,8 @@ use Rattle.rl_syntax.specs.Syntax.{Syntax, nodes}
 
 -- A builder that is given no names, over tables that show the unit, begins with none.
 pub begun_from : (env : Environment) (tables : FunctionTables) (semantic : Semantic) (keys : List SymbolId) (s : State)
-    → s ≡ started env (record (given_by tables) { semantic = semantic; context_identifiers = keys }) kinds.Block → semantic ≡ tables.semantic → keys ≡ [] → s ≡ begun_by env tables
+    → s ≡ started env (record (given_by tables) { semantic = semantic; context_identifiers = keys }) kinds.Block
+    → semantic ≡ tables.semantic → keys ≡ [] → s ≡ begun_by env tables
 begun_from env tables semantic keys s is same none =
     is ∙ ap (λ (m : Semantic). started env (record (given_by tables) { semantic = m; context_identifiers = keys }) kinds.Block) same
     ∙ ap (λ (l : List SymbolId). started env (record (given_by tables) { context_identifiers = l }) kinds.Block) none
@@ -50,7 +51,8 @@ closed_is s s1 s2 place given placed ended =
 -- All that is promised of a body that was lowered behind the parameters.
 pub begun_told : (names : Names) (env : Environment) (tables : FunctionTables) (parameters : List Parameter) (body : Syntax)
     (begun s : State)
-    → begun ≡ state_with (begun_by env tables) parameters → KnowsNames names → TellDeclarations names tables.semantic → AreLocals names parameters
+    → begun ≡ state_with (begun_by env tables) parameters → KnowsNames names → TellDeclarations names tables.semantic
+    → AreLocals names parameters
     → LoweredBody names body begun s → LowersBody names body begun s
 begun_told names env tables parameters body begun s is knows told locals l =
     told_body (subst (λ (t : State). IsNamed names t) (sym is) (parameters_named (begun_by env tables) names parameters knows told locals))

@@ -69,7 +69,8 @@ use Rattle.rl_syntax.specs.declared.word.Word.TheVariants as word
 
 pub begun_fresh : (env : Environment) (tables : FunctionTables) (parameters : List Parameter)
     → IsFresh (state_with (begun_by env tables) parameters)
-begun_fresh env tables parameters = record { completed = refl; instructions = refl; table = refl; entry = refl; last = refl; handlers = refl; scopes = refl }
+begun_fresh env tables parameters =
+    record { completed = refl; instructions = refl; table = refl; entry = refl; last = refl; handlers = refl; scopes = refl }
 
 pub begun_is : (env : Environment) (tables : FunctionTables) (parameters : List Parameter) → AreApart parameters
     → with_parameters (begun_by env tables) parameters ≡ state_with (begun_by env tables) parameters
@@ -84,7 +85,8 @@ begun_call env tables parameters s0 begun distinct is moved =
 pub begun_size : (env : Environment) (tables : FunctionTables) (parameters : List Parameter)
     → size_of (state_with (begun_by env tables) parameters) ≡ size_of (begun_by env tables) + 2 * length parameters
 begun_size env tables parameters =
-    let given : length (env.identifiers ++ known_from (begun_by env tables) env.next_type parameters) ≡ length env.identifiers + length parameters =
+    let given : length (env.identifiers ++ known_from (begun_by env tables) env.next_type parameters) ≡ length env.identifiers + length
+    parameters =
     length-append env.identifiers (known_from (begun_by env tables) env.next_type parameters)
     ∙ ap (λ (n : ℕ). length env.identifiers + n) (known_length (begun_by env tables) env.next_type parameters) in
     omega (arith, given)
@@ -95,7 +97,8 @@ pub begun_room : (env : Environment) (tables : FunctionTables) (parameters : Lis
 begun_room env tables parameters more room = omega (arith, begun_size env tables parameters, room)
 
 module _ (names : Names) (tables : FunctionTables) (parameters : List Parameter) (body : Syntax) (env new : Environment)
-    (params : List Param) (built : Graph) (g : IsGraphOf names tables parameters body env new params built) (distinct : AreApart parameters) where
+    (params : List Param) (built : Graph) (g : IsGraphOf names tables parameters body env new params built)
+    (distinct : AreApart parameters) where
   abbrev begun : State
   begun = state_with (begun_by env tables) parameters
 
@@ -174,11 +177,16 @@ function_means : (scene : Scene) (f body : Syntax) → IsFunction f body → Dec
     → run_function scene f start arguments answers
     ≡ body_trace scene (exec_before_end scene body) outside (take (parameters_of scene.names f) arguments (set_all start unset)) answers
 function_means scene f body w declared start arguments answers =
-    ap (λ (p : Syntax). take_params scene p arguments outside (λ end. run_body scene (body_in f) outside (λ (e : Unit {0}) store rest. waiting)) (set_all start unset) answers) w.is_params
-    ∙ params_taken scene w.params (subst (DeclaresAll scene.names) w.is_params declared) w.list outside (λ end. run_body scene (body_in f) outside (λ (e : Unit {0}) store rest. waiting)) arguments (set_all start unset) answers
-    ∙ ap (λ (p : Syntax). run_body scene (body_in f) outside (λ (e : Unit {0}) store rest. waiting) (take (parameters_in scene.names p) arguments (set_all start unset)) answers) (sym w.is_params)
-    ∙ ap (λ (b : Syntax). run_body scene b outside (λ (e : Unit {0}) store rest. waiting) (take (parameters_of scene.names f) arguments (set_all start unset)) answers) w.is_body
-    ∙ body_means scene body outside (λ (e : Unit {0}) store rest. waiting) (take (parameters_of scene.names f) arguments (set_all start unset)) answers
+    ap (λ (p : Syntax). take_params scene p arguments outside
+    (λ end. run_body scene (body_in f) outside (λ (e : Unit {0}) store rest. waiting)) (set_all start unset) answers) w.is_params
+    ∙ params_taken scene w.params (subst (DeclaresAll scene.names) w.is_params declared) w.list outside
+    (λ end. run_body scene (body_in f) outside (λ (e : Unit {0}) store rest. waiting)) arguments (set_all start unset) answers
+    ∙ ap (λ (p : Syntax). run_body scene (body_in f) outside (λ (e : Unit {0}) store rest. waiting)
+    (take (parameters_in scene.names p) arguments (set_all start unset)) answers) (sym w.is_params)
+    ∙ ap (λ (b : Syntax). run_body scene b outside (λ (e : Unit {0}) store rest. waiting)
+    (take (parameters_of scene.names f) arguments (set_all start unset)) answers) w.is_body
+    ∙ body_means scene body outside (λ (e : Unit {0}) store rest. waiting)
+    (take (parameters_of scene.names f) arguments (set_all start unset)) answers
 
 -- Its size.
 pub graph_bounded : (names : Names) (tables : FunctionTables) (parameters : List Parameter) (body : Syntax) (env new : Environment)
@@ -191,16 +199,19 @@ graph_bounded names tables parameters body env new params built g distinct f cou
     few_parts names (state_with (begun_by env tables) parameters) body g.state (begun_fresh env tables parameters)
     (lowered_from names tables parameters body env new params built g distinct)
     (graph_fits names tables parameters body env new params built g distinct) in
-    let instructions : length f.instructions ≡ length s.table = ap (λ (l : List Instruction). length l) instructions_is ∙ built_length s built new g.graph in
+    let instructions : length f.instructions ≡ length s.table =
+    ap (λ (l : List Instruction). length l) instructions_is ∙ built_length s built new g.graph in
     let listed : length f.body.blocks ≡ length built.blocks = ap (λ (h : Hir (List BlockPair)). length h.blocks) body_is in
-    let kept : length built.blocks ≤ length (graph_of s) = pruned_size (graph_of s) s.entry s.table built.blocks built.table g.graph.pruned in
+    let kept : length built.blocks ≤ length (graph_of s) =
+    pruned_size (graph_of s) s.entry s.table built.blocks built.table g.graph.pruned in
     let same : length (graph_of s) ≡ length s.completed =
     ap (λ (pairs : List BlockPair). length pairs) (graph_table names tables parameters body env new params built g distinct) in
     omega (arith, few, instructions, listed, kept, same, counted)
 
 -- The clauses of `lower`, whose caller hands it the function's parameters.
 
-pub body_supported : (names : Names) (f body : Syntax) → IsFunction f body → DeclaresAll names (params_in f) → AreLocals names (parameters_of names f)
+pub body_supported : (names : Names) (f body : Syntax) → IsFunction f body → DeclaresAll names (params_in f)
+    → AreLocals names (parameters_of names f)
     → refusals_of names f ≡ [] → refusals_in_body names body ≡ []
 body_supported names f body w declared own none =
     second_none (said_of_parameters names (parameters_of names f)) (refusals_in_body names body)
@@ -236,17 +247,23 @@ lower_runs_by : (f body : Syntax) (names : Names) (tables : FunctionTables) (par
     → (scene : Scene) (world : World) → IsSceneOf names pairs scene world
     → (stuck : Trace) (start : List Assignment) (arguments : List Value) (answers : List Answer)
     → trace_by stuck world h pairs start arguments answers ≡ run_function scene f start arguments answers
-lower_runs_by f body names tables given env new params built w declared own is distinct none g supported unskipped h pairs final body_is instructions_is params_is scene world stands =
+lower_runs_by f body names tables given env new params built w declared own is distinct none g supported unskipped h pairs final body_is
+    instructions_is params_is scene world stands =
     function_runs_by scene world begun graph.state (exec_before_end scene body) (begun_fresh env tables parameters) sound
     lowered.blocks (graph_fits names tables parameters body env new params built graph apart) lowered.unread lowered.steps
-    (lowered.runs (body_supported names f body w declared own supported) (sym (ap has_using w.is_body) ∙ unskipped) scene stands.named stands.ported) h pairs covers stands.shares f
-    built new graph.graph (graph_table names tables parameters body env new params built graph apart) (graph_unlinked names tables parameters body env new params built graph apart) body_is instructions_is
+    (lowered.runs (body_supported names f body w declared own supported) (sym (ap has_using w.is_body) ∙ unskipped) scene stands.named
+    stands.ported) h pairs covers stands.shares f
+    built new graph.graph (graph_table names tables parameters body env new params built graph apart)
+    (graph_unlinked names tables parameters body env new params built graph apart) body_is instructions_is
     (λ start arguments. take parameters arguments (set_all start unset))
     (λ start arguments. subst (λ (ps : List Param). Agrees ident (take parameters arguments (set_all start unset))
     (take_arguments ps arguments (start_values pairs start))) (sym (params_is ∙ graph.places))
-    (agrees_taken ident covers.one (length env.identifiers) parameters arguments (set_all start unset) (start_values pairs start) given_so (agrees_start ident covers.one start)))
-    (λ start arguments answers. function_means scene f body w (subst (λ (n : Names). DeclaresAll n (params_in f)) (sym stands.named) declared) start arguments answers
-    ∙ ap (λ (n : Names). body_trace scene (exec_before_end scene body) outside (take (parameters_of n f) arguments (set_all start unset)) answers) stands.named)
+    (agrees_taken ident covers.one (length env.identifiers) parameters arguments (set_all start unset) (start_values pairs start) given_so
+    (agrees_start ident covers.one start)))
+    (λ start arguments answers. function_means scene f body w
+    (subst (λ (n : Names). DeclaresAll n (params_in f)) (sym stands.named) declared) start arguments answers
+    ∙ ap (λ (n : Names). body_trace scene (exec_before_end scene body) outside (take (parameters_of n f) arguments (set_all start unset))
+    answers) stands.named)
   where
     parameters : List Parameter
     parameters = parameters_of names f
@@ -271,7 +288,8 @@ lower_runs_by f body names tables given env new params built w declared own is d
 
     covers : CoversNames (closed_off graph.state).env.pairs (length (closed_off graph.state).env.identifiers) ident
     covers =
-        subst (λ (l : List Pair). CoversNames (closed_off graph.state).env.pairs (length (closed_off graph.state).env.identifiers) (λ symbol. identifier_of l symbol))
+        subst (λ (l : List Pair). CoversNames (closed_off graph.state).env.pairs (length (closed_off graph.state).env.identifiers)
+        (λ symbol. identifier_of l symbol))
         (sym (final ∙ ap (λ (e : Environment). e.pairs) graph.after))
         (sound_covers (closed_off graph.state) (graph_names names tables parameters body env new params built graph apart none))
 
@@ -279,7 +297,8 @@ lower_runs_by f body names tables given env new params built w declared own is d
     given_so : (place : ℕ) (p : Parameter) → slice_get parameters place ≡ Some p → ident p.symbol.0 ≡ Some (length env.identifiers + place)
     given_so place p there =
         covers.kept p.symbol.0 (length env.identifiers + place)
-        ((graph_extends names tables parameters body env new params built graph apart).names.kept p.symbol.0 (length env.identifiers + place)
+        ((graph_extends names tables parameters body env new params built graph apart).names.kept p.symbol.0
+        (length env.identifiers + place)
         (sym (sound.same p.symbol.0) ∙ pair_found (length env.identifiers) parameters place p apart there))
 
 pub lower_same_runs : (f body : Syntax) (names : Names) (tables : FunctionTables) (parameters : List Parameter) (env new : Environment)
@@ -291,8 +310,10 @@ pub lower_same_runs : (f body : Syntax) (names : Names) (tables : FunctionTables
     → (h : HirFunction (List BlockPair)) (pairs : List Pair) → pairs ≡ new.pairs → h.body ≡ hir_of built → h.instructions ≡ built.table
     → h.params ≡ params
     → (scene : Scene) (world : World) → IsSceneOf names pairs scene world → SameRuns scene f world h pairs
-lower_same_runs f body names tables parameters env new params built w declared own is distinct none g supported unskipped h pairs final body_is instructions_is params_is scene world stands start arguments answers =
-    lower_runs_by f body names tables parameters env new params built w declared own is distinct none g supported unskipped h pairs final body_is instructions_is params_is scene world stands waiting start arguments answers
+lower_same_runs f body names tables parameters env new params built w declared own is distinct none g supported unskipped h pairs final
+    body_is instructions_is params_is scene world stands start arguments answers =
+    lower_runs_by f body names tables parameters env new params built w declared own is distinct none g supported unskipped h pairs final
+    body_is instructions_is params_is scene world stands waiting start arguments answers
 
 pub lower_never_stuck : (f body : Syntax) (names : Names) (tables : FunctionTables) (parameters : List Parameter) (env new : Environment)
     (params : List Param) (built : Graph)
@@ -303,9 +324,12 @@ pub lower_never_stuck : (f body : Syntax) (names : Names) (tables : FunctionTabl
     → (h : HirFunction (List BlockPair)) (pairs : List Pair) → pairs ≡ new.pairs → h.body ≡ hir_of built → h.instructions ≡ built.table
     → h.params ≡ params
     → (scene : Scene) (world : World) → IsSceneOf names pairs scene world → NeverStuck world h pairs
-lower_never_stuck f body names tables parameters env new params built w declared own is distinct none g supported unskipped h pairs final body_is instructions_is params_is scene world stands stuck start arguments answers =
-    lower_runs_by f body names tables parameters env new params built w declared own is distinct none g supported unskipped h pairs final body_is instructions_is params_is scene world stands stuck start arguments answers
-    ∙ sym (lower_same_runs f body names tables parameters env new params built w declared own is distinct none g supported unskipped h pairs final body_is instructions_is params_is scene world stands start arguments answers)
+lower_never_stuck f body names tables parameters env new params built w declared own is distinct none g supported unskipped h pairs final
+    body_is instructions_is params_is scene world stands stuck start arguments answers =
+    lower_runs_by f body names tables parameters env new params built w declared own is distinct none g supported unskipped h pairs final
+    body_is instructions_is params_is scene world stands stuck start arguments answers
+    ∙ sym (lower_same_runs f body names tables parameters env new params built w declared own is distinct none g supported unskipped h pairs
+    final body_is instructions_is params_is scene world stands start arguments answers)
 
 pub lower_bounded : (f body : Syntax) (names : Names) (tables : FunctionTables) (parameters : List Parameter) (env new : Environment)
     (params : List Param) (built : Graph)
@@ -328,11 +352,13 @@ pub lower_pairs : (names : Names) (tables : FunctionTables) (parameters : List P
     → IsGraphOf names tables parameters body env new params built → behind ≡ one_identifier_more new span
     → ArePairs names behind.identifiers behind.pairs
 lower_pairs names tables parameters body env new behind params built span distinct own none g more =
-    subst (λ (e : Environment). ArePairs names e.identifiers e.pairs) (sym (more ∙ ap (λ (e : Environment). one_identifier_more e span) g.after))
+    subst (λ (e : Environment). ArePairs names e.identifiers e.pairs)
+    (sym (more ∙ ap (λ (e : Environment). one_identifier_more e span) g.after))
     (pairs_told names (with_temporary (closed_off g.state) span)
     ((extends_temporary (closed_off g.state) span).sound (graph_names names tables parameters body env new params built g distinct none))
     ((names_temporary {names = names} (closed_off g.state) span).pairs
-    ((graph_keeps names tables parameters body env new params built g distinct).pairs (parameters_pairs (begun_by env tables) names parameters none own))))
+    ((graph_keeps names tables parameters body env new params built g distinct).pairs
+    (parameters_pairs (begun_by env tables) names parameters none own))))
 
 -- The identifiers of parameters there, each with the span of its last declaration.
 pub lower_given : (f body : Syntax) (names : Names) (tables : FunctionTables) (parameters : List Parameter) (env new behind : Environment)
@@ -347,7 +373,8 @@ lower_given f body names tables parameters env new behind params built span body
     (map (λ (p : Parameter). record p { declaration = span_behind_body names p.symbol.0 b p.declaration }) (parameters_of names f))) body_is
     (subst (λ (l : List Parameter). AreGiven last.env.identifiers last.env.pairs (length env.identifiers) env.next_type
     (map (λ (p : Parameter). record p { declaration = span_behind_body names p.symbol.0 body p.declaration }) l)) is
-    (parameters_kept (begun_by env tables) (λ symbol before. span_behind_body names symbol body before) parameters _ _ _ none distinct declared
+    (parameters_kept (begun_by env tables) (λ symbol before. span_behind_body names symbol body before) parameters _ _ _ none distinct
+    declared
     (graph_extends names tables parameters body env new params built g distinct).names spans)))
   where
     last : State

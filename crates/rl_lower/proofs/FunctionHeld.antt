@@ -1,11 +1,9 @@
 -- The counted nodes of a function are in its graph (`HoldsNodes`), from the lowering of its body.
-use Rattle.std.proofs.Common.{◌≡◌, ℕ, ◌+◌, ◌<◌, ◌≤◌, ◌^◌, Bool, true, false, ◌&&◌, ◌||◌, nat_eq, if◌then◌else◌, Option, Some, None, codes, List, [], ◌∷◌}
-use Rattle.std.proofs.Common.{◌++◌, All, get_or, length, slice_get, refl, sym, ap, ◌∙◌, subst, arith, eq-eqb}
+use Rattle.std.proofs.Common.{◌≡◌, ℕ, ◌+◌, ◌<◌, ◌≤◌, ◌^◌, Bool, true, false, ◌&&◌, nat_eq, if◌then◌else◌, Option, Some, None, List, [], ◌∷◌}
+use Rattle.std.proofs.Common.{◌++◌, All, length, slice_get, refl, sym, ap, ◌∙◌, subst, arith, eq-eqb}
 use Rattle.std.specs.Option.{option_map}
-use Rattle.std.specs.Str.{bytes_eq}
-use Rattle.std.proofs.lemmas.List.Elements.{All-append, All-cons, All-nil}
+use Rattle.std.proofs.lemmas.List.Elements.{All-contains}
 use Rattle.std.proofs.lemmas.Option.{none-some, same_Some, slice_get-map}
-use Rattle.std.proofs.lemmas.Slice.Eq.{bytes_eq-Decides}
 use Rattle.rl_base.proofs.DistinctLists.{IsIn, distinct_left}
 use Rattle.rl_base.specs.Distinct.{AreDistinct}
 use Rattle.rl_base.specs.declared.ids.BlockId.{BlockId}
@@ -17,42 +15,40 @@ use Rattle.rl_builder.specs.Temporaries.{temporary, unordered}
 use Rattle.rl_hir.specs.Blocks.{Pair as BlockPair, block_at}
 use Rattle.rl_hir.specs.Numbered.{listed_in}
 use Rattle.rl_hir.specs.Pairs.{identifier_of}
-use Rattle.rl_hir.specs.Written.{value_word}
 use Rattle.rl_hir.specs.declared.environment.Environment.{Environment}
 use Rattle.rl_hir.specs.declared.function.BasicBlock.{BasicBlock}
 use Rattle.rl_hir.specs.declared.function.Hir.{Hir}
 use Rattle.rl_hir.specs.declared.function.HirFunction.{HirFunction}
 use Rattle.rl_hir.specs.declared.function.Param.{Param}
 use Rattle.rl_hir.specs.declared.instruction.Instruction.{Instruction}
-use Rattle.rl_hir.specs.declared.instruction.InstructionValue.{InstructionValue}
 use Rattle.rl_hir.specs.declared.instruction.InstructionValue.TheVariants as values
 use Rattle.rl_hir.specs.declared.instruction.PrimitiveValue.TheVariants as primitives
 use Rattle.rl_lower.proofs.FunctionGraphs.{begun_fresh, body_supported, graph_fits, graph_names, graph_table, graph_unlinked, lowered_from}
 use Rattle.rl_lower.proofs.FunctionTrees.{IsFunction}
 use Rattle.rl_lower.proofs.Functions.{entry_is, extends_closed, function_finished}
-use Rattle.rl_lower.proofs.HeldNodes.{built_at, built_once, built_reached, listed_once, times_append, times_at, times_in, times_listed, times_plain, weight}
+use Rattle.rl_lower.proofs.HeldNodes.{built_at, built_once, built_reached, listed_once, times_append, times_at, times_in, times_listed}
+use Rattle.rl_lower.proofs.HeldNodes.{times_plain, weight}
 use Rattle.rl_lower.proofs.Linked.{built_plain}
 use Rattle.rl_lower.proofs.Parameters.{state_with}
 use Rattle.rl_lower.proofs.WellFormed.{graph_listed}
 use Rattle.rl_lower.specs.Begun.{FunctionTables, begun_by}
 use Rattle.rl_lower.specs.Endings.{IsGraphOf, closed_off, hir_of}
-use Rattle.rl_lowered.specs.Promised.{LowersBody, held_by}
+use Rattle.rl_lowered.proofs.HeldParts.{counted_among}
+use Rattle.rl_lowered.specs.Promised.{LowersBody, counted_word, held_by, held_of}
 use Rattle.rl_machine.specs.Machine.{Code, Graph, Runs, block_of, item_at, item_by}
 use Rattle.rl_machine.specs.Traces.{World}
-use Rattle.rl_model.specs.Actions.{Label}
 use Rattle.rl_model.specs.Counted.{Counted}
-use Rattle.rl_model.specs.Dead.{goes_on, lives}
 use Rattle.rl_names.specs.Functions.{params_in, parameters_of}
 use Rattle.rl_names.specs.Locals.{AreApart, DeclaresAll}
 use Rattle.rl_names.specs.Names.{Names}
 use Rattle.rl_names.specs.declared.parameters.Parameter.{Parameter}
 use Rattle.rl_order.specs.Reached.{IsReached}
-use Rattle.rl_promises.specs.HeldNodes.{HoldsNodes, counted_by}
-use Rattle.rl_promises.specs.Live.{Held, held_among, held_as, held_at, held_in, live_all, live_cases, live_in, live_in_body}
+use Rattle.rl_promises.specs.HeldNodes.{HoldsNodes}
+use Rattle.rl_promises.specs.Live.{Held, LivesOn, live_in_body}
 use Rattle.rl_promises.specs.Locals.{AreLocals}
 use Rattle.rl_promises.specs.Rows.{refusals_in_body, refusals_of}
-use Rattle.rl_promises.specs.Tallies.{IsHeldKind, call_word, held_word, tallied}
-use Rattle.rl_promises.specs.Held.{is_counted, is_of, is_span, listed, times}
+use Rattle.rl_promises.specs.Tallies.{IsHeldKind, is_among, tallied}
+use Rattle.rl_promises.specs.Held.{is_of, is_span, listed, times}
 use Rattle.rl_runs.proofs.FinalNames.{sound_covers}
 use Rattle.rl_runs.proofs.Finished.{IsFinished, code, finished_contained, led_reached}
 use Rattle.rl_runs.proofs.Graphs.{without_order}
@@ -61,155 +57,35 @@ use Rattle.rl_runs.proofs.Moves.{contained_before}
 use Rattle.rl_runs.proofs.Ordered.{found_holds}
 use Rattle.rl_runs.specs.Blocks as blocks
 use Rattle.rl_runs.specs.Blocks.{IsLedTo, Stands}
-use Rattle.rl_syntax.specs.Syntax.{Syntax, Node, Listed, Said, Flag, Pieces, End, Then}
-use Rattle.rl_syntax.specs.declared.word.Word.{Word}
-use Rattle.rl_syntax.specs.declared.word.Word.TheVariants as word
+use Rattle.rl_syntax.specs.Syntax.{Syntax}
 
--- The values of the word are counted: none of them is a store.
-abbrev IsCountedWord : List ℕ → Type 0
-IsCountedWord text = (v : InstructionValue) → bytes_eq (value_word v) text ≡ true → is_counted v ≡ true
+-- An instruction by which a counted node is held counts for that, whatever order it has.
 
-abbrev IsCountedNode : Held → Type 0
-IsCountedNode h = IsCountedWord h.word
+spans_meet : (key own at : Span) → own ≡ at → at ≡ key → is_span key (Some own) ≡ true
+spans_meet key own at is same =
+    ap (λ (s : Span). nat_eq s.start key.start && nat_eq s.end key.end) (is ∙ same)
+    ∙ ap (λ (b : Bool). b && nat_eq key.end key.end) (eq-eqb key.start key.start refl) ∙ eq-eqb key.end key.end refl
 
-call_counted : IsCountedWord (codes "call")
-call_counted (values.StoreLocal kind p q) e = absurd (let never : false ≡ true = e in cc)
-call_counted (values.StoreContext kind p q) e = absurd (let never : false ≡ true = e in cc)
-call_counted _ e = refl
+abbrev one_if : Bool → ℕ
+one_if b = if b then 1 else 0
 
-method_counted : IsCountedWord (codes "methodcall")
-method_counted (values.StoreLocal kind p q) e = absurd (let never : false ≡ true = e in cc)
-method_counted (values.StoreContext kind p q) e = absurd (let never : false ≡ true = e in cc)
-method_counted _ e = refl
+held_counts : (kinds : List (List ℕ)) (key : Span) (o : Option (List ℕ)) (span : Option Span) (h : Held) → held_of o span ≡ Some h
+    → h.span ≡ key → is_among kinds (Some h.word) ≡ true
+    → one_if (is_among kinds o && is_span key span) ≡ 1
+held_counts kinds key None span h is there among = absurd (none-some h is)
+held_counts kinds key (Some text) None h is there among = absurd (none-some h is)
+held_counts kinds key (Some text) (Some span) h is there among =
+    let same : record { word = text; span = span } ≡ h = same_Some (record { word = text; span = span }) h is in
+    let word : is_among kinds (Some text) ≡ true = ap (λ (x : Held). is_among kinds (Some x.word)) same ∙ among in
+    ap (λ (b : Bool). one_if (b && is_span key (Some span))) word
+    ∙ ap one_if (spans_meet key span h.span (ap (λ (x : Held). x.span) same) there)
 
-callee_counted : (callee : Syntax) → IsCountedWord (call_word callee)
-callee_counted (Node at word.Member parts) = method_counted
-callee_counted (Node at word.Index parts) = method_counted
-callee_counted _ = call_counted
-
-new_counted : IsCountedWord (codes "new")
-new_counted (values.StoreLocal kind p q) e = absurd (let never : false ≡ true = e in cc)
-new_counted (values.StoreContext kind p q) e = absurd (let never : false ≡ true = e in cc)
-new_counted _ e = refl
-
-await_counted : IsCountedWord (codes "await")
-await_counted (values.StoreLocal kind p q) e = absurd (let never : false ≡ true = e in cc)
-await_counted (values.StoreContext kind p q) e = absurd (let never : false ≡ true = e in cc)
-await_counted _ e = refl
-
-one_counted : (text : List ℕ) (span : Span) → IsCountedWord text → All IsCountedNode (held_as (Some text) span)
-one_counted text span counted = All-cons IsCountedNode (record { word = text; span = span }) [] counted (All-nil IsCountedNode)
-
-word_counted : (w : Word) (parts : Pieces) (span : Span) → All IsCountedNode (held_as (held_word w parts) span)
-word_counted word.Call (Then optional (Then callee arguments)) span = one_counted (call_word callee) span (callee_counted callee)
-word_counted word.Call _ span = one_counted (codes "call") span call_counted
-word_counted word.New parts span = one_counted (codes "new") span new_counted
-word_counted word.Await parts span = one_counted (codes "await") span await_counted
-word_counted _ parts span = All-nil IsCountedNode
-
-mutual
-  node_counted : (tree : Syntax) → All IsCountedNode (held_in tree)
-  node_counted (Node at w parts) =
-      All-append IsCountedNode (held_at w parts at) (held_among parts) (word_counted w parts at.span) (nodes_counted parts)
-  node_counted (Listed parts) = nodes_counted parts
-  node_counted _ = All-nil IsCountedNode
-
-  nodes_counted : (parts : Pieces) → All IsCountedNode (held_among parts)
-  nodes_counted End = All-nil IsCountedNode
-  nodes_counted (Then part parts) = All-append IsCountedNode (held_in part) (held_among parts) (node_counted part) (nodes_counted parts)
-
-where_counted : (live : Bool) (part : Syntax) → All IsCountedNode (if live then held_in part else [])
-where_counted true part = node_counted part
-where_counted false part = All-nil IsCountedNode
-
-mutual
-  statement_counted : (own : Label) (statement : Syntax) → All IsCountedNode (live_in own statement)
-  statement_counted own (Node at word.Block (Then (Listed statements) End)) = statements_counted statements
-  statement_counted own (Node at word.If (Then test (Then consequent (Then alternate End)))) =
-      All-append IsCountedNode (held_in test ++ live_in None consequent) (live_in None alternate)
-      (All-append IsCountedNode (held_in test) (live_in None consequent) (node_counted test) (statement_counted None consequent))
-      (statement_counted None alternate)
-  statement_counted own (Node at word.While (Then test (Then body End))) =
-      All-append IsCountedNode (held_in test) (live_in None body) (node_counted test) (statement_counted None body)
-  statement_counted own (Node at word.Dowhile (Then body (Then test End))) =
-      let again : Bool = goes_on own (lives None body).outs in
-      All-append IsCountedNode (live_in None body) (if again then held_in test else []) (statement_counted None body)
-      (where_counted again test)
-  statement_counted own (Node at word.For (Then init (Then test (Then update (Then body End))))) =
-      let again : Bool = goes_on own (lives None body).outs in
-      let updates : List Held = if again then held_in update else [] in
-      All-append IsCountedNode (held_in init ++ held_in test ++ updates) (live_in None body)
-      (All-append IsCountedNode (held_in init ++ held_in test) updates
-      (All-append IsCountedNode (held_in init) (held_in test) (node_counted init) (node_counted test)) (where_counted again update))
-      (statement_counted None body)
-  statement_counted own (Node at word.Forin (Then head (Then right (Then body End)))) =
-      All-append IsCountedNode (held_in head ++ held_in right) (live_in None body)
-      (All-append IsCountedNode (held_in head) (held_in right) (node_counted head) (node_counted right)) (statement_counted None body)
-  statement_counted own (Node at word.Forof (Then (Flag false) (Then head (Then right (Then body End))))) =
-      All-append IsCountedNode (held_in head ++ held_in right) (live_in None body)
-      (All-append IsCountedNode (held_in head) (held_in right) (node_counted head) (node_counted right)) (statement_counted None body)
-  statement_counted own (Node at word.Switch (Then discriminant (Then (Listed cases) End))) =
-      All-append IsCountedNode (held_in discriminant) (live_cases cases) (node_counted discriminant) (cases_counted cases)
-  statement_counted own (Node at word.Try (Then block (Then (Node there word.Catch (Then param (Then body End))) (Then finalizer End)))) =
-      let caught : List Held = if (lives None block).acts then held_in param ++ live_in None body else [] in
-      All-append IsCountedNode (live_in None block ++ caught) (held_in finalizer)
-      (All-append IsCountedNode (live_in None block) caught (statement_counted None block)
-      (by_acts (lives None block).acts
-      (All-append IsCountedNode (held_in param) (live_in None body) (node_counted param) (statement_counted None body))))
-      (node_counted finalizer)
-    where
-      by_acts : (acts : Bool) → All IsCountedNode (held_in param ++ live_in None body)
-          → All IsCountedNode (if acts then held_in param ++ live_in None body else [])
-      by_acts true all = all
-      by_acts false all = All-nil IsCountedNode
-  statement_counted own (Node at word.Labeled (Then (Said label) (Then body End))) = statement_counted (Some label) body
-  statement_counted own statement = node_counted statement
-
-  statements_counted : (statements : Pieces) → All IsCountedNode (live_all statements)
-  statements_counted End = All-nil IsCountedNode
-  statements_counted (Then statement statements) =
-      All-append IsCountedNode (live_in None statement) (if (lives None statement).outs.falls then live_all statements else [])
-      (statement_counted None statement) (by_test (lives None statement).outs.falls (statements_counted statements))
-    where
-      by_test : (b : Bool) → All IsCountedNode (live_all statements) → All IsCountedNode (if b then live_all statements else [])
-      by_test true rest = rest
-      by_test false rest = All-nil IsCountedNode
-
-  cases_counted : (cases : Pieces) → All IsCountedNode (live_cases cases)
-  cases_counted (Then (Node at word.Case (Then condition (Then (Listed statements) End))) cases) =
-      All-append IsCountedNode (held_in condition ++ live_all statements) (live_cases cases)
-      (All-append IsCountedNode (held_in condition) (live_all statements) (node_counted condition) (statements_counted statements))
-      (cases_counted cases)
-  cases_counted cases = nodes_counted cases
-
-body_counted : (body : Syntax) → All IsCountedNode (live_in_body body)
-body_counted (Node at word.Body (Then directives (Then (Listed statements) End))) = statements_counted statements
-body_counted body = node_counted body
-
--- An instruction of a live node counts, whatever order it has.
-module _ (v : InstructionValue) where
-  abbrev weigh : Held → Option Span → ℕ
-  weigh h o = if is_of (h.word ∷ []) v && is_span h.span o then 1 else 0
-
-  own_weight : (span : Span) → is_counted v ≡ true → weigh (record { word = value_word v; span = span }) (Some span) ≡ 1
-  own_weight span counted =
-      ap (λ (b : Bool). if ((b || false) && is_counted v) && (nat_eq span.start span.start && nat_eq span.end span.end) then 1 else 0)
-      ((bytes_eq-Decides (value_word v) (value_word v)).1 refl)
-      ∙ ap (λ (b : Bool). if b && (nat_eq span.start span.start && nat_eq span.end span.end) then 1 else 0) counted
-      ∙ ap (λ (b : Bool). if b && nat_eq span.end span.end then 1 else 0) (eq-eqb span.start span.start refl)
-      ∙ ap (λ (b : Bool). if b then 1 else 0) (eq-eqb span.end span.end refl)
-
-  span_weight : (h : Held) (o : Option Span) → IsCountedNode h
-      → option_map (λ (span : Span). record { word = value_word v; span = span }) o ≡ Some h → weigh h o ≡ 1
-  span_weight h None counted e = absurd (none-some h e)
-  span_weight h (Some span) counted e =
-      let same : record { word = value_word v; span = span } ≡ h = same_Some (record { word = value_word v; span = span }) h e in
-      subst (λ (x : Held). weigh x (Some span) ≡ 1) same
-      (own_weight span (counted v ((bytes_eq-Decides (value_word v) h.word).1 (ap (λ (x : Held). x.word) same))))
-
-held_weight : (h : Held) (i j : Instruction) → IsCountedNode h → held_by i ≡ Some h → without_order j ≡ without_order i
-    → weight (counted_by h) j ≡ 1
-held_weight h i j counted is same = ap (λ (x : Instruction). weight (counted_by h) x) same ∙ span_weight i.value h i.span counted is
+held_weight : (key : Counted) → IsHeldKind key.kinds → (h : Held) (i j : Instruction) → held_by i ≡ Some h → h.span ≡ key.span
+    → is_among key.kinds (Some h.word) ≡ true → without_order j ≡ without_order i → weight key j ≡ 1
+held_weight key held h i j is there among same =
+    ap (λ (x : Instruction). weight key x) same
+    ∙ ap (λ (b : Bool). one_if (b && is_span key.span i.span)) (counted_among held i.value)
+    ∙ held_counts key.kinds key.span (counted_word i.value) i.span h is there among
 
 -- The end of a body adds nothing that is counted.
 
@@ -217,9 +93,6 @@ uncounted : (key : Counted) (o : Option BlockId) (s : State) (i : Instruction) �
     → times key (pushed_under o s i).table ≡ times key s.table
 uncounted key o s i bare = by_handler o
   where
-    one_if : Bool → ℕ
-    one_if b = if b then 1 else 0
-
     zero_if : (b : Bool) → one_if (b && false) ≡ 0
     zero_if true = refl
     zero_if false = refl
@@ -335,9 +208,9 @@ module _ (names : Names) (tables : FunctionTables) (parameters : List Parameter)
         (ap (λ (pairs : List BlockPair). block_at pairs id) (sym table_is) ∙ found)).1
 
     -- An instruction of a live node is listed.
-    listed_live : (h : Held) → IsCountedNode h → Stands held_by c last.entry.0 h
-        → 1 ≤ times (counted_by h) (listed built.table built.blocks)
-    listed_live h counted st =
+    listed_live : (key : Counted) → IsHeldKind key.kinds → (h : Held) → h.span ≡ key.span → is_among key.kinds (Some h.word) ≡ true
+        → Stands held_by c last.entry.0 h → 1 ≤ times key (listed built.table built.blocks)
+    listed_live key held h here among st =
         let at : StandsAt last.completed last.table st.id st.place st.instruction = stands_at last.completed last.table st.id st.place st.instruction st.there in
         let reached : IsReached last.completed last.entry (record { 0 = st.id }) =
         led_reached last fin ident alone begun refl refl refl st.id st.reached in
@@ -347,13 +220,16 @@ module _ (names : Names) (tables : FunctionTables) (parameters : List Parameter)
         (subst (λ (pairs : List BlockPair). IsReached pairs last.entry (record { 0 = st.id })) (sym table_is) reached) at.number.0
         (record { index = st.place; found = slice_get-map (λ (id : InstructionId). id.0) at.block.instructions st.place ∙ ap (λ (o : Option InstructionId). option_map (λ id. id.0) o) at.at }) in
         let found = built_at last built new g.graph at.number.0 st.instruction at.kept in
-        let one : 1 ≤ times_at (counted_by h) built.table (listed_in built.blocks) =
-        times_in (counted_by h) built.table at.number.0 found.0 (listed_in built.blocks) there found.1 (held_weight h st.instruction found.0 counted st.is found.2) in
-        omega (arith, one, times_listed (counted_by h) built.table built.blocks)
+        let one : 1 ≤ times_at key built.table (listed_in built.blocks) =
+        times_in key built.table at.number.0 found.0 (listed_in built.blocks) there found.1
+        (held_weight key held h st.instruction found.0 st.is here among found.2) in
+        omega (arith, one, times_listed key built.table built.blocks)
 
-    pub graph_live : All (λ (h : Held). 1 ≤ times (counted_by h) (listed built.table built.blocks)) (live_in_body body)
-    graph_live place default within =
-        listed_live (get_or (live_in_body body) place default) (body_counted body place default within) (stands place default within)
+    pub graph_live : (key : Counted) → IsHeldKind key.kinds → LivesOn (live_in_body body) key
+        → 1 ≤ times key (listed built.table built.blocks)
+    graph_live key held lives =
+        listed_live key held lives.held lives.span lives.word
+        (All-contains (λ (h : Held). Stands held_by c last.entry.0 h) (live_in_body body) lives.held stands lives.there)
 
 pub lower_held : (f body : Syntax) (names : Names) (tables : FunctionTables) (parameters : List Parameter) (env new : Environment)
     (params : List Param)
@@ -368,10 +244,10 @@ lower_held f body names tables parameters env new params built w declared own di
   once = λ key. subst (λ (t : List Instruction). times key (listed t h.body.blocks) ≤ times key t) (sym instructions_is)
       (subst (λ (x : Hir (List BlockPair)). times key (listed built.table x.blocks) ≤ times key built.table) (sym body_is)
       (graph_once names tables parameters body env new params built g distinct key));
-  live = subst (λ (b : Syntax). All (λ (n : Held). 1 ≤ times (counted_by n) (listed h.instructions h.body.blocks)) (live_in_body b)) (sym w.is_body)
-      (subst (λ (t : List Instruction). All (λ (n : Held). 1 ≤ times (counted_by n) (listed t h.body.blocks)) (live_in_body body)) (sym instructions_is)
-      (subst (λ (x : Hir (List BlockPair)). All (λ (n : Held). 1 ≤ times (counted_by n) (listed built.table x.blocks)) (live_in_body body)) (sym body_is)
-      (graph_live names tables parameters body env new params built g distinct none accepted)));
+  live = λ key held lives. subst (λ (t : List Instruction). 1 ≤ times key (listed t h.body.blocks)) (sym instructions_is)
+      (subst (λ (x : Hir (List BlockPair)). 1 ≤ times key (listed built.table x.blocks)) (sym body_is)
+      (graph_live names tables parameters body env new params built g distinct none accepted key held
+      (subst (λ (b : Syntax). LivesOn (live_in_body b) key) w.is_body lives)));
 }
   where
     accepted : refusals_in_body names body ≡ []

@@ -1,6 +1,7 @@
 -- The tree of a function that is covered and fits the grammar: its nodes, parameters and refusals, and its small parts.
 use Rattle.std.specs.Option.{is_some}
-use Rattle.std.proofs.Common.{◌≡◌, ℕ, ◌+◌, ◌*◌, ◌≤◌, ◌++◌, Bool, true, false, true≢false, List, [], ◌∷◌, length, All, Option, Some, None, refl, sym, ap, ◌∙◌, subst, arith, append-nil}
+use Rattle.std.proofs.Common.{◌≡◌, ℕ, ◌+◌, ◌*◌, ◌≤◌, ◌++◌, Bool, true, false, true≢false, List, [], ◌∷◌, length, All, Option, Some, None}
+use Rattle.std.proofs.Common.{refl, sym, ap, ◌∙◌, subst, arith, append-nil}
 use Rattle.std.proofs.lemmas.List.Elements.{All-cons, All-head, All-nil, All-tail}
 use Rattle.rl_base.specs.Reserved.{is_reserved}
 use Rattle.rl_base.specs.declared.diagnostic.Diagnostic.{Diagnostic}
@@ -80,7 +81,8 @@ bind_name b type bind name is = record {
 }
 
 own_name : (b : Syntax) → fits (field.One kind.BindingIdentifier) b ≡ true → IsName b
-own_name (Node bind word.Bind ps) h = (let form = name_form bind ps h in bind_name (Node bind word.Bind ps) form.type bind form.name form.is)
+own_name (Node bind word.Bind ps) h =
+    (let form = name_form bind ps h in bind_name (Node bind word.Bind ps) form.type bind form.name form.is)
 own_name _ h = absurd (cc)
 
 maybe_name : {X : Type 0} (name : Option X) (shown : X → Syntax) → ((x : X) → fits (field.One kind.BindingIdentifier) (shown x) ≡ true)
@@ -116,12 +118,15 @@ parted_form at w marked is_async generator name params body params_are body_is n
     }
 
 abbrev parts_of : Function → Pieces
-parts_of f = Then (Flag f.marked) (Then (Flag f.is_async) (Then (Flag f.generator) (Then (maybe f.name (λ t. syntax t.tree.now)) (Then (syntax f.params.tree.now) (Then (maybe f.body (λ t. syntax t.tree.now)) End)))))
+parts_of f =
+    Then (Flag f.marked) (Then (Flag f.is_async) (Then (Flag f.generator)
+    (Then (maybe f.name (λ t. syntax t.tree.now)) (Then (syntax f.params.tree.now) (Then (maybe f.body (λ t. syntax t.tree.now)) End)))))
 
 abbrev with_form : Function → FunctionForm → Syntax
 with_form f form = Node f.at (function_word form) (parts_of f)
 
-by_form : (f : Function) (form : FunctionForm) → IsCoveredFunction (with_form f form) → IsFunction (with_form f form) (body_in (with_form f form))
+by_form : (f : Function) (form : FunctionForm) → IsCoveredFunction (with_form f form)
+    → IsFunction (with_form f form) (body_in (with_form f form))
 by_form f form.Declaration covered =
     parted_form f.at word.Fundecl f.marked f.is_async f.generator _ _ _ refl refl refl
     (maybe_name f.name (λ t. syntax t.tree.now) (λ t. t.fit)) f.params.fit covered.1.1.1.1.0
@@ -184,12 +189,14 @@ said_params names (p ∷ params) declared named = by_symbol (said_params names p
     by_symbol behind (Some symbol) is =
         let first : Parameter = record { symbol = symbol; name = p.name; declaration = p.bind.span } in
         let all : All (λ (x : Parameter). names.name x.symbol.0 ≡ x.name) (first ∷ rest) =
-        subst (λ (l : List Parameter). All (λ (x : Parameter). names.name x.symbol.0 ≡ x.name) l) (declared_first names p params symbol is) named in
+        subst (λ (l : List Parameter). All (λ (x : Parameter). names.name x.symbol.0 ≡ x.name) l) (declared_first names p params symbol is)
+        named in
         let label : Span = label_of names symbol p.bind.span in
         ap (λ (l : List Diagnostic). l ++ refusals_in names (params_of params))
         (append-nil (refusals names (bind_of p)) ∙ bind_refuses names p.bind p.name p.type symbol p.typed is
         ∙ ap (λ (name : List ℕ). said_of_local name label) (All-head (λ (x : Parameter). names.name x.symbol.0 ≡ x.name) first rest all))
-        ∙ ap (λ (l : List Diagnostic). said_of_local p.name label ++ l) (behind (All-tail (λ (x : Parameter). names.name x.symbol.0 ≡ x.name) first rest all))
+        ∙ ap (λ (l : List Diagnostic). said_of_local p.name label ++ l)
+        (behind (All-tail (λ (x : Parameter). names.name x.symbol.0 ≡ x.name) first rest all))
         ∙ ap (said_of_parameters names) (sym (declared_first names p params symbol is))
 
 pub function_refusals : (names : Names) (f body : Syntax) → IsFunction f body → DeclaresAll names (params_in f)
@@ -200,7 +207,8 @@ function_refusals names f body w declared own =
     let are = parameters_are names f body w in
     let named = subst (λ (l : List Parameter). All (λ (p : Parameter). names.name p.symbol.0 ≡ p.name) l) are own.named in
     let given : refusals names (params_in f) ≡ said_of_parameters names (parameters_of names f) =
-    ap (λ (t : Syntax). refusals names t) w.is_params ∙ append-nil (refusals_in names (params_of w.params)) ∙ said_params names w.params all named
+    ap (λ (t : Syntax). refusals names t) w.is_params ∙ append-nil (refusals_in names (params_of w.params))
+    ∙ said_params names w.params all named
     ∙ ap (said_of_parameters names) (sym are) in
     ap (λ (l : List Diagnostic). l ++ refusals_in_body names (body_in f)) given
     ∙ ap (λ (t : Syntax). said_of_parameters names (parameters_of names f) ++ refusals_in_body names t) w.is_body
@@ -213,7 +221,8 @@ parameters_symbols names [] declares = All-nil HasSmallSymbol
 parameters_symbols names (p ∷ params) declares =
     let d : DeclaresVariable names p.bind.id.0 = declares.0.0.0 in
     subst (λ (l : List Parameter). All HasSmallSymbol l) (sym (declared_first names p params d.symbol d.is))
-    (All-cons HasSmallSymbol (record { symbol = d.symbol; name = p.name; declaration = p.bind.span }) (parameters_among names (params_of params))
+    (All-cons HasSmallSymbol (record { symbol = d.symbol; name = p.name; declaration = p.bind.span })
+    (parameters_among names (params_of params))
     d.variable.small (parameters_symbols names params declares.1))
 
 pub function_symbols : (names : Names) (f body : Syntax) → IsFunction f body → DeclaresIn names (params_in f)
@@ -233,7 +242,8 @@ parameters_free names (p ∷ params) may named =
     let d : DeclaresFree names (names.declared p.bind.id.0) = may.0.1.0 in
     let first : Parameter = record { symbol = d.symbol; name = p.name; declaration = p.bind.span } in
     let all : All (λ (x : Parameter). names.name x.symbol.0 ≡ x.name) (first ∷ parameters_among names (params_of params)) =
-    subst (λ (l : List Parameter). All (λ (x : Parameter). names.name x.symbol.0 ≡ x.name) l) (declared_first names p params d.symbol d.is) named in
+    subst (λ (l : List Parameter). All (λ (x : Parameter). names.name x.symbol.0 ≡ x.name) l) (declared_first names p params d.symbol d.is)
+    named in
     subst (λ (l : List Parameter). All IsUnreserved l) (sym (declared_first names p params d.symbol d.is))
     (All-cons IsUnreserved first (parameters_among names (params_of params))
     (ap (λ (name : List ℕ). is_reserved name) (sym (All-head (λ (x : Parameter). names.name x.symbol.0 ≡ x.name) first _ all)) ∙ d.free)
@@ -253,7 +263,8 @@ function_free names f body w may own =
 parameters_small : (names : Names) (params : List ParamNode) → AreSmallTrees (params_of params)
     → All IsSmallParameter (parameters_among names (params_of params))
 parameters_small names [] small = All-nil IsSmallParameter
-parameters_small names (p ∷ params) small = by_symbol (parameters_small names params (small.0.1, small.1.1)) (names.declared p.bind.id.0) refl
+parameters_small names (p ∷ params) small =
+    by_symbol (parameters_small names params (small.0.1, small.1.1)) (names.declared p.bind.id.0) refl
   where
     bind : IsSmallTree (bind_of p)
     bind = (small.0.0.1.0, small.1.0.1.0)
@@ -261,7 +272,9 @@ parameters_small names (p ∷ params) small = by_symbol (parameters_small names 
     by_symbol : All IsSmallParameter (parameters_among names (params_of params)) → (o : Option SymbolId) → names.declared p.bind.id.0 ≡ o
         → All IsSmallParameter (parameters_among names (params_of (p ∷ params)))
     by_symbol rest None is = rw is rest
-    by_symbol rest (Some symbol) is = rw is (All-cons IsSmallParameter (record { symbol = symbol; name = p.name; declaration = p.bind.span }) (parameters_among names (params_of params)) (bind.1.1.0, bind.0.0) rest)
+    by_symbol rest (Some symbol) is =
+        rw is (All-cons IsSmallParameter (record { symbol = symbol; name = p.name; declaration = p.bind.span })
+        (parameters_among names (params_of params)) (bind.1.1.0, bind.0.0) rest)
 
 pub function_parameters : (names : Names) (f body : Syntax) → IsFunction f body → IsSmallTree f
     → All IsSmallParameter (parameters_of names f)

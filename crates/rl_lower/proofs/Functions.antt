@@ -83,7 +83,8 @@ extends_closed s = extends_then (blocks_value s (values.Primitive primitives.Und
 
 nothing_completed : (completed : List BlockPair) → completed ≡ [] → (id : ℕ) → IsCompleted completed id → ⊥
 nothing_completed completed none id k =
-    (let never : slice_get {X = BlockPair} [] k.place ≡ Some k.block = ap (λ (l : List BlockPair). slice_get l k.place) (sym none) ∙ k.found in absurd (cc))
+    (let never : slice_get {X = BlockPair} [] k.place ≡ Some k.block =
+    ap (λ (l : List BlockPair). slice_get l k.place) (sym none) ∙ k.found in absurd (cc))
 
 distinct_fresh : (s : State) → IsFresh s → UniqueIds s.completed s.current.id.0 s.env.next_block
 distinct_fresh s fresh = record {
@@ -118,7 +119,11 @@ module _ (begun s : State) (fresh : IsFresh begun) (b : PreservesBlocks begun s)
     completed_within : (begun.current.id.0 ≤ id) × (id < last.env.next_block)
     completed_within = elim (added_cases ending.completed (ended_by ending.current (last_end s)) k.place k.block k.found) [
       | inl e ↦ (let old : IsCompleted ending.completed id = record { place = k.place; block = k.block; found = e; named = k.named } in (
-        elim (behind.ids.added id old) [ inl before ↦ absurd (nothing_completed begun.completed fresh.completed id before) | inr own ↦ own_from id own ],
+        elim (behind.ids.added id old) [
+          | inl before ↦ absurd (nothing_completed begun.completed fresh.completed id before)
+          | inr own ↦
+              own_from id own
+        ],
         distinct.below id old,
       ))
       | inr e ↦ (let same : ending.current.id.0 ≡ id = ap (λ (x : BlockPair). x.0.0) (sym e) ∙ k.named in (
@@ -131,7 +136,9 @@ module _ (begun s : State) (fresh : IsFresh begun) (b : PreservesBlocks begun s)
   function_finished = record {
     apart = apart_ended ending.completed ending.current.id.0 ending.env.next_block (ended_by ending.current (last_end s)) refl distinct;
     empty = refl;
-    none = λ k. (let within : (begun.current.id.0 ≤ placeholder.id.0) × (placeholder.id.0 < last.env.next_block) = completed_within placeholder.id.0 k in never last.env.next_block fits within.1);
+    none =
+        λ k. (let within : (begun.current.id.0 ≤ placeholder.id.0) × (placeholder.id.0 < last.env.next_block) =
+        completed_within placeholder.id.0 k in never last.env.next_block fits within.1);
   }
     where
       never : (n : ℕ) → n < 2 ^ 32 → placeholder.id.0 < n → ⊥
@@ -146,7 +153,8 @@ module _ (begun s : State) (fresh : IsFresh begun) (b : PreservesBlocks begun s)
       by_count count is =
           let few : length (ids_of last.completed) ≤ count =
           few_within begun.current.id.0 count (ids_of last.completed) function_finished.apart
-          (λ n h. let within : (begun.current.id.0 ≤ n) × (n < last.env.next_block) = completed_within n (completed_in last.completed n h) in
+          (λ n h. let within : (begun.current.id.0 ≤ n) × (n < last.env.next_block) =
+          completed_within n (completed_in last.completed n h) in
           (within.0, subst (λ (bound : ℕ). n < bound) is within.1)) in
           let same : length (ids_of last.completed) ≡ length last.completed = length-map last.completed (λ (x : BlockPair). x.0.0) in
           omega (arith, few, same, is)
@@ -163,7 +171,8 @@ module _ (begun s : State) (fresh : IsFresh begun) (b : PreservesBlocks begun s)
   settle c cover own below jumps old here =
       settle_returned ending None returns.Void (temporary s None) (2 ^ 32 - 1) block_kinds.Block c cover
       (behind.settle c (contained_before (extends_end s) cover)
-      (notes_back c begun begun ending last own (omega arith) (omega arith) (straight_ended ending (last_end s) placeholder (λ id n. n))) below jumps old)
+      (notes_back c begun begun ending last own (omega arith) (omega arith) (straight_ended ending (last_end s) placeholder (λ id n. n)))
+      below jumps old)
 
   looped : Looping begun last
   looped c cover entry old =
@@ -178,7 +187,8 @@ module _ (begun s : State) (fresh : IsFresh begun) (b : PreservesBlocks begun s)
   function_whole =
       finished_whole begun last function_finished.apart fresh.completed fresh.handlers fresh.scopes named
       (λ id above below. ended_there ending (last_end s) placeholder id (behind.used id above below))
-      (subst (λ (id : ℕ). IsCompleted last.completed id) (sym entry_is) (ended_there ending (last_end s) placeholder begun.current.id.0 behind.extends.current))
+      (subst (λ (id : ℕ). IsCompleted last.completed id) (sym entry_is)
+      (ended_there ending (last_end s) placeholder begun.current.id.0 behind.extends.current))
 
   -- Notes and steps.
   module _ (kept : KeepsUnread begun s) (steps : KeepsStepsApart begun s) where
@@ -201,7 +211,8 @@ module _ (begun s : State) (fresh : IsFresh begun) (b : PreservesBlocks begun s)
         → All (λ x. x.1.preds ≡ []) last.completed → MayOrder (completed_graph last)
     function_may ident world covers unlinked =
         finished_may_order last unlinked ends
-        (loops_reached last function_finished ident world begun fresh.completed fresh.scopes fresh.instructions covers looped) unread stepless
+        (loops_reached last function_finished ident world begun fresh.completed fresh.scopes fresh.instructions covers looped) unread
+        stepless
 
   -- The code of the blocks.
   abbrev pub function_code : (ident : ℕ → Option ℕ) (world : World) → Code
@@ -221,14 +232,16 @@ falls_off world s c cover sound shares no_handlers source store notes answers a 
     (literal_runs world s (give value.Undefined) primitives.Undefined None (λ ways k after rest. refl)).runs c
     (contained_before (extends_end s) cover) sound shares outside (λ v after rest. returned (kept_in world after) returns.Void v)
     source store notes answers a
-    (subst (λ (h : List BlockId). Throws c (between s (with_undefined s)) store notes answers (innermost h) outside.throws) (sym no_handlers) (λ v after rest. refl))
+    (subst (λ (h : List BlockId). Throws c (between s (with_undefined s)) store notes answers (innermost h) outside.throws)
+    (sym no_handlers) (λ v after rest. refl))
     (record {
       goes = λ v after later left rest t is.
           steps_on c (with_undefined s).current.id.0 (length (with_undefined s).current.instructions) later left rest (Ends (last_end s))
           (returned (kept_in world after) returns.Void v)
           (terminal_met (with_undefined s) (last_end s) placeholder c cover)
           (comes_at_once c _ _ (λ stuck next.
-          ap (λ (kept : List Assignment). returned kept returns.Void (later (length s.env.identifiers))) (kept_same c world after later t.agrees shares)
+          ap (λ (kept : List Assignment). returned kept returns.Void (later (length s.env.identifiers)))
+          (kept_same c world after later t.agrees shares)
           ∙ ap (λ w. returned (kept_in world after) returns.Void w) is));
     })
 
@@ -263,20 +276,28 @@ pub function_runs : (scene : Scene) (begun s : State) (m : Action (Unit {0})) (i
 function_runs scene begun s m ident world fresh sound b fits covers r shares source store notes answers agrees =
     let c : Code = function_code begun s fresh b fits ident world in
     let trace : Trace = body_trace scene m outside source answers in
-    let cover : IsContainedIn (closed_off s) c = finished_contained (closed_off s) (function_finished begun s fresh b fits) ident world covers in
+    let cover : IsContainedIn (closed_off s) c =
+    finished_contained (closed_off s) (function_finished begun s fresh b fits) ident world covers in
     let no_handlers : s.handlers ≡ [] = b.extends.handlers ∙ fresh.handlers in
     let goes : TracesFrom c begun store notes answers trace =
     r.runs c (contained_before (extends_closed s) cover) sound shares outside
     (λ after rest. returned (kept_values scene after) returns.Void value.Undefined) source store notes answers agrees
-    (subst (λ (h : List BlockId). Throws c (between begun s) store notes answers (innermost h) outside.throws) (sym fresh.handlers) (λ v after rest. refl))
+    (subst (λ (h : List BlockId). Throws c (between begun s) store notes answers (innermost h) outside.throws) (sym fresh.handlers)
+    (λ v after rest. refl))
     (nothing_jumps c begun s store notes answers begun.scopes outside.breaks outside.continues fresh.scopes)
-    (record { goes = λ after later left rest t. falls_off scene.world s c cover (b.extends.sound sound) shares no_handlers after later left rest t.agrees }) in
+    (record {
+      goes =
+          λ after later left rest t. falls_off scene.world s c cover (b.extends.sound sound) shares no_handlers after later left rest
+          t.agrees;
+    }) in
     subst (λ (id : ℕ). TracesAt c id 0 store notes answers trace) (sym (entry_is begun s fresh b fits))
-    (subst (λ (listed : List InstructionId). TracesAt c begun.current.id.0 (length listed) store notes answers trace) fresh.instructions goes)
+    (subst (λ (listed : List InstructionId). TracesAt c begun.current.id.0 (length listed) store notes answers trace) fresh.instructions
+    goes)
 
 -- The function that is built has the traces of its source, whatever trace a stuck run has: `build` keeps the runs of the completed blocks.
 pub function_runs_by : (scene : Scene) (world : World) (begun s : State) (m : Action (Unit {0})) → IsFresh begun → HasSoundNames begun
-    → PreservesBlocks begun s → (closed_off s).env.next_block < 2 ^ 32 → KeepsUnread begun s → KeepsStepsApart begun s → RunsStatement scene.world m begun s
+    → PreservesBlocks begun s → (closed_off s).env.next_block < 2 ^ 32 → KeepsUnread begun s → KeepsStepsApart begun s
+    → RunsStatement scene.world m begun s
     → (f : HirFunction (List BlockPair)) (pairs : List Pair)
     → CoversNames (closed_off s).env.pairs (length (closed_off s).env.identifiers) (λ symbol. identifier_of pairs symbol)
     → SharesVariables (λ symbol. identifier_of pairs symbol) scene.world world
@@ -285,15 +306,21 @@ pub function_runs_by : (scene : Scene) (world : World) (begun s : State) (m : Ac
     → All (λ p. p.1.preds ≡ []) (closed_off s).completed
     → f.body ≡ hir_of built → f.instructions ≡ built.table
     → (source : List Assignment → List Value → Store)
-    → ((start : List Assignment) (arguments : List Value) → Agrees (λ symbol. identifier_of pairs symbol) (source start arguments) (take_arguments f.params arguments (start_values pairs start)))
-    → ((start : List Assignment) (arguments : List Value) (answers : List Answer) → run_function scene function start arguments answers ≡ body_trace scene m outside (source start arguments) answers)
+    → ((start : List Assignment) (arguments : List Value)
+    → Agrees (λ symbol. identifier_of pairs symbol) (source start arguments) (take_arguments f.params arguments (start_values pairs start)))
+    → ((start : List Assignment) (arguments : List Value) (answers : List Answer)
+    → run_function scene function start arguments answers ≡ body_trace scene m outside (source start arguments) answers)
     → (stuck : Trace) (start : List Assignment) (arguments : List Value) (answers : List Answer)
     → trace_by stuck world f pairs start arguments answers ≡ run_function scene function start arguments answers
-function_runs_by scene world begun s m fresh sound b fits kept steps r f pairs covers shares function built env is_built table_is unlinked body_is instructions_is source agrees means stuck start arguments answers =
-    ap (λ (h : Hir (List BlockPair)). graph_trace stuck (record { blocks = h.blocks; table = f.instructions; entry = h.entry }) ident world params start arguments answers) body_is
-    ∙ ap (λ (l : List Instruction). graph_trace stuck (record { blocks = built.blocks; table = l; entry = built.entry }) ident world params start arguments answers) instructions_is
+function_runs_by scene world begun s m fresh sound b fits kept steps r f pairs covers shares function built env is_built table_is unlinked
+    body_is instructions_is source agrees means stuck start arguments answers =
+    ap (λ (h : Hir (List BlockPair)). graph_trace stuck (record { blocks = h.blocks; table = f.instructions; entry = h.entry }) ident world
+    params start arguments answers) body_is
+    ∙ ap (λ (l : List Instruction). graph_trace stuck (record { blocks = built.blocks; table = l; entry = built.entry }) ident world params
+    start arguments answers) instructions_is
     ∙ is_built.runs may stuck ident world params once start arguments answers
-    ∙ ap (λ (blocks : List BlockPair). graph_trace stuck (record { blocks = blocks; table = last.table; entry = last.entry }) ident world params start arguments answers) table_is
+    ∙ ap (λ (blocks : List BlockPair). graph_trace stuck (record { blocks = blocks; table = last.table; entry = last.entry }) ident world
+    params start arguments answers) table_is
     ∙ settled_walks (completed_graph last) ordered ident world params settles stuck start arguments answers enough (omega arith)
     ∙ goes.by.1 stuck enough (omega arith)
     ∙ sym (means start arguments answers)
@@ -317,17 +344,23 @@ function_runs_by scene world begun s m fresh sound b fits kept steps r f pairs c
     ordered = function_may begun s fresh b fits kept steps ident world covers unlinked
 
     may : MayOrder (unordered_graph last)
-    may = subst (λ (blocks : List BlockPair). MayOrder (record { blocks = blocks; table = last.table; entry = last.entry })) (sym table_is) ordered
+    may =
+        subst (λ (blocks : List BlockPair). MayOrder (record { blocks = blocks; table = last.table; entry = last.entry })) (sym table_is)
+        ordered
 
     settles : AlwaysSettles (function_code begun s fresh b fits ident world)
     settles = function_settles begun s fresh b fits ident world covers
 
     once : PassesOnce (code_of (unordered_graph last) ident world) last.entry params
-    once = subst (λ (blocks : List BlockPair). PassesOnce (code_of (record { blocks = blocks; table = last.table; entry = last.entry }) ident world) last.entry params) (sym table_is)
+    once =
+        subst (λ (blocks : List BlockPair). PassesOnce
+        (code_of (record { blocks = blocks; table = last.table; entry = last.entry }) ident world) last.entry params) (sym table_is)
         (settles_passes_once (function_code begun s fresh b fits ident world) settles last.entry params)
 
     goes : TracesAt (function_code begun s fresh b fits ident world) last.entry.0 0 store no_notes answers trace
-    goes = function_runs scene begun s m ident world fresh sound b fits covers r shares (source start arguments) store no_notes answers (agrees start arguments)
+    goes =
+        function_runs scene begun s m ident world fresh sound b fits covers r shares (source start arguments) store no_notes answers
+        (agrees start arguments)
 
     enough : ℕ
     enough = goes.by.0 + steps_for answers (positions last.completed)

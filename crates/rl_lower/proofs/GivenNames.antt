@@ -1,5 +1,6 @@
 -- The names of a builder behind the parameters, and those of its pairs in the end.
-use Rattle.std.proofs.Common.{◌≡◌, ℕ, zero, suc, ◌+◌, ◌++◌, Bool, cond, if◌then◌else◌, List, [], ◌∷◌, All, length, map, slice_get, Option, Some, None, refl, sym, ap, ◌∙◌, subst, arith, eq-eqb}
+use Rattle.std.proofs.Common.{◌≡◌, ℕ, zero, suc, ◌+◌, ◌++◌, Bool, cond, if◌then◌else◌, List, [], ◌∷◌, All, length, map, slice_get, Option}
+use Rattle.std.proofs.Common.{Some, None, refl, sym, ap, ◌∙◌, subst, arith, eq-eqb}
 use Rattle.std.specs.Option.{option_map_or}
 use Rattle.std.proofs.lemmas.Bool.{ne_eqb}
 use Rattle.std.proofs.lemmas.Cmp.{nat_list_eq_equiv}
@@ -25,11 +26,13 @@ use Rattle.rl_names.specs.declared.parameters.Parameter.{Parameter}
 use Rattle.rl_lower.specs.Parameters.{AreDeclaredAt}
 use Rattle.rl_lowered.specs.Named.{HasNamedPairs, declared_span}
 use Rattle.rl_runs.specs.Facts.{GrowsNames, HasSoundNames}
-use Rattle.rl_lower.proofs.Parameters.{all_at, get_behind, identifier_for, known_at, known_from, pair_found, pair_tells, pairs_from, span_given, state_with, users_of}
+use Rattle.rl_lower.proofs.Parameters.{all_at, get_behind, identifier_for, known_at, known_from, pair_found, pair_tells, pairs_from}
+use Rattle.rl_lower.proofs.Parameters.{span_given, state_with, users_of}
 use Rattle.rl_runs.proofs.FinalNames.{unpaired}
 
 -- The name of a parameter is that of its symbol.
-user_found : (parameters : List Parameter) (place : ℕ) (p : Parameter) → AreApart parameters → slice_get parameters place ≡ Some p → user_of (users_of parameters) p.name ≡ Some p.symbol.0
+user_found : (parameters : List Parameter) (place : ℕ) (p : Parameter) → AreApart parameters → slice_get parameters place ≡ Some p
+    → user_of (users_of parameters) p.name ≡ Some p.symbol.0
 user_found [] place p apart there = absurd (none-some p there)
 user_found (q ∷ parameters) zero p apart there =
     let same : q ≡ p = same_Some q p there in
@@ -65,7 +68,8 @@ known_given s parameters place p there =
 
 name_given : (s : State) (parameters : List Parameter) (place : ℕ) (p : Parameter) → slice_get parameters place ≡ Some p
     → name_at (s.env.identifiers ++ known_from s s.env.next_type parameters) (length s.env.identifiers + place) ≡ Some (Named p.name)
-name_given s parameters place p there = ap (λ (o : Option Identifier). option_map_or (λ i. i.name) o None) (known_given s parameters place p there)
+name_given s parameters place p there =
+    ap (λ (o : Option Identifier). option_map_or (λ i. i.name) o None) (known_given s parameters place p there)
 
 -- Names are sound behind the parameters, where the environment had no pairs before.
 pub parameters_sound : (s : State) (parameters : List Parameter) → s.env.pairs ≡ [] → AreApart parameters
@@ -76,12 +80,16 @@ parameters_sound s parameters none apart = record {
         let told = pair_tells (length s.env.identifiers) parameters symbol identifier is in
         record {
           name = told.0.parameter.name;
-          named = ap (λ (n : ℕ). name_of (s.env.identifiers ++ known_from s s.env.next_type parameters) n) told.1 ∙ name_given s parameters told.0.place told.0.parameter told.0.there;
+          named =
+              ap (λ (n : ℕ). name_of (s.env.identifiers ++ known_from s s.env.next_type parameters) n) told.1
+              ∙ name_given s parameters told.0.place told.0.parameter told.0.there;
           user = user_found parameters told.0.place told.0.parameter apart told.0.there ∙ ap (λ (n : ℕ). Some n) told.0.has;
         };
   };
   same = λ symbol. ap (λ (l : List Pair). identifier_of (l ++ pairs_from (length s.env.identifiers) parameters) symbol) (sym none);
-  once = subst (λ (l : List Pair). AreDistinct (map (λ (p : Pair). p.symbol.0) (l ++ pairs_from (length s.env.identifiers) parameters))) (sym none)
+  once =
+      subst (λ (l : List Pair). AreDistinct (map (λ (p : Pair). p.symbol.0) (l ++ pairs_from (length s.env.identifiers) parameters)))
+      (sym none)
       (symbols_distinct (length s.env.identifiers) parameters apart);
 }
 
@@ -108,7 +116,8 @@ named_from names identifiers identifier (p ∷ parameters) given own spanned =
 pub parameters_pairs : (s : State) (names : Names) (parameters : List Parameter) → s.env.pairs ≡ [] → AreLocals names parameters
     → HasNamedPairs names (state_with s parameters)
 parameters_pairs s names parameters none own =
-    subst (λ (l : List Pair). All (IsNamedPair names (s.env.identifiers ++ known_from s s.env.next_type parameters)) (l ++ pairs_from (length s.env.identifiers) parameters)) (sym none)
+    subst (λ (l : List Pair). All (IsNamedPair names (s.env.identifiers ++ known_from s s.env.next_type parameters))
+    (l ++ pairs_from (length s.env.identifiers) parameters)) (sym none)
     (named_from names (s.env.identifiers ++ known_from s s.env.next_type parameters) (length s.env.identifiers) parameters
     (λ place p there. name_given s parameters place p there) own.named own.spanned)
 
@@ -130,7 +139,8 @@ mapped_from f (x ∷ xs) (suc place) y there = mapped_from f xs place y there
 pub parameters_kept : (s : State) (behind : (symbol : ℕ) → (before : Span) → Span) (parameters : List Parameter) (made : ℕ)
     (identifiers : List Identifier) (pairs : List Pair) → s.env.pairs ≡ [] → AreApart parameters → AreDeclaredAt s.semantic parameters
     → GrowsNames (state_with s parameters).env.pairs made pairs
-    → ((symbol identifier : ℕ) (known : Identifier) (before : Span) → identifier_of (state_with s parameters).bindings symbol ≡ Some identifier
+    → ((symbol identifier : ℕ) (known : Identifier) (before : Span)
+    → identifier_of (state_with s parameters).bindings symbol ≡ Some identifier
     → slice_get (state_with s parameters).env.identifiers identifier ≡ Some (record known { span = Some before })
     → slice_get identifiers identifier ≡ Some (record known { span = Some (behind symbol before) }))
     → AreGiven identifiers pairs (length s.env.identifiers) s.env.next_type
@@ -142,7 +152,8 @@ parameters_kept s behind parameters made identifiers pairs none apart spanned g 
       known = k p.symbol.0 (length s.env.identifiers + place) (fresh_identifier p.name None (s.env.next_type + place)) p.declaration bound
           (known_given s parameters place p from.1
           ∙ ap (λ (span : Option Span). Some (fresh_identifier p.name span (s.env.next_type + place)))
-          (span_given s p (all_at (λ (x : Parameter). declared_span s.semantic x.symbol.0 ≡ Some x.declaration) parameters place p from.1 spanned)));
+          (span_given s p (all_at (λ (x : Parameter). declared_span s.semantic x.symbol.0 ≡ Some x.declaration) parameters place p from.1
+          spanned)));
     })
   where
     moved : Parameter → Parameter
@@ -171,10 +182,14 @@ looked_up : (pairs : List Pair) (place : ℕ) (p : Pair) → AreDistinct (map (�
 looked_up [] place p distinct there = absurd (none-some p there)
 looked_up (q ∷ pairs) zero p distinct there =
     let same : q ≡ p = same_Some q p there in
-    ap (λ (b : Bool). cond b (Some q.identifier.0) (identifier_of pairs p.symbol.0)) (eq-eqb q.symbol.0 p.symbol.0 (ap (λ (x : Pair). x.symbol.0) same)) ∙ ap (λ (x : Pair). Some x.identifier.0) same
+    ap (λ (b : Bool). cond b (Some q.identifier.0) (identifier_of pairs p.symbol.0))
+    (eq-eqb q.symbol.0 p.symbol.0 (ap (λ (x : Pair). x.symbol.0) same)) ∙ ap (λ (x : Pair). Some x.identifier.0) same
 looked_up (q ∷ pairs) (suc place) p distinct there =
-    let among : IsIn (map (λ (x : Pair). x.symbol.0) pairs) p.symbol.0 = record { index = place; found = mapped_at (λ (x : Pair). x.symbol.0) pairs place p there } in
-    let ne : q.symbol.0 ≡ p.symbol.0 → ⊥ = λ e. distinct_head q.symbol.0 (map (λ (x : Pair). x.symbol.0) pairs) distinct (subst (λ (n : ℕ). IsIn (map (λ (x : Pair). x.symbol.0) pairs) n) (sym e) among) in
+    let among : IsIn (map (λ (x : Pair). x.symbol.0) pairs) p.symbol.0 =
+    record { index = place; found = mapped_at (λ (x : Pair). x.symbol.0) pairs place p there } in
+    let ne : q.symbol.0 ≡ p.symbol.0 → ⊥ =
+    λ e. distinct_head q.symbol.0 (map (λ (x : Pair). x.symbol.0) pairs) distinct
+    (subst (λ (n : ℕ). IsIn (map (λ (x : Pair). x.symbol.0) pairs) n) (sym e) among) in
     ap (λ (b : Bool). cond b (Some q.identifier.0) (identifier_of pairs p.symbol.0)) (ne_eqb q.symbol.0 p.symbol.0 ne)
     ∙ looked_up pairs place p (distinct_tail q.symbol.0 (map (λ (x : Pair). x.symbol.0) pairs) distinct) there
 
@@ -193,4 +208,5 @@ pairs_told names s q named = record {
 
     one : (i j : ℕ) (x y : Pair) → slice_get s.env.pairs i ≡ Some x → slice_get s.env.pairs j ≡ Some y
         → name_at s.env.identifiers x.identifier.0 ≡ name_at s.env.identifiers y.identifier.0 → x.symbol.0 ≡ y.symbol.0
-    one i j x y at_i at_j same = name_of-injective s q.agree x.symbol.0 y.symbol.0 x.identifier.0 y.identifier.0 (bound i x at_i) (bound j y at_j) same
+    one i j x y at_i at_j same =
+        name_of-injective s q.agree x.symbol.0 y.symbol.0 x.identifier.0 y.identifier.0 (bound i x at_i) (bound j y at_j) same

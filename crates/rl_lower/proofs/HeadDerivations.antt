@@ -49,7 +49,7 @@ head_derived {names} {value} tree e s t new p place is moved placed by =
     (subst (λ (n : State). LoweredHead names value e s n place) (sym moved)
     (subst (λ (q : Place). LoweredHead names value e s t q) (sym placed) by)))
 
--- What is lowerable of a head.
+-- The lowerable parts of a head.
 
 -- A declaration is not left out.
 pub declaration_kept : (tree : Syntax) → fits (field.One sort.VariableDeclaration) tree ≡ true → is_lost_head tree ≡ false
@@ -82,7 +82,8 @@ shown_may names {tree} {head} is kept may = kept_may names head (sym (ap is_lost
 
 -- The one declarator of a head, which has no initializer.
 
-bare_init : (there : At) (pattern init : Syntax) → is_bare (Node there word.Declarator (Then pattern (Then init End))) ≡ true → init ≡ Absent
+bare_init : (there : At) (pattern init : Syntax) → is_bare (Node there word.Declarator (Then pattern (Then init End))) ≡ true
+    → init ≡ Absent
 bare_init there pattern Absent bare = refl
 bare_init there pattern (Node at w parts) bare = absurd (cc)
 bare_init there pattern (Listed parts) bare = absurd (cc)
@@ -122,7 +123,8 @@ pub declared_within : {names : Names} {bind : At} {old mid : State} {identifier 
 declared_within {identifier = identifier} d =
     d.named.made d.symbol.0 identifier (ap (λ (t : State). identifier_of t.bindings d.symbol.0) d.moved ∙ d.bound.bound)
 
-pub declared_room : {names : Names} {bind : At} {old mid : State} {identifier : ℕ} (again : State) → IsDeclared names bind old mid identifier
+pub declared_room : {names : Names} {bind : At} {old mid : State} {identifier : ℕ} (again : State)
+    → IsDeclared names bind old mid identifier
     → again ≡ redeclared mid identifier bind.span → HasRoom old 6 → HasRoom again 4
 declared_room {bind = bind} {old = old} {mid = mid} {identifier = identifier} again d after room =
     let few : size_of mid ≤ size_of old + 2 = d.size in

@@ -54,7 +54,8 @@ module _ (key : Counted) where
   at_append : (table : List Instruction) (ns ms : List ℕ) → times_at key table (ns ++ ms) ≡ times_at key table ns + times_at key table ms
   at_append table [] ms = omega arith
   at_append table (n ∷ ns) ms =
-      let rest : times_at key table (ns ++ ms) ≡ times_at key table ns + times_at key table ms = at_append table ns ms in omega (arith, rest)
+      let rest : times_at key table (ns ++ ms) ≡ times_at key table ns + times_at key table ms =
+      at_append table ns ms in omega (arith, rest)
 
   at_numbers : (table : List Instruction) (ids : List InstructionId) → times key (listed_at table ids) ≡ times_at key table (numbers ids)
   at_numbers table [] = refl
@@ -69,7 +70,8 @@ module _ (key : Counted) where
   times_listed table [] = refl
   times_listed table (b ∷ blocks) =
       let rest : times key (listed table blocks) ≡ times_at key table (listed_in blocks) = times_listed table blocks in
-      let here : times key (listed_at table b.1.instructions) ≡ times_at key table (numbers b.1.instructions) = at_numbers table b.1.instructions in
+      let here : times key (listed_at table b.1.instructions) ≡ times_at key table (numbers b.1.instructions) =
+      at_numbers table b.1.instructions in
       let both = times_append (listed_at table b.1.instructions) (listed table blocks) in
       let split = at_append table (numbers b.1.instructions) (listed_in blocks) in
       omega (arith, rest, here, both, split)
@@ -137,12 +139,14 @@ module _ (key : Counted) where
       → times_at key (i ∷ table) ns ≡ weighted (occurrences 0 ns) (weight key i) + times_at key table (down ns)
   first_apart i table [] = refl
   first_apart i table (zero ∷ ns) =
-      let rest : times_at key (i ∷ table) ns ≡ weighted (occurrences 0 ns) (weight key i) + times_at key table (down ns) = first_apart i table ns in
+      let rest : times_at key (i ∷ table) ns ≡ weighted (occurrences 0 ns) (weight key i) + times_at key table (down ns) =
+      first_apart i table ns in
       let more : weighted (occurrences 0 (zero ∷ ns)) (weight key i) ≡ weight key i + weighted (occurrences 0 ns) (weight key i) =
       weighted_more (occurrences 0 (zero ∷ ns)) (occurrences 0 ns) (weight key i) refl in
       omega (arith, rest, more)
   first_apart i table (suc n ∷ ns) =
-      let rest : times_at key (i ∷ table) ns ≡ weighted (occurrences 0 ns) (weight key i) + times_at key table (down ns) = first_apart i table ns in
+      let rest : times_at key (i ∷ table) ns ≡ weighted (occurrences 0 ns) (weight key i) + times_at key table (down ns) =
+      first_apart i table ns in
       let none : occurrences 0 (suc n ∷ ns) ≡ 0 + occurrences 0 ns = other 0 (suc n) ns (λ e. absurd (omega (arith, e))) in
       let less : occurrences 0 (suc n ∷ ns) ≡ occurrences 0 ns = omega (arith, none) in
       let same : weighted (occurrences 0 (suc n ∷ ns)) (weight key i) ≡ weighted (occurrences 0 ns) (weight key i) =
@@ -158,14 +162,16 @@ module _ (key : Counted) where
   listed_once [] ns few = let none : times_at key [] ns ≡ 0 = none_at ns in omega (arith, none)
   listed_once (i ∷ table) ns few =
       let rest : times_at key table (down ns) ≤ times key table =
-      listed_once table (down ns) (λ n. let same : occurrences n (down ns) ≡ occurrences (suc n) ns = down_occurs n ns in omega (arith, same, few (suc n))) in
+      listed_once table (down ns) (λ n. let same : occurrences n (down ns) ≡ occurrences (suc n) ns =
+      down_occurs n ns in omega (arith, same, few (suc n))) in
       let first : weighted (occurrences 0 ns) (weight key i) ≤ weight key i = weighted_once (occurrences 0 ns) (weight key i) (few 0) in
       omega (arith, rest, first, first_apart i table ns)
 
 -- An instruction that has another order in the built table.
 pub plain_at : (xs ys : List Instruction) (n : ℕ) (i : Instruction) → map without_order ys ≡ map without_order xs → slice_get xs n ≡ Some i
     → (j : Instruction) × (slice_get ys n ≡ Some j) × (without_order j ≡ without_order i)
-plain_at xs ys n i same there = by_found (slice_get ys n) refl (sym (get_map without_order ys n) ∙ ap (λ (l : List Instruction). slice_get l n) same
+plain_at xs ys n i same there =
+    by_found (slice_get ys n) refl (sym (get_map without_order ys n) ∙ ap (λ (l : List Instruction). slice_get l n) same
     ∙ get_map without_order xs n ∙ ap (λ (o : Option Instruction). option_map without_order o) there)
   where
     by_found : (o : Option Instruction) → slice_get ys n ≡ o → option_map without_order (slice_get ys n) ≡ Some (without_order i)
@@ -173,7 +179,8 @@ plain_at xs ys n i same there = by_found (slice_get ys n) refl (sym (get_map wit
     by_found None is e =
         absurd (let never : None ≡ Some (without_order i) = sym (ap (λ (o : Option Instruction). option_map without_order o) is) ∙ e in cc)
     by_found (Some j) is e =
-        let both : Some (without_order j) ≡ Some (without_order i) = sym (ap (λ (o : Option Instruction). option_map without_order o) is) ∙ e in
+        let both : Some (without_order j) ≡ Some (without_order i) =
+        sym (ap (λ (o : Option Instruction). option_map without_order o) is) ∙ e in
         (j, is, cc)
 
 -- The indices that the blocks of a built graph list.
@@ -200,7 +207,8 @@ in_listed : (pairs : List BlockPair) (index : ℕ) (p : BlockPair) (n : ℕ) →
     → IsIn (listed_in pairs) n
 in_listed [] index p n found h = absurd (cc)
 in_listed (q ∷ pairs) zero p n found h =
-    (let same : p ≡ q = cc in in_left (numbers q.1.instructions) (listed_in pairs) n (subst (λ (x : BlockPair). IsIn (numbers x.1.instructions) n) same h))
+    (let same : p ≡ q =
+    cc in in_left (numbers q.1.instructions) (listed_in pairs) n (subst (λ (x : BlockPair). IsIn (numbers x.1.instructions) n) same h))
 in_listed (q ∷ pairs) (suc index) p n found h = in_right (numbers q.1.instructions) (listed_in pairs) n (in_listed pairs index p n found h)
 
 module _ (s : State) (built : Graph) (env : Environment) (b : IsBuilt s built env) where
@@ -213,18 +221,22 @@ module _ (s : State) (built : Graph) (env : Environment) (b : IsBuilt s built en
   pub built_once : AreDistinct (listed_in (graph_of s)) → (n : ℕ) → occurrences n (listed_in built.blocks) ≤ 1
   built_once once =
       distinct_occurs (listed_in built.blocks)
-      (subst AreDistinct (sym built_listed) (cleaned_once b.pruned.ordered (ordered_once (graph_of s) s.entry b.pruned.ordered b.pruned.order once)))
+      (subst AreDistinct (sym built_listed) (cleaned_once b.pruned.ordered
+      (ordered_once (graph_of s) s.entry b.pruned.ordered b.pruned.order once)))
 
   -- A reached block's instructions are listed.
   pub built_reached : ((id : BlockId) (block : BasicBlock) → block_at (graph_of s) id ≡ Some block → block.preds ≡ [])
-      → (id : ℕ) (block : BasicBlock) → block_at (graph_of s) (record { 0 = id }) ≡ Some block → IsReached (graph_of s) s.entry (record { 0 = id })
+      → (id : ℕ) (block : BasicBlock) → block_at (graph_of s) (record { 0 = id }) ≡ Some block
+      → IsReached (graph_of s) s.entry (record { 0 = id })
       → (n : ℕ) → IsIn (numbers block.instructions) n → IsIn (listed_in built.blocks) n
   built_reached unlinked id block found reached n h =
       subst (λ (l : List ℕ). IsIn l n) (sym listed_same)
       (in_listed b.pruned.ordered at.index (at.own, block) n at.found h)
     where
       kept : block_at b.pruned.ordered (record { 0 = id }) ≡ Some block
-      kept = ends_reached (graph_of s) s.entry b.pruned.order.end b.pruned.ordered b.pruned.order.walk b.pruned.order.blocks (record { 0 = id }) reached ∙ found
+      kept =
+          ends_reached (graph_of s) s.entry b.pruned.order.end b.pruned.ordered b.pruned.order.walk b.pruned.order.blocks
+          (record { 0 = id }) reached ∙ found
 
       at : FoundAt b.pruned.ordered id block
       at = found_at b.pruned.ordered id block kept

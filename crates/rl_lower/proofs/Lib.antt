@@ -22,5 +22,6 @@ pub mod SpannedGraphs
 pub mod StartStores
 pub mod StatementDerivations
 pub mod SwitchDerivations
+pub mod TargetStops
 pub mod TryDerivations
 pub mod WellFormed

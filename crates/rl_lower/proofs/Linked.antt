@@ -25,7 +25,8 @@ use Rattle.rl_runs.specs.Listed.{IsListed}
 pub built_numbered : (s : State) (built : Graph) (env : Environment) → HaveOwnIds s.completed → IsListed s → IsBuilt s built env
     → IsNumbered built.table built.blocks
 built_numbered s built env own l b =
-    b.numbered (subst (λ (pairs : List BlockPair). AreDistinct (listed_in pairs)) (sym (table_same s.completed own)) (distinct_left (listed_in s.completed) (numbers s.current.instructions) l.once)) l.unordered
+    b.numbered (subst (λ (pairs : List BlockPair). AreDistinct (listed_in pairs)) (sym (table_same s.completed own))
+    (distinct_left (listed_in s.completed) (numbers s.current.instructions) l.once)) l.unordered
 
 -- The table of a graph that is built has the builder's instructions, with other orders.
 pub built_length : (s : State) (built : Graph) (env : Environment) → IsBuilt s built env → length built.table ≡ length s.table
@@ -33,15 +34,18 @@ built_length s built env b = ap (λ (t : List Instruction). length t) b.pruned.o
 
 pub built_plain : (s : State) (built : Graph) (env : Environment) → IsBuilt s built env
     → map without_order built.table ≡ map without_order s.table
-built_plain s built env b = ap (λ (t : List Instruction). map without_order t) b.pruned.orders ∙ ordered_table_plain 1 (cleaned b.pruned.ordered) s.table
+built_plain s built env b =
+    ap (λ (t : List Instruction). map without_order t) b.pruned.orders ∙ ordered_table_plain 1 (cleaned b.pruned.ordered) s.table
 
 pub built_linked : (s : State) (built : Graph) (env : Environment) → HaveOwnIds s.completed → IsListed s → IsBuilt s built env
     → (f : HirFunction (List BlockPair)) → f.body ≡ hir_of built → f.instructions ≡ built.table → IsLinked f
 built_linked s built env own l b f body table = record {
   ids = subst (λ (h : Hir (List BlockPair)). HaveOwnIds h.blocks) (sym body) b.distinct;
   listed = subst (λ (h : Hir (List BlockPair)). All (λ p. All (λ id. id.0 < length f.instructions) p.1.instructions) h.blocks) (sym body)
-      (subst (λ n. All (λ p. All (λ id. id.0 < n) p.1.instructions) built.blocks) (sym (ap (λ (t : List Instruction). length t) table ∙ built_length s built env b))
+      (subst (λ n. All (λ p. All (λ id. id.0 < n) p.1.instructions) built.blocks)
+      (sym (ap (λ (t : List Instruction). length t) table ∙ built_length s built env b))
       (pruned_within (length s.table) (graph_of s) s.entry s.table built.blocks built.table b.pruned
-      (subst (λ (pairs : List BlockPair). All (λ p. All (λ id. id.0 < length s.table) p.1.instructions) pairs) (sym (table_same s.completed own)) l.completed)));
+      (subst (λ (pairs : List BlockPair). All (λ p. All (λ id. id.0 < length s.table) p.1.instructions) pairs)
+      (sym (table_same s.completed own)) l.completed)));
   preds = subst (λ (h : Hir (List BlockPair)). PredecessorsReached h.blocks h.entry h.blocks) (sym body) b.predecessors;
 }

@@ -1,5 +1,7 @@
--- Derivations of loops, labels and jumps, from the moves of their lowering, and the room, the names and the statements around in their holes.
-use Rattle.std.proofs.Common.{◌≡◌, ℕ, ◌+◌, ◌<◌, ◌≤◌, true, false, Bool, if◌then◌else◌, List, [], ◌∷◌, ◌++◌, length, Option, Some, None, Result, Ok, Err, IfOk, OnOk}
+-- Derivations of loops, labels and jumps, from the moves of their lowering, and the room, the names and the statements around in their
+-- holes.
+use Rattle.std.proofs.Common.{◌≡◌, ℕ, ◌+◌, ◌<◌, ◌≤◌, true, false, Bool, if◌then◌else◌, List, [], ◌∷◌, ◌++◌, length, Option, Some, None}
+use Rattle.std.proofs.Common.{Result, Ok, Err, IfOk, OnOk}
 use Rattle.std.proofs.Common.{option_map, map, reverse, length-append, refl, ap, sym, ◌∙◌, subst, arith}
 use Rattle.std.specs.Borrow.{Bor}
 use Rattle.rl_base.specs.declared.ids.BlockId.{BlockId}
@@ -131,7 +133,8 @@ pub do_while_told : {names : Names} {at : At} {own label : Label} {test body : S
     {first : Span} (f2 : WhileParts) (new : State) → label ≡ own → first ≡ span_of body → f ≡ while_at s at.span → b1 ≡ while_begun s label
     → LowersStatement names body b1 s2 → b2 ≡ do_while_bodied f s2 first → f2 ≡ while_after f → LowersExpression names test b2 s3 p
     → new ≡ while_ended f2 s3 p → LowersLoop names own (Node at word.Dowhile (Then body (Then test End))) s new
-do_while_told {names} {at} {own} {label} {test} {body} {s} {b1} {s2} {b2} {s3} {p} {f} {first} f2 new labels firsts framed begun l_body parted
+do_while_told {names} {at} {own} {label} {test} {body} {s} {b1} {s2} {b2} {s3} {p} {f} {first} f2 new labels firsts framed begun l_body
+    parted
     after l_test moved =
     loop_derived _ (Node at word.Dowhile (Then body (Then test End))) s _ new refl
     (moved ∙ ap (λ (q : WhileParts). while_ended q s3 p) (after ∙ ap while_after framed))
@@ -280,7 +283,8 @@ pub unlabeled_loop_ok : (names : Names) (tree : Syntax) (s new : State) (r : Res
 unlabeled_loop_ok names tree s new (Ok x) l = told_statement (lowered.Unlabeled tree s new l.by)
 unlabeled_loop_ok names tree s new (Err e) l = tt
 
-pub labeled_told : {names : Names} {at : At} {own label : List ℕ} {body : Syntax} {s b s2 : State} {f : LabelParts} {part : Span} (new : State)
+pub labeled_told : {names : Names} {at : At} {own label : List ℕ} {body : Syntax} {s b s2 : State} {f : LabelParts} {part : Span}
+    (new : State)
     → label ≡ own → part ≡ span_of body → is_loop body ≡ false → f ≡ label_at s at.span → b ≡ label_begun s label
     → LowersStatement names body b s2 → new ≡ label_ended f s2 part
     → LowersStatement names (Node at word.Labeled (Then (Said own) (Then body End))) s new
@@ -295,13 +299,15 @@ labeled_told {names} {at} {own} {label} {body} {s} {b} {s2} {f} {part} new label
 pub labeled_loop_may : (names : Names) (around : List Around) (label : List ℕ) (body : Syntax) → is_loop body ≡ true
     → IsLowerableIn names (within_label label body around) (own_label label body) body → IsLowerableIn names around (Some label) body
 labeled_loop_may names around label body is may =
-    subst (λ (b : Bool). IsLowerableIn names (if b then around else (InLabeled label ∷ around)) (if b then Some label else None) body) is may
+    subst (λ (b : Bool). IsLowerableIn names (if b then around else (InLabeled label ∷ around)) (if b then Some label else None) body) is
+    may
 
 pub labeled_may : (names : Names) (around : List Around) (label : List ℕ) (body : Syntax) → is_loop body ≡ false
     → IsLowerableIn names (within_label label body around) (own_label label body) body
     → IsLowerableIn names (InLabeled label ∷ around) None body
 labeled_may names around label body is may =
-    subst (λ (b : Bool). IsLowerableIn names (if b then around else (InLabeled label ∷ around)) (if b then Some label else None) body) is may
+    subst (λ (b : Bool). IsLowerableIn names (if b then around else (InLabeled label ∷ around)) (if b then Some label else None) body) is
+    may
 
 -- The statements around in the holes.
 
@@ -333,7 +339,8 @@ pub for_inited_arounds : {label : Label} {at : Span} {f : ForParts} (part : Span
 for_inited_arounds {label} {at} {f} part s0 s b framed moved =
     ap arounds (moved ∙ ap (λ (q : ForParts). for_inited q s part) framed)
 
-pub opened_plain : {label : Label} {at : Span} {f : ForParts} (part : Span) (s0 s b : State) → f ≡ for_at s0 at label false → b ≡ for_inited f s part
+pub opened_plain : {label : Label} {at : Span} {f : ForParts} (part : Span) (s0 s b : State) → f ≡ for_at s0 at label false
+    → b ≡ for_inited f s part
     → b.scopes ≡ s.scopes ++ for_scope s0.env.next_block label (block_id s0.env.next_block) ∷ []
 opened_plain {label} {at} {f} part s0 s b framed moved =
     ap (λ (o : State). o.scopes) (moved ∙ ap (λ (q : ForParts). for_inited q s part) framed)
@@ -345,7 +352,8 @@ opened_updated {label} {at} {f} {f2} part s0 s2 s b framed after moved =
     ap (λ (o : State). o.scopes) (moved ∙ ap (λ (q : ForParts). for_updated q s part)
     (after ∙ ap (λ (q : ForParts). for_after_init q s2) framed))
 
-pub for_plain_arounds : {own label : Label} {at : Span} {f : ForParts} (part : Span) (s0 s b : State) → label ≡ own → f ≡ for_at s0 at label false
+pub for_plain_arounds : {own label : Label} {at : Span} {f : ForParts} (part : Span) (s0 s b : State) → label ≡ own
+    → f ≡ for_at s0 at label false
     → b ≡ for_inited f s part → arounds b ≡ InLoop own ∷ arounds s
 for_plain_arounds {own} {label} part s0 s b labels framed moved =
     arounds_in s b (for_scope s0.env.next_block label (block_id s0.env.next_block)) (opened_plain part s0 s b framed moved)

@@ -1,5 +1,7 @@
 -- The builder after the parameters of a function.
-use Rattle.std.proofs.Common.{◌≡◌, ◌≢◌, ℕ, zero, suc, ◌+◌, ◌<◌, ◌++◌, ◌&&◌, Bool, true, false, nat_eq, if◌then◌else◌, List, [], ◌∷◌, map, All, unwrap_or, length, length-append, Option, Some, None, slice_get, refl, sym, ap, ◌∙◌, subst, arith, append-nil, append_assoc, eq-eqb, inl, inr}
+use Rattle.std.proofs.Common.{◌≡◌, ◌≢◌, ℕ, zero, suc, ◌+◌, ◌<◌, ◌++◌, ◌&&◌, Bool, true, false, nat_eq, if◌then◌else◌, List, [], ◌∷◌, map}
+use Rattle.std.proofs.Common.{All, unwrap_or, length, length-append, Option, Some, None, slice_get, refl, sym, ap, ◌∙◌, subst, arith}
+use Rattle.std.proofs.Common.{append-nil, append_assoc, eq-eqb, inl, inr}
 use Rattle.std.specs.Str.{bytes_eq}
 use Rattle.std.specs.Option.{option_map, option_map_or, option_or}
 use Rattle.std.proofs.lemmas.Bool.{ne_eqb}
@@ -101,7 +103,9 @@ said_from s (p ∷ parameters) = said_of s p ++ said_from s parameters
 
 said_end : (s : State) (done : List Parameter) (p : Parameter) → said_from s (done ++ p ∷ []) ≡ said_from s done ++ said_from s (p ∷ [])
 said_end s [] p = refl
-said_end s (q ∷ done) p = ap (λ (l : List Diagnostic). said_of s q ++ l) (said_end s done p) ∙ sym (append_assoc (said_of s q) (said_from s done) (said_from s (p ∷ [])))
+said_end s (q ∷ done) p =
+    ap (λ (l : List Diagnostic). said_of s q ++ l) (said_end s done p)
+    ∙ sym (append_assoc (said_of s q) (said_from s done) (said_from s (p ∷ [])))
 
 label_by : (declared : Option Bound) (other : Span)
     → option_map_or (λ b. b.span) declared other ≡ unwrap_or (option_map (λ b. b.span) declared) other
@@ -130,13 +134,19 @@ chosen_free (u ∷ used) symbol name free =
     let first : is_free (u ∷ used) symbol name ≡ true = ap (λ (o : Option ℕ). option_map_or (λ user. nat_eq user symbol) o true) free in
     ap (λ (b : Bool). candidate name (if b then 0 else place_from (u ∷ used) symbol name 1 (length used))) first
 
-user_last : (used : List UsedName) (name : List ℕ) (symbol : ℕ) → user_of used name ≡ None → with_user used name symbol ≡ used ++ record { name = name; symbol = symbol } ∷ []
+user_last : (used : List UsedName) (name : List ℕ) (symbol : ℕ) → user_of used name ≡ None
+    → with_user used name symbol ≡ used ++ record { name = name; symbol = symbol } ∷ []
 user_last [] name symbol free = refl
 user_last (u ∷ used) name symbol free = by_test (user_last used name symbol) (bytes_eq name u.name) refl
   where
-    by_test : (user_of used name ≡ None → with_user used name symbol ≡ used ++ record { name = name; symbol = symbol } ∷ []) → (b : Bool) → bytes_eq name u.name ≡ b → (if b then record u { symbol = symbol } ∷ used else u ∷ with_user used name symbol) ≡ (u ∷ used) ++ record { name = name; symbol = symbol } ∷ []
-    by_test rest true is = absurd ((let never : Some u.symbol ≡ None = sym (ap (λ (b : Bool). if b then Some u.symbol else user_of used name) is) ∙ free in cc))
-    by_test rest false is = ap (λ (l : List UsedName). u ∷ l) (rest (sym (ap (λ (b : Bool). if b then Some u.symbol else user_of used name) is) ∙ free))
+    by_test : (user_of used name ≡ None → with_user used name symbol ≡ used ++ record { name = name; symbol = symbol } ∷ []) → (b : Bool)
+        → bytes_eq name u.name ≡ b → (if b then record u { symbol = symbol } ∷ used else u ∷ with_user used name
+        symbol) ≡ (u ∷ used) ++ record { name = name; symbol = symbol } ∷ []
+    by_test rest true is =
+        absurd ((let never : Some u.symbol ≡ None =
+        sym (ap (λ (b : Bool). if b then Some u.symbol else user_of used name) is) ∙ free in cc))
+    by_test rest false is =
+        ap (λ (l : List UsedName). u ∷ l) (rest (sym (ap (λ (b : Bool). if b then Some u.symbol else user_of used name) is) ∙ free))
 
 -- A fact about each item of a list, at an item.
 pub all_at : {X : Type 0} (P : X → Type 0) (xs : List X) (place : ℕ) (x : X) → slice_get xs place ≡ Some x → All P xs → P x
@@ -174,7 +184,8 @@ unbound : (identifier : ℕ) (done : List Parameter) (p : Parameter) → All (λ
     → identifier_of (pairs_from identifier done) p.symbol.0 ≡ None
 unbound identifier [] p apart = refl
 unbound identifier (q ∷ done) p apart =
-    ap (λ (b : Bool). if b then Some identifier else identifier_of (pairs_from (identifier + 1) done) p.symbol.0) (ne_eqb q.symbol.0 p.symbol.0 (All-head (λ q. IsApart q p) q done apart).symbols)
+    ap (λ (b : Bool). if b then Some identifier else identifier_of (pairs_from (identifier + 1) done) p.symbol.0)
+    (ne_eqb q.symbol.0 p.symbol.0 (All-head (λ q. IsApart q p) q done apart).symbols)
     ∙ unbound (identifier + 1) done p (All-tail (λ q. IsApart q p) q done apart)
 
 -- The identifier of a symbol is that of the parameter which has it.
@@ -191,12 +202,20 @@ pub pair_tells : (identifier : ℕ) (parameters : List Parameter) (symbol found 
 pair_tells identifier [] symbol found is = absurd (cc)
 pair_tells identifier (p ∷ parameters) symbol found is = elim (eqb_tells p.symbol.0 symbol) [
   | inl same ↦ (
-      let first : Some identifier ≡ Some found = sym (ap (λ (b : Bool). if b then Some identifier else identifier_of (pairs_from (identifier + 1) parameters) symbol) same.0) ∙ is in
+      let first : Some identifier ≡ Some found =
+      sym (ap (λ (b : Bool). if b then Some identifier else identifier_of (pairs_from (identifier + 1) parameters) symbol) same.0)
+      ∙ is in
       let one : identifier ≡ found = cc in
       (record { place = 0; parameter = p; there = refl; has = same.1 }, omega (arith, one)))
   | inr apart ↦ (
-      let later = pair_tells (identifier + 1) parameters symbol found (sym (ap (λ (b : Bool). if b then Some identifier else identifier_of (pairs_from (identifier + 1) parameters) symbol) apart.0) ∙ is) in
-      (record { place = suc later.0.place; parameter = later.0.parameter; there = later.0.there; has = later.0.has }, omega (arith, later.1)))
+      let later =
+      pair_tells (identifier + 1) parameters symbol found
+      (sym (ap (λ (b : Bool). if b then Some identifier else identifier_of (pairs_from (identifier + 1) parameters) symbol) apart.0)
+      ∙ is) in (
+        record { place = suc later.0.place; parameter = later.0.parameter; there = later.0.there; has = later.0.has },
+        omega
+            (arith, later.1),
+      ))
 ]
 
 pub pair_found : (identifier : ℕ) (parameters : List Parameter) (place : ℕ) (p : Parameter) → AreApart parameters
@@ -204,15 +223,18 @@ pub pair_found : (identifier : ℕ) (parameters : List Parameter) (place : ℕ) 
 pair_found identifier [] place p apart there = absurd (cc)
 pair_found identifier (q ∷ parameters) zero p apart there =
     let same : q ≡ p = cc in
-    ap (λ (b : Bool). if b then Some identifier else identifier_of (pairs_from (identifier + 1) parameters) p.symbol.0) (eq-eqb q.symbol.0 p.symbol.0 (ap (λ (x : Parameter). x.symbol.0) same))
+    ap (λ (b : Bool). if b then Some identifier else identifier_of (pairs_from (identifier + 1) parameters) p.symbol.0)
+    (eq-eqb q.symbol.0 p.symbol.0 (ap (λ (x : Parameter). x.symbol.0) same))
     ∙ ap (λ (n : ℕ). Some n) (omega arith)
 pair_found identifier (q ∷ parameters) (suc place) p apart there =
-    ap (λ (b : Bool). if b then Some identifier else identifier_of (pairs_from (identifier + 1) parameters) p.symbol.0) (ne_eqb q.symbol.0 p.symbol.0 (all_at (IsApart q) parameters place p there apart.0).symbols)
+    ap (λ (b : Bool). if b then Some identifier else identifier_of (pairs_from (identifier + 1) parameters) p.symbol.0)
+    (ne_eqb q.symbol.0 p.symbol.0 (all_at (IsApart q) parameters place p there apart.0).symbols)
     ∙ pair_found (identifier + 1) parameters place p apart.1 there ∙ ap (λ (n : ℕ). Some n) (omega arith)
 
 pub known_length : (s : State) (type : ℕ) (done : List Parameter) → length (known_from s type done) ≡ length done
 known_length s type [] = refl
-known_length s type (x ∷ done) = let rest : length (known_from s (type + 1) done) ≡ length done = known_length s (type + 1) done in omega (arith, rest)
+known_length s type (x ∷ done) = let rest : length (known_from s (type + 1) done) ≡ length done =
+    known_length s (type + 1) done in omega (arith, rest)
 
 said_first : (s : State) (x : Parameter)
     → (if bytes_eq x.name fbt && true then fbt_diagnostic (fbt_label s x.symbol.0 (Some x.declaration)) ∷ [] else []) ≡ said_from s (x ∷ [])
@@ -223,8 +245,12 @@ said_first s x = by_test (bytes_eq x.name fbt) refl
 
     by_test : (b : Bool) → bytes_eq x.name fbt ≡ b
         → (if bytes_eq x.name fbt && true then fbt_diagnostic label ∷ [] else []) ≡ said_from s (x ∷ [])
-    by_test true is = ap (λ (c : Bool). if c && true then fbt_diagnostic label ∷ [] else []) is ∙ sym (ap (λ (c : Bool). (if c then refusal row.F40 label ∷ [] else []) ++ []) is)
-    by_test false is = ap (λ (c : Bool). if c && true then fbt_diagnostic label ∷ [] else []) is ∙ sym (ap (λ (c : Bool). (if c then refusal row.F40 label ∷ [] else []) ++ []) is)
+    by_test true is =
+        ap (λ (c : Bool). if c && true then fbt_diagnostic label ∷ [] else []) is
+        ∙ sym (ap (λ (c : Bool). (if c then refusal row.F40 label ∷ [] else []) ++ []) is)
+    by_test false is =
+        ap (λ (c : Bool). if c && true then fbt_diagnostic label ∷ [] else []) is
+        ∙ sym (ap (λ (c : Bool). (if c then refusal row.F40 label ∷ [] else []) ++ []) is)
 
 -- The environment after some symbols got identifiers.
 abbrev pub env_with : State → List Parameter → Environment
@@ -241,14 +267,22 @@ state_with s done = record s { env = env_with s done; bindings = pairs_from (len
 
 -- A builder, by what names change of it.
 abbrev made : State → ℕ → List Identifier → List Pair → List Diagnostic → List Rename → List Pair → List UsedName → State
-made s types identifiers pairs diagnostics renames bindings used = record s { env = record s.env { next_type = types; identifiers = identifiers; pairs = pairs; diagnostics = diagnostics; renames = renames }; bindings = bindings; used_names = used }
+made s types identifiers pairs diagnostics renames bindings used =
+    record s {
+      env =
+          record s.env { next_type = types; identifiers = identifiers; pairs = pairs; diagnostics = diagnostics; renames = renames };
+      bindings =
+          bindings;
+      used_names = used;
+    }
 
 made_same : (s : State) {types types1 : ℕ} {identifiers identifiers1 : List Identifier} {pairs pairs1 : List Pair}
     {diagnostics diagnostics1 : List Diagnostic} {renames renames1 : List Rename} {bindings bindings1 : List Pair}
     {used used1 : List UsedName}
     → types ≡ types1 → identifiers ≡ identifiers1 → pairs ≡ pairs1 → diagnostics ≡ diagnostics1 → renames ≡ renames1 → bindings ≡ bindings1
     → used ≡ used1
-    → made s types identifiers pairs diagnostics renames bindings used ≡ made s types1 identifiers1 pairs1 diagnostics1 renames1 bindings1 used1
+    → made s types identifiers pairs diagnostics renames bindings used ≡ made s types1 identifiers1 pairs1 diagnostics1 renames1 bindings1
+    used1
 made_same s a b c d e f g = λ i. made s (a i) (b i) (c i) (d i) (e i) (f i) (g i)
 
 -- A list whose last part grows.
@@ -257,7 +291,8 @@ ended_by first more last all is = append_assoc first more last ∙ ap (λ (l : L
 
 -- No reference is renamed where a symbol gets its own name.
 none_renamed : (s : State) (name free : List ℕ) (symbol : ℕ) → free ≡ name → s.env.renames ++ renames_of s name free symbol ≡ s.env.renames
-none_renamed s name free symbol is = ap (λ (l : List Rename). s.env.renames ++ l) (same (bytes_eq free name) ((bytes_eq-Decides free name).1 is)) ∙ append-nil s.env.renames
+none_renamed s name free symbol is =
+    ap (λ (l : List Rename). s.env.renames ++ l) (same (bytes_eq free name) ((bytes_eq-Decides free name).1 is)) ∙ append-nil s.env.renames
   where
     more : List Rename
     more = map (renamed free) (reference_ids s.semantic.bindings.symbols s.semantic.bindings.references symbol)
@@ -275,19 +310,26 @@ next_with s done x apart =
     let free : user_of (users_of done) x.name ≡ None = unused done x apart in
     let none : identifier_of (pairs_from base done) x.symbol.0 ≡ None = unbound base done x apart in
     let name_is : chosen (users_of done) x.symbol.0 x.name ≡ x.name = chosen_free (users_of done) x.symbol.0 x.name free in
-    let counted : length (s.env.identifiers ++ known_from s s.env.next_type done) ≡ base + length done = length-append s.env.identifiers (known_from s s.env.next_type done) ∙ ap (λ (n : ℕ). base + n) (known_length s s.env.next_type done) in
-    let types : type + 1 ≡ s.env.next_type + length (done ++ x ∷ []) = (let long : length (done ++ x ∷ []) ≡ length done + 1 = length-append done (x ∷ []) in omega (arith, long)) in
-    let pairs : pairs_from base (done ++ x ∷ []) ≡ pairs_from base done ++ pair x.symbol.0 (length (s.env.identifiers ++ known_from s s.env.next_type done)) ∷ [] =
+    let counted : length (s.env.identifiers ++ known_from s s.env.next_type done) ≡ base + length done =
+    length-append s.env.identifiers (known_from s s.env.next_type done) ∙ ap (λ (n : ℕ). base + n) (known_length s s.env.next_type done) in
+    let types : type + 1 ≡ s.env.next_type + length (done ++ x ∷ []) =
+    (let long : length (done ++ x ∷ []) ≡ length done + 1 = length-append done (x ∷ []) in omega (arith, long)) in
+    let pairs : pairs_from base (done ++ x ∷ []) ≡ pairs_from base done ++ pair x.symbol.0
+    (length (s.env.identifiers ++ known_from s s.env.next_type done)) ∷ [] =
     pairs_end base done x ∙ ap (λ (n : ℕ). pairs_from base done ++ pair x.symbol.0 n ∷ []) (sym counted) in
-    let known : known_from s s.env.next_type (done ++ x ∷ []) ≡ known_from s s.env.next_type done ++ fresh_identifier (chosen (users_of done) x.symbol.0 x.name) (new_span s x.symbol.0 (Some x.declaration)) type ∷ [] =
-    known_end s s.env.next_type done x ∙ ap (λ (n : List ℕ). known_from s s.env.next_type done ++ fresh_identifier n (new_span s x.symbol.0 (Some x.declaration)) type ∷ []) (sym name_is) in
+    let known : known_from s s.env.next_type (done ++ x ∷ []) ≡ known_from s s.env.next_type done ++ fresh_identifier
+    (chosen (users_of done) x.symbol.0 x.name) (new_span s x.symbol.0 (Some x.declaration)) type ∷ [] =
+    known_end s s.env.next_type done x ∙ ap (λ (n : List ℕ). known_from s s.env.next_type done ++ fresh_identifier n
+    (new_span s x.symbol.0 (Some x.declaration)) type ∷ []) (sym name_is) in
     let used : with_user (users_of done) (chosen (users_of done) x.symbol.0 x.name) x.symbol.0 ≡ users_of (done ++ x ∷ []) =
-    ap (λ (n : List ℕ). with_user (users_of done) n x.symbol.0) name_is ∙ user_last (users_of done) x.name x.symbol.0 free ∙ sym (users_end done x) in
+    ap (λ (n : List ℕ). with_user (users_of done) n x.symbol.0) name_is ∙ user_last (users_of done) x.name x.symbol.0 free
+    ∙ sym (users_end done x) in
     ap (λ (o : Option ℕ). resolved_by o (state_with s done) x.name x.symbol.0 (Some x.declaration)) none
     ∙ made_same s types
     (ended_by s.env.identifiers (known_from s s.env.next_type done) _ _ known)
     (ended_by s.env.pairs (pairs_from base done) _ _ pairs)
-    (ended_by s.env.diagnostics (said_from s done) _ _ (said_end s done x ∙ ap (λ (l : List Diagnostic). said_from s done ++ l) (sym (said_first s x))))
+    (ended_by s.env.diagnostics (said_from s done) _ _
+    (said_end s done x ∙ ap (λ (l : List Diagnostic). said_from s done ++ l) (sym (said_first s x))))
     (none_renamed s x.name (chosen (users_of done) x.symbol.0 x.name) x.symbol.0 name_is)
     (sym pairs)
     used
@@ -304,8 +346,15 @@ all_with s done (x ∷ rest) apart =
 
 empty_env : (s : State) → env_with s [] ≡ s.env
 empty_env s =
-    ap (λ (n : ℕ). record s.env { next_type = n; identifiers = s.env.identifiers ++ []; pairs = s.env.pairs ++ []; diagnostics = s.env.diagnostics ++ [] }) (omega arith)
-    ∙ ap (λ (l : List Identifier). record s.env { identifiers = l; pairs = s.env.pairs ++ []; diagnostics = s.env.diagnostics ++ [] }) (append-nil s.env.identifiers)
+    ap (λ (n : ℕ). record s.env {
+      next_type = n;
+      identifiers = s.env.identifiers ++ [];
+      pairs = s.env.pairs ++ [];
+      diagnostics =
+          s.env.diagnostics ++ [];
+    }) (omega arith)
+    ∙ ap (λ (l : List Identifier). record s.env { identifiers = l; pairs = s.env.pairs ++ []; diagnostics = s.env.diagnostics ++ [] })
+    (append-nil s.env.identifiers)
     ∙ ap (λ (l : List Pair). record s.env { pairs = l; diagnostics = s.env.diagnostics ++ [] }) (append-nil s.env.pairs)
     ∙ ap (λ (l : List Diagnostic). record s.env { diagnostics = l }) (append-nil s.env.diagnostics)
 
@@ -318,18 +367,25 @@ empty_with s bindings used =
 -- Behind the parameters of a function each has its own identifier, in order.
 pub parameters_given : (s : State) (parameters : List Parameter) → s.bindings ≡ [] → s.used_names ≡ [] → AreApart parameters
     → with_parameters s parameters ≡ state_with s parameters
-parameters_given s parameters bindings used apart = ap (λ (t : State). with_parameters t parameters) (sym (empty_with s bindings used)) ∙ all_with s [] parameters apart
+parameters_given s parameters bindings used apart =
+    ap (λ (t : State). with_parameters t parameters) (sym (empty_with s bindings used)) ∙ all_with s [] parameters apart
 
 -- The identifier of a place.
 pub known_at : (s : State) (type : ℕ) (symbols : List Parameter) (place : ℕ) (x : Parameter) → slice_get symbols place ≡ Some x
     → slice_get (known_from s type symbols) place ≡ Some (identifier_for s (type + place) x)
 known_at s type [] place x is = absurd (cc)
-known_at s type (y ∷ symbols) zero x is = (let same : y ≡ x = cc in let none : type ≡ type + 0 = omega arith in ap (λ (z : Parameter). Some (identifier_for s type z)) same ∙ ap (λ (n : ℕ). Some (identifier_for s n x)) none)
-known_at s type (y ∷ symbols) (suc place) x is = (let one : type + 1 + place ≡ type + suc place = omega arith in known_at s (type + 1) symbols place x is ∙ ap (λ (n : ℕ). Some (identifier_for s n x)) one)
+known_at s type (y ∷ symbols) zero x is =
+    (let same : y ≡ x = cc in let none : type ≡ type + 0 =
+    omega arith in ap (λ (z : Parameter). Some (identifier_for s type z)) same ∙ ap (λ (n : ℕ). Some (identifier_for s n x)) none)
+known_at s type (y ∷ symbols) (suc place) x is =
+    (let one : type + 1 + place ≡ type + suc place =
+    omega arith in known_at s (type + 1) symbols place x is ∙ ap (λ (n : ℕ). Some (identifier_for s n x)) one)
 
 pub get_behind : {X : Type 0} (xs ys : List X) (place : ℕ) → slice_get (xs ++ ys) (length xs + place) ≡ slice_get ys place
 get_behind [] ys place = ap (λ (n : ℕ). slice_get ys n) (omega arith)
-get_behind (x ∷ xs) ys place = (let one : length (x ∷ xs) + place ≡ suc (length xs + place) = omega arith in ap (λ (n : ℕ). slice_get (x ∷ (xs ++ ys)) n) one ∙ get_behind xs ys place)
+get_behind (x ∷ xs) ys place =
+    (let one : length (x ∷ xs) + place ≡ suc (length xs + place) =
+    omega arith in ap (λ (n : ℕ). slice_get (x ∷ (xs ++ ys)) n) one ∙ get_behind xs ys place)
 
 -- A parameter `fbt` is refused.
 said_some : (s : State) (parameters : List Parameter) (place : ℕ) (p : Parameter) → slice_get parameters place ≡ Some p → p.name ≡ fbt
@@ -339,7 +395,8 @@ said_some s (q ∷ parameters) zero p there name none =
     let same : q.name ≡ fbt = ap (λ (x : Parameter). x.name) (same_Some q p there) ∙ name in
     let label : Span = fbt_label s q.symbol.0 (Some q.declaration) in
     let test : bytes_eq q.name fbt ≡ true = (bytes_eq-Decides q.name fbt).1 same in
-    let first : (if bytes_eq q.name fbt then refusal row.F40 label ∷ [] else []) ≡ [] = first_none (said_of s q) (said_from s parameters) none in
+    let first : (if bytes_eq q.name fbt then refusal row.F40 label ∷ [] else []) ≡ [] =
+    first_none (said_of s q) (said_from s parameters) none in
     let never : refusal row.F40 label ∷ [] ≡ [] = sym (ap (λ (b : Bool). if b then refusal row.F40 label ∷ [] else []) test) ∙ first in
     absurd (cc)
 said_some s (q ∷ parameters) (suc place) p there name none =

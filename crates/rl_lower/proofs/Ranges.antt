@@ -22,7 +22,8 @@ below_none low (x ∷ xs) from =
     let first : low ≤ x = from x (in_head x xs) in
     elim (leb_tells (suc x) low) [
       | inl t ↦ (let under : suc x ≤ low = t.1 in absurd (omega (arith, first, under)))
-      | inr t ↦ (let here : below low (x ∷ xs) ≡ 0 + below low xs = ap (λ (b : Bool). one_if b + below low xs) t.0 in omega (arith, here, rest))
+      | inr t ↦ (let here : below low (x ∷ xs) ≡ 0 + below low xs =
+          ap (λ (b : Bool). one_if b + below low xs) t.0 in omega (arith, here, rest))
     ]
 
 below_all : (high : ℕ) (xs : List ℕ) → ((n : ℕ) → IsIn xs n → n < high) → below high xs ≡ length xs
@@ -31,7 +32,8 @@ below_all high (x ∷ xs) under =
     let rest : below high xs ≡ length xs = below_all high xs (λ n h. under n (in_tail x xs n h)) in
     let first : x < high = under x (in_head x xs) in
     elim (leb_tells (suc x) high) [
-      | inl t ↦ (let here : below high (x ∷ xs) ≡ 1 + below high xs = ap (λ (b : Bool). one_if b + below high xs) t.0 in omega (arith, here, rest))
+      | inl t ↦ (let here : below high (x ∷ xs) ≡ 1 + below high xs =
+          ap (λ (b : Bool). one_if b + below high xs) t.0 in omega (arith, here, rest))
       | inr t ↦ (let over : high < suc x = t.1 in absurd (omega (arith, first, over)))
     ]
 
@@ -39,7 +41,8 @@ below_step : (bound : ℕ) (xs : List ℕ) → below (suc bound) xs ≤ below bo
 below_step bound [] = omega arith
 below_step bound (x ∷ xs) =
     let rest : below (suc bound) xs ≤ below bound xs + occurrences bound xs = below_step bound xs in
-    let more : one_if (nat_le (suc x) (suc bound)) ≤ one_if (nat_le (suc x) bound) + one_if (nat_eq bound x) = elim (leb_tells (suc x) bound) [
+    let more : one_if (nat_le (suc x) (suc bound)) ≤ one_if (nat_le (suc x) bound) + one_if (nat_eq bound x) =
+    elim (leb_tells (suc x) bound) [
       | inl t ↦ (let one : one_if (nat_le (suc x) bound) ≡ 1 = ap one_if t.0 in omega (arith, one, most (nat_le (suc x) (suc bound))))
       | inr t ↦ (let over : bound < suc x = t.1 in elim (eqb_tells bound x) [
         | inl e ↦ (let one : one_if (nat_eq bound x) ≡ 1 = ap one_if e.0 in omega (arith, one, most (nat_le (suc x) (suc bound))))

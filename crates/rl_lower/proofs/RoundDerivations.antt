@@ -1,6 +1,7 @@
 -- Derivations of loops over keys and values, from the moves of their lowering, and the room, the names and the statements around in their
 -- holes.
-use Rattle.std.proofs.Common.{◌≡◌, ℕ, ◌+◌, ◌≤◌, true, false, Bool, List, ◌∷◌, is_some, Some, Result, Ok, Err, OnOk, refl, ap, sym, ◌∙◌, subst, arith}
+use Rattle.std.proofs.Common.{◌≡◌, ℕ, ◌+◌, ◌≤◌, true, false, Bool, List, ◌∷◌, is_some, Some, Result, Ok, Err, OnOk, refl, ap, sym, ◌∙◌}
+use Rattle.std.proofs.Common.{subst, arith}
 use Rattle.rl_base.specs.declared.row.Row.TheVariants as row
 use Rattle.rl_base.specs.declared.span.Span.{Span}
 use Rattle.rl_base.specs.declared.stop.Stop.{Stop}
@@ -42,7 +43,8 @@ pub for_in_told : {names : Names} {at : At} {own label : Label} {head right body
     → b3 ≡ forin_righted f2 s3 left collection → f3 ≡ rounds_opened f2 → key ≡ forin_key f2 s3 left
     → LowersHead names key head b3 s4 p → new ≡ rounds_ended f3 s4 p
     → LowersLoop names own (Node at word.Forin (Then head (Then right (Then body End)))) s new
-for_in_told {names} {at} {own} {label} {head} {right} {body} {s} {b1} {s2} {b2} {s3} {b3} {s4} {collection} {key} {p} {f} {f2} {first} {left}
+for_in_told {names} {at} {own} {label} {head} {right} {body} {s} {b1} {s2} {b2} {s3} {b3} {s4} {collection} {key} {p} {f} {f2} {first}
+    {left}
     f3 new labels firsts lefts framed begun l_body bodied shut l_right righted opened keyed l_head moved =
     loop_derived _ (Node at word.Forin (Then head (Then right (Then body End)))) s _ new refl
     (moved ∙ ap (λ (q : RoundsParts). rounds_ended q s4 p) (opened ∙ ap rounds_opened whole))
@@ -102,14 +104,16 @@ pub for_of_may : (names : Names) (around : List Around) (own : Label) (at : At) 
     → IsLowerableIn names around own (Node at word.Forof (Then (Flag is_await) (Then head (Then right (Then body End)))))
     → IsLowerableIn names around own (Node at word.Forof (Then (Flag false) (Then head (Then right (Then body End)))))
 for_of_may names around own at head right body is_await plain may =
-    subst (λ (b : Bool). IsLowerableIn names around own (Node at word.Forof (Then (Flag b) (Then head (Then right (Then body End)))))) plain may
+    subst (λ (b : Bool). IsLowerableIn names around own (Node at word.Forof (Then (Flag b) (Then head (Then right (Then body End)))))) plain
+    may
 
 pub for_of_ok : (names : Names) (at : At) (own : Label) (head right body : Syntax) (is_await : Bool) (s new : State)
     (r : Result (Unit {0}) Stop) → is_await ≡ false
     → OnOk r (LowersLoop names own (Node at word.Forof (Then (Flag false) (Then head (Then right (Then body End))))) s new)
     → OnOk r (LowersLoop names own (Node at word.Forof (Then (Flag is_await) (Then head (Then right (Then body End))))) s new)
 for_of_ok names at own head right body is_await s new (Ok x) plain l =
-    subst (λ (b : Bool). LowersLoop names own (Node at word.Forof (Then (Flag b) (Then head (Then right (Then body End))))) s new) (sym plain) l
+    subst (λ (b : Bool). LowersLoop names own (Node at word.Forof (Then (Flag b) (Then head (Then right (Then body End))))) s new)
+    (sym plain) l
 for_of_ok names at own head right body is_await s new (Err e) plain l = tt
 
 -- The statements around in the bodies.
@@ -188,7 +192,8 @@ module _ (head right body : ℕ) where
   pub for_in_room : (label : Label) (s b : State) → b ≡ forin_begun s label → HasRoom s (share (head + (right + (body + 0)) + 1))
       → HasRoom b (share body + (share right + (share head + 60)))
   for_in_room label s b begun room =
-      moved_room s (forin_begun s label) b 3 (share body + (share right + (share head + 60))) (share (head + (right + (body + 0)) + 1)) begun
+      moved_room s (forin_begun s label) b 3 (share body + (share right + (share head + 60))) (share (head + (right + (body + 0)) + 1))
+      begun
       (omega arith) (omega arith) room
 
   pub for_of_room : (label : Label) (s b : State) → b ≡ forof_begun s label → HasRoom s (share (0 + (head + (right + (body + 0))) + 1))
@@ -202,7 +207,8 @@ module _ (head right body : ℕ) where
   bodied_room f part b1 s2 b2 few bodied room =
       moved_room s2 (rounds_bodied f s2 part) b2 0 (share right + (share head + 60)) (share right + (share head + 60)) bodied
       (bodied_size f s2 part) (omega arith)
-      (room_after b1 s2 (share body) (share right + (share head + 60)) (share body + (share right + (share head + 60))) few (omega arith) room)
+      (room_after b1 s2 (share body) (share right + (share head + 60)) (share body + (share right + (share head + 60))) few (omega arith)
+      room)
 
   pub right_room : (b2 s3 : State) → size_of s3 ≤ size_of b2 + share right → HasRoom b2 (share right + (share head + 60))
       → HasRoom s3 (share head + 60)

@@ -39,7 +39,8 @@ use Rattle.rl_lowered.proofs.SoundListing.{function_writable, named_writable, pl
 use Rattle.rl_lowered.proofs.SoundMoves.{counters_before, none_known, sound_next, table_more, terminals_more}
 use Rattle.rl_lowered.specs.Named.{declared_span}
 use Rattle.rl_lowered.specs.Promised.{HasRoom, LowersBody, share}
-use Rattle.rl_lowered.specs.Sound.{AreWritableIdentifiers, AreWritablePairs, HasKnownParts, HasSmallCounters, HasSmallSymbol, HasSmallTargets}
+use Rattle.rl_lowered.specs.Sound.{AreWritableIdentifiers, AreWritablePairs, HasKnownParts, HasSmallCounters, HasSmallSymbol}
+use Rattle.rl_lowered.specs.Sound.{HasSmallTargets}
 use Rattle.rl_lowered.specs.Sound.{HasWritableParts, IsSmallParameter, IsSmallTree, StaysSound}
 use Rattle.rl_machine.specs.Machine.{Graph}
 use Rattle.rl_model.specs.WellFormed.{AreKnown, HasKnownPlaces, instruction_places, param_place, terminal_places}
@@ -69,8 +70,10 @@ known_writable s type (x ∷ parameters) spanned small fits =
     let is = span_given s x (All-head (λ (p : Parameter). declared_span s.semantic p.symbol.0 ≡ Some p.declaration) x parameters spanned) in
     All-cons IsWritableIdentifier (identifier_for s type x) (known_from s (type + 1) parameters)
     (named_writable x.name (new_span s x.symbol.0 (Some x.declaration)) type here.0
-    (subst (λ (o : Option Span). IsWritable (listing.optional listing.span o)) (sym is) (span_writable x.declaration here.1)) (omega (arith, fits)))
-    (known_writable s (type + 1) parameters (All-tail (λ (p : Parameter). declared_span s.semantic p.symbol.0 ≡ Some p.declaration) x parameters spanned) (All-tail IsSmallParameter x parameters small) (omega (arith, fits)))
+    (subst (λ (o : Option Span). IsWritable (listing.optional listing.span o)) (sym is) (span_writable x.declaration here.1))
+    (omega (arith, fits)))
+    (known_writable s (type + 1) parameters (All-tail (λ (p : Parameter). declared_span s.semantic p.symbol.0 ≡ Some p.declaration) x
+    parameters spanned) (All-tail IsSmallParameter x parameters small) (omega (arith, fits)))
 
 params_known : (base count : ℕ) (parameters : List Parameter) → base + length parameters ≤ count
     → AreKnown count (map param_place (places_from base parameters))
@@ -145,8 +148,10 @@ begun_pairs env tables parameters small fits w =
     (pairs_writable (length env.identifiers) parameters small (omega (arith, begun_longer env tables parameters, fits.identifiers)))
 
 -- The graph of a function whose body was lowered and closed off.
-module _ (names : Names) (tables : FunctionTables) (parameters : List Parameter) (body : Syntax) (env new : Environment) (s : State) (built : Graph)
-    (lowered : LowersBody names body (begun env tables parameters) s) (room : HasRoom (begun env tables parameters) (share (nodes body + 2)))
+module _ (names : Names) (tables : FunctionTables) (parameters : List Parameter) (body : Syntax) (env new : Environment) (s : State)
+    (built : Graph)
+    (lowered : LowersBody names body (begun env tables parameters) s)
+    (room : HasRoom (begun env tables parameters) (share (nodes body + 2)))
     (spanned : AreDeclaredAt tables.semantic parameters) (graph : IsBuilt (closed_off s) built new) where
   whole : StaysSound (IsSmallTree body) (begun env tables parameters) (closed_off s)
   whole = sound_next (IsSmallTree body) (begun env tables parameters) s (closed_off s) lowered.sound (sound_closed (IsSmallTree body) s)
@@ -161,7 +166,14 @@ module _ (names : Names) (tables : FunctionTables) (parameters : List Parameter)
   size = omega (arith, closed_size names (begun env tables parameters) body s lowered, room)
 
   fits : HasSmallCounters (closed_off s)
-  fits = record { blocks = omega (arith, size); types = omega (arith, size); identifiers = omega (arith, size); instructions = omega (arith, size) }
+  fits =
+      record {
+        blocks = omega (arith, size);
+        types = omega (arith, size);
+        identifiers = omega (arith, size);
+        instructions =
+            omega (arith, size);
+      }
 
   fits0 : HasSmallCounters (begun env tables parameters)
   fits0 = counters_before (begun env tables parameters) (closed_off s) whole.counters fits
@@ -187,7 +199,9 @@ module _ (names : Names) (tables : FunctionTables) (parameters : List Parameter)
         types = fits.types;
         table = built_table_known (closed_off s) built new graph (length (closed_off s).env.identifiers) known.table;
         terminals = built_terminals_known (closed_off s) built new graph (length (closed_off s).env.identifiers) same known.terminals;
-        graph = λ small. built_writable (closed_off s) built new graph same (omega (arith, entry_is, at_entry, fits0.blocks)) (omega (arith, orders))
+        graph =
+            λ small. built_writable (closed_off s) built new graph same (omega (arith, entry_is, at_entry, fits0.blocks))
+            (omega (arith, orders))
             (whole.parts small fits (begun_writable env tables parameters fits0));
         identifiers = λ named small w. whole.identifiers small fits (begun_identifiers env tables parameters spanned named fits0 w);
         pairs = λ small w. whole.pairs fits (begun_pairs env tables parameters small fits0 w);
@@ -249,7 +263,8 @@ pub function_listed : (names : Names) (fn tree : Syntax) (parameters : List Para
     → f.instructions ≡ built.table → f.params ≡ places_from (length env.identifiers) parameters → f.context ≡ []
     → f.returns ≡ record { identifier = record { 0 = length mid.identifiers }; span = None } → IsSmallTree fn
     → IsWritable (listing.function f)
-function_listed names fn tree parameters env mid built f w are g span_is name_is directives body_is table_is params_are none returned small =
+function_listed names fn tree parameters env mid built f w are g span_is name_is directives body_is table_is params_are none returned
+    small =
     let body : IsSmallTree tree = (w.small small).1 in
     let graph : IsWritableGraph built = g.graph body in
     let named : All IsSmallParameter parameters = subst (λ (l : List Parameter). All IsSmallParameter l) (sym are)

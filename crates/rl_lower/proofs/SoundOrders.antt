@@ -54,7 +54,9 @@ module _ (s : State) (built : Graph) (env : Environment) (b : IsBuilt s built en
     blocks = pruned_all (λ (p : BlockPair). IsWritable (listing.block p)) IsSmallId largest blocks_stay
         (graph_of s) s.entry s.table built.blocks built.table b.pruned few
         (subst (All (λ (p : BlockPair). IsWritable (listing.block p))) (sym same) w.completed);
-    table = pruned_table_all (λ (i : Instruction). IsWritable (listing.instruction i)) largest (λ order i within k. instruction_ordered order i within k)
+    table =
+        pruned_table_all (λ (i : Instruction). IsWritable (listing.instruction i)) largest
+        (λ order i within k. instruction_ordered order i within k)
         (graph_of s) s.entry s.table built.blocks built.table b.pruned few w.table;
   }
     where

@@ -32,7 +32,8 @@ module _ (ident : ℕ → Option ℕ) (one : AreOne ident) where
   agrees_all : (start : List Assignment) (source store : Store) → Agrees ident source store
       → Agrees ident (set_all start source) (set_by ident (λ symbol. true) start store)
   agrees_all [] source store a = a
-  agrees_all (s ∷ start) source store a = agrees_all start _ _ (agrees_where ident one source store s.symbol.0 s.value (ident s.symbol.0) refl a)
+  agrees_all (s ∷ start) source store a =
+      agrees_all start _ _ (agrees_where ident one source store s.symbol.0 s.value (ident s.symbol.0) refl a)
 
   -- The stores before parameters take their arguments.
   pub agrees_start : (start : List Assignment) → Agrees ident (set_all start unset) (set_by ident (λ symbol. true) start unset)

@@ -1,5 +1,6 @@
 -- Derivations of statements, from the moves of their lowering, and the room and the names in the holes of frames.
-use Rattle.std.proofs.Common.{◌≡◌, ℕ, ◌+◌, ◌≤◌, true, false, true≢false, Bool, List, Some, None, Result, Ok, Err, OnOk, refl, ap, sym, ◌∙◌, subst, arith}
+use Rattle.std.proofs.Common.{◌≡◌, ℕ, ◌+◌, ◌≤◌, true, false, true≢false, Bool, List, Some, None, Result, Ok, Err, OnOk, refl, ap, sym, ◌∙◌}
+use Rattle.std.proofs.Common.{subst, arith}
 use Rattle.rl_base.specs.declared.span.Span.{Span}
 use Rattle.rl_base.specs.declared.stop.Stop.{Stop}
 use Rattle.rl_builder.specs.Builder.{State, completed_by, new_block, reserved}

@@ -1,12 +1,12 @@
 -- Derivations of `switch` statements, and the room and the names in the holes of their frames.
-use Rattle.std.proofs.Common.{◌≡◌, ℕ, ◌+◌, ◌<◌, ◌≤◌, ◌++◌, Bool, true, false, ◌&&◌, if◌then◌else◌, List, [], ◌∷◌, map, length, length-append}
+use Rattle.std.proofs.Common.{◌≡◌, ℕ, ◌+◌, ◌<◌, ◌≤◌, ◌++◌, Bool, true, false, ◌&&◌, if◌then◌else◌, List, [], ◌∷◌, map, length}
+use Rattle.std.proofs.Common.{length-append}
 use Rattle.std.proofs.Common.{Option, Some, None, Result, Ok, Err, OnOk, refl, ap, sym, ◌∙◌, subst, arith}
 use Rattle.std.proofs.lemmas.Bool.{and_parts}
 use Rattle.rl_base.specs.Diagnostics.{diagnostic_at}
 use Rattle.rl_base.specs.declared.diagnostic.Diagnostic.{Diagnostic}
 use Rattle.rl_base.specs.declared.row.Row.TheVariants as row
 use Rattle.rl_base.specs.declared.span.Span.{Span}
-use Rattle.rl_base.specs.declared.stop.Stop.{Stop}
 use Rattle.rl_builder.specs.Builder.{State, recorded}
 use Rattle.rl_builder.specs.declared.jumps.JumpScope.{JumpScope}
 use Rattle.rl_builder.specs.declared.jumps.JumpScope.TheVariants as scopes
@@ -40,7 +40,8 @@ use Rattle.rl_syntax.specs.declared.numbered.At.{At}
 use Rattle.rl_syntax.specs.declared.numbered.Numbered.{Numbered}
 use Rattle.rl_syntax.specs.declared.word.Word.{Word}
 use Rattle.rl_syntax.specs.declared.word.Word.TheVariants as word
-use Rattle.rl_syntax.specs.Syntax.{Syntax, Node, Listed, Said, Count, Flag, Absent, Pieces, End, Then, is_item, nodes, nodes_of, pieces_of, syntax}
+use Rattle.rl_syntax.specs.Syntax.{Syntax, Node, Listed, Said, Count, Flag, Absent, Pieces, End, Then, is_item, nodes, nodes_of, pieces_of}
+use Rattle.rl_syntax.specs.Syntax.{syntax}
 use Rattle.rl_lower.proofs.LoopDerivations.{moved_room}
 use Rattle.rl_lower.proofs.StatementDerivations.{statement_derived}
 
@@ -134,7 +135,8 @@ unmoved names s is kept = subst (λ (t : Syntax). s ≡ moving names s t) (sym i
 
 -- The last case, and those before it.
 
-pub joined_last : (first : Pieces) (case : Syntax) (second : Pieces) → joined (joined first (Then case End)) second ≡ joined first (Then case second)
+pub joined_last : (first : Pieces) (case : Syntax) (second : Pieces)
+    → joined (joined first (Then case End)) second ≡ joined first (Then case second)
 joined_last End case second = refl
 joined_last (Then piece first) case second = ap (Then piece) (joined_last first case second)
 
@@ -146,12 +148,14 @@ nodes_joined : (first second : Pieces) → nodes_of (joined first second) ≡ no
 nodes_joined End second = omega arith
 nodes_joined (Then piece first) second = let rest = nodes_joined first second in omega (arith, rest)
 
-pub nodes_split : {left : Pieces} (rest : Pieces) (case : Syntax) → left ≡ joined rest (Then case End) → nodes_of left ≡ nodes_of rest + nodes case
+pub nodes_split : {left : Pieces} (rest : Pieces) (case : Syntax) → left ≡ joined rest (Then case End)
+    → nodes_of left ≡ nodes_of rest + nodes case
 nodes_split {left} rest case split =
     let whole : nodes_of left ≡ nodes_of (joined rest (Then case End)) = ap nodes_of split in
     omega (arith, whole, nodes_joined rest (Then case End))
 
-all_may : (names : Names) (around : List Around) (rest : Pieces) (case : Syntax) → AreLowerableCases names around (joined rest (Then case End))
+all_may : (names : Names) (around : List Around) (rest : Pieces) (case : Syntax)
+    → AreLowerableCases names around (joined rest (Then case End))
     → AreLowerableCases names around rest × IsLowerableCase names around case
 all_may names around End case may = (tt, may.0)
 all_may names around (Then piece rest) case may =
@@ -166,7 +170,8 @@ cases_may names around {left} rest case split may = all_may names around rest ca
 
 pub every_split : (k : Kind) (rest : Pieces) (case : Syntax) → every k (joined rest (Then case End)) ≡ true
     → (every k rest ≡ true) × (fits (field.One k) case ≡ true)
-every_split k End case fit = (refl, (and_parts (is_item case) (fits (field.One k) case) (and_parts (is_item case && fits (field.One k) case) true fit).0).1)
+every_split k End case fit =
+    (refl, (and_parts (is_item case) (fits (field.One k) case) (and_parts (is_item case && fits (field.One k) case) true fit).0).1)
 every_split k (Then piece rest) case fit =
     let whole = and_parts (is_item piece && fits (field.One k) piece) (every k (joined rest (Then case End))) fit in
     let others : (every k rest ≡ true) × (fits (field.One k) case ≡ true) = every_split k rest case whole.1 in
@@ -199,7 +204,8 @@ pub ruleset lasts = (last_pieces, no_pieces)
 
 -- A case.
 
-pub case_framed : {names : Names} {at : At} {test : Syntax} {statements : Pieces} {tree : Syntax} {f f1 f2 : SwitchParts} {x b y b2 z : State}
+pub case_framed : {names : Names} {at : At} {test : Syntax} {statements : Pieces} {tree : Syntax} {f f1 f2 : SwitchParts}
+    {x b y b2 z : State}
     {p : Option Place} (f3 : SwitchParts) (new : State)
     → Node at word.Case (Then test (Then (Listed statements) End)) ≡ tree
     → b ≡ switch_entered f x → f1 ≡ switch_after_enter f x → LowersStatements names statements b y
@@ -215,7 +221,9 @@ case_framed {names} {at} {test} {statements} {tree} {f} {f1} {f2} {x} {b} {y} {b
             framed = done
                 ∙ ap (λ (q : SwitchParts). switch_after_done q p) (shut ∙ ap switch_after_leave inside)
                 ∙ switch_at_more begun x span None k.ks p;
-            by = subst (λ (t : Syntax). LoweredCases names begun (Then t cases) (record { test = p; block = block_id x.env.next_block } ∷ k.ks) new) is
+            by =
+                subst (λ (t : Syntax). LoweredCases names begun (Then t cases)
+                (record { test = p; block = block_id x.env.next_block } ∷ k.ks) new) is
                 (subst (λ (n : State).
                 LoweredCases names begun (Then (Node at word.Case (Then test (Then (Listed statements) End))) cases)
                 (record { test = p; block = block_id x.env.next_block } ∷ k.ks) n) (sym moved)
@@ -245,7 +253,8 @@ pub case_test_may : (names : Names) {at : At} {test : Syntax} {statements : Piec
     → Node at word.Case (Then test (Then (Listed statements) End)) ≡ tree → IsLowerableCase names around tree → IsLowerable names test
 case_test_may names around is may = (subst (IsLowerableCase names around) (sym is) may).1
 
-pub case_nodes : {at : At} {test : Syntax} {statements : Pieces} {tree : Syntax} → Node at word.Case (Then test (Then (Listed statements) End)) ≡ tree
+pub case_nodes : {at : At} {test : Syntax} {statements : Pieces} {tree : Syntax}
+    → Node at word.Case (Then test (Then (Listed statements) End)) ≡ tree
     → nodes tree ≡ nodes test + nodes_of statements + 1
 case_nodes {at} {test} {statements} {tree} is =
     let counted : nodes (Node at word.Case (Then test (Then (Listed statements) End))) ≡ nodes tree = ap nodes is in
@@ -269,7 +278,8 @@ case_scope f x b y entered l =
 
 -- All cases.
 
-pub cases_begun : {names : Names} {span : Span} {f : SwitchParts} (all : Pieces) (s b : State) → b ≡ switch_begun s → f ≡ switch_at s span None []
+pub cases_begun : {names : Names} {span : Span} {f : SwitchParts} (all : Pieces) (s b : State) → b ≡ switch_begun s
+    → f ≡ switch_at s span None []
     → FramesBehind names s span all all f b
 cases_begun {names} {span} {f} all s b begun framed = record {
   behind = End;
@@ -281,7 +291,8 @@ cases_begun {names} {span} {f} all s b begun framed = record {
   };
 }
 
-pub cases_next : {names : Names} {begun : State} {span : Span} {all left rest : Pieces} {case : Syntax} {f f2 : SwitchParts} {x : State} (new : State)
+pub cases_next : {names : Names} {begun : State} {span : Span} {all left rest : Pieces} {case : Syntax} {f f2 : SwitchParts} {x : State}
+    (new : State)
     → left ≡ joined rest (Then case End) → FramesBehind names begun span all left f x → FramesCase names case f f2 x new
     → FramesBehind names begun span all rest f2 new
 cases_next {names} {begun} {span} {all} {left} {rest} {case} new split b l = record {

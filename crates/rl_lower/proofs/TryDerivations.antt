@@ -1,12 +1,12 @@
 -- Derivations of `throw` and of `try` statements, and the room and the names in the holes of their frames.
 use Rattle.std.proofs.Common.{◌≡◌, ℕ, ◌+◌, ◌<◌, ◌≤◌, ◌++◌, List, [], ◌∷◌, length, length-append, codes}
-use Rattle.std.proofs.Common.{Option, Some, None, Result, Ok, Err, OnOk, refl, ap, sym, ◌∙◌, subst, arith}
+use Rattle.std.proofs.Common.{Some, None, Result, Ok, Err, OnOk, refl, ap, sym, ◌∙◌, subst, arith}
 use Rattle.std.specs.Fmt.{decimal}
 use Rattle.rl_base.specs.declared.ids.BlockId.{BlockId}
 use Rattle.rl_base.specs.declared.row.Row.TheVariants as row
 use Rattle.rl_base.specs.declared.span.Span.{Span}
 use Rattle.rl_base.specs.declared.stop.Stop.{Stop}
-use Rattle.rl_builder.specs.Builder.{State, innermost, recorded, reserved, with_temporary}
+use Rattle.rl_builder.specs.Builder.{State, recorded, reserved, with_temporary}
 use Rattle.rl_builder.specs.Temporaries.{with_value}
 use Rattle.rl_frames.specs.Frames.{TryParts, try_after, try_at, try_caught, try_ended}
 use Rattle.rl_frames.specs.Parts.{try_bound, try_started}
@@ -29,7 +29,7 @@ use Rattle.rl_lowered.proofs.Names.{names_catch_begun, names_recorded, names_val
 use Rattle.rl_lowered.specs.Arounds.{arounds}
 use Rattle.rl_lowered.specs.Forms.{IsAnnotation}
 use Rattle.rl_lowered.specs.Lowered as lowered
-use Rattle.rl_lowered.specs.Lowered.{Lowered, LoweredStatement, catch_at, catch_begun, catch_bound, caught, promoted, throwing}
+use Rattle.rl_lowered.specs.Lowered.{LoweredStatement, catch_at, catch_begun, catch_bound, caught, promoted, throwing}
 use Rattle.rl_lowered.specs.Named.{IsFound, IsNamed, found}
 use Rattle.rl_lowered.specs.Promised.{HasRoom, LowersExpression, LowersStatement, share}
 use Rattle.rl_names.specs.Names.{Names}
@@ -67,7 +67,10 @@ pub promoted_is : (s made new : State) (e0 e1 : Environment) (identifier : ℕ) 
 promoted_is s made new e0 e1 identifier name span is_made is_next named lent changed is_new =
     is_new
     ∙ ap (λ (e : Environment). record made { env = e })
-    (changed ∙ ap (λ (e : Environment). record e { identifiers = changed_at (with_name (identifiers.Promoted name)) identifier e.identifiers }) lent)
+    (changed ∙ ap (λ (e : Environment). record e {
+      identifiers =
+          changed_at (with_name (identifiers.Promoted name)) identifier e.identifiers;
+    }) lent)
     ∙ ap (λ (o : State). after o name identifier) is_made
     ∙ ap (λ (n : List ℕ). after (with_temporary s (Some span)) n identifier) named
     ∙ ap (λ (i : ℕ). after (with_temporary s (Some span)) (codes "#t" ++ decimal i) i) is_next
@@ -93,7 +96,8 @@ stored_told {names} {bind} {value} {identifier} {old} {mid} new d moved = record
   bound = d.bound;
   moved = moved
       ∙ ap (λ (o : State). with_value o
-      (values.StoreLocal kinds.Catch (record { identifier = record { 0 = identifier }; span = Some bind.span }) value) (Some bind.span)) d.moved;
+      (values.StoreLocal kinds.Catch (record { identifier = record { 0 = identifier }; span = Some bind.span }) value) (Some bind.span))
+      d.moved;
   named = subst (IsNamed names) (sym moved) ((names_value {names = names} mid _ (Some bind.span)).named d.named);
   size =
       let stored : size_of new ≤ size_of mid + 4 = grown mid new _ _ moved in
@@ -102,11 +106,13 @@ stored_told {names} {bind} {value} {identifier} {old} {mid} new d moved = record
 }
 
 -- `try` statements whose `catch` has no parameter.
-pub try_plain_told : {names : Names} {at there : At} {block body : Syntax} {s b1 s2 b2 s3 : State} {f : TryParts} {last : Span} (f2 : TryParts)
+pub try_plain_told : {names : Names} {at there : At} {block body : Syntax} {s b1 s2 b2 s3 : State} {f : TryParts} {last : Span}
+    (f2 : TryParts)
     (new : State) → last ≡ span_of block → f ≡ try_at s at.span None → b1 ≡ try_started s None → LowersStatement names body b1 s2
     → b2 ≡ try_caught f s2 there.span → f2 ≡ try_after f s2 → LowersStatement names block b2 s3 → new ≡ try_ended f2 s3 last
     → LowersStatement names (caught_try at there block Absent body) s new
-try_plain_told {names} {at} {there} {block} {body} {s} {b1} {s2} {b2} {s3} {f} {last} f2 new lasts framed begun l_body parted after l_block moved =
+try_plain_told {names} {at} {there} {block} {body} {s} {b1} {s2} {b2} {s3} {f} {last} f2 new lasts framed begun l_body parted after l_block
+    moved =
     statement_derived _ (caught_try at there block Absent body) s _ new refl
     (moved ∙ ap (λ (q : TryParts). try_ended q s3 last) (after ∙ ap (λ (q : TryParts). try_after q s2) framed)
     ∙ ap (λ (x : Span). try_ended (try_after (try_at s at.span None) s2) s3 x) lasts)
@@ -117,7 +123,8 @@ try_plain_told {names} {at} {there} {block} {body} {s} {b1} {s2} {b2} {s3} {f} {
 
 -- Behind the front of a `catch` with a parameter, and behind the store.
 
-catch_front : {value : Place} {param : Span} (s s1 b0 : State) → s1 ≡ promoted s param → value ≡ caught s param → b0 ≡ try_started s1 (Some value)
+catch_front : {value : Place} {param : Span} (s s1 b0 : State) → s1 ≡ promoted s param → value ≡ caught s param
+    → b0 ≡ try_started s1 (Some value)
     → b0 ≡ catch_begun s param
 catch_front {value} {param} s s1 b0 made placed begun =
     begun ∙ ap (λ (o : State). try_started o (Some value)) made ∙ ap (λ (p : Place). try_started (promoted s param) (Some p)) placed
@@ -141,13 +148,15 @@ stored_bound {names} {bind} {value} s s1 b0 b1 stored made placed begun =
     stores p = values.StoreLocal kinds.Catch (record { identifier = record { 0 = stored.identifier }; span = Some bind.span }) p
 
 -- `try` statements whose `catch` has a name as its parameter.
-pub try_bound_told : {names : Names} {at there bind : At} {name : List ℕ} {type block body : Syntax} {s s1 b0 b1 s2 b2 s3 : State} {f : TryParts}
+pub try_bound_told : {names : Names} {at there bind : At} {name : List ℕ} {type block body : Syntax} {s s1 b0 b1 s2 b2 s3 : State}
+    {f : TryParts}
     {value : Place} {last : Span} (f2 : TryParts) (new : State) → IsAnnotation type → last ≡ span_of block
     → s1 ≡ promoted s bind.span → value ≡ caught s bind.span → f ≡ try_at s1 at.span (Some value) → b0 ≡ try_started s1 (Some value)
     → IsStored names bind value b0 b1 → LowersStatement names body b1 s2
     → b2 ≡ try_caught f s2 there.span → f2 ≡ try_after f s2 → LowersStatement names block b2 s3 → new ≡ try_ended f2 s3 last
     → LowersStatement names (caught_try at there block (Node bind word.Bind (Then (Said name) (Then type End))) body) s new
-try_bound_told {names} {at} {there} {bind} {name} {type} {block} {body} {s} {s1} {b0} {b1} {s2} {b2} {s3} {f} {value} {last} f2 new annotated
+try_bound_told {names} {at} {there} {bind} {name} {type} {block} {body} {s} {s1} {b0} {b1} {s2} {b2} {s3} {f} {value} {last} f2 new
+    annotated
     lasts made placed framed begun stored l_body parted after l_block moved =
     statement_derived _ (caught_try at there block (Node bind word.Bind (Then (Said name) (Then type End))) body) s _ new refl
     (moved ∙ ap (λ (q : TryParts). try_ended q s3 last) (after ∙ ap (λ (q : TryParts). try_after q s2) whole)
@@ -162,7 +171,7 @@ try_bound_told {names} {at} {there} {bind} {name} {type} {block} {body} {s} {s1}
     whole = framed ∙ ap (λ (o : State). try_at o at.span (Some value)) made
         ∙ ap (λ (p : Place). try_at (promoted s bind.span) at.span (Some p)) placed
 
--- What is around, the names and the room in the holes.
+-- The surroundings, the names and the room in the holes.
 
 pub plain_arounds : (s b : State) → b ≡ try_started s None → arounds b ≡ arounds s
 plain_arounds s b begun = ap arounds begun
@@ -188,7 +197,8 @@ pub try_caught_size : (f : TryParts) (s : State) (part : Span) → size_of (try_
 try_caught_size f s part = omega arith
 
 pub promoted_room : (s b : State) (span : Span) (more all : ℕ) → b ≡ promoted s span → 2 + more ≤ all → HasRoom s all → HasRoom b more
-promoted_room s b span more all is fits room = subst (λ (o : State). HasRoom o more) (sym is) (omega (arith, size_promoted s span, fits, room))
+promoted_room s b span more all is fits room =
+    subst (λ (o : State). HasRoom o more) (sym is) (omega (arith, size_promoted s span, fits, room))
 
 -- In front of the store, and behind it.
 
@@ -198,7 +208,8 @@ started_size place s = omega (arith, grown (reserved s) (try_bound (reserved s) 
     declares : Place → InstructionValue
     declares p = values.DeclareLocal kinds.Catch p
 
-pub bound_front_room : (value : Place) (span : Span) (s s1 b0 : State) (more all : ℕ) → s1 ≡ promoted s span → b0 ≡ try_started s1 (Some value)
+pub bound_front_room : (value : Place) (span : Span) (s s1 b0 : State) (more all : ℕ) → s1 ≡ promoted s span
+    → b0 ≡ try_started s1 (Some value)
     → 9 + more ≤ all → HasRoom s all → HasRoom b0 more
 bound_front_room value span s s1 b0 more all made begun fits room =
     moved_room s1 (try_started s1 (Some value)) b0 7 more (7 + more) begun (started_size value s1) (omega arith)
@@ -271,7 +282,8 @@ with_told {names} {at} {fields} {tree} {s} new is noted =
 
 finalized : {names : Names} {at there : At} {block param body : Syntax} {s b new : State} (finalizer : Syntax)
     → b ≡ noted_finalizer s at.span finalizer → LoweredStatement names (caught_try at there block param body) b new
-    → LoweredStatement names (Node at word.Try (Then block (Then (Node there word.Catch (Then param (Then body End))) (Then finalizer End)))) s new
+    → LoweredStatement names (Node at word.Try (Then block
+    (Then (Node there word.Catch (Then param (Then body End))) (Then finalizer End)))) s new
 finalized {names} {at} {there} {block} {param} {body} {s} {b} {new} Absent noted l =
     subst (λ (o : State). LoweredStatement names (caught_try at there block param body) o new) noted l
 finalized {names} {at} {there} {block} {param} {body} {s} {b} {new} (Node here w fields) noted l =
@@ -290,19 +302,23 @@ finalized {names} {at} {there} {block} {param} {body} {s} {b} {new} (Flag flag) 
     lowered.Finalized at there block param body (Flag flag) s new refl
     (subst (λ (o : State). LoweredStatement names (caught_try at there block param body) o new) noted l)
 
-pub finalized_ok : (names : Names) (at : At) {there : At} {param body handler : Syntax} (block finalizer : Syntax) {b : State} (s new : State)
+pub finalized_ok : (names : Names) (at : At) {there : At} {param body handler : Syntax} (block finalizer : Syntax) {b : State}
+    (s new : State)
     (r : Result (Unit {0}) Stop) → Node there word.Catch (Then param (Then body End)) ≡ handler → b ≡ noted_finalizer s at.span finalizer
     → OnOk r (LowersStatement names (caught_try at there block param body) b new)
     → OnOk r (LowersStatement names (Node at word.Try (Then block (Then handler (Then finalizer End)))) s new)
 finalized_ok names at {there} {param} {body} {handler} block finalizer {b} s new (Ok x) is noted l =
-    statement_derived _ (Node at word.Try (Then block (Then (Node there word.Catch (Then param (Then body End))) (Then finalizer End)))) s new new
+    statement_derived _ (Node at word.Try (Then block (Then (Node there word.Catch (Then param (Then body End))) (Then finalizer End)))) s
+    new new
     (ap (λ (h : Syntax). Node at word.Try (Then block (Then h (Then finalizer End)))) is) refl (finalized finalizer noted l.by)
 finalized_ok names at block finalizer s new (Err e) is noted l = tt
 
-pub caught_ok : (names : Names) (at there : At) (block body : Syntax) {param shown : Syntax} (s new : State) (r : Result (Unit {0}) Stop) → param ≡ shown
+pub caught_ok : (names : Names) (at there : At) (block body : Syntax) {param shown : Syntax} (s new : State) (r : Result (Unit {0}) Stop)
+    → param ≡ shown
     → OnOk r (LowersStatement names (caught_try at there block param body) s new)
     → OnOk r (LowersStatement names (caught_try at there block shown body) s new)
-caught_ok names at there block body s new (Ok x) is l = subst (λ (p : Syntax). LowersStatement names (caught_try at there block p body) s new) is l
+caught_ok names at there block body s new (Ok x) is l =
+    subst (λ (p : Syntax). LowersStatement names (caught_try at there block p body) s new) is l
 caught_ok names at there block body s new (Err e) is l = tt
 
 -- A statement with a `catch`, from its clause.
@@ -313,7 +329,8 @@ pub caught_may : (names : Names) (at : At) {there : At} {param body handler : Sy
     → IsLowerableIn names (arounds b) None (caught_try at there block param body)
 caught_may names at {there} {param} {body} {handler} block finalizer s b is around may =
     subst (λ (a : List Around). IsLowerableIn names a None (caught_try at there block param body)) (sym around)
-    (subst (λ (h : Syntax). IsLowerableIn names (arounds s) None (Node at word.Try (Then block (Then h (Then finalizer End))))) (sym is) may)
+    (subst (λ (h : Syntax). IsLowerableIn names (arounds s) None (Node at word.Try (Then block (Then h (Then finalizer End))))) (sym is)
+    may)
 
 pub caught_room : (at : At) {there : At} {param body handler : Syntax} (block finalizer : Syntax) (s b : State)
     → Node there word.Catch (Then param (Then body End)) ≡ handler → b ≡ noted_finalizer s at.span finalizer
@@ -325,7 +342,8 @@ caught_room at {there} {param} {body} {handler} block finalizer s b is noted roo
     (share (nodes (Node at word.Try (Then block (Then handler (Then finalizer End)))))) noted (omega (arith, counted)) room
 
 pub clause_may : (names : Names) (at there : At) (block body : Syntax) {param shown : Syntax} (around : List Around) → param ≡ shown
-    → IsLowerableIn names around None (caught_try at there block shown body) → IsLowerableIn names around None (caught_try at there block param body)
+    → IsLowerableIn names around None (caught_try at there block shown body)
+    → IsLowerableIn names around None (caught_try at there block param body)
 clause_may names at there block body around is may =
     subst (λ (p : Syntax). IsLowerableIn names around None (caught_try at there block p body)) (sym is) may
 

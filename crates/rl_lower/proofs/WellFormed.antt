@@ -22,7 +22,8 @@ use Rattle.rl_runs.specs.Listed.{IsListed}
 use Rattle.rl_syntax.specs.Syntax.{Syntax}
 
 module _ (names : Names) (tables : FunctionTables) (parameters : List Parameter) (body : Syntax) (env new : Environment)
-    (params : List Param) (built : Graph) (g : IsGraphOf names tables parameters body env new params built) (distinct : AreApart parameters) where
+    (params : List Param) (built : Graph) (g : IsGraphOf names tables parameters body env new params built)
+    (distinct : AreApart parameters) where
   lowered : LowersBody names body (state_with (begun_by env tables) parameters) g.state
   lowered = lowered_from names tables parameters body env new params built g distinct
 
@@ -39,4 +40,5 @@ module _ (names : Names) (tables : FunctionTables) (parameters : List Parameter)
   graph_numbered = built_numbered (closed_off g.state) built new graph_own graph_listed g.graph
 
   pub graph_linked : (f : HirFunction (List BlockPair)) → f.body ≡ hir_of built → f.instructions ≡ built.table → IsLinked f
-  graph_linked f body_is instructions_is = built_linked (closed_off g.state) built new graph_own graph_listed g.graph f body_is instructions_is
+  graph_linked f body_is instructions_is =
+      built_linked (closed_off g.state) built new graph_own graph_listed g.graph f body_is instructions_is

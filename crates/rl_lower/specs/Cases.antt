@@ -13,7 +13,8 @@ use Rattle.rl_syntax.specs.Syntax.{Syntax, Node, Pieces, End, Then}
 
 -- The state in front of a test, of which one is refused that may not be evaluated in another place (row F29).
 abbrev pub moving : Names → State → (test : Syntax) → State
-moving names s (Node at w fields) = if may_move names (Node at w fields) then s else recorded s (diagnostic_at row.F29 (type_name w) at.span)
+moving names s (Node at w fields) =
+    if may_move names (Node at w fields) then s else recorded s (diagnostic_at row.F29 (type_name w) at.span)
 moving names s test = s
 
 -- The rows of pieces, one behind the other.

@@ -9,6 +9,8 @@ ghost use Rattle.rl_base.specs.Reserved.{is_reserved};
 ghost use Rattle.rl_base.specs.declared.diagnostic.Diagnostic.{Diagnostic as Said};
 ghost use Rattle.rl_base.specs.declared.row.Row.TheVariants as row;
 ghost use Rattle.rl_builder.specs.Builder.{state_of};
+ghost use Rattle.rl_context.specs.Sites.{sites_in};
+ghost use Rattle.rl_context.specs.Wrapped.{stop_among};
 ghost use Rattle.rl_grammar.specs.Fields.{maybe};
 ghost use Rattle.rl_hir.specs.Listing.{function as listed_function};
 ghost use Rattle.rl_hir.specs.Numbered.{IsNumbered};
@@ -58,6 +60,7 @@ use rl_base::text::Text;
 use rl_builder::builder::create_temporary_place;
 use rl_builder::graph::Built;
 use rl_builder::unit_tables::{ReadsUnit, UnitTables};
+use rl_context::context::find_context_identifiers;
 use rl_context::index::IdentifierLocIndex;
 use rl_grammar::sort::{BindingIdentifierTree, TextTrees};
 use rl_hir::blocks::GraphBlocks;
@@ -362,14 +365,33 @@ fn look_inside(
     }
 }
 
-/// Looks for the stops of a function. On `Stop::OutOfMemory` an allocation failed.
+/// As `look_inside`, for a wrapped target of an assignment anywhere in the function in front of these.
+fn look_for_targets(
+    alloc: Global,
+    names: &FunctionNames<'_>,
+    function: FunctionNode<'_>,
+    index: &IdentifierLocIndex,
+    body: &Numbered,
+) -> Result<(), Stop>
+    requires index { index.now ≡ sites_in (seen_function_node function) }
+    requires body { syntax body.now ≡ body_in (seen_function_node function) }
+    ensures goes_on { OnOk result (option_or (stop_among (sites_in (seen_function_node function.entry))) (option_or (first_stop (seen names.now) (params_in (seen_function_node function.entry))) (stop_in_body (seen names.now) (body_in (seen_function_node function.entry)))) ≡ None) }
+    ensures stopped { IfErr result (λ e. (d : Said) → e ≡ Stop.Diagnostic d → option_or (stop_among (sites_in (seen_function_node function.entry))) (option_or (first_stop (seen names.now) (params_in (seen_function_node function.entry))) (stop_in_body (seen names.now) (body_in (seen_function_node function.entry)))) ≡ Some d) }
+{
+    find_context_identifiers(alloc, &function, names.resolver, index)?;
+    look_inside(alloc, names, params_tree(function), body)
+}
+
+/// Looks for the stops of a function with its index. On `Stop::OutOfMemory` an allocation failed.
 fn look_for_stops(
     alloc: Global,
     names: &FunctionNames<'_>,
     function: FunctionNode<'_>,
+    index: &IdentifierLocIndex,
     parameters: &[Parameter],
     body: &Numbered,
 ) -> Result<(), Stop>
+    requires index { index.now ≡ sites_in (seen_function_node function) }
     requires parameters { parameters.now ≡ parameters_of (seen names.now) (seen_function_node function) }
     requires body { syntax body.now ≡ body_in (seen_function_node function) }
     ensures goes_on { OnOk result (stop_of (seen names.now) (seen_function_node function.entry) ≡ None) }
@@ -381,7 +403,7 @@ fn look_for_stops(
             let diagnostic = Diagnostic::at(alloc, Row::S2, word, parameter.declaration)?;
             Err(Stop::Diagnostic(diagnostic))
         }
-        None => look_inside(alloc, names, params_tree(function), body),
+        None => look_for_targets(alloc, names, function, index, body),
     }
 }
 
@@ -451,9 +473,9 @@ pub fn lower(
     let parameters = parameters(alloc, names, function)?;
     let parts = parts_of(function);
     let body = body_tree(parts.body);
-    look_for_stops(alloc, names, function, parameters.as_slice(), body)?;
-    let span = Some(parts.at.span);
     let index = IdentifierLocIndex::of(alloc, &function)?;
+    look_for_stops(alloc, names, function, &index, parameters.as_slice(), body)?;
+    let span = Some(parts.at.span);
     let unit = UnitTables {
         resolver: names.resolver,
         identifier_spans: &index,

@@ -1,6 +1,6 @@
 //! Lowering of `try` statements.
 
-ghost use Rattle.std.specs.Prelude.{◌≡◌, ◌+◌, ◌<◌, ◌++◌, ◌^◌, None, codes, length, map, OnOk, IfOk, IfErr};
+ghost use Rattle.std.specs.Prelude.{◌≡◌, ◌+◌, ◌<◌, ◌++◌, ◌^◌, None, codes, length, OnOk, IfOk, IfErr};
 ghost use Rattle.std.specs.Fmt.{decimal};
 ghost use Rattle.rl_ast.specs.BindingViews.{seen_binding_identifier};
 ghost use Rattle.rl_ast.specs.StatementViews.{seen_statement};

@@ -73,7 +73,8 @@ number_ok at text number (Ok place) s new numeral same moved placed = λ names.
 number_ok at text number (Err e) s new numeral same moved placed = tt
 
 -- A node that is refused without its parts.
-pub refused_ok : {names : Names} {tree : Syntax} {at : At} {w : Word} {fields : Pieces} {r : Row} (result : Result Place Stop) (s new : State)
+pub refused_ok : {names : Names} {tree : Syntax} {at : At} {w : Word} {fields : Pieces} {r : Row} (result : Result Place Stop)
+    (s new : State)
     → Node at w fields ≡ tree → IsRefused names w fields r
     → OnOk result (new ≡ with_value (recorded s (refusal r at.span)) (values.Primitive primitives.Undefined) (Some at.span))
     → IfOk result (λ place. place ≡ temporary (recorded s (refusal r at.span)) (Some at.span))
@@ -205,12 +206,16 @@ pub one_computed : {names : Names} {at : At} {computed : Bool} {tree key e : Syn
     → LowersProperties names (Then (Node at word.Prop (Then (Flag computed) (Then tree (Then e End)))) End) s t (Gives p ∷ Gives q ∷ [])
 one_computed {names} {at} {computed} {tree} {key} {e} {s} {r} {t} {p} {q} known same k l =
     told_properties
-    (subst (λ (b : Bool). LoweredProperties names (Then (Node at word.Prop (Then (Flag b) (Then tree (Then e End)))) End) s t (Gives p ∷ Gives q ∷ []))
+    (subst (λ (b : Bool). LoweredProperties names (Then (Node at word.Prop (Then (Flag b) (Then tree (Then e End)))) End) s t
+    (Gives p ∷ Gives q ∷ []))
     (sym (in_brackets computed tree known))
-    (lowered.NextComputed at tree e End s r t t p q [] (ap (λ (b : Bool). is_computed b tree) (sym (in_brackets computed tree known)) ∙ known) (subst (λ (n : Syntax). Lowered names n s r p) same k.by) l.by (lowered.NoPart t)))
+    (lowered.NextComputed at tree e End s r t t p q []
+    (ap (λ (b : Bool). is_computed b tree) (sym (in_brackets computed tree known)) ∙ known)
+    (subst (λ (n : Syntax). Lowered names n s r p) same k.by) l.by (lowered.NoPart t)))
 
 pub one_fraction : {names : Names} {at there : At} {computed : Bool} {key e : Syntax} {s noted t : State} {p : Place}
-    → is_computed computed key ≡ false → IsFraction key there → noted ≡ recorded s (refusal row.F43 there.span) → LowersExpression names e noted t p
+    → is_computed computed key ≡ false → IsFraction key there → noted ≡ recorded s (refusal row.F43 there.span)
+    → LowersExpression names e noted t p
     → LowersProperties names (Then (Node at word.Prop (Then (Flag computed) (Then key (Then e End)))) End) s t []
 one_fraction {names} {at} {there} {computed} {key} {e} {s} {noted} {t} {p} plain f same l =
     told_properties
@@ -293,7 +298,8 @@ GivesLeft f names of_object all left old now items =
     (new : State) (more : List Piece) → LoweredParts names of_object left now new more
     → LoweredParts names of_object all old new (gathered f items ++ more)
 
-gives_more : {X : Type 0} {names : Names} {of_object : Bool} {all left rest : Pieces} {first : Syntax} {old s t : State} {given : List Piece}
+gives_more : {X : Type 0} {names : Names} {of_object : Bool} {all left rest : Pieces} {first : Syntax} {old s t : State}
+    {given : List Piece}
     (f : X → List Piece)
     (items : List X) {grown : List X} (added : List X) → left ≡ Then first rest → grown ≡ items ++ added → gathered f added ≡ given
     → LoweredParts names of_object (Then first End) s t given
@@ -304,7 +310,8 @@ gives_more {X} {names} {of_object} {all} {left} {rest} {first} {old} {s} {t} {gi
     (sym (append_assoc (gathered f items) given more)
     ∙ ap (λ (p : List Piece). p ++ more)
     (sym (ap (gathered f) pushed ∙ gathered_more f items added ∙ ap (λ (p : List Piece). gathered f items ++ p) same)))
-    (gives new (given ++ more) (subst (λ (es : Pieces). LoweredParts names of_object es s new (given ++ more)) (sym split) (one_then one l)))
+    (gives new (given ++ more) (subst (λ (es : Pieces). LoweredParts names of_object es s new (given ++ more)) (sym split)
+    (one_then one l)))
 
 pub gives_next : {X : Type 0} {names : Names} {all left rest : Pieces} {first : Syntax} {old s t : State} (f : X → List Piece)
     (items : List X) {grown : List X} (item : X) → left ≡ Then first rest → grown ≡ items ++ item ∷ []

@@ -1,3 +1,4 @@
+pub mod AssignmentDerivations
 pub mod CallDerivations
 pub mod Derivations
 pub mod FrameDerivations

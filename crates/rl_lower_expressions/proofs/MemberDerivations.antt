@@ -1,5 +1,6 @@
 -- Derivations of properties that are loaded, updated, deleted or called.
-use Rattle.std.proofs.Common.{◌≡◌, ℕ, ◌+◌, ◌≤◌, true, false, ◌&&◌, not, Bool, List, [], ◌∷◌, Option, Some, None, Result, Ok, Err, OnOk, IfOk}
+use Rattle.std.proofs.Common.{◌≡◌, ℕ, ◌+◌, ◌≤◌, true, false, ◌&&◌, not, Bool, List, [], ◌∷◌, Option, Some, None, Result, Ok, Err, OnOk}
+use Rattle.std.proofs.Common.{IfOk}
 use Rattle.std.proofs.Common.{refl, ap, sym, ◌∙◌, subst, arith}
 use Rattle.std.specs.Prelude.{codes}
 use Rattle.std.specs.Str.{bytes_eq}
@@ -60,7 +61,8 @@ static_parts {names} {object} {text} {s} {t} {p} copy same l = record {
   parts = Then object End;
   pieces = Gives p ∷ [];
   member =
-      subst (λ (k : List ℕ). IsMember word.Member (Then (Flag false) (Then object (Then (Said text) End))) (Then object End) (Gives p ∷ []) p
+      subst (λ (k : List ℕ). IsMember word.Member (Then (Flag false) (Then object (Then (Said text) End))) (Then object End) (Gives p ∷ [])
+      p
       (Fixed (keys.String k))) (sym same) forms.Static;
   by = next l nothing;
   named = l.named;
@@ -96,7 +98,8 @@ computed_key _ found = refl
 
 pub computed_parts : {names : Names} {object key : Syntax} {s t u : State} {p q : Place} → None ≡ key_number key
     → LowersExpression names object s t p → LowersExpression names key t u q
-    → LowersMember names word.Index (Then (Flag false) (Then object (Then key End))) s u (record { object = p; property = properties.Computed q })
+    → LowersMember names word.Index (Then (Flag false) (Then object (Then key End))) s u
+    (record { object = p; property = properties.Computed q })
 computed_parts {names} {object} {key} {s} {t} {u} {p} {q} found l m = record {
   parts = Then object (Then key End);
   pieces = Gives p ∷ Gives q ∷ [];
@@ -140,7 +143,8 @@ method_ok {names} {es} {given} {loaded} {u} {p} {load} {call} s at there m (Ok p
 method_ok s at there m (Err e) new same begun at_place l calls moved placed = tt
 
 -- The call of a callee that is a property.
-pub called_ok : {names : Names} (at : At) {there : At} {callee : Syntax} {w : Word} {fields : Pieces} (es : Pieces) {old s : State} (new : State) (m : LoweredMember)
+pub called_ok : {names : Names} (at : At) {there : At} {callee : Syntax} {w : Word} {fields : Pieces} (es : Pieces) {old s : State}
+    (new : State) (m : LoweredMember)
     (r : Result Place Stop)
     → Node there w fields ≡ callee → LowersMember names w fields old s m
     → IfOk r (λ place. (w : Word) (fields : Pieces) (old : State) → LowersMember names w fields old s m
@@ -172,7 +176,8 @@ pub update_may : (names : Names) (at : At) (operator prefix target : Syntax) →
 update_may names at operator prefix target bare may = subst (λ (b : Bool). Where (not b) (IsLowerable names target)) bare may
 
 -- The update of a private name.
-pub private_update_ok : (names : Names) (at : At) {there : At} {target object : Syntax} (operator prefix : Syntax) {name : List ℕ} (s new : State)
+pub private_update_ok : (names : Names) (at : At) {there : At} {target object : Syntax} (operator prefix : Syntax) {name : List ℕ}
+    (s new : State)
     (optional : Bool)
     (r : Result Place Stop)
     → Node there word.Privatemember (Then (Flag optional) (Then object (Then (Said name) End))) ≡ target → IsLowerable names target
@@ -211,7 +216,8 @@ unary_may names at operator e other may =
     subst (λ (b : Bool). Where (not (b && not (deletes e))) (IsLowerable names e)) other may
 
 -- A `delete` of what is no property.
-pub lost_delete : {names : Names} (operator : UnaryOperator) {e : Syntax} (inner : Syntax) → deletes e ≡ is_link inner → is_link inner ≡ false
+pub lost_delete : {names : Names} (operator : UnaryOperator) {e : Syntax} (inner : Syntax) → deletes e ≡ is_link inner
+    → is_link inner ≡ false
     → bytes_eq (unary_text operator) (codes "delete") ≡ true
     → IsRefused names word.Unary (Then (Said (unary_text operator)) (Then e End)) row.F12
 lost_delete {names} operator {e} inner same other deletes_it =
@@ -222,7 +228,8 @@ lost_delete {names} operator {e} inner same other deletes_it =
     lost true true there none = absurd (cc)
     lost false d there none = absurd (cc)
 
-pub deleted_ok : {names : Names} (at : At) {there : At} {e inner : Syntax} (operator : UnaryOperator) {w : Word} {fields : Pieces} {s t : State}
+pub deleted_ok : {names : Names} (at : At) {there : At} {e inner : Syntax} (operator : UnaryOperator) {w : Word} {fields : Pieces}
+    {s t : State}
     {value : InstructionValue} (m : LoweredMember) (r : Result Place Stop) (new : State)
     → Node there w fields ≡ inner → IsInside e inner → bytes_eq (unary_text operator) (codes "delete") ≡ true
     → value ≡ delete_of m.object (key_of m.property) → LowersMember names w fields s t m
@@ -234,7 +241,8 @@ deleted_ok {names} at {there} {e} {inner} operator {w} {fields} {s} {t} {value} 
     (forms.Delete operator deletes_it (subst (IsInside e) (sym is) inside) l.member)) l.by moved placed
 
 -- The `delete` of a private name.
-pub private_delete_ok : (names : Names) (at : At) {there : At} {e inner object : Syntax} (operator : UnaryOperator) {name : List ℕ} (s new : State)
+pub private_delete_ok : (names : Names) (at : At) {there : At} {e inner object : Syntax} (operator : UnaryOperator) {name : List ℕ}
+    (s new : State)
     (optional : Bool) (r : Result Place Stop)
     → Node there word.Privatemember (Then (Flag optional) (Then object (Then (Said name) End))) ≡ inner → IsLowerable names inner
     → IsInside e inner → bytes_eq (unary_text operator) (codes "delete") ≡ true

@@ -1,8 +1,8 @@
 -- Derivations of names, of their updates, and of texts of templates.
-use Rattle.std.proofs.Common.{◌≡◌, ℕ, Bool, true, false, List, ◌∷◌, Option, Some, None, Result, Ok, Err, OnOk, IfOk, refl, ap, sym, ◌∙◌, subst}
+use Rattle.std.proofs.Common.{◌≡◌, ℕ, Bool, true, false, List, ◌∷◌, Option, Some, None, Result, Ok, Err, OnOk, IfOk, refl, ap, sym, ◌∙◌}
+use Rattle.std.proofs.Common.{subst}
 use Rattle.rl_base.specs.Diagnostics.{diagnostic_at}
 use Rattle.rl_base.specs.Operators.{update_text}
-use Rattle.rl_base.specs.declared.diagnostic.Diagnostic.{Diagnostic}
 use Rattle.rl_base.specs.declared.operator.UpdateOperator.{UpdateOperator}
 use Rattle.rl_base.specs.declared.row.Row.{Row}
 use Rattle.rl_base.specs.declared.row.Row.TheVariants as row
@@ -130,7 +130,8 @@ updated_variable_ok {s} {first} {mid} (Ok place) names at there symbol earlier i
     (ap (λ (t : State). identifier_of t.bindings symbol.0) begun ∙ f.bound) refl g.bound in
     derived tree tree s _ new _ place refl
     (ended ∙ ap (λ (v : InstructionValue). with_value mid v (Some at.span)) same
-    ∙ ap (λ (t : State). with_value t (update_of prefix operator (record { identifier = record { 0 = identifier }; span = Some there.span }))
+    ∙ ap (λ (t : State). with_value t (update_of prefix operator
+    (record { identifier = record { 0 = identifier }; span = Some there.span }))
     (Some at.span)) here)
     (placed ∙ ap (λ (t : State). temporary t (Some at.span)) here)
     (lowered.UpdatedVariable at there name symbol identifier operator prefix s is varies
@@ -139,26 +140,24 @@ updated_variable_ok {s} {first} {mid} (Ok place) names at there symbol earlier i
 updated_variable_ok (Err e) names at there symbol earlier identifier operator prefix value new begun f varies after g same ended placed = tt
 
 pub updated_constant_ok : {s mid noted : State} (r : Result Place Stop) (names : Names) (at there : At) (symbol : SymbolId) (identifier : ℕ)
-    (operator prefix : Syntax) (said : List ℕ) (d : Diagnostic) (new : State)
+    (operator prefix : Syntax) (new : State)
     → mid ≡ found names s symbol there.span → IsFound names s symbol there.span identifier → names.is_const symbol.0 ≡ true
-    → said ≡ names.name symbol.0 → d ≡ diagnostic_at row.F6 said there.span → noted ≡ recorded mid d
+    → noted ≡ recorded mid (diagnostic_at row.F6 (names.name symbol.0) there.span)
     → OnOk r (new ≡ with_value noted (values.Primitive primitives.Undefined) (Some at.span))
     → IfOk r (λ place. place ≡ temporary noted (Some at.span))
     → IfOk r (λ place. (name : List ℕ) → names.meaning there.reference.0 name ≡ Local symbol
     → LowersExpression names
     (Node at word.Update (Then operator (Then prefix (Then (Node there word.Id (Then (Said name) End)) End)))) s new place)
-updated_constant_ok {s} {mid} {noted} (Ok place) names at there symbol identifier operator prefix said d new begun f constant same says after
-    ended placed = λ name is.
+updated_constant_ok {s} {mid} {noted} (Ok place) names at there symbol identifier operator prefix new begun f constant after ended placed =
+    λ name is.
     let tree : Syntax = Node at word.Update (Then operator (Then prefix (Then (Node there word.Id (Then (Said name) End)) End))) in
     let here : noted ≡ recorded (found names s symbol there.span) (diagnostic_at row.F6 (names.name symbol.0) there.span) =
-    after ∙ ap (λ (t : State). recorded t d) begun
-    ∙ ap (λ (e : Diagnostic). recorded (found names s symbol there.span) e)
-    (says ∙ ap (λ (n : List ℕ). diagnostic_at row.F6 n there.span) same) in
+    after ∙ ap (λ (t : State). recorded t (diagnostic_at row.F6 (names.name symbol.0) there.span)) begun in
     derived tree tree s _ new _ place refl
     (ended ∙ ap (λ (t : State). with_value t (values.Primitive primitives.Undefined) (Some at.span)) here)
     (placed ∙ ap (λ (t : State). temporary t (Some at.span)) here)
     (lowered.UpdatedConstant at there name symbol identifier operator prefix s is constant f)
-updated_constant_ok (Err e) names at there symbol identifier operator prefix said d new begun f constant same says after ended placed = tt
+updated_constant_ok (Err e) names at there symbol identifier operator prefix new begun f constant after ended placed = tt
 
 pub outer_update_ok : {name : List ℕ} (names : Names) (s : State) (result : Result Place Stop) (at there : At) (binding : NonLocalBinding)
     (r : Row) (operator prefix : Syntax) (new : State) → names.meaning there.reference.0 name ≡ Outer binding → r ≡ row_of_update binding

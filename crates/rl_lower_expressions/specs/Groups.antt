@@ -45,11 +45,12 @@ is_access (Node at word.Index parts) = true
 is_access (Node at word.Privatemember parts) = true
 is_access e = is_composite e
 
--- True of operators, casts, `await`, conditional expressions and sequences, and of what `is_access` is true of.
+-- True of operators, assignments, casts, `await`, conditional expressions and sequences, and of what `is_access` is true of.
 abbrev pub is_operation : Syntax → Bool
 is_operation (Node at word.Binary parts) = true
 is_operation (Node at word.Unary parts) = true
 is_operation (Node at word.Update parts) = true
+is_operation (Node at word.Assign parts) = true
 is_operation (Node at word.Await parts) = true
 is_operation (Node at word.Logical parts) = true
 is_operation (Node at word.Cond parts) = true

@@ -11,6 +11,7 @@ ghost use Rattle.rl_names.specs.Seen.{seen};
 ghost use Rattle.rl_ast.specs.ExpressionViews.{seen_expression};
 
 use crate::access::{lower_call, lower_computed, lower_static, lower_tagged, lower_template};
+use crate::assignment::lower_assignment;
 use crate::graph_builder::GraphBuilder;
 use crate::member::load_value;
 use crate::name::{lower_identifier, lower_number};
@@ -323,6 +324,12 @@ fn lower_operation<U: ReadsUnit>(
             prefix,
             argument,
         } => lower_update(alloc, builder, names, at, operator, prefix, argument),
+        Expression::Assignment {
+            at,
+            operator,
+            left,
+            right,
+        } => lower_assignment(alloc, builder, names, at, operator, left, right),
         Expression::Await { at, argument } => {
             let value = lower_expression(alloc, builder, names, argument)?;
             let value = InstructionValue::Await(value);

@@ -2,6 +2,7 @@
 #![tactic(auto)]
 
 pub mod access;
+mod assignment;
 pub mod expression;
 pub mod graph_builder;
 pub mod member;

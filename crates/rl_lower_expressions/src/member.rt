@@ -66,7 +66,10 @@ fn copy_key(alloc: Global, key: &PropertyLiteral) -> Result<PropertyLiteral, Out
 }
 
 /// The value that loads a property whose key is still used behind it.
-fn first_load(alloc: Global, member: &LoweredMember) -> Result<InstructionValue, OutOfMemory>
+pub(crate) fn load_again(
+    alloc: Global,
+    member: &LoweredMember,
+) -> Result<InstructionValue, OutOfMemory>
     ensures { IfOk result (λ value. value ≡ load_of member.now.object (key_of member.now.property)) }
 {
     let object = member.object;
@@ -175,7 +178,7 @@ pub(crate) fn update_member<U: ReadsUnit>(
     ensures memory { IfErr result (λ e. e ≡ Stop.OutOfMemory) }
 {
     let span = Some(there.span);
-    let load = first_load(alloc, &member)?;
+    let load = load_again(alloc, &member)?;
     let old = lower_value_to_temporary(builder, load, span)?;
     let number = WholeNumber::new(1);
     let value = InstructionValue::Primitive(PrimitiveValue::Number(number));

@@ -3,9 +3,11 @@
 ghost use Rattle.std.specs.Prelude.{◌≡◌, ◌+◌, ◌≤◌, ℕ, List, OnOk, IfOk, IfErr, false};
 ghost use Rattle.rl_syntax.specs.Syntax.{Node, Said, Flag, End, Then};
 ghost use Rattle.rl_ast.specs.BindingViews.{seen_identifier_reference};
+ghost use Rattle.rl_base.specs.Diagnostics.{diagnostic_at};
 ghost use Rattle.rl_base.specs.Operators.{update_text};
+ghost use Rattle.rl_base.specs.declared.row.Row.TheVariants as row;
 ghost use Rattle.rl_base.specs.Reserved.{is_reserved};
-ghost use Rattle.rl_builder.specs.Builder.{state_of};
+ghost use Rattle.rl_builder.specs.Builder.{recorded, state_of};
 ghost use Rattle.rl_lowered.specs.Lowered.{update_of};
 ghost use Rattle.rl_lowered.specs.Named.{IsFound, IsNamed, found};
 ghost use Rattle.rl_lowered.specs.Promised.{HasRoom, LowersExpression};
@@ -21,6 +23,7 @@ use crate::graph_builder::GraphBuilder;
 use crate::temporary::{lower_undefined, lower_value_to_temporary, refuse, refuse_as_undefined};
 use rl_ast::binding::IdentifierReference;
 use rl_base::diagnostic::Diagnostic;
+use rl_base::error::OutOfMemory;
 use rl_base::ids::{IdentifierId, SymbolId};
 use rl_base::number::WholeNumber;
 use rl_base::operator::UpdateOperator;
@@ -58,6 +61,21 @@ pub fn resolve_variable<U: ReadsUnit>(
     let name = names.name(symbol);
     let identifier = builder.resolve_binding_with_span(name, symbol, span)?;
     Ok(identifier)
+}
+
+/// Refuses a store to a constant at a name. On `OutOfMemory` an allocation failed.
+pub(crate) fn refuse_constant<U: ReadsUnit>(
+    alloc: Global,
+    builder: &mut GraphBuilder<'_, U>,
+    names: &FunctionNames<'_>,
+    symbol: SymbolId,
+    there: Span,
+) -> Result<(), OutOfMemory>
+    ensures same_reference { builder.new.env.ghost_name ≡ builder.old.env.ghost_name }
+    ensures state { OnOk result (state_of U.tables builder.new ≡ recorded (state_of U.tables builder.old) (diagnostic_at row.F6 ((seen names.now).name symbol.0) there)) }
+{
+    let diagnostic = Diagnostic::at(alloc, Row::F6, names.name(symbol), there)?;
+    builder.record_diagnostic(diagnostic)
 }
 
 /// True of the global `eval`.
@@ -193,8 +211,7 @@ fn update_local<U: ReadsUnit>(
 {
     resolve_variable(builder, names, symbol, there.span)?;
     if names.is_const(symbol) {
-        let diagnostic = Diagnostic::at(alloc, Row::F6, names.name(symbol), there.span)?;
-        builder.record_diagnostic(diagnostic)?;
+        refuse_constant(alloc, builder, names, symbol, there.span)?;
         return lower_undefined(builder, Some(at.span));
     }
     let identifier = resolve_variable(builder, names, symbol, there.span)?;

@@ -69,15 +69,20 @@ pub statement::lower_block-returns-clause-lowered : goal.statement::lower_block-
 statement::lower_block-returns-clause-lowered g t c =
     block_ok (seen c.args.names.now) _ _ c.lower_statements.result c.block_statement_view-block.ensures c.lower_statements.ensures.lowered
 
-pub statement::lower_statement-returns-in_ok-refuse-in-With-clause-lowered : goal.statement::lower_statement-returns-in_ok-refuse-in-With-clause-lowered
-statement::lower_statement-returns-in_ok-refuse-in-With-clause-lowered g t c = with_told _ c.in-With.ensures c.in_ok-refuse-in-With.ensures.state
+pub statement::lower_statement-returns-in_ok-refuse-in-With-clause-lowered
+    : goal.statement::lower_statement-returns-in_ok-refuse-in-With-clause-lowered
+statement::lower_statement-returns-in_ok-refuse-in-With-clause-lowered g t c =
+    with_told _ c.in-With.ensures c.in_ok-refuse-in-With.ensures.state
 
 pub statement::lower_statement-lower_break-requires-clause-may : goal.statement::lower_statement-lower_break-requires-clause-may
-statement::lower_statement-lower_break-requires-clause-may g t c = break_may (seen c.args.names.now) (arounds (state_of g.U.ReadsUnit.tables c.args.builder.now)) c.in-Break.at c.in-Break.label c.in-Break.ensures c.requires.may
+statement::lower_statement-lower_break-requires-clause-may g t c =
+    break_may (seen c.args.names.now) (arounds (state_of g.U.ReadsUnit.tables c.args.builder.now)) c.in-Break.at c.in-Break.label
+    c.in-Break.ensures c.requires.may
 
 pub statement::lower_statement-lower_continue-requires-clause-may : goal.statement::lower_statement-lower_continue-requires-clause-may
 statement::lower_statement-lower_continue-requires-clause-may g t c =
-    continue_may (seen c.args.names.now) (arounds (state_of g.U.ReadsUnit.tables c.args.builder.now)) c.in-Continue.at c.in-Continue.label c.in-Continue.ensures c.requires.may
+    continue_may (seen c.args.names.now) (arounds (state_of g.U.ReadsUnit.tables c.args.builder.now)) c.in-Continue.at c.in-Continue.label
+    c.in-Continue.ensures c.requires.may
 
 pub statement::lower_statement-returns-in-Break-clause-lowered : goal.statement::lower_statement-returns-in-Break-clause-lowered
 statement::lower_statement-returns-in-Break-clause-lowered g t c =
@@ -111,14 +116,18 @@ statement::lower_statement-unreachable-requires g t c = by_kind c.statement_view
     by_kind (statement.Labeled at l b) is shown = c.in_default.not-Labeled at l b is
     by_kind (statement.Variables d) is shown = c.in_default.not-Variables d is
     by_kind (statement.Function inner) is shown =
-        function_unlowered (seen c.args.names.now) (arounds (state_of g.U.ReadsUnit.tables c.args.builder.now)) (syntax inner.tree.now) inner.fit
-        (subst (IsLowerableIn (seen c.args.names.now) (arounds (state_of g.U.ReadsUnit.tables c.args.builder.now)) None) (sym shown) c.requires.may)
+        function_unlowered (seen c.args.names.now) (arounds (state_of g.U.ReadsUnit.tables c.args.builder.now)) (syntax inner.tree.now)
+        inner.fit
+        (subst (IsLowerableIn (seen c.args.names.now) (arounds (state_of g.U.ReadsUnit.tables c.args.builder.now)) None) (sym shown)
+        c.requires.may)
     by_kind v is shown =
         true≢false
-        (sym (subst (IsLowerableIn (seen c.args.names.now) (arounds (state_of g.U.ReadsUnit.tables c.args.builder.now)) None) (sym shown) c.requires.may).0)
+        (sym (subst (IsLowerableIn (seen c.args.names.now) (arounds (state_of g.U.ReadsUnit.tables c.args.builder.now)) None) (sym shown)
+        c.requires.may).0)
 
 pub statement::lower_statement-returns-in-While-clause-lowered : goal.statement::lower_statement-returns-in-While-clause-lowered
-statement::lower_statement-returns-in-While-clause-lowered g t c = unlabeled_loop_ok (seen c.args.names.now) _ _ _ c.lower_loop.result c.lower_loop.ensures.lowered
+statement::lower_statement-returns-in-While-clause-lowered g t c =
+    unlabeled_loop_ok (seen c.args.names.now) _ _ _ c.lower_loop.result c.lower_loop.ensures.lowered
 
 pub statement::lower_statement-returns-in-DoWhile-clause-lowered : goal.statement::lower_statement-returns-in-DoWhile-clause-lowered
 statement::lower_statement-returns-in-DoWhile-clause-lowered g t c =
@@ -161,7 +170,8 @@ statement::lower_statements-statements-preserved g t c =
     }
 
 pub statement::lower_statements-returns-clause-lowered : goal.statement::lower_statements-returns-clause-lowered
-statement::lower_statements-returns-clause-lowered g t c = told_statements (c.statements.invariant.lowers _ (statements_done c.in_default.ensures))
+statement::lower_statements-returns-clause-lowered g t c =
+    told_statements (c.statements.invariant.lowers _ (statements_done c.in_default.ensures))
 
 -- Frames.
 
@@ -177,7 +187,8 @@ statement::lower_if_then-lower_statement-requires g t c =
         (
           if_begun_named s b c.in_ok-frame.ensures.state c.requires.names,
           (
-            inside (seen c.args.names.now) (syntax c.args.consequent.tree.now) s b (ap arounds c.in_ok-frame.ensures.state) c.requires.may.1,
+            inside (seen c.args.names.now) (syntax c.args.consequent.tree.now) s b (ap arounds c.in_ok-frame.ensures.state)
+                c.requires.may.1,
             if_begun_room s b (share consequent)
                 (share ((nodes (syntax c.args.test.tree.now)) + (consequent + (0 + 0)) + 1)) c.in_ok-frame.ensures.state (omega arith)
                 c.requires.room,
@@ -227,7 +238,8 @@ statement::lower_if_else-lower_statement-requires g t c =
         (
           if_begun_named s b c.in_ok-frame.ensures.state c.requires.names,
           (
-            inside (seen c.args.names.now) (syntax c.args.consequent.tree.now) s b (ap arounds c.in_ok-frame.ensures.state) c.requires.may.1,
+            inside (seen c.args.names.now) (syntax c.args.consequent.tree.now) s b (ap arounds c.in_ok-frame.ensures.state)
+                c.requires.may.1,
             if_begun_room s b (share consequent)
                 (share ((nodes (syntax c.args.test.tree.now)) + (consequent + ((nodes (syntax c.args.alternate.tree.now)) + 0)) + 1))
                 c.in_ok-frame.ensures.state (omega arith) c.requires.room,
@@ -322,8 +334,10 @@ loops::lower_while-lower_statement-requires g t c =
         (
           moved_named s (while_begun s own) b c.in_ok-frame.ensures.state (names_same s (while_begun s own) refl) c.requires.names,
           (
-            inside_loop (seen c.args.names.now) (syntax c.args.body.tree.now) s b (while_begun_arounds s b c.in_ok-label.ensures c.in_ok-frame.ensures.state) c.requires.may.1,
-            moved_room s (while_begun s own) b 3 (share body) (share (test + (body + 0) + 1)) c.in_ok-frame.ensures.state (while_begun_size s own) (omega arith) c.requires.room,
+            inside_loop (seen c.args.names.now) (syntax c.args.body.tree.now) s b
+                (while_begun_arounds s b c.in_ok-label.ensures c.in_ok-frame.ensures.state) c.requires.may.1,
+            moved_room s (while_begun s own) b 3 (share body) (share (test + (body + 0) + 1)) c.in_ok-frame.ensures.state
+                (while_begun_size s own) (omega arith) c.requires.room,
           ),
         ),
       ),
@@ -345,8 +359,10 @@ loops::lower_while-lower_expression-requires-clause-names g t c =
     let s2 : State = state_of g.U.ReadsUnit.tables c.lower_statement.new.builder in
     let b2 : State = state_of g.U.ReadsUnit.tables c.body.new.b in
     let f : WhileParts = while_of c.in_ok-frame.frame in
-    moved_named s2 (while_bodied f s2 c.span_of.result) b2 c.in_ok-body.ensures.state (names_same s2 (while_bodied f s2 c.span_of.result) refl)
-    (c.in_ok-lower_statement.ensures.lowered.named (moved_named s (while_begun s own) b c.in_ok-frame.ensures.state (names_same s (while_begun s own) refl) c.requires.names))
+    moved_named s2 (while_bodied f s2 c.span_of.result) b2 c.in_ok-body.ensures.state
+    (names_same s2 (while_bodied f s2 c.span_of.result) refl)
+    (c.in_ok-lower_statement.ensures.lowered.named
+    (moved_named s (while_begun s own) b c.in_ok-frame.ensures.state (names_same s (while_begun s own) refl) c.requires.names))
 
 pub loops::lower_while-lower_expression-requires-clause-room : goal.loops::lower_while-lower_expression-requires-clause-room
 loops::lower_while-lower_expression-requires-clause-room g t c =
@@ -359,14 +375,18 @@ loops::lower_while-lower_expression-requires-clause-room g t c =
     let b2 : State = state_of g.U.ReadsUnit.tables c.body.new.b in
     let f : WhileParts = while_of c.in_ok-frame.frame in
     let room : HasRoom b (share body + (share test + 61)) =
-    moved_room s (while_begun s own) b 3 (share body + (share test + 61)) (share (test + (body + 0) + 1)) c.in_ok-frame.ensures.state (while_begun_size s own) (omega arith) c.requires.room in
-    moved_room s2 (while_bodied f s2 c.span_of.result) b2 0 (share test) (share test + 61) c.in_ok-body.ensures.state (while_bodied_size f s2 c.span_of.result) (omega arith)
-    (room_after b s2 (share body) (share test + 61) (share body + (share test + 61)) c.in_ok-lower_statement.ensures.lowered.size (omega arith) room)
+    moved_room s (while_begun s own) b 3 (share body + (share test + 61)) (share (test + (body + 0) + 1)) c.in_ok-frame.ensures.state
+    (while_begun_size s own) (omega arith) c.requires.room in
+    moved_room s2 (while_bodied f s2 c.span_of.result) b2 0 (share test) (share test + 61) c.in_ok-body.ensures.state
+    (while_bodied_size f s2 c.span_of.result) (omega arith)
+    (room_after b s2 (share body) (share test + 61) (share body + (share test + 61)) c.in_ok-lower_statement.ensures.lowered.size
+    (omega arith) room)
 
 pub loops::lower_while-returns-clause-lowered : goal.loops::lower_while-returns-clause-lowered
 loops::lower_while-returns-clause-lowered g t c =
     while_told (while_of c.body.new.self) _ c.in_ok-label.ensures c.span_of.ensures c.in_ok-frame.ensures.frame c.in_ok-frame.ensures.state
-    c.in_ok-lower_statement.ensures.lowered c.in_ok-body.ensures.state c.in_ok-body.ensures.frame c.in_ok-test.ensures.lowered c.in_ok-finish.ensures.state
+    c.in_ok-lower_statement.ensures.lowered c.in_ok-body.ensures.state c.in_ok-body.ensures.frame c.in_ok-test.ensures.lowered
+    c.in_ok-finish.ensures.state
 
 pub loops::lower_do_while-lower_statement-requires : goal.loops::lower_do_while-lower_statement-requires
 loops::lower_do_while-lower_statement-requires g t c =
@@ -382,8 +402,10 @@ loops::lower_do_while-lower_statement-requires g t c =
         (
           moved_named s (while_begun s own) b c.in_ok-frame.ensures.state (names_same s (while_begun s own) refl) c.requires.names,
           (
-            inside_loop (seen c.args.names.now) (syntax c.args.body.tree.now) s b (while_begun_arounds s b c.in_ok-label.ensures c.in_ok-frame.ensures.state) c.requires.may.0,
-            moved_room s (while_begun s own) b 3 (share body) (share (body + (test + 0) + 1)) c.in_ok-frame.ensures.state (while_begun_size s own) (omega arith) c.requires.room,
+            inside_loop (seen c.args.names.now) (syntax c.args.body.tree.now) s b
+                (while_begun_arounds s b c.in_ok-label.ensures c.in_ok-frame.ensures.state) c.requires.may.0,
+            moved_room s (while_begun s own) b 3 (share body) (share (body + (test + 0) + 1)) c.in_ok-frame.ensures.state
+                (while_begun_size s own) (omega arith) c.requires.room,
           ),
         ),
       ),
@@ -405,8 +427,10 @@ loops::lower_do_while-lower_expression-requires-clause-names g t c =
     let s2 : State = state_of g.U.ReadsUnit.tables c.lower_statement.new.builder in
     let b2 : State = state_of g.U.ReadsUnit.tables c.body.new.b in
     let f : WhileParts = do_while_of c.in_ok-frame.frame in
-    moved_named s2 (do_while_bodied f s2 c.span_of.result) b2 c.in_ok-body.ensures.state (names_same s2 (do_while_bodied f s2 c.span_of.result) refl)
-    (c.in_ok-lower_statement.ensures.lowered.named (moved_named s (while_begun s own) b c.in_ok-frame.ensures.state (names_same s (while_begun s own) refl) c.requires.names))
+    moved_named s2 (do_while_bodied f s2 c.span_of.result) b2 c.in_ok-body.ensures.state
+    (names_same s2 (do_while_bodied f s2 c.span_of.result) refl)
+    (c.in_ok-lower_statement.ensures.lowered.named
+    (moved_named s (while_begun s own) b c.in_ok-frame.ensures.state (names_same s (while_begun s own) refl) c.requires.names))
 
 pub loops::lower_do_while-lower_expression-requires-clause-room : goal.loops::lower_do_while-lower_expression-requires-clause-room
 loops::lower_do_while-lower_expression-requires-clause-room g t c =
@@ -419,14 +443,19 @@ loops::lower_do_while-lower_expression-requires-clause-room g t c =
     let b2 : State = state_of g.U.ReadsUnit.tables c.body.new.b in
     let f : WhileParts = do_while_of c.in_ok-frame.frame in
     let room : HasRoom b (share body + (share test + 61)) =
-    moved_room s (while_begun s own) b 3 (share body + (share test + 61)) (share (body + (test + 0) + 1)) c.in_ok-frame.ensures.state (while_begun_size s own) (omega arith) c.requires.room in
-    moved_room s2 (do_while_bodied f s2 c.span_of.result) b2 0 (share test) (share test + 61) c.in_ok-body.ensures.state (do_while_bodied_size f s2 c.span_of.result) (omega arith)
-    (room_after b s2 (share body) (share test + 61) (share body + (share test + 61)) c.in_ok-lower_statement.ensures.lowered.size (omega arith) room)
+    moved_room s (while_begun s own) b 3 (share body + (share test + 61)) (share (body + (test + 0) + 1)) c.in_ok-frame.ensures.state
+    (while_begun_size s own) (omega arith) c.requires.room in
+    moved_room s2 (do_while_bodied f s2 c.span_of.result) b2 0 (share test) (share test + 61) c.in_ok-body.ensures.state
+    (do_while_bodied_size f s2 c.span_of.result) (omega arith)
+    (room_after b s2 (share body) (share test + 61) (share body + (share test + 61)) c.in_ok-lower_statement.ensures.lowered.size
+    (omega arith) room)
 
 pub loops::lower_do_while-returns-clause-lowered : goal.loops::lower_do_while-returns-clause-lowered
 loops::lower_do_while-returns-clause-lowered g t c =
-    do_while_told (do_while_of c.body.new.self) _ c.in_ok-label.ensures c.span_of.ensures c.in_ok-frame.ensures.frame c.in_ok-frame.ensures.state
-    c.in_ok-lower_statement.ensures.lowered c.in_ok-body.ensures.state c.in_ok-body.ensures.frame c.in_ok-test.ensures.lowered c.in_ok-finish.ensures.state
+    do_while_told (do_while_of c.body.new.self) _ c.in_ok-label.ensures c.span_of.ensures c.in_ok-frame.ensures.frame
+    c.in_ok-frame.ensures.state
+    c.in_ok-lower_statement.ensures.lowered c.in_ok-body.ensures.state c.in_ok-body.ensures.frame c.in_ok-test.ensures.lowered
+    c.in_ok-finish.ensures.state
 
 pub loops::lower_labeled-lower_loop-requires : goal.loops::lower_labeled-lower_loop-requires
 loops::lower_labeled-lower_loop-requires g t c =
@@ -440,7 +469,8 @@ loops::lower_labeled-lower_loop-requires g t c =
           (
             sym c.if-is_loop.ensures,
             (
-              labeled_loop_may (seen c.args.names.now) (arounds s) c.args.label.now (syntax c.args.body.tree.now) (sym c.if-is_loop.ensures) c.requires.may,
+              labeled_loop_may (seen c.args.names.now) (arounds s) c.args.label.now (syntax c.args.body.tree.now) (sym c.if-is_loop.ensures)
+                  c.requires.may,
               omega (arith, c.requires.room),
             ),
           ),
@@ -465,8 +495,11 @@ loops::lower_labeled-lower_statement-requires g t c =
         (
           moved_named s (label_begun s own) b c.in_ok-frame.ensures.state (names_same s (label_begun s own) refl) c.requires.names,
           (
-            inside_label (seen c.args.names.now) (syntax c.args.body.tree.now) s b c.in_ok-label.ensures c.in_ok-frame.ensures.state (labeled_may (seen c.args.names.now) (arounds s) c.args.label.now (syntax c.args.body.tree.now) (sym c.if-is_loop.ensures) c.requires.may),
-            moved_room s (label_begun s own) b 2 (share body) (share (0 + (body + 0) + 1)) c.in_ok-frame.ensures.state (label_begun_size s own) (omega arith) c.requires.room,
+            inside_label (seen c.args.names.now) (syntax c.args.body.tree.now) s b c.in_ok-label.ensures c.in_ok-frame.ensures.state
+                (labeled_may (seen c.args.names.now) (arounds s) c.args.label.now (syntax c.args.body.tree.now) (sym c.if-is_loop.ensures)
+                c.requires.may),
+            moved_room s (label_begun s own) b 2 (share body) (share (0 + (body + 0) + 1)) c.in_ok-frame.ensures.state
+                (label_begun_size s own) (omega arith) c.requires.room,
           ),
         ),
       ),
@@ -478,11 +511,16 @@ loops::lower_labeled-finish-requires g t c =
     let b : State = state_of g.U.ReadsUnit.tables c.begin.new.b in
     let s2 : State = state_of g.U.ReadsUnit.tables c.lower_statement.new.builder in
     let own : List ℕ = c.in_ok-label.label in
-    record { scope = scope_kept s b s2 (label_scope s own) (ap (λ (o : State). o.scopes) c.in_ok-frame.ensures.state) c.in_ok-lower_statement.ensures.lowered }
+    record {
+      scope =
+          scope_kept s b s2 (label_scope s own) (ap (λ (o : State). o.scopes) c.in_ok-frame.ensures.state)
+          c.in_ok-lower_statement.ensures.lowered;
+    }
 
 pub loops::lower_labeled-returns-clause-lowered : goal.loops::lower_labeled-returns-clause-lowered
 loops::lower_labeled-returns-clause-lowered g t c =
-    labeled_told _ c.in_ok-label.ensures c.span_of.ensures (sym c.if-is_loop.ensures) c.in_ok-frame.ensures.frame c.in_ok-frame.ensures.state
+    labeled_told _ c.in_ok-label.ensures c.span_of.ensures (sym c.if-is_loop.ensures) c.in_ok-frame.ensures.frame
+    c.in_ok-frame.ensures.state
     c.in_ok-lower_statement.ensures.lowered c.in_ok-finish.ensures.state
 
 pub loops::lower_for_updated-lower_init-requires-clause-names : goal.loops::lower_for_updated-lower_init-requires-clause-names
@@ -500,7 +538,8 @@ loops::lower_for_updated-lower_init-requires-clause-room g t c =
     let s : State = state_of g.U.ReadsUnit.tables c.args.builder.now in
     let b : State = state_of g.U.ReadsUnit.tables c.begin.new.b in
     let room : HasRoom b (share init + 4 + (share update + (share body + (share test + 50)))) =
-    moved_room s (for_begun s) b 3 (share init + 4 + (share update + (share body + (share test + 50)))) (share (init + (test + (update + (body + 0))) + 1)) c.in_ok-frame.ensures.state (for_begun_size s) (omega arith) c.requires.room in
+    moved_room s (for_begun s) b 3 (share init + 4 + (share update + (share body + (share test + 50))))
+    (share (init + (test + (update + (body + 0))) + 1)) c.in_ok-frame.ensures.state (for_begun_size s) (omega arith) c.requires.room in
     omega (arith, room)
 
 pub loops::lower_for_updated-init-requires : goal.loops::lower_for_updated-init-requires
@@ -513,9 +552,12 @@ loops::lower_for_updated-init-requires g t c =
     let b : State = state_of g.U.ReadsUnit.tables c.begin.new.b in
     let s2 : State = state_of g.U.ReadsUnit.tables c.lower_init.new.builder in
     let room : HasRoom b (share init + 4 + (share update + (share body + (share test + 50)))) =
-    moved_room s (for_begun s) b 3 (share init + 4 + (share update + (share body + (share test + 50)))) (share (init + (test + (update + (body + 0))) + 1)) c.in_ok-frame.ensures.state (for_begun_size s) (omega arith) c.requires.room in
+    moved_room s (for_begun s) b 3 (share init + 4 + (share update + (share body + (share test + 50))))
+    (share (init + (test + (update + (body + 0))) + 1)) c.in_ok-frame.ensures.state (for_begun_size s) (omega arith) c.requires.room in
     let room2 : HasRoom s2 (share update + (share body + (share test + 50))) =
-    room_after b s2 (share init + 4) (share update + (share body + (share test + 50))) (share init + 4 + (share update + (share body + (share test + 50)))) (omega (arith, c.in_ok-part.ensures.lowered.size)) (omega arith) room in
+    room_after b s2 (share init + 4) (share update + (share body + (share test + 50)))
+    (share init + 4 + (share update + (share body + (share test + 50)))) (omega (arith, c.in_ok-part.ensures.lowered.size)) (omega arith)
+    room in
     omega (arith, room2)
 
 pub loops::lower_for_updated-lower_expression-requires-clause-names : goal.loops::lower_for_updated-lower_expression-requires-clause-names
@@ -526,7 +568,8 @@ loops::lower_for_updated-lower_expression-requires-clause-names g t c =
     let b2 : State = state_of g.U.ReadsUnit.tables c.init.new.b in
     let f : ForParts = for_of c.in_ok-frame.frame in
     moved_named s2 (for_inited f s2 c.in_ok-part.part) b2 c.in_ok-init.ensures.state (for_inited_names f s2 c.in_ok-part.part)
-    (c.in_ok-part.ensures.lowered.named (moved_named s (for_begun s) b c.in_ok-frame.ensures.state (names_same s (for_begun s) refl) c.requires.names))
+    (c.in_ok-part.ensures.lowered.named (moved_named s (for_begun s) b c.in_ok-frame.ensures.state (names_same s (for_begun s) refl)
+    c.requires.names))
 
 pub loops::lower_for_updated-lower_expression-requires-clause-room : goal.loops::lower_for_updated-lower_expression-requires-clause-room
 loops::lower_for_updated-lower_expression-requires-clause-room g t c =
@@ -540,11 +583,16 @@ loops::lower_for_updated-lower_expression-requires-clause-room g t c =
     let b2 : State = state_of g.U.ReadsUnit.tables c.init.new.b in
     let f : ForParts = for_of c.in_ok-frame.frame in
     let room : HasRoom b (share init + 4 + (share update + (share body + (share test + 50)))) =
-    moved_room s (for_begun s) b 3 (share init + 4 + (share update + (share body + (share test + 50)))) (share (init + (test + (update + (body + 0))) + 1)) c.in_ok-frame.ensures.state (for_begun_size s) (omega arith) c.requires.room in
+    moved_room s (for_begun s) b 3 (share init + 4 + (share update + (share body + (share test + 50))))
+    (share (init + (test + (update + (body + 0))) + 1)) c.in_ok-frame.ensures.state (for_begun_size s) (omega arith) c.requires.room in
     let room2 : HasRoom s2 (share update + (share body + (share test + 50))) =
-    room_after b s2 (share init + 4) (share update + (share body + (share test + 50))) (share init + 4 + (share update + (share body + (share test + 50)))) (omega (arith, c.in_ok-part.ensures.lowered.size)) (omega arith) room in
+    room_after b s2 (share init + 4) (share update + (share body + (share test + 50)))
+    (share init + 4 + (share update + (share body + (share test + 50)))) (omega (arith, c.in_ok-part.ensures.lowered.size)) (omega arith)
+    room in
     let room3 : HasRoom b2 (share update + (share body + (share test + 49))) =
-    moved_room s2 (for_inited f s2 c.in_ok-part.part) b2 1 (share update + (share body + (share test + 49))) (share update + (share body + (share test + 50))) c.in_ok-init.ensures.state (for_inited_size f s2 c.in_ok-part.part) (omega arith) room2 in
+    moved_room s2 (for_inited f s2 c.in_ok-part.part) b2 1 (share update + (share body + (share test + 49)))
+    (share update + (share body + (share test + 50))) c.in_ok-init.ensures.state (for_inited_size f s2 c.in_ok-part.part) (omega arith)
+    room2 in
     omega (arith, room3)
 
 pub loops::lower_for_updated-update-requires : goal.loops::lower_for_updated-update-requires
@@ -560,13 +608,19 @@ loops::lower_for_updated-update-requires g t c =
     let f : ForParts = for_of c.in_ok-frame.frame in
     let s3 : State = state_of g.U.ReadsUnit.tables c.lower_expression.new.builder in
     let room : HasRoom b (share init + 4 + (share update + (share body + (share test + 50)))) =
-    moved_room s (for_begun s) b 3 (share init + 4 + (share update + (share body + (share test + 50)))) (share (init + (test + (update + (body + 0))) + 1)) c.in_ok-frame.ensures.state (for_begun_size s) (omega arith) c.requires.room in
+    moved_room s (for_begun s) b 3 (share init + 4 + (share update + (share body + (share test + 50))))
+    (share (init + (test + (update + (body + 0))) + 1)) c.in_ok-frame.ensures.state (for_begun_size s) (omega arith) c.requires.room in
     let room2 : HasRoom s2 (share update + (share body + (share test + 50))) =
-    room_after b s2 (share init + 4) (share update + (share body + (share test + 50))) (share init + 4 + (share update + (share body + (share test + 50)))) (omega (arith, c.in_ok-part.ensures.lowered.size)) (omega arith) room in
+    room_after b s2 (share init + 4) (share update + (share body + (share test + 50)))
+    (share init + 4 + (share update + (share body + (share test + 50)))) (omega (arith, c.in_ok-part.ensures.lowered.size)) (omega arith)
+    room in
     let room3 : HasRoom b2 (share update + (share body + (share test + 49))) =
-    moved_room s2 (for_inited f s2 c.in_ok-part.part) b2 1 (share update + (share body + (share test + 49))) (share update + (share body + (share test + 50))) c.in_ok-init.ensures.state (for_inited_size f s2 c.in_ok-part.part) (omega arith) room2 in
+    moved_room s2 (for_inited f s2 c.in_ok-part.part) b2 1 (share update + (share body + (share test + 49)))
+    (share update + (share body + (share test + 50))) c.in_ok-init.ensures.state (for_inited_size f s2 c.in_ok-part.part) (omega arith)
+    room2 in
     let room4 : HasRoom s3 (share body + (share test + 49)) =
-    room_after b2 s3 (share update) (share body + (share test + 49)) (share update + (share body + (share test + 49))) c.in_ok-lower_expression.ensures.lowered.size (omega arith) room3 in
+    room_after b2 s3 (share update) (share body + (share test + 49)) (share update + (share body + (share test + 49)))
+    c.in_ok-lower_expression.ensures.lowered.size (omega arith) room3 in
     omega (arith, room4)
 
 pub loops::lower_for_updated-lower_statement-requires : goal.loops::lower_for_updated-lower_statement-requires
@@ -584,28 +638,40 @@ loops::lower_for_updated-lower_statement-requires g t c =
     let b3 : State = state_of g.U.ReadsUnit.tables c.update.new.b in
     let f2 : ForParts = for_of c.init.new.self in
     let room : HasRoom b (share init + 4 + (share update + (share body + (share test + 50)))) =
-    moved_room s (for_begun s) b 3 (share init + 4 + (share update + (share body + (share test + 50)))) (share (init + (test + (update + (body + 0))) + 1)) c.in_ok-frame.ensures.state (for_begun_size s) (omega arith) c.requires.room in
+    moved_room s (for_begun s) b 3 (share init + 4 + (share update + (share body + (share test + 50))))
+    (share (init + (test + (update + (body + 0))) + 1)) c.in_ok-frame.ensures.state (for_begun_size s) (omega arith) c.requires.room in
     let room2 : HasRoom s2 (share update + (share body + (share test + 50))) =
-    room_after b s2 (share init + 4) (share update + (share body + (share test + 50))) (share init + 4 + (share update + (share body + (share test + 50)))) (omega (arith, c.in_ok-part.ensures.lowered.size)) (omega arith) room in
+    room_after b s2 (share init + 4) (share update + (share body + (share test + 50)))
+    (share init + 4 + (share update + (share body + (share test + 50)))) (omega (arith, c.in_ok-part.ensures.lowered.size)) (omega arith)
+    room in
     let room3 : HasRoom b2 (share update + (share body + (share test + 49))) =
-    moved_room s2 (for_inited f s2 c.in_ok-part.part) b2 1 (share update + (share body + (share test + 49))) (share update + (share body + (share test + 50))) c.in_ok-init.ensures.state (for_inited_size f s2 c.in_ok-part.part) (omega arith) room2 in
+    moved_room s2 (for_inited f s2 c.in_ok-part.part) b2 1 (share update + (share body + (share test + 49)))
+    (share update + (share body + (share test + 50))) c.in_ok-init.ensures.state (for_inited_size f s2 c.in_ok-part.part) (omega arith)
+    room2 in
     let room4 : HasRoom s3 (share body + (share test + 49)) =
-    room_after b2 s3 (share update) (share body + (share test + 49)) (share update + (share body + (share test + 49))) c.in_ok-lower_expression.ensures.lowered.size (omega arith) room3 in
+    room_after b2 s3 (share update) (share body + (share test + 49)) (share update + (share body + (share test + 49)))
+    c.in_ok-lower_expression.ensures.lowered.size (omega arith) room3 in
     let room5 : HasRoom b3 (share body + (share test + 48)) =
-    moved_room s3 (for_updated f2 s3 c.span_of.result) b3 1 (share body + (share test + 48)) (share body + (share test + 49)) c.in_ok-update.ensures.state (for_updated_size f2 s3 c.span_of.result) (omega arith) room4 in
+    moved_room s3 (for_updated f2 s3 c.span_of.result) b3 1 (share body + (share test + 48)) (share body + (share test + 49))
+    c.in_ok-update.ensures.state (for_updated_size f2 s3 c.span_of.result) (omega arith) room4 in
     λ lifetimes outlives. (
       search rules,
       (
         search rules,
         (
-          moved_named s3 (for_updated f2 s3 c.span_of.result) b3 c.in_ok-update.ensures.state (names_same s3 (for_updated f2 s3 c.span_of.result) refl)
-              (c.in_ok-lower_expression.ensures.lowered.named (moved_named s2 (for_inited f s2 c.in_ok-part.part) b2 c.in_ok-init.ensures.state (for_inited_names f s2 c.in_ok-part.part)
-              (c.in_ok-part.ensures.lowered.named (moved_named s (for_begun s) b c.in_ok-frame.ensures.state (names_same s (for_begun s) refl) c.requires.names)))),
+          moved_named s3 (for_updated f2 s3 c.span_of.result) b3 c.in_ok-update.ensures.state
+              (names_same s3 (for_updated f2 s3 c.span_of.result) refl)
+              (c.in_ok-lower_expression.ensures.lowered.named
+              (moved_named s2 (for_inited f s2 c.in_ok-part.part) b2 c.in_ok-init.ensures.state (for_inited_names f s2 c.in_ok-part.part)
+              (c.in_ok-part.ensures.lowered.named (moved_named s (for_begun s) b c.in_ok-frame.ensures.state
+              (names_same s (for_begun s) refl) c.requires.names)))),
           (
             inside_loop (seen c.args.names.now) (syntax c.args.body.tree.now) s b3
-                (for_updated_arounds c.span_of.result s s2 s3 b3 c.in_ok-label.ensures c.in_ok-frame.ensures.frame c.in_ok-init.ensures.frame c.in_ok-update.ensures.state
+                (for_updated_arounds c.span_of.result s s2 s3 b3 c.in_ok-label.ensures c.in_ok-frame.ensures.frame
+                c.in_ok-init.ensures.frame c.in_ok-update.ensures.state
                 ∙ ap (λ (a : List Around). InLoop (option_map (λ l. l.now) c.args.label) ∷ a)
-                (expression_arounds c.in_ok-lower_expression.ensures.lowered.by ∙ for_inited_arounds c.in_ok-part.part s s2 b2 c.in_ok-frame.ensures.frame c.in_ok-init.ensures.state
+                (expression_arounds c.in_ok-lower_expression.ensures.lowered.by
+                ∙ for_inited_arounds c.in_ok-part.part s s2 b2 c.in_ok-frame.ensures.frame c.in_ok-init.ensures.state
                 ∙ init_arounds c.in_ok-part.ensures.lowered ∙ for_begun_arounds s b c.in_ok-frame.ensures.state)) c.requires.may.3,
             omega (arith, room5),
           ),
@@ -622,7 +688,8 @@ loops::lower_for_updated-body-requires-clause-scope g t c =
     let b3 : State = state_of g.U.ReadsUnit.tables c.update.new.b in
     let s4 : State = state_of g.U.ReadsUnit.tables c.lower_statement.new.builder in
     scope_kept s3 b3 s4 (for_scope s.env.next_block own (block_id s2.env.next_block))
-    (opened_updated c.span_of.result s s2 s3 b3 c.in_ok-frame.ensures.frame c.in_ok-init.ensures.frame c.in_ok-update.ensures.state) c.in_ok-lower_statement.ensures.lowered
+    (opened_updated c.span_of.result s s2 s3 b3 c.in_ok-frame.ensures.frame c.in_ok-init.ensures.frame c.in_ok-update.ensures.state)
+    c.in_ok-lower_statement.ensures.lowered
 
 pub loops::lower_for_updated-lower_test-requires-clause-names : goal.loops::lower_for_updated-lower_test-requires-clause-names
 loops::lower_for_updated-lower_test-requires-clause-names g t c =
@@ -637,10 +704,15 @@ loops::lower_for_updated-lower_test-requires-clause-names g t c =
     let s4 : State = state_of g.U.ReadsUnit.tables c.lower_statement.new.builder in
     let b4 : State = state_of g.U.ReadsUnit.tables c.body.new.b in
     let f3 : ForParts = for_of c.update.new.self in
-    moved_named s4 (for_bodied f3 s4 c.span_of-2.result) b4 c.in_ok-body.ensures.state (names_same s4 (for_bodied f3 s4 c.span_of-2.result) refl)
-    (c.in_ok-lower_statement.ensures.lowered.named (moved_named s3 (for_updated f2 s3 c.span_of.result) b3 c.in_ok-update.ensures.state (names_same s3 (for_updated f2 s3 c.span_of.result) refl)
-    (c.in_ok-lower_expression.ensures.lowered.named (moved_named s2 (for_inited f s2 c.in_ok-part.part) b2 c.in_ok-init.ensures.state (for_inited_names f s2 c.in_ok-part.part)
-    (c.in_ok-part.ensures.lowered.named (moved_named s (for_begun s) b c.in_ok-frame.ensures.state (names_same s (for_begun s) refl) c.requires.names))))))
+    moved_named s4 (for_bodied f3 s4 c.span_of-2.result) b4 c.in_ok-body.ensures.state
+    (names_same s4 (for_bodied f3 s4 c.span_of-2.result) refl)
+    (c.in_ok-lower_statement.ensures.lowered.named
+    (moved_named s3 (for_updated f2 s3 c.span_of.result) b3 c.in_ok-update.ensures.state
+    (names_same s3 (for_updated f2 s3 c.span_of.result) refl)
+    (c.in_ok-lower_expression.ensures.lowered.named
+    (moved_named s2 (for_inited f s2 c.in_ok-part.part) b2 c.in_ok-init.ensures.state (for_inited_names f s2 c.in_ok-part.part)
+    (c.in_ok-part.ensures.lowered.named (moved_named s (for_begun s) b c.in_ok-frame.ensures.state (names_same s (for_begun s) refl)
+    c.requires.names))))))
 
 pub loops::lower_for_updated-lower_test-requires-clause-room : goal.loops::lower_for_updated-lower_test-requires-clause-room
 loops::lower_for_updated-lower_test-requires-clause-room g t c =
@@ -660,23 +732,35 @@ loops::lower_for_updated-lower_test-requires-clause-room g t c =
     let b4 : State = state_of g.U.ReadsUnit.tables c.body.new.b in
     let f3 : ForParts = for_of c.update.new.self in
     let room : HasRoom b (share init + 4 + (share update + (share body + (share test + 50)))) =
-    moved_room s (for_begun s) b 3 (share init + 4 + (share update + (share body + (share test + 50)))) (share (init + (test + (update + (body + 0))) + 1)) c.in_ok-frame.ensures.state (for_begun_size s) (omega arith) c.requires.room in
+    moved_room s (for_begun s) b 3 (share init + 4 + (share update + (share body + (share test + 50))))
+    (share (init + (test + (update + (body + 0))) + 1)) c.in_ok-frame.ensures.state (for_begun_size s) (omega arith) c.requires.room in
     let room2 : HasRoom s2 (share update + (share body + (share test + 50))) =
-    room_after b s2 (share init + 4) (share update + (share body + (share test + 50))) (share init + 4 + (share update + (share body + (share test + 50)))) (omega (arith, c.in_ok-part.ensures.lowered.size)) (omega arith) room in
+    room_after b s2 (share init + 4) (share update + (share body + (share test + 50)))
+    (share init + 4 + (share update + (share body + (share test + 50)))) (omega (arith, c.in_ok-part.ensures.lowered.size)) (omega arith)
+    room in
     let room3 : HasRoom b2 (share update + (share body + (share test + 49))) =
-    moved_room s2 (for_inited f s2 c.in_ok-part.part) b2 1 (share update + (share body + (share test + 49))) (share update + (share body + (share test + 50))) c.in_ok-init.ensures.state (for_inited_size f s2 c.in_ok-part.part) (omega arith) room2 in
+    moved_room s2 (for_inited f s2 c.in_ok-part.part) b2 1 (share update + (share body + (share test + 49)))
+    (share update + (share body + (share test + 50))) c.in_ok-init.ensures.state (for_inited_size f s2 c.in_ok-part.part) (omega arith)
+    room2 in
     let room4 : HasRoom s3 (share body + (share test + 49)) =
-    room_after b2 s3 (share update) (share body + (share test + 49)) (share update + (share body + (share test + 49))) c.in_ok-lower_expression.ensures.lowered.size (omega arith) room3 in
+    room_after b2 s3 (share update) (share body + (share test + 49)) (share update + (share body + (share test + 49)))
+    c.in_ok-lower_expression.ensures.lowered.size (omega arith) room3 in
     let room5 : HasRoom b3 (share body + (share test + 48)) =
-    moved_room s3 (for_updated f2 s3 c.span_of.result) b3 1 (share body + (share test + 48)) (share body + (share test + 49)) c.in_ok-update.ensures.state (for_updated_size f2 s3 c.span_of.result) (omega arith) room4 in
-    moved_room s4 (for_bodied f3 s4 c.span_of-2.result) b4 0 (share test + 4) (share test + 48) c.in_ok-body.ensures.state (for_bodied_size f3 s4 c.span_of-2.result) (omega arith)
-    (room_after b3 s4 (share body) (share test + 48) (share body + (share test + 48)) c.in_ok-lower_statement.ensures.lowered.size (omega arith) room5)
+    moved_room s3 (for_updated f2 s3 c.span_of.result) b3 1 (share body + (share test + 48)) (share body + (share test + 49))
+    c.in_ok-update.ensures.state (for_updated_size f2 s3 c.span_of.result) (omega arith) room4 in
+    moved_room s4 (for_bodied f3 s4 c.span_of-2.result) b4 0 (share test + 4) (share test + 48) c.in_ok-body.ensures.state
+    (for_bodied_size f3 s4 c.span_of-2.result) (omega arith)
+    (room_after b3 s4 (share body) (share test + 48) (share body + (share test + 48)) c.in_ok-lower_statement.ensures.lowered.size
+    (omega arith) room5)
 
 pub loops::lower_for_updated-returns-clause-lowered : goal.loops::lower_for_updated-returns-clause-lowered
 loops::lower_for_updated-returns-clause-lowered g t c =
-    for_updated_told (for_of c.body.new.self) _ c.in_ok-label.ensures c.in_ok-part.ensures.span c.span_of.ensures c.span_of-2.ensures c.in_ok-frame.ensures.frame c.in_ok-frame.ensures.state
-    c.in_ok-part.ensures.lowered c.in_ok-init.ensures.state c.in_ok-init.ensures.frame c.in_ok-lower_expression.ensures.lowered c.in_ok-update.ensures.state c.in_ok-update.ensures.frame
-    c.in_ok-lower_statement.ensures.lowered c.in_ok-body.ensures.state c.in_ok-body.ensures.frame c.in_ok-test.ensures.lowered c.in_ok-finish.ensures.state
+    for_updated_told (for_of c.body.new.self) _ c.in_ok-label.ensures c.in_ok-part.ensures.span c.span_of.ensures c.span_of-2.ensures
+    c.in_ok-frame.ensures.frame c.in_ok-frame.ensures.state
+    c.in_ok-part.ensures.lowered c.in_ok-init.ensures.state c.in_ok-init.ensures.frame c.in_ok-lower_expression.ensures.lowered
+    c.in_ok-update.ensures.state c.in_ok-update.ensures.frame
+    c.in_ok-lower_statement.ensures.lowered c.in_ok-body.ensures.state c.in_ok-body.ensures.frame c.in_ok-test.ensures.lowered
+    c.in_ok-finish.ensures.state
 
 pub loops::lower_for_plain-lower_init-requires-clause-names : goal.loops::lower_for_plain-lower_init-requires-clause-names
 loops::lower_for_plain-lower_init-requires-clause-names g t c =
@@ -692,7 +776,8 @@ loops::lower_for_plain-lower_init-requires-clause-room g t c =
     let s : State = state_of g.U.ReadsUnit.tables c.args.builder.now in
     let b : State = state_of g.U.ReadsUnit.tables c.begin.new.b in
     let room : HasRoom b (share init + 4 + (share body + (share test + 50))) =
-    moved_room s (for_begun s) b 3 (share init + 4 + (share body + (share test + 50))) (share (init + (test + (0 + (body + 0))) + 1)) c.in_ok-frame.ensures.state (for_begun_size s) (omega arith) c.requires.room in
+    moved_room s (for_begun s) b 3 (share init + 4 + (share body + (share test + 50))) (share (init + (test + (0 + (body + 0))) + 1))
+    c.in_ok-frame.ensures.state (for_begun_size s) (omega arith) c.requires.room in
     omega (arith, room)
 
 pub loops::lower_for_plain-init-requires : goal.loops::lower_for_plain-init-requires
@@ -704,9 +789,11 @@ loops::lower_for_plain-init-requires g t c =
     let b : State = state_of g.U.ReadsUnit.tables c.begin.new.b in
     let s2 : State = state_of g.U.ReadsUnit.tables c.lower_init.new.builder in
     let room : HasRoom b (share init + 4 + (share body + (share test + 50))) =
-    moved_room s (for_begun s) b 3 (share init + 4 + (share body + (share test + 50))) (share (init + (test + (0 + (body + 0))) + 1)) c.in_ok-frame.ensures.state (for_begun_size s) (omega arith) c.requires.room in
+    moved_room s (for_begun s) b 3 (share init + 4 + (share body + (share test + 50))) (share (init + (test + (0 + (body + 0))) + 1))
+    c.in_ok-frame.ensures.state (for_begun_size s) (omega arith) c.requires.room in
     let room2 : HasRoom s2 (share body + (share test + 50)) =
-    room_after b s2 (share init + 4) (share body + (share test + 50)) (share init + 4 + (share body + (share test + 50))) (omega (arith, c.in_ok-part.ensures.lowered.size)) (omega arith) room in
+    room_after b s2 (share init + 4) (share body + (share test + 50)) (share init + 4 + (share body + (share test + 50)))
+    (omega (arith, c.in_ok-part.ensures.lowered.size)) (omega arith) room in
     omega (arith, room2)
 
 pub loops::lower_for_plain-lower_statement-requires : goal.loops::lower_for_plain-lower_statement-requires
@@ -720,22 +807,27 @@ loops::lower_for_plain-lower_statement-requires g t c =
     let b2 : State = state_of g.U.ReadsUnit.tables c.init.new.b in
     let f : ForParts = for_of c.in_ok-frame.frame in
     let room : HasRoom b (share init + 4 + (share body + (share test + 50))) =
-    moved_room s (for_begun s) b 3 (share init + 4 + (share body + (share test + 50))) (share (init + (test + (0 + (body + 0))) + 1)) c.in_ok-frame.ensures.state (for_begun_size s) (omega arith) c.requires.room in
+    moved_room s (for_begun s) b 3 (share init + 4 + (share body + (share test + 50))) (share (init + (test + (0 + (body + 0))) + 1))
+    c.in_ok-frame.ensures.state (for_begun_size s) (omega arith) c.requires.room in
     let room2 : HasRoom s2 (share body + (share test + 50)) =
-    room_after b s2 (share init + 4) (share body + (share test + 50)) (share init + 4 + (share body + (share test + 50))) (omega (arith, c.in_ok-part.ensures.lowered.size)) (omega arith) room in
+    room_after b s2 (share init + 4) (share body + (share test + 50)) (share init + 4 + (share body + (share test + 50)))
+    (omega (arith, c.in_ok-part.ensures.lowered.size)) (omega arith) room in
     let room5 : HasRoom b2 (share body + (share test + 48)) =
-    moved_room s2 (for_inited f s2 c.in_ok-part.part) b2 1 (share body + (share test + 48)) (share body + (share test + 50)) c.in_ok-init.ensures.state (for_inited_size f s2 c.in_ok-part.part) (omega arith) room2 in
+    moved_room s2 (for_inited f s2 c.in_ok-part.part) b2 1 (share body + (share test + 48)) (share body + (share test + 50))
+    c.in_ok-init.ensures.state (for_inited_size f s2 c.in_ok-part.part) (omega arith) room2 in
     λ lifetimes outlives. (
       search rules,
       (
         search rules,
         (
           moved_named s2 (for_inited f s2 c.in_ok-part.part) b2 c.in_ok-init.ensures.state (for_inited_names f s2 c.in_ok-part.part)
-              (c.in_ok-part.ensures.lowered.named (moved_named s (for_begun s) b c.in_ok-frame.ensures.state (names_same s (for_begun s) refl) c.requires.names)),
+              (c.in_ok-part.ensures.lowered.named (moved_named s (for_begun s) b c.in_ok-frame.ensures.state
+              (names_same s (for_begun s) refl) c.requires.names)),
           (
             inside_loop (seen c.args.names.now) (syntax c.args.body.tree.now) s b2
                 (for_plain_arounds c.in_ok-part.part s s2 b2 c.in_ok-label.ensures c.in_ok-frame.ensures.frame c.in_ok-init.ensures.state
-                ∙ ap (λ (a : List Around). InLoop (option_map (λ l. l.now) c.args.label) ∷ a) (init_arounds c.in_ok-part.ensures.lowered ∙ for_begun_arounds s b c.in_ok-frame.ensures.state)) c.requires.may.3,
+                ∙ ap (λ (a : List Around). InLoop (option_map (λ l. l.now) c.args.label) ∷ a)
+                (init_arounds c.in_ok-part.ensures.lowered ∙ for_begun_arounds s b c.in_ok-frame.ensures.state)) c.requires.may.3,
             omega (arith, room5),
           ),
         ),
@@ -762,9 +854,12 @@ loops::lower_for_plain-lower_test-requires-clause-names g t c =
     let s4 : State = state_of g.U.ReadsUnit.tables c.lower_statement.new.builder in
     let b4 : State = state_of g.U.ReadsUnit.tables c.body.new.b in
     let f3 : ForParts = for_of c.init.new.self in
-    moved_named s4 (for_bodied f3 s4 c.span_of.result) b4 c.in_ok-body.ensures.state (names_same s4 (for_bodied f3 s4 c.span_of.result) refl)
-    (c.in_ok-lower_statement.ensures.lowered.named (moved_named s2 (for_inited f s2 c.in_ok-part.part) b2 c.in_ok-init.ensures.state (for_inited_names f s2 c.in_ok-part.part)
-    (c.in_ok-part.ensures.lowered.named (moved_named s (for_begun s) b c.in_ok-frame.ensures.state (names_same s (for_begun s) refl) c.requires.names))))
+    moved_named s4 (for_bodied f3 s4 c.span_of.result) b4 c.in_ok-body.ensures.state
+    (names_same s4 (for_bodied f3 s4 c.span_of.result) refl)
+    (c.in_ok-lower_statement.ensures.lowered.named
+    (moved_named s2 (for_inited f s2 c.in_ok-part.part) b2 c.in_ok-init.ensures.state (for_inited_names f s2 c.in_ok-part.part)
+    (c.in_ok-part.ensures.lowered.named (moved_named s (for_begun s) b c.in_ok-frame.ensures.state (names_same s (for_begun s) refl)
+    c.requires.names))))
 
 pub loops::lower_for_plain-lower_test-requires-clause-room : goal.loops::lower_for_plain-lower_test-requires-clause-room
 loops::lower_for_plain-lower_test-requires-clause-room g t c =
@@ -780,19 +875,26 @@ loops::lower_for_plain-lower_test-requires-clause-room g t c =
     let b4 : State = state_of g.U.ReadsUnit.tables c.body.new.b in
     let f3 : ForParts = for_of c.init.new.self in
     let room : HasRoom b (share init + 4 + (share body + (share test + 50))) =
-    moved_room s (for_begun s) b 3 (share init + 4 + (share body + (share test + 50))) (share (init + (test + (0 + (body + 0))) + 1)) c.in_ok-frame.ensures.state (for_begun_size s) (omega arith) c.requires.room in
+    moved_room s (for_begun s) b 3 (share init + 4 + (share body + (share test + 50))) (share (init + (test + (0 + (body + 0))) + 1))
+    c.in_ok-frame.ensures.state (for_begun_size s) (omega arith) c.requires.room in
     let room2 : HasRoom s2 (share body + (share test + 50)) =
-    room_after b s2 (share init + 4) (share body + (share test + 50)) (share init + 4 + (share body + (share test + 50))) (omega (arith, c.in_ok-part.ensures.lowered.size)) (omega arith) room in
+    room_after b s2 (share init + 4) (share body + (share test + 50)) (share init + 4 + (share body + (share test + 50)))
+    (omega (arith, c.in_ok-part.ensures.lowered.size)) (omega arith) room in
     let room5 : HasRoom b2 (share body + (share test + 48)) =
-    moved_room s2 (for_inited f s2 c.in_ok-part.part) b2 1 (share body + (share test + 48)) (share body + (share test + 50)) c.in_ok-init.ensures.state (for_inited_size f s2 c.in_ok-part.part) (omega arith) room2 in
-    moved_room s4 (for_bodied f3 s4 c.span_of.result) b4 0 (share test + 4) (share test + 48) c.in_ok-body.ensures.state (for_bodied_size f3 s4 c.span_of.result) (omega arith)
-    (room_after b2 s4 (share body) (share test + 48) (share body + (share test + 48)) c.in_ok-lower_statement.ensures.lowered.size (omega arith) room5)
+    moved_room s2 (for_inited f s2 c.in_ok-part.part) b2 1 (share body + (share test + 48)) (share body + (share test + 50))
+    c.in_ok-init.ensures.state (for_inited_size f s2 c.in_ok-part.part) (omega arith) room2 in
+    moved_room s4 (for_bodied f3 s4 c.span_of.result) b4 0 (share test + 4) (share test + 48) c.in_ok-body.ensures.state
+    (for_bodied_size f3 s4 c.span_of.result) (omega arith)
+    (room_after b2 s4 (share body) (share test + 48) (share body + (share test + 48)) c.in_ok-lower_statement.ensures.lowered.size
+    (omega arith) room5)
 
 pub loops::lower_for_plain-returns-clause-lowered : goal.loops::lower_for_plain-returns-clause-lowered
 loops::lower_for_plain-returns-clause-lowered g t c =
-    for_plain_told (for_of c.body.new.self) _ c.in_ok-label.ensures c.in_ok-part.ensures.span c.span_of.ensures c.in_ok-frame.ensures.frame c.in_ok-frame.ensures.state
+    for_plain_told (for_of c.body.new.self) _ c.in_ok-label.ensures c.in_ok-part.ensures.span c.span_of.ensures c.in_ok-frame.ensures.frame
+    c.in_ok-frame.ensures.state
     c.in_ok-part.ensures.lowered c.in_ok-init.ensures.state c.in_ok-init.ensures.frame
-    c.in_ok-lower_statement.ensures.lowered c.in_ok-body.ensures.state c.in_ok-body.ensures.frame c.in_ok-test.ensures.lowered c.in_ok-finish.ensures.state
+    c.in_ok-lower_statement.ensures.lowered c.in_ok-body.ensures.state c.in_ok-body.ensures.frame c.in_ok-test.ensures.lowered
+    c.in_ok-finish.ensures.state
 
 pub loops::lower_for_in-lower_statement-requires : goal.loops::lower_for_in-lower_statement-requires
 loops::lower_for_in-lower_statement-requires g t c =
@@ -842,7 +944,8 @@ loops::lower_for_in-lower_expression-requires-clause-names g t c =
     let named : IsNamed (seen c.args.names.now) b =
     for_in_begun_named c.in_ok-label.label s b c.in_ok-frame.ensures.state c.requires.names in
     let named2 : IsNamed (seen c.args.names.now) b2 =
-    rounds_bodied_named (forin_of c.in_ok-frame.frame) c.span_of.result s2 b2 c.in_ok-body.ensures.state (c.in_ok-lower_statement.ensures.lowered.named named) in
+    rounds_bodied_named (forin_of c.in_ok-frame.frame) c.span_of.result s2 b2 c.in_ok-body.ensures.state
+    (c.in_ok-lower_statement.ensures.lowered.named named) in
     named2
 
 pub loops::lower_for_in-lower_expression-requires-clause-room : goal.loops::lower_for_in-lower_expression-requires-clause-room
@@ -857,7 +960,8 @@ loops::lower_for_in-lower_expression-requires-clause-room g t c =
     let room : HasRoom b (share body + (share right + (share head + 60))) =
     for_in_room head right body c.in_ok-label.label s b c.in_ok-frame.ensures.state c.requires.room in
     let room2 : HasRoom b2 (share right + (share head + 60)) =
-    bodied_room head right body (forin_of c.in_ok-frame.frame) c.span_of.result b s2 b2 c.in_ok-lower_statement.ensures.lowered.size c.in_ok-body.ensures.state room in
+    bodied_room head right body (forin_of c.in_ok-frame.frame) c.span_of.result b s2 b2 c.in_ok-lower_statement.ensures.lowered.size
+    c.in_ok-body.ensures.state room in
     omega (arith, room2)
 
 pub loops::lower_for_in-right-requires-clause-open : goal.loops::lower_for_in-right-requires-clause-open
@@ -878,7 +982,8 @@ loops::lower_for_in-right-requires-clause-room g t c =
     let room : HasRoom b (share body + (share right + (share head + 60))) =
     for_in_room head right body c.in_ok-label.label s b c.in_ok-frame.ensures.state c.requires.room in
     let room2 : HasRoom b2 (share right + (share head + 60)) =
-    bodied_room head right body (forin_of c.in_ok-frame.frame) c.span_of.result b s2 b2 c.in_ok-lower_statement.ensures.lowered.size c.in_ok-body.ensures.state room in
+    bodied_room head right body (forin_of c.in_ok-frame.frame) c.span_of.result b s2 b2 c.in_ok-lower_statement.ensures.lowered.size
+    c.in_ok-body.ensures.state room in
     let room3 : HasRoom s3 (share head + 60) =
     right_room head right body b2 s3 c.in_ok-collection.ensures.lowered.size room2 in
     omega (arith, room3)
@@ -894,8 +999,10 @@ loops::lower_for_in-lower_loop_head-requires-clause-names g t c =
     let named : IsNamed (seen c.args.names.now) b =
     for_in_begun_named c.in_ok-label.label s b c.in_ok-frame.ensures.state c.requires.names in
     let named2 : IsNamed (seen c.args.names.now) b2 =
-    rounds_bodied_named (forin_of c.in_ok-frame.frame) c.span_of.result s2 b2 c.in_ok-body.ensures.state (c.in_ok-lower_statement.ensures.lowered.named named) in
-    for_in_righted_named (forin_of c.body.new.self) c.span_of-2.result c.in_ok-collection.collection s3 b3 c.in_ok-key.ensures.state (c.in_ok-collection.ensures.lowered.named named2)
+    rounds_bodied_named (forin_of c.in_ok-frame.frame) c.span_of.result s2 b2 c.in_ok-body.ensures.state
+    (c.in_ok-lower_statement.ensures.lowered.named named) in
+    for_in_righted_named (forin_of c.body.new.self) c.span_of-2.result c.in_ok-collection.collection s3 b3 c.in_ok-key.ensures.state
+    (c.in_ok-collection.ensures.lowered.named named2)
 
 pub loops::lower_for_in-lower_loop_head-requires-clause-room : goal.loops::lower_for_in-lower_loop_head-requires-clause-room
 loops::lower_for_in-lower_loop_head-requires-clause-room g t c =
@@ -911,10 +1018,12 @@ loops::lower_for_in-lower_loop_head-requires-clause-room g t c =
     let room : HasRoom b (share body + (share right + (share head + 60))) =
     for_in_room head right body c.in_ok-label.label s b c.in_ok-frame.ensures.state c.requires.room in
     let room2 : HasRoom b2 (share right + (share head + 60)) =
-    bodied_room head right body (forin_of c.in_ok-frame.frame) c.span_of.result b s2 b2 c.in_ok-lower_statement.ensures.lowered.size c.in_ok-body.ensures.state room in
+    bodied_room head right body (forin_of c.in_ok-frame.frame) c.span_of.result b s2 b2 c.in_ok-lower_statement.ensures.lowered.size
+    c.in_ok-body.ensures.state room in
     let room3 : HasRoom s3 (share head + 60) =
     right_room head right body b2 s3 c.in_ok-collection.ensures.lowered.size room2 in
-    for_in_head_room head right body (forin_of c.body.new.self) c.span_of-2.result c.in_ok-collection.collection s3 b3 c.in_ok-key.ensures.state room3
+    for_in_head_room head right body (forin_of c.body.new.self) c.span_of-2.result c.in_ok-collection.collection s3 b3
+    c.in_ok-key.ensures.state room3
 
 pub loops::lower_for_in-returns-clause-lowered : goal.loops::lower_for_in-returns-clause-lowered
 loops::lower_for_in-returns-clause-lowered g t c =
@@ -971,7 +1080,8 @@ loops::lower_for_of_plain-lower_expression-requires-clause-names g t c =
     let named : IsNamed (seen c.args.names.now) b =
     for_of_begun_named c.in_ok-label.label s b c.in_ok-frame.ensures.state c.requires.names in
     let named2 : IsNamed (seen c.args.names.now) b2 =
-    rounds_bodied_named (forof_of c.in_ok-frame.frame).rounds c.span_of.result s2 b2 c.in_ok-body.ensures.state (c.in_ok-lower_statement.ensures.lowered.named named) in
+    rounds_bodied_named (forof_of c.in_ok-frame.frame).rounds c.span_of.result s2 b2 c.in_ok-body.ensures.state
+    (c.in_ok-lower_statement.ensures.lowered.named named) in
     named2
 
 pub loops::lower_for_of_plain-lower_expression-requires-clause-room : goal.loops::lower_for_of_plain-lower_expression-requires-clause-room
@@ -986,7 +1096,8 @@ loops::lower_for_of_plain-lower_expression-requires-clause-room g t c =
     let room : HasRoom b (share body + (share right + (share head + 60))) =
     for_of_room head right body c.in_ok-label.label s b c.in_ok-frame.ensures.state c.requires.room in
     let room2 : HasRoom b2 (share right + (share head + 60)) =
-    bodied_room head right body (forof_of c.in_ok-frame.frame).rounds c.span_of.result b s2 b2 c.in_ok-lower_statement.ensures.lowered.size c.in_ok-body.ensures.state room in
+    bodied_room head right body (forof_of c.in_ok-frame.frame).rounds c.span_of.result b s2 b2 c.in_ok-lower_statement.ensures.lowered.size
+    c.in_ok-body.ensures.state room in
     omega (arith, room2)
 
 pub loops::lower_for_of_plain-right-requires-clause-open : goal.loops::lower_for_of_plain-right-requires-clause-open
@@ -1012,7 +1123,8 @@ loops::lower_for_of_plain-right-requires-clause-room g t c =
     let room : HasRoom b (share body + (share right + (share head + 60))) =
     for_of_room head right body c.in_ok-label.label s b c.in_ok-frame.ensures.state c.requires.room in
     let room2 : HasRoom b2 (share right + (share head + 60)) =
-    bodied_room head right body (forof_of c.in_ok-frame.frame).rounds c.span_of.result b s2 b2 c.in_ok-lower_statement.ensures.lowered.size c.in_ok-body.ensures.state room in
+    bodied_room head right body (forof_of c.in_ok-frame.frame).rounds c.span_of.result b s2 b2 c.in_ok-lower_statement.ensures.lowered.size
+    c.in_ok-body.ensures.state room in
     let room3 : HasRoom s3 (share head + 60) =
     right_room head right body b2 s3 c.in_ok-collection.ensures.lowered.size room2 in
     omega (arith, room3)
@@ -1028,8 +1140,10 @@ loops::lower_for_of_plain-lower_loop_head-requires-clause-names g t c =
     let named : IsNamed (seen c.args.names.now) b =
     for_of_begun_named c.in_ok-label.label s b c.in_ok-frame.ensures.state c.requires.names in
     let named2 : IsNamed (seen c.args.names.now) b2 =
-    rounds_bodied_named (forof_of c.in_ok-frame.frame).rounds c.span_of.result s2 b2 c.in_ok-body.ensures.state (c.in_ok-lower_statement.ensures.lowered.named named) in
-    for_of_righted_named (forof_of c.body.new.self) c.span_of-2.result c.in_ok-collection.collection s3 b3 c.in_ok-value.ensures.state (c.in_ok-collection.ensures.lowered.named named2)
+    rounds_bodied_named (forof_of c.in_ok-frame.frame).rounds c.span_of.result s2 b2 c.in_ok-body.ensures.state
+    (c.in_ok-lower_statement.ensures.lowered.named named) in
+    for_of_righted_named (forof_of c.body.new.self) c.span_of-2.result c.in_ok-collection.collection s3 b3 c.in_ok-value.ensures.state
+    (c.in_ok-collection.ensures.lowered.named named2)
 
 pub loops::lower_for_of_plain-lower_loop_head-requires-clause-room : goal.loops::lower_for_of_plain-lower_loop_head-requires-clause-room
 loops::lower_for_of_plain-lower_loop_head-requires-clause-room g t c =
@@ -1045,10 +1159,12 @@ loops::lower_for_of_plain-lower_loop_head-requires-clause-room g t c =
     let room : HasRoom b (share body + (share right + (share head + 60))) =
     for_of_room head right body c.in_ok-label.label s b c.in_ok-frame.ensures.state c.requires.room in
     let room2 : HasRoom b2 (share right + (share head + 60)) =
-    bodied_room head right body (forof_of c.in_ok-frame.frame).rounds c.span_of.result b s2 b2 c.in_ok-lower_statement.ensures.lowered.size c.in_ok-body.ensures.state room in
+    bodied_room head right body (forof_of c.in_ok-frame.frame).rounds c.span_of.result b s2 b2 c.in_ok-lower_statement.ensures.lowered.size
+    c.in_ok-body.ensures.state room in
     let room3 : HasRoom s3 (share head + 60) =
     right_room head right body b2 s3 c.in_ok-collection.ensures.lowered.size room2 in
-    for_of_head_room head right body (forof_of c.body.new.self) c.span_of-2.result c.in_ok-collection.collection s3 b3 c.in_ok-value.ensures.state room3
+    for_of_head_room head right body (forof_of c.body.new.self) c.span_of-2.result c.in_ok-collection.collection s3 b3
+    c.in_ok-value.ensures.state room3
 
 pub loops::lower_for_of_plain-returns-clause-lowered : goal.loops::lower_for_of_plain-returns-clause-lowered
 loops::lower_for_of_plain-returns-clause-lowered g t c =
@@ -1070,8 +1186,10 @@ loops::lower_for_of-lower_for_of_plain-requires g t c =
         (
           c.requires.names,
           (
-            for_of_may (seen c.args.names.now) (arounds (state_of g.U.ReadsUnit.tables c.args.builder.now)) (option_map (λ l. l.now) c.args.label) c.args.at
-                (syntax c.args.left.tree.now) (syntax c.args.right.tree.now) (syntax c.args.body.tree.now) c.args.is_await c.if-is_await.false c.requires.may,
+            for_of_may (seen c.args.names.now) (arounds (state_of g.U.ReadsUnit.tables c.args.builder.now))
+                (option_map (λ l. l.now) c.args.label) c.args.at
+                (syntax c.args.left.tree.now) (syntax c.args.right.tree.now) (syntax c.args.body.tree.now) c.args.is_await
+                c.if-is_await.false c.requires.may,
             c.requires.room,
           ),
         ),
@@ -1116,9 +1234,13 @@ switch::lower_cases-cases-init g t c =
     record {
       same_reference = search rules;
       names = moved_named s (switch_begun s) b c.in_ok-frame.ensures.state (names_same s (switch_begun s) refl) c.requires.names;
-      may = subst (λ (a : List Around). AreLowerableCases (seen c.args.names.now) (InSwitch None ∷ a) all) (sym (ap arounds c.in_ok-frame.ensures.state))
+      may =
+          subst (λ (a : List Around). AreLowerableCases (seen c.args.names.now) (InSwitch None ∷ a) all)
+          (sym (ap arounds c.in_ok-frame.ensures.state))
           c.requires.may;
-      room = moved_room s (switch_begun s) b 1 (share (nodes_of all)) (share (nodes_of all) + 1) c.in_ok-frame.ensures.state (switch_begun_size s)
+      room =
+          moved_room s (switch_begun s) b 1 (share (nodes_of all)) (share (nodes_of all) + 1) c.in_ok-frame.ensures.state
+          (switch_begun_size s)
           (omega arith) c.requires.room;
       fewer = omega arith;
       lowers = cases_begun all s b c.in_ok-frame.ensures.state c.in_ok-frame.ensures.frame;
@@ -1202,7 +1324,8 @@ try_statement::lower_try_plain-lower_block-requires-2 g t c =
           let s : State = state_of g.U.ReadsUnit.tables c.args.builder.now in
               let s2 : State = state_of g.U.ReadsUnit.tables c.lower_block.new.builder in
               let f : TryParts = try_of c.in_ok-frame.frame in
-              moved_named s2 (try_caught f s2 c.args.there.span) _ c.in_ok-catch.ensures.state (names_same s2 (try_caught f s2 c.args.there.span) refl)
+              moved_named s2 (try_caught f s2 c.args.there.span) _ c.in_ok-catch.ensures.state
+              (names_same s2 (try_caught f s2 c.args.there.span) refl)
               (c.in_ok-lower_block.ensures.lowered.named
               (moved_named s (try_started s None) _ c.in_ok-frame.ensures.state (names_same s (try_started s None) refl) c.requires.names)),
           (
@@ -1212,7 +1335,8 @@ try_statement::lower_try_plain-lower_block-requires-2 g t c =
                 let b2 : State = state_of g.U.ReadsUnit.tables c.catch.new.b in
                 inside (seen c.args.names.now) (syntax c.args.block.tree.now) s b2
                 (caught_arounds (try_of c.in_ok-frame.frame) c.args.there.span s2 b2 c.in_ok-catch.ensures.state
-                ∙ statement_arounds c.in_ok-lower_block.ensures.lowered.by ∙ plain_arounds s b c.in_ok-frame.ensures.state) c.requires.may.2,
+                ∙ statement_arounds c.in_ok-lower_block.ensures.lowered.by ∙ plain_arounds s b c.in_ok-frame.ensures.state)
+                c.requires.may.2,
             let block : ℕ = nodes (syntax c.args.block.tree.now) in
                 let body : ℕ = nodes (syntax c.args.body.tree.now) in
                 let s : State = state_of g.U.ReadsUnit.tables c.args.builder.now in
@@ -1224,7 +1348,8 @@ try_statement::lower_try_plain-lower_block-requires-2 g t c =
                 c.in_ok-frame.ensures.state (try_started_size s) (omega arith) c.requires.room in
                 moved_room s2 (try_caught f s2 c.args.there.span) _ 1 (share block) (share block + 62) c.in_ok-catch.ensures.state
                 (try_caught_size f s2 c.args.there.span) (omega arith)
-                (room_after b s2 (share body) (share block + 62) (share body + (share block + 62)) c.in_ok-lower_block.ensures.lowered.size (omega arith) room),
+                (room_after b s2 (share body) (share block + 62) (share body + (share block + 62)) c.in_ok-lower_block.ensures.lowered.size
+                (omega arith) room),
           ),
         ),
       ),
@@ -1243,7 +1368,8 @@ try_statement::lower_try_plain-returns-clause-lowered g t c =
     c.in_ok-lower_block.ensures.lowered c.in_ok-catch.ensures.state c.in_ok-catch.ensures.frame c.in_ok-lower_block-2.ensures.lowered
     c.in_ok-finish.ensures.state
 
-pub try_statement::lower_try_bound-store_caught-requires-clause-names : goal.try_statement::lower_try_bound-store_caught-requires-clause-names
+pub try_statement::lower_try_bound-store_caught-requires-clause-names
+    : goal.try_statement::lower_try_bound-store_caught-requires-clause-names
 try_statement::lower_try_bound-store_caught-requires-clause-names g t c =
     front_named (state_of g.U.ReadsUnit.tables c.args.builder.now) (state_of g.U.ReadsUnit.tables c.make_promoted.new.builder) _
     c.in_ok-value.ensures.state c.in_ok-value.ensures.place c.in_ok-frame.ensures.state c.requires.names
@@ -1253,8 +1379,10 @@ try_statement::lower_try_bound-store_caught-requires-clause-room g t c =
     let block : ℕ = nodes (syntax c.args.block.tree.now) in
     let param : ℕ = nodes (seen_binding_identifier c.args.bind.now) in
     let body : ℕ = nodes (syntax c.args.body.tree.now) in
-    bound_front_room c.in_ok-value.value c.args.bind.now.at.span (state_of g.U.ReadsUnit.tables c.args.builder.now) (state_of g.U.ReadsUnit.tables c.make_promoted.new.builder) _
-    6 (share (block + (param + (body + 0) + 1 + (0 + 0)) + 1)) c.in_ok-value.ensures.state c.in_ok-frame.ensures.state (omega arith) c.requires.room
+    bound_front_room c.in_ok-value.value c.args.bind.now.at.span (state_of g.U.ReadsUnit.tables c.args.builder.now)
+    (state_of g.U.ReadsUnit.tables c.make_promoted.new.builder) _
+    6 (share (block + (param + (body + 0) + 1 + (0 + 0)) + 1)) c.in_ok-value.ensures.state c.in_ok-frame.ensures.state (omega arith)
+    c.requires.room
 
 pub try_statement::lower_try_bound-lower_block-requires : goal.try_statement::lower_try_bound-lower_block-requires
 try_statement::lower_try_bound-lower_block-requires g t c =
@@ -1270,14 +1398,17 @@ try_statement::lower_try_bound-lower_block-requires g t c =
                 let b0 : State = state_of g.U.ReadsUnit.tables c.begin.new.b in
                 let b1 : State = state_of g.U.ReadsUnit.tables c.store_caught.new.builder in
                 inside (seen c.args.names.now) (syntax c.args.body.tree.now) s b1
-                (stored_arounds s s1 b0 b1 c.in_ok-store_caught.ensures.stored c.in_ok-value.ensures.state c.in_ok-value.ensures.place c.in_ok-frame.ensures.state)
+                (stored_arounds s s1 b0 b1 c.in_ok-store_caught.ensures.stored c.in_ok-value.ensures.state c.in_ok-value.ensures.place
+                c.in_ok-frame.ensures.state)
                 c.requires.may.1,
             let block : ℕ = nodes (syntax c.args.block.tree.now) in
                 let param : ℕ = nodes (seen_binding_identifier c.args.bind.now) in
                 let body : ℕ = nodes (syntax c.args.body.tree.now) in
-                bound_room c.in_ok-value.value c.args.bind.now.at.span (state_of g.U.ReadsUnit.tables c.args.builder.now) (state_of g.U.ReadsUnit.tables c.make_promoted.new.builder)
+                bound_room c.in_ok-value.value c.args.bind.now.at.span (state_of g.U.ReadsUnit.tables c.args.builder.now)
+                (state_of g.U.ReadsUnit.tables c.make_promoted.new.builder)
                 (state_of g.U.ReadsUnit.tables c.begin.new.b) (state_of g.U.ReadsUnit.tables c.store_caught.new.builder)
-                (share body) (share (block + (param + (body + 0) + 1 + (0 + 0)) + 1)) c.in_ok-value.ensures.state c.in_ok-frame.ensures.state c.in_ok-store_caught.ensures.stored (omega arith) c.requires.room,
+                (share body) (share (block + (param + (body + 0) + 1 + (0 + 0)) + 1)) c.in_ok-value.ensures.state
+                c.in_ok-frame.ensures.state c.in_ok-store_caught.ensures.stored (omega arith) c.requires.room,
           ),
         ),
       ),
@@ -1291,11 +1422,14 @@ try_statement::lower_try_bound-catch-requires g t c =
     let b1 : State = state_of g.U.ReadsUnit.tables c.store_caught.new.builder in
     let s2 : State = state_of g.U.ReadsUnit.tables c.lower_block.new.builder in
     let room : HasRoom b1 (share body + (share block + 40)) =
-    bound_room c.in_ok-value.value c.args.bind.now.at.span (state_of g.U.ReadsUnit.tables c.args.builder.now) (state_of g.U.ReadsUnit.tables c.make_promoted.new.builder)
-    (state_of g.U.ReadsUnit.tables c.begin.new.b) b1 (share body + (share block + 40)) (share (block + (param + (body + 0) + 1 + (0 + 0)) + 1))
+    bound_room c.in_ok-value.value c.args.bind.now.at.span (state_of g.U.ReadsUnit.tables c.args.builder.now)
+    (state_of g.U.ReadsUnit.tables c.make_promoted.new.builder)
+    (state_of g.U.ReadsUnit.tables c.begin.new.b) b1 (share body + (share block + 40))
+    (share (block + (param + (body + 0) + 1 + (0 + 0)) + 1))
     c.in_ok-value.ensures.state c.in_ok-frame.ensures.state c.in_ok-store_caught.ensures.stored (omega arith) c.requires.room in
     let room2 : HasRoom s2 (share block + 40) =
-    room_after b1 s2 (share body) (share block + 40) (share body + (share block + 40)) c.in_ok-lower_block.ensures.lowered.size (omega arith) room in
+    room_after b1 s2 (share body) (share block + 40) (share body + (share block + 40)) c.in_ok-lower_block.ensures.lowered.size
+    (omega arith) room in
     record { blocks = omega (arith, room2) }
 
 pub try_statement::lower_try_bound-lower_block-requires-2 : goal.try_statement::lower_try_bound-lower_block-requires-2
@@ -1307,7 +1441,8 @@ try_statement::lower_try_bound-lower_block-requires-2 g t c =
         (
           let s2 : State = state_of g.U.ReadsUnit.tables c.lower_block.new.builder in
               let f : TryParts = try_of c.in_ok-frame.frame in
-              moved_named s2 (try_caught f s2 c.args.there.span) _ c.in_ok-catch.ensures.state (names_same s2 (try_caught f s2 c.args.there.span) refl)
+              moved_named s2 (try_caught f s2 c.args.there.span) _ c.in_ok-catch.ensures.state
+              (names_same s2 (try_caught f s2 c.args.there.span) refl)
               (c.in_ok-lower_block.ensures.lowered.named c.in_ok-store_caught.ensures.stored.named),
           (
             let s : State = state_of g.U.ReadsUnit.tables c.args.builder.now in
@@ -1319,7 +1454,8 @@ try_statement::lower_try_bound-lower_block-requires-2 g t c =
                 inside (seen c.args.names.now) (syntax c.args.block.tree.now) s b2
                 (caught_arounds (try_of c.in_ok-frame.frame) c.args.there.span s2 b2 c.in_ok-catch.ensures.state
                 ∙ statement_arounds c.in_ok-lower_block.ensures.lowered.by
-                ∙ stored_arounds s s1 b0 b1 c.in_ok-store_caught.ensures.stored c.in_ok-value.ensures.state c.in_ok-value.ensures.place c.in_ok-frame.ensures.state)
+                ∙ stored_arounds s s1 b0 b1 c.in_ok-store_caught.ensures.stored c.in_ok-value.ensures.state c.in_ok-value.ensures.place
+                c.in_ok-frame.ensures.state)
                 c.requires.may.2,
             let block : ℕ = nodes (syntax c.args.block.tree.now) in
                 let param : ℕ = nodes (seen_binding_identifier c.args.bind.now) in
@@ -1328,12 +1464,15 @@ try_statement::lower_try_bound-lower_block-requires-2 g t c =
                 let s2 : State = state_of g.U.ReadsUnit.tables c.lower_block.new.builder in
                 let f : TryParts = try_of c.in_ok-frame.frame in
                 let room : HasRoom b1 (share body + (share block + 40)) =
-                bound_room c.in_ok-value.value c.args.bind.now.at.span (state_of g.U.ReadsUnit.tables c.args.builder.now) (state_of g.U.ReadsUnit.tables c.make_promoted.new.builder)
-                (state_of g.U.ReadsUnit.tables c.begin.new.b) b1 (share body + (share block + 40)) (share (block + (param + (body + 0) + 1 + (0 + 0)) + 1))
+                bound_room c.in_ok-value.value c.args.bind.now.at.span (state_of g.U.ReadsUnit.tables c.args.builder.now)
+                (state_of g.U.ReadsUnit.tables c.make_promoted.new.builder)
+                (state_of g.U.ReadsUnit.tables c.begin.new.b) b1 (share body + (share block + 40))
+                (share (block + (param + (body + 0) + 1 + (0 + 0)) + 1))
                 c.in_ok-value.ensures.state c.in_ok-frame.ensures.state c.in_ok-store_caught.ensures.stored (omega arith) c.requires.room in
                 moved_room s2 (try_caught f s2 c.args.there.span) _ 1 (share block) (share block + 40) c.in_ok-catch.ensures.state
                 (try_caught_size f s2 c.args.there.span) (omega arith)
-                (room_after b1 s2 (share body) (share block + 40) (share body + (share block + 40)) c.in_ok-lower_block.ensures.lowered.size (omega arith) room),
+                (room_after b1 s2 (share body) (share block + 40) (share body + (share block + 40)) c.in_ok-lower_block.ensures.lowered.size
+                (omega arith) room),
           ),
         ),
       ),
@@ -1362,7 +1501,8 @@ try_statement::lower_caught-lower_try_bound-requires g t c =
         (
           search rules,
           (
-            clause_may (seen c.args.names.now) c.args.at c.args.clause.at (syntax c.args.block.tree.now) (syntax c.args.clause.body.tree.now)
+            clause_may (seen c.args.names.now) c.args.at c.args.clause.at (syntax c.args.block.tree.now)
+                (syntax c.args.clause.body.tree.now)
                 (arounds (state_of g.U.ReadsUnit.tables c.args.builder.now))
                 (c.binding_identifier_view-bind.ensures ∙ c.in-Identifier.ensures
                 ∙ sym (ap (λ param. maybe param (λ t. syntax t.tree.now)) c.in-Some.is)) c.requires.may,
@@ -1391,7 +1531,8 @@ try_statement::lower_caught-lower_try_plain-requires g t c =
         (
           search rules,
           (
-            clause_may (seen c.args.names.now) c.args.at c.args.clause.at (syntax c.args.block.tree.now) (syntax c.args.clause.body.tree.now)
+            clause_may (seen c.args.names.now) c.args.at c.args.clause.at (syntax c.args.block.tree.now)
+                (syntax c.args.clause.body.tree.now)
                 (arounds (state_of g.U.ReadsUnit.tables c.args.builder.now))
                 (sym (ap (λ param. maybe param (λ t. syntax t.tree.now)) c.in-None.is)) c.requires.may,
             clause_room c.args.at c.args.clause.at (syntax c.args.block.tree.now) (syntax c.args.clause.body.tree.now)
@@ -1414,16 +1555,20 @@ try_statement::lower_try-lower_caught-requires g t c =
       (
         search rules,
         (
-          finalizer_named (maybe c.args.finalizer (λ t. syntax t.tree.now)) (state_of g.U.ReadsUnit.tables c.args.builder.now) _ c.args.at.span
+          finalizer_named (maybe c.args.finalizer (λ t. syntax t.tree.now)) (state_of g.U.ReadsUnit.tables c.args.builder.now) _
+              c.args.at.span
               c.in_ok-note_finalizer-in-Some.ensures.state c.requires.names,
           (
             let s : State = state_of g.U.ReadsUnit.tables c.args.builder.now in
                 let b : State = state_of g.U.ReadsUnit.tables c.note_finalizer.new.builder in
-                caught_may (seen c.args.names.now) c.args.at (syntax c.args.block.tree.now) (maybe c.args.finalizer (λ t. syntax t.tree.now)) s b
+                caught_may (seen c.args.names.now) c.args.at (syntax c.args.block.tree.now)
+                (maybe c.args.finalizer (λ t. syntax t.tree.now)) s b
                 (c.catch_clause_view-clause.ensures ∙ sym (ap (λ handler. maybe handler (λ t. syntax t.tree.now)) c.in-Some.is))
-                (finalizer_arounds (maybe c.args.finalizer (λ t. syntax t.tree.now)) s b c.args.at.span c.in_ok-note_finalizer-in-Some.ensures.state)
+                (finalizer_arounds (maybe c.args.finalizer (λ t. syntax t.tree.now)) s b c.args.at.span
+                c.in_ok-note_finalizer-in-Some.ensures.state)
                 c.requires.may,
-            caught_room c.args.at (syntax c.args.block.tree.now) (maybe c.args.finalizer (λ t. syntax t.tree.now)) (state_of g.U.ReadsUnit.tables c.args.builder.now) _
+            caught_room c.args.at (syntax c.args.block.tree.now) (maybe c.args.finalizer (λ t. syntax t.tree.now))
+                (state_of g.U.ReadsUnit.tables c.args.builder.now) _
                 (c.catch_clause_view-clause.ensures ∙ sym (ap (λ handler. maybe handler (λ t. syntax t.tree.now)) c.in-Some.is))
                 c.in_ok-note_finalizer-in-Some.ensures.state c.requires.room,
           ),
@@ -1431,12 +1576,15 @@ try_statement::lower_try-lower_caught-requires g t c =
       ),
     )
 
-pub try_statement::lower_try-returns-in_ok-note_finalizer-in-Some-clause-lowered : goal.try_statement::lower_try-returns-in_ok-note_finalizer-in-Some-clause-lowered
+pub try_statement::lower_try-returns-in_ok-note_finalizer-in-Some-clause-lowered
+    : goal.try_statement::lower_try-returns-in_ok-note_finalizer-in-Some-clause-lowered
 try_statement::lower_try-returns-in_ok-note_finalizer-in-Some-clause-lowered g t c =
-    finalized_ok (seen c.args.names.now) c.args.at (syntax c.args.block.tree.now) (maybe c.args.finalizer (λ t. syntax t.tree.now)) _ _ c.lower_caught.result
+    finalized_ok (seen c.args.names.now) c.args.at (syntax c.args.block.tree.now) (maybe c.args.finalizer (λ t. syntax t.tree.now)) _ _
+    c.lower_caught.result
     (c.catch_clause_view-clause.ensures ∙ sym (ap (λ handler. maybe handler (λ t. syntax t.tree.now)) c.in-Some.is))
     c.in_ok-note_finalizer-in-Some.ensures.state c.lower_caught.ensures.lowered
 
-pub try_statement::lower_try-returns-in_ok-refuse-in-None-clause-lowered : goal.try_statement::lower_try-returns-in_ok-refuse-in-None-clause-lowered
+pub try_statement::lower_try-returns-in_ok-refuse-in-None-clause-lowered
+    : goal.try_statement::lower_try-returns-in_ok-refuse-in-None-clause-lowered
 try_statement::lower_try-returns-in_ok-refuse-in-None-clause-lowered g t c =
     uncaught_told _ (sym (ap (λ handler. maybe handler (λ t. syntax t.tree.now)) c.in-None.is)) c.in_ok-refuse-in-None.ensures.state

@@ -50,7 +50,8 @@ decreases-try_statement::lower_try g l = 5 * nodes (seen_statement (statement.Tr
 
 abbrev pub decreases-try_statement::lower_caught : goal.decreases-try_statement::lower_caught
 decreases-try_statement::lower_caught g l =
-    5 * nodes (caught_try l.at l.clause.at (syntax l.block.tree.now) (maybe l.clause.param (λ t. syntax t.tree.now)) (syntax l.clause.body.tree.now)) + 1
+    5 * nodes (caught_try l.at l.clause.at (syntax l.block.tree.now) (maybe l.clause.param (λ t. syntax t.tree.now))
+    (syntax l.clause.body.tree.now)) + 1
 
 abbrev pub decreases-try_statement::lower_try_plain : goal.decreases-try_statement::lower_try_plain
 decreases-try_statement::lower_try_plain g l = 5 * nodes (caught_try l.at l.there (syntax l.block.tree.now) Absent (syntax l.body.tree.now))

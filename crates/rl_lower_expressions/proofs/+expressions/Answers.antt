@@ -4,6 +4,9 @@ use Rattle.rl_base.specs.declared.span.Span.{Span}
 use Rattle.rl_builder.specs.Builder.{State, state_of}
 use Rattle.rl_frames.specs.Frames.{logical_of, sequence_of, ternary_of}
 use Rattle.rl_hir.specs.Pieces.{argument_pieces, element_pieces, value_pieces}
+use Rattle.rl_lower_expressions.proofs.AssignmentDerivations.{assigned_member_ok, assigned_name_ok, assigned_private_ok}
+use Rattle.rl_lower_expressions.proofs.AssignmentDerivations.{assignment_told, compound_member_ok, compound_name_ok, compound_private_ok}
+use Rattle.rl_lower_expressions.proofs.AssignmentDerivations.{compound_target_ok, compound_told, logical_operator, logical_refused}
 use Rattle.rl_lower_expressions.proofs.CallDerivations.{named_behind}
 use Rattle.rl_lower_expressions.proofs.Derivations.{asked_ok, call_told, cooked_form, gives_all, gives_next, gives_properties}
 use Rattle.rl_lower_expressions.proofs.Derivations.{gives_property, index_told, last_alone, last_next, literal_ok, member_told, next}
@@ -37,38 +40,44 @@ use Rattle.rl_ast.specs.declared.expression.Expression.TheVariants as expression
 use Rattle.rl_lowered.specs.Forms as forms
 use Rattle.rl_lower_expressions.proofs.+expressions.Goals as goal
 
-pub expression::lower_access-returns-in_ok-arguments-in-New-clause-lowered : goal.expression::lower_access-returns-in_ok-arguments-in-New-clause-lowered
+pub expression::lower_access-returns-in_ok-arguments-in-New-clause-lowered
+    : goal.expression::lower_access-returns-in_ok-arguments-in-New-clause-lowered
 expression::lower_access-returns-in_ok-arguments-in-New-clause-lowered g t c =
     asked_ok c.lower_value_to_temporary.result _ c.in-New.ensures (forms.New refl)
     (next c.in_ok-callee-in-New.ensures.lowered c.in_ok-arguments-in-New.ensures.lowered.by)
     c.lower_value_to_temporary.ensures.state c.lower_value_to_temporary.ensures.place
 
-pub expression::lower_access-returns-in_ok-value-in-Member-clause-lowered : goal.expression::lower_access-returns-in_ok-value-in-Member-clause-lowered
+pub expression::lower_access-returns-in_ok-value-in-Member-clause-lowered
+    : goal.expression::lower_access-returns-in_ok-value-in-Member-clause-lowered
 expression::lower_access-returns-in_ok-value-in-Member-clause-lowered g t c =
     loaded_ok c.in_ok-member-in-Member.member c.lower_value_to_temporary-in-Member.result _
     (member_told (seen c.args.names.now) c.in-Member.optional c.in-Member.ensures c.requires.may) c.in_ok-value-in-Member.ensures
     c.in_ok-member-in-Member.ensures.lowered
     c.lower_value_to_temporary-in-Member.ensures.state c.lower_value_to_temporary-in-Member.ensures.place
 
-pub expression::lower_access-returns-in_ok-value-in-Index-clause-lowered : goal.expression::lower_access-returns-in_ok-value-in-Index-clause-lowered
+pub expression::lower_access-returns-in_ok-value-in-Index-clause-lowered
+    : goal.expression::lower_access-returns-in_ok-value-in-Index-clause-lowered
 expression::lower_access-returns-in_ok-value-in-Index-clause-lowered g t c =
     loaded_ok c.in_ok-member-in-Index.member c.lower_value_to_temporary-in-Index.result _
     (index_told (seen c.args.names.now) c.in-Index.optional c.in-Index.ensures c.requires.may) c.in_ok-value-in-Index.ensures
     c.in_ok-member-in-Index.ensures.lowered
     c.lower_value_to_temporary-in-Index.ensures.state c.lower_value_to_temporary-in-Index.ensures.place
 
-pub expression::lower_composite-returns-in_ok-items-in-Array-clause-lowered : goal.expression::lower_composite-returns-in_ok-items-in-Array-clause-lowered
+pub expression::lower_composite-returns-in_ok-items-in-Array-clause-lowered
+    : goal.expression::lower_composite-returns-in_ok-items-in-Array-clause-lowered
 expression::lower_composite-returns-in_ok-items-in-Array-clause-lowered g t c =
     asked_ok c.lower_value_to_temporary.result _ c.in-Array.ensures (forms.Array refl) c.in_ok-items-in-Array.ensures.lowered.by
     c.lower_value_to_temporary.ensures.state c.lower_value_to_temporary.ensures.place
 
-pub expression::lower_composite-returns-in_ok-properties-in-Object-clause-lowered : goal.expression::lower_composite-returns-in_ok-properties-in-Object-clause-lowered
+pub expression::lower_composite-returns-in_ok-properties-in-Object-clause-lowered
+    : goal.expression::lower_composite-returns-in_ok-properties-in-Object-clause-lowered
 expression::lower_composite-returns-in_ok-properties-in-Object-clause-lowered g t c =
     object_ok c.in_ok-properties-in-Object.properties c.lower_value_to_temporary-in-Object.result _ c.in-Object.ensures
     c.in_ok-properties-in-Object.ensures.lowered
     c.lower_value_to_temporary-in-Object.ensures.state c.lower_value_to_temporary-in-Object.ensures.place
 
-pub expression::lower_composite-returns-in_ok-literal-in-RegExp-clause-lowered : goal.expression::lower_composite-returns-in_ok-literal-in-RegExp-clause-lowered
+pub expression::lower_composite-returns-in_ok-literal-in-RegExp-clause-lowered
+    : goal.expression::lower_composite-returns-in_ok-literal-in-RegExp-clause-lowered
 expression::lower_composite-returns-in_ok-literal-in-RegExp-clause-lowered g t c =
     asked_ok {names = seen c.args.names.now} c.lower_value_to_temporary-in-RegExp.result _ c.in-RegExp.ensures
     (regexp_form _ _ _ c.in_ok-literal-in-RegExp.ensures c.in_ok-pattern-in-RegExp.ensures c.in_ok-flags-in-RegExp.ensures) nothing
@@ -173,13 +182,15 @@ expression::lower_expression-returns-in-Boolean-clause-lowered g t c =
     literal_ok (seen c.args.names.now) c.lower_value_to_temporary-in-Boolean.result _ _ c.in-Boolean.ensures forms.Boolean
     c.lower_value_to_temporary-in-Boolean.ensures.state c.lower_value_to_temporary-in-Boolean.ensures.place
 
-pub expression::lower_expression-returns-in_ok-copy-in-String-clause-lowered : goal.expression::lower_expression-returns-in_ok-copy-in-String-clause-lowered
+pub expression::lower_expression-returns-in_ok-copy-in-String-clause-lowered
+    : goal.expression::lower_expression-returns-in_ok-copy-in-String-clause-lowered
 expression::lower_expression-returns-in_ok-copy-in-String-clause-lowered g t c =
     literal_ok (seen c.args.names.now) c.lower_value_to_temporary-in-String.result _ _ c.in-String.ensures
     (string_literal _ c.in_ok-copy-in-String.ensures)
     c.lower_value_to_temporary-in-String.ensures.state c.lower_value_to_temporary-in-String.ensures.place
 
-pub expression::lower_expression-returns-in-Parenthesized-clause-lowered : goal.expression::lower_expression-returns-in-Parenthesized-clause-lowered
+pub expression::lower_expression-returns-in-Parenthesized-clause-lowered
+    : goal.expression::lower_expression-returns-in-Parenthesized-clause-lowered
 expression::lower_expression-returns-in-Parenthesized-clause-lowered g t c =
     same_ok (seen c.args.names.now) _ _ c.lower_expression.result c.in-Parenthesized.ensures forms.Parenthesized
     c.lower_expression.ensures.lowered
@@ -189,12 +200,14 @@ expression::lower_expression-returns-in-NonNull-clause-lowered g t c =
     same_ok (seen c.args.names.now) _ _ c.lower_expression-in-NonNull.result c.in-NonNull.ensures forms.NonNull
     c.lower_expression-in-NonNull.ensures.lowered
 
-pub expression::lower_expression-returns-in-Instantiate-clause-lowered : goal.expression::lower_expression-returns-in-Instantiate-clause-lowered
+pub expression::lower_expression-returns-in-Instantiate-clause-lowered
+    : goal.expression::lower_expression-returns-in-Instantiate-clause-lowered
 expression::lower_expression-returns-in-Instantiate-clause-lowered g t c =
     same_ok (seen c.args.names.now) _ _ c.lower_expression-in-Instantiate.result c.in-Instantiate.ensures
     (forms.Instantiated c.in-Instantiate.names.fit) c.lower_expression-in-Instantiate.ensures.lowered
 
-pub expression::lower_import-returns-in_ok-lower_expression-in-Some-clause-lowered : goal.expression::lower_import-returns-in_ok-lower_expression-in-Some-clause-lowered
+pub expression::lower_import-returns-in_ok-lower_expression-in-Some-clause-lowered
+    : goal.expression::lower_import-returns-in_ok-lower_expression-in-Some-clause-lowered
 expression::lower_import-returns-in_ok-lower_expression-in-Some-clause-lowered g t c =
     refused_before_ok {names = seen c.args.names.now} {at = c.args.at} (state_of g.U.ReadsUnit.tables c.args.builder.now)
     c.lower_undefined.result (state_of g.U.ReadsUnit.tables c.lower_undefined.new.builder)
@@ -310,13 +323,15 @@ expression::lower_logical-lower_expression-requires-2 g t c =
     (share left + 52) c.in_ok-right.ensures.state (omega arith) second in
     λ lifetimes outlives. (search rules, (search rules, (named, (c.requires.may.1.1.0, roomy))))
 
-pub expression::lower_operation-returns-in_ok-right-in-Binary-clause-lowered : goal.expression::lower_operation-returns-in_ok-right-in-Binary-clause-lowered
+pub expression::lower_operation-returns-in_ok-right-in-Binary-clause-lowered
+    : goal.expression::lower_operation-returns-in_ok-right-in-Binary-clause-lowered
 expression::lower_operation-returns-in_ok-right-in-Binary-clause-lowered g t c =
     asked_ok c.lower_value_to_temporary.result _ c.in-Binary.ensures forms.Binary
     (next c.in_ok-left-in-Binary.ensures.lowered (next c.in_ok-right-in-Binary.ensures.lowered nothing))
     c.lower_value_to_temporary.ensures.state c.lower_value_to_temporary.ensures.place
 
-pub expression::lower_operation-returns-in_ok-value-in-Await-clause-lowered : goal.expression::lower_operation-returns-in_ok-value-in-Await-clause-lowered
+pub expression::lower_operation-returns-in_ok-value-in-Await-clause-lowered
+    : goal.expression::lower_operation-returns-in_ok-value-in-Await-clause-lowered
 expression::lower_operation-returns-in_ok-value-in-Await-clause-lowered g t c =
     asked_ok c.lower_value_to_temporary-in-Await.result _ c.in-Await.ensures forms.Await
     (next c.in_ok-value-in-Await.ensures.lowered nothing)
@@ -366,7 +381,8 @@ expression::lower_refused-returns-in-Yield-clause-lowered g t c =
     refused_ok {names = seen c.args.names.now} c.refuse_as_undefined-in-Yield.result _ _ c.in-Yield.ensures forms.Yield
     c.refuse_as_undefined-in-Yield.ensures.state c.refuse_as_undefined-in-Yield.ensures.place
 
-pub expression::lower_refused-returns-in_ok-lower_expression-in-PrivateIn-clause-lowered : goal.expression::lower_refused-returns-in_ok-lower_expression-in-PrivateIn-clause-lowered
+pub expression::lower_refused-returns-in_ok-lower_expression-in-PrivateIn-clause-lowered
+    : goal.expression::lower_refused-returns-in_ok-lower_expression-in-PrivateIn-clause-lowered
 expression::lower_refused-returns-in_ok-lower_expression-in-PrivateIn-clause-lowered g t c =
     refused_before_ok _ c.lower_undefined.result _ c.in-PrivateIn.ensures forms.PrivateIn c.in_ok-refuse-in-PrivateIn.ensures.state
     (next c.in_ok-lower_expression-in-PrivateIn.ensures.lowered nothing) c.lower_undefined.ensures.state c.lower_undefined.ensures.place
@@ -402,7 +418,8 @@ operator::lower_delete-returns-then-not-is_link-clause-lowered g t c =
     (sym c.if-not-is_link.ensures) c.requires.deletes)
     c.refuse_as_undefined.ensures.state c.refuse_as_undefined.ensures.place
 
-pub operator::lower_delete-returns-in_ok-value-in-Member-clause-lowered : goal.operator::lower_delete-returns-in_ok-value-in-Member-clause-lowered
+pub operator::lower_delete-returns-in_ok-value-in-Member-clause-lowered
+    : goal.operator::lower_delete-returns-in_ok-value-in-Member-clause-lowered
 operator::lower_delete-returns-in_ok-value-in-Member-clause-lowered g t c =
     let may : IsLowerable (seen c.args.names.now) (syntax c.without_parentheses-inner.result.tree.now) =
     delete_may (seen c.args.names.now) c.args.at (unary_text c.args.operator) c.without_parentheses-inner.ensures.inside
@@ -413,7 +430,8 @@ operator::lower_delete-returns-in_ok-value-in-Member-clause-lowered g t c =
     c.requires.deletes c.in_ok-value-in-Member.ensures c.in_ok-member-in-Member.ensures.lowered
     c.lower_value_to_temporary.ensures.state c.lower_value_to_temporary.ensures.place
 
-pub operator::lower_delete-returns-in_ok-value-in-Index-clause-lowered : goal.operator::lower_delete-returns-in_ok-value-in-Index-clause-lowered
+pub operator::lower_delete-returns-in_ok-value-in-Index-clause-lowered
+    : goal.operator::lower_delete-returns-in_ok-value-in-Index-clause-lowered
 operator::lower_delete-returns-in_ok-value-in-Index-clause-lowered g t c =
     let may : IsLowerable (seen c.args.names.now) (syntax c.without_parentheses-inner.result.tree.now) =
     delete_may (seen c.args.names.now) c.args.at (unary_text c.args.operator) c.without_parentheses-inner.ensures.inside
@@ -464,7 +482,8 @@ operator::lower_unary-returns-clause-lowered g t c =
     asked_ok {at = c.args.at} c.lower_value_to_temporary.result _ refl (forms.Unary (sym c.if-is_delete.ensures))
     (next c.in_ok-value.ensures.lowered nothing) c.lower_value_to_temporary.ensures.state c.lower_value_to_temporary.ensures.place
 
-pub operator::lower_update-returns-in_ok-member-in-Member-clause-lowered : goal.operator::lower_update-returns-in_ok-member-in-Member-clause-lowered
+pub operator::lower_update-returns-in_ok-member-in-Member-clause-lowered
+    : goal.operator::lower_update-returns-in_ok-member-in-Member-clause-lowered
 operator::lower_update-returns-in_ok-member-in-Member-clause-lowered g t c =
     updated_ok {names = seen c.args.names.now} c.args.at c.args.operator c.args.prefix c.in_ok-member-in-Member.member
     c.update_member.result (state_of g.U.ReadsUnit.tables c.update_member.new.builder)
@@ -473,7 +492,8 @@ operator::lower_update-returns-in_ok-member-in-Member-clause-lowered g t c =
     c.in-Member.ensures refl c.requires.may))
     c.in_ok-member-in-Member.ensures.lowered c.update_member.ensures.state c.update_member.ensures.place
 
-pub operator::lower_update-returns-in_ok-member-in-Index-clause-lowered : goal.operator::lower_update-returns-in_ok-member-in-Index-clause-lowered
+pub operator::lower_update-returns-in_ok-member-in-Index-clause-lowered
+    : goal.operator::lower_update-returns-in_ok-member-in-Index-clause-lowered
 operator::lower_update-returns-in_ok-member-in-Index-clause-lowered g t c =
     updated_ok {names = seen c.args.names.now} c.args.at c.args.operator c.args.prefix c.in_ok-member-in-Index.member
     c.update_member-in-Index.result (state_of g.U.ReadsUnit.tables c.update_member-in-Index.new.builder)
@@ -515,6 +535,158 @@ operator::lower_update-returns-in-NonNull-clause-lowered g t c =
     (forms.WrappedUpdate (ap is_wrapped (sym c.in-NonNull.ensures)))
     c.refuse_as_undefined-in-NonNull.ensures.state c.refuse_as_undefined-in-NonNull.ensures.place
 
+pub assignment::lower_assigned-returns-in-Identifier-clause-lowered : goal.assignment::lower_assigned-returns-in-Identifier-clause-lowered
+assignment::lower_assigned-returns-in-Identifier-clause-lowered g t c =
+    assigned_name_ok (seen c.args.names.now) c.args.at (state_of g.U.ReadsUnit.tables c.assign_name.new.builder) c.assign_name.result
+    (c.identifier_reference_view-identifier.ensures ∙ c.in-Identifier.ensures) c.in_ok-value.ensures.lowered c.assign_name.ensures.lowered
+
+pub assignment::lower_assigned-returns-in_ok-member-in-Member-clause-lowered
+    : goal.assignment::lower_assigned-returns-in_ok-member-in-Member-clause-lowered
+assignment::lower_assigned-returns-in_ok-member-in-Member-clause-lowered g t c =
+    assigned_member_ok c.args.at c.in_ok-member-in-Member.member c.store_member.result
+    (state_of g.U.ReadsUnit.tables c.store_member.new.builder)
+    (member_told (seen c.args.names.now) c.in-Member.optional c.in-Member.ensures c.requires.may.0) c.in_ok-value.ensures.lowered
+    c.in_ok-member-in-Member.ensures.lowered c.store_member.ensures.state c.store_member.ensures.place
+
+pub assignment::lower_assigned-returns-in_ok-member-in-Index-clause-lowered
+    : goal.assignment::lower_assigned-returns-in_ok-member-in-Index-clause-lowered
+assignment::lower_assigned-returns-in_ok-member-in-Index-clause-lowered g t c =
+    assigned_member_ok c.args.at c.in_ok-member-in-Index.member c.store_member-in-Index.result
+    (state_of g.U.ReadsUnit.tables c.store_member-in-Index.new.builder)
+    (index_told (seen c.args.names.now) c.in-Index.optional c.in-Index.ensures c.requires.may.0) c.in_ok-value.ensures.lowered
+    c.in_ok-member-in-Index.ensures.lowered c.store_member-in-Index.ensures.state c.store_member-in-Index.ensures.place
+
+pub assignment::lower_assigned-returns-in_ok-lower_expression-in-PrivateMember-clause-lowered
+    : goal.assignment::lower_assigned-returns-in_ok-lower_expression-in-PrivateMember-clause-lowered
+assignment::lower_assigned-returns-in_ok-lower_expression-in-PrivateMember-clause-lowered g t c =
+    assigned_private_ok c.args.at c.refuse_as_undefined.result (state_of g.U.ReadsUnit.tables c.refuse_as_undefined.new.builder)
+    (private_told (seen c.args.names.now) c.in-PrivateMember.optional c.in-PrivateMember.ensures c.requires.may.0)
+    c.in_ok-value.ensures.lowered c.in_ok-lower_expression-in-PrivateMember.ensures.lowered
+    c.refuse_as_undefined.ensures.state c.refuse_as_undefined.ensures.place
+
+pub assignment::lower_compound-returns-in_ok-right-in-Identifier-clause-lowered
+    : goal.assignment::lower_compound-returns-in_ok-right-in-Identifier-clause-lowered
+assignment::lower_compound-returns-in_ok-right-in-Identifier-clause-lowered g t c =
+    compound_name_ok (seen c.args.names.now) c.args.at c.args.applied (state_of g.U.ReadsUnit.tables c.update_name_by.new.builder)
+    c.update_name_by.result
+    (c.identifier_reference_view-identifier.ensures ∙ c.in-Identifier.ensures) c.in_ok-old-in-Identifier.ensures.lowered
+    c.in_ok-right-in-Identifier.ensures.lowered c.update_name_by.ensures.lowered
+
+pub assignment::lower_compound-returns-in_ok-member-in-Member-clause-lowered
+    : goal.assignment::lower_compound-returns-in_ok-member-in-Member-clause-lowered
+assignment::lower_compound-returns-in_ok-member-in-Member-clause-lowered g t c =
+    compound_target_ok c.args.at (syntax c.args.right.tree.now) c.args.applied c.in_ok-member-in-Member.member
+    (state_of g.U.ReadsUnit.tables c.update_member_by.new.builder) c.update_member_by.result
+    (member_told (seen c.args.names.now) c.in-Member.optional c.in-Member.ensures c.requires.may.0)
+    c.in_ok-member-in-Member.ensures.lowered c.update_member_by.ensures.lowered
+
+pub assignment::lower_compound-returns-in_ok-member-in-Index-clause-lowered
+    : goal.assignment::lower_compound-returns-in_ok-member-in-Index-clause-lowered
+assignment::lower_compound-returns-in_ok-member-in-Index-clause-lowered g t c =
+    compound_target_ok c.args.at (syntax c.args.right.tree.now) c.args.applied c.in_ok-member-in-Index.member
+    (state_of g.U.ReadsUnit.tables c.update_member_by-in-Index.new.builder) c.update_member_by-in-Index.result
+    (index_told (seen c.args.names.now) c.in-Index.optional c.in-Index.ensures c.requires.may.0)
+    c.in_ok-member-in-Index.ensures.lowered c.update_member_by-in-Index.ensures.lowered
+
+pub assignment::lower_compound-returns-in_ok-lower_expression-in-PrivateMember-clause-lowered
+    : goal.assignment::lower_compound-returns-in_ok-lower_expression-in-PrivateMember-clause-lowered
+assignment::lower_compound-returns-in_ok-lower_expression-in-PrivateMember-clause-lowered g t c =
+    compound_private_ok c.args.at c.args.applied c.lower_undefined.result (state_of g.U.ReadsUnit.tables c.lower_undefined.new.builder)
+    (private_told (seen c.args.names.now) c.in-PrivateMember.optional c.in-PrivateMember.ensures c.requires.may.0)
+    (c.in_ok-lower_private-in-PrivateMember.ensures.lowered c.in-PrivateMember.property.now)
+    c.in_ok-lower_expression-in-PrivateMember.ensures.lowered c.lower_undefined.ensures.state c.lower_undefined.ensures.place
+
+pub assignment::lower_compound-lower_expression-requires-in-PrivateMember
+    : goal.assignment::lower_compound-lower_expression-requires-in-PrivateMember
+assignment::lower_compound-lower_expression-requires-in-PrivateMember g t c =
+    let object : ℕ = nodes (syntax c.in-PrivateMember.object.tree.now) in
+    let target : ℕ = nodes (syntax c.args.target.tree.now) in
+    let right : ℕ = nodes (syntax c.args.right.tree.now) in
+    let s : State = state_of g.U.ReadsUnit.tables c.args.builder.now in
+    let s1 : State = state_of g.U.ReadsUnit.tables c.lower_private.new.builder in
+    let private = c.in_ok-lower_private-in-PrivateMember.ensures.lowered c.in-PrivateMember.property.now in
+    let counted : 0 + (object + (0 + 0)) + 1 ≡ target = ap nodes c.in-PrivateMember.ensures in
+    let first : size_of s1 ≤ size_of s + share (0 + (object + (0 + 0)) + 1) = private.size in
+    let all : HasRoom s (share (target + right + 1)) = c.requires.room in
+    let roomy : HasRoom s1 (share right) = omega (arith, counted, first, all) in
+    λ lifetimes outlives. (search rules, (search rules, (private.named c.requires.names, (c.requires.may.1, roomy))))
+
+pub assignment::lower_compound-lower_undefined-requires : goal.assignment::lower_compound-lower_undefined-requires
+assignment::lower_compound-lower_undefined-requires g t c =
+    let object : ℕ = nodes (syntax c.in-PrivateMember.object.tree.now) in
+    let target : ℕ = nodes (syntax c.args.target.tree.now) in
+    let right : ℕ = nodes (syntax c.args.right.tree.now) in
+    let s : State = state_of g.U.ReadsUnit.tables c.args.builder.now in
+    let s1 : State = state_of g.U.ReadsUnit.tables c.lower_private.new.builder in
+    let s2 : State = state_of g.U.ReadsUnit.tables c.lower_expression-in-PrivateMember.new.builder in
+    let private = c.in_ok-lower_private-in-PrivateMember.ensures.lowered c.in-PrivateMember.property.now in
+    let counted : 0 + (object + (0 + 0)) + 1 ≡ target = ap nodes c.in-PrivateMember.ensures in
+    let first : size_of s1 ≤ size_of s + share (0 + (object + (0 + 0)) + 1) = private.size in
+    let second : size_of s2 ≤ size_of s1 + share right = c.in_ok-lower_expression-in-PrivateMember.ensures.lowered.size in
+    let all : HasRoom s (share (target + right + 1)) = c.requires.room in
+    record { room = omega (arith, counted, first, second, all) }
+
+pub assignment::lower_assignment-returns-in-Assign-clause-lowered : goal.assignment::lower_assignment-returns-in-Assign-clause-lowered
+assignment::lower_assignment-returns-in-Assign-clause-lowered g t c =
+    assignment_told (seen c.args.names.now) c.args.at c.args.operator (syntax c.args.target.tree.now) (syntax c.args.right.tree.now)
+    (state_of g.U.ReadsUnit.tables c.args.builder.now) (state_of g.U.ReadsUnit.tables c.lower_assigned.new.builder)
+    c.lower_assigned.result c.in-Assign.is c.lower_assigned.ensures.lowered
+
+pub assignment::lower_assignment-returns-in-Some-clause-lowered : goal.assignment::lower_assignment-returns-in-Some-clause-lowered
+assignment::lower_assignment-returns-in-Some-clause-lowered g t c =
+    compound_told (seen c.args.names.now) c.args.at c.args.operator c.in-Some.applied (syntax c.args.target.tree.now)
+    (syntax c.args.right.tree.now) (state_of g.U.ReadsUnit.tables c.args.builder.now)
+    (state_of g.U.ReadsUnit.tables c.lower_compound.new.builder) c.lower_compound.result (sym c.in-Some.ensures)
+    c.lower_compound.ensures.lowered
+
+pub assignment::lower_assignment-returns-in-None-clause-lowered : goal.assignment::lower_assignment-returns-in-None-clause-lowered
+assignment::lower_assignment-returns-in-None-clause-lowered g t c =
+    refused_ok {names = seen c.args.names.now} {at = c.args.at} c.refuse_as_undefined.result _ _ refl
+    (logical_refused c.args.operator (logical_operator c.args.operator c.in_default.not-Assign c.in-None.ensures))
+    c.refuse_as_undefined.ensures.state c.refuse_as_undefined.ensures.place
+
+pub assignment::update_member_by-lower_expression-requires : goal.assignment::update_member_by-lower_expression-requires
+assignment::update_member_by-lower_expression-requires g t c =
+    let right : ℕ = nodes (syntax c.args.right.tree.now) in
+    let s0 : State = state_of g.U.ReadsUnit.tables c.args.builder.now in
+    let s1 : State = state_of g.U.ReadsUnit.tables c.lower_value_to_temporary.new.builder in
+    let named = named_behind s0 _ _ _ c.in_ok-old.ensures.state c.requires.names in
+    let first : size_of s1 ≤ size_of s0 + 4 = grown s0 s1 _ _ c.in_ok-old.ensures.state in
+    let all : HasRoom s0 (share (right + 1)) = c.requires.room in
+    let roomy : HasRoom s1 (share right) = omega (arith, first, all) in
+    λ lifetimes outlives. (search rules, (search rules, (named, (c.requires.may, roomy))))
+
+pub assignment::update_member_by-lower_value_to_temporary-requires-2 : goal.assignment::update_member_by-lower_value_to_temporary-requires-2
+assignment::update_member_by-lower_value_to_temporary-requires-2 g t c =
+    let right : ℕ = nodes (syntax c.args.right.tree.now) in
+    let s0 : State = state_of g.U.ReadsUnit.tables c.args.builder.now in
+    let s1 : State = state_of g.U.ReadsUnit.tables c.lower_value_to_temporary.new.builder in
+    let s2 : State = state_of g.U.ReadsUnit.tables c.lower_expression.new.builder in
+    let first : size_of s1 ≤ size_of s0 + 4 = grown s0 s1 _ _ c.in_ok-old.ensures.state in
+    let second : size_of s2 ≤ size_of s1 + share right = c.in_ok-right.ensures.lowered.size in
+    let all : HasRoom s0 (share (right + 1)) = c.requires.room in
+    record { room = omega (arith, first, second, all) }
+
+pub assignment::update_member_by-store_member-requires : goal.assignment::update_member_by-store_member-requires
+assignment::update_member_by-store_member-requires g t c =
+    let right : ℕ = nodes (syntax c.args.right.tree.now) in
+    let s0 : State = state_of g.U.ReadsUnit.tables c.args.builder.now in
+    let s1 : State = state_of g.U.ReadsUnit.tables c.lower_value_to_temporary.new.builder in
+    let s2 : State = state_of g.U.ReadsUnit.tables c.lower_expression.new.builder in
+    let s3 : State = state_of g.U.ReadsUnit.tables c.lower_value_to_temporary-2.new.builder in
+    let first : size_of s1 ≤ size_of s0 + 4 = grown s0 s1 _ _ c.in_ok-old.ensures.state in
+    let second : size_of s2 ≤ size_of s1 + share right = c.in_ok-right.ensures.lowered.size in
+    let third : size_of s3 ≤ size_of s2 + 4 = grown s2 s3 _ _ c.in_ok-updated.ensures.state in
+    let all : HasRoom s0 (share (right + 1)) = c.requires.room in
+    record { room = omega (arith, first, second, third, all) }
+
+pub assignment::update_member_by-returns-clause-lowered : goal.assignment::update_member_by-returns-clause-lowered
+assignment::update_member_by-returns-clause-lowered g t c =
+    compound_member_ok (state_of g.U.ReadsUnit.tables c.args.builder.now) c.args.there c.args.applied c.args.member c.store_member.result
+    (state_of g.U.ReadsUnit.tables c.store_member.new.builder) c.in_ok-load.ensures c.in_ok-old.ensures.state
+    c.in_ok-old.ensures.place c.in_ok-right.ensures.lowered c.in_ok-updated.ensures.state c.in_ok-updated.ensures.place
+    c.store_member.ensures.state c.store_member.ensures.place
+
 pub access::lower_call-returns-then-not-is_property-clause-lowered : goal.access::lower_call-returns-then-not-is_property-clause-lowered
 access::lower_call-returns-then-not-is_property-clause-lowered g t c =
     asked_ok {at = c.args.at} c.lower_value_to_temporary.result _ refl
@@ -526,7 +698,8 @@ pub access::lower_computed-returns-in-Some-clause-lowered : goal.access::lower_c
 access::lower_computed-returns-in-Some-clause-lowered g t c = numbered_parts c.in-Some.number _ c.new.ensures c.in-Some.ensures
     c.in_ok-object.ensures.lowered
 
-pub access::lower_computed-returns-in_ok-property-in-None-clause-lowered : goal.access::lower_computed-returns-in_ok-property-in-None-clause-lowered
+pub access::lower_computed-returns-in_ok-property-in-None-clause-lowered
+    : goal.access::lower_computed-returns-in_ok-property-in-None-clause-lowered
 access::lower_computed-returns-in_ok-property-in-None-clause-lowered g t c =
     computed_parts c.in-None.ensures c.in_ok-object.ensures.lowered c.in_ok-property-in-None.ensures.lowered
 
@@ -601,11 +774,13 @@ access::lower_template-returns-clause-lowered g t c =
     (template_form _ c.in_ok-literal.ensures c.in_ok-quasis.ensures) c.in_ok-subexpressions.ensures.lowered.by
     c.lower_value_to_temporary.ensures.state c.lower_value_to_temporary.ensures.place
 
-pub parts::lower_argument-returns-in_ok-place-in-Expression-clause-lowered : goal.parts::lower_argument-returns-in_ok-place-in-Expression-clause-lowered
+pub parts::lower_argument-returns-in_ok-place-in-Expression-clause-lowered
+    : goal.parts::lower_argument-returns-in_ok-place-in-Expression-clause-lowered
 parts::lower_argument-returns-in_ok-place-in-Expression-clause-lowered g t c =
     one_part c.in-Expression.ensures c.in_ok-place-in-Expression.ensures.lowered
 
-pub parts::lower_argument-returns-in_ok-place-in-Spread-clause-lowered : goal.parts::lower_argument-returns-in_ok-place-in-Spread-clause-lowered
+pub parts::lower_argument-returns-in_ok-place-in-Spread-clause-lowered
+    : goal.parts::lower_argument-returns-in_ok-place-in-Spread-clause-lowered
 parts::lower_argument-returns-in_ok-place-in-Spread-clause-lowered g t c =
     one_spread c.in-Spread.ensures c.in_ok-place-in-Spread.ensures.lowered
 
@@ -634,11 +809,13 @@ pub parts::lower_arguments-returns-clause-lowered : goal.parts::lower_arguments-
 parts::lower_arguments-returns-clause-lowered g t c = gives_all argument_pieces c.arguments.given c.in_default.ensures
     c.arguments.invariant.gives
 
-pub parts::lower_element-returns-in_ok-place-in-Expression-clause-lowered : goal.parts::lower_element-returns-in_ok-place-in-Expression-clause-lowered
+pub parts::lower_element-returns-in_ok-place-in-Expression-clause-lowered
+    : goal.parts::lower_element-returns-in_ok-place-in-Expression-clause-lowered
 parts::lower_element-returns-in_ok-place-in-Expression-clause-lowered g t c =
     one_part c.in-Expression.ensures c.in_ok-place-in-Expression.ensures.lowered
 
-pub parts::lower_element-returns-in_ok-place-in-Spread-clause-lowered : goal.parts::lower_element-returns-in_ok-place-in-Spread-clause-lowered
+pub parts::lower_element-returns-in_ok-place-in-Spread-clause-lowered
+    : goal.parts::lower_element-returns-in_ok-place-in-Spread-clause-lowered
 parts::lower_element-returns-in_ok-place-in-Spread-clause-lowered g t c =
     one_spread c.in-Spread.ensures c.in_ok-place-in-Spread.ensures.lowered
 
@@ -700,12 +877,14 @@ parts::lower_keyed-returns-in_ok-place-in-Fixed-clause-lowered g t c = λ at.
     one_property {at = at} {computed = c.args.computed} {key = syntax c.args.key.tree.now} c.in-Fixed.ensures c.in_ok-key-in-Fixed.ensures
     c.in_ok-place-in-Fixed.ensures.lowered
 
-pub parts::lower_keyed-returns-in_ok-place-in-Computed-clause-lowered : goal.parts::lower_keyed-returns-in_ok-place-in-Computed-clause-lowered
+pub parts::lower_keyed-returns-in_ok-place-in-Computed-clause-lowered
+    : goal.parts::lower_keyed-returns-in_ok-place-in-Computed-clause-lowered
 parts::lower_keyed-returns-in_ok-place-in-Computed-clause-lowered g t c = λ at.
     one_computed {at = at} {computed = c.args.computed} c.in-Computed.ensures.0 c.in-Computed.ensures.1
     c.in_ok-key-in-Computed.ensures.lowered c.in_ok-place-in-Computed.ensures.lowered
 
-pub parts::lower_keyed-returns-in_ok-lower_expression-in-Fraction-clause-lowered : goal.parts::lower_keyed-returns-in_ok-lower_expression-in-Fraction-clause-lowered
+pub parts::lower_keyed-returns-in_ok-lower_expression-in-Fraction-clause-lowered
+    : goal.parts::lower_keyed-returns-in_ok-lower_expression-in-Fraction-clause-lowered
 parts::lower_keyed-returns-in_ok-lower_expression-in-Fraction-clause-lowered g t c = λ at.
     one_fraction {at = at} {computed = c.args.computed} c.in-Fraction.ensures.0 c.in-Fraction.ensures.1
     c.in_ok-refuse-in-Fraction.ensures.state c.in_ok-lower_expression-in-Fraction.ensures.lowered
@@ -761,11 +940,13 @@ parts::lower_properties-properties-preserved g t c =
 pub parts::lower_properties-returns-clause-lowered : goal.parts::lower_properties-returns-clause-lowered
 parts::lower_properties-returns-clause-lowered g t c = gives_properties c.properties.given c.in_default.ensures c.properties.invariant.gives
 
-pub parts::lower_property-returns-then-not-is_known_key-clause-lowered : goal.parts::lower_property-returns-then-not-is_known_key-clause-lowered
+pub parts::lower_property-returns-then-not-is_known_key-clause-lowered
+    : goal.parts::lower_property-returns-then-not-is_known_key-clause-lowered
 parts::lower_property-returns-then-not-is_known_key-clause-lowered g t c =
     one_unknown {at = c.in-Value.at} {computed = c.in-Value.computed} c.in-Value.ensures (sym c.if-not-is_known_key.ensures)
     c.span_of.ensures c.in_ok-refuse-in-Value.ensures.state
 
-pub parts::lower_property-returns-in_ok-place-in-Spread-clause-lowered : goal.parts::lower_property-returns-in_ok-place-in-Spread-clause-lowered
+pub parts::lower_property-returns-in_ok-place-in-Spread-clause-lowered
+    : goal.parts::lower_property-returns-in_ok-place-in-Spread-clause-lowered
 parts::lower_property-returns-in_ok-place-in-Spread-clause-lowered g t c = one_spread_property c.in-Spread.ensures
     c.in_ok-place-in-Spread.ensures.lowered

@@ -70,6 +70,18 @@ decreases-operator::lower_cast g l = 16 * nodes (syntax l.expression.tree.now) +
 abbrev pub decreases-operator::lower_private : goal.decreases-operator::lower_private
 decreases-operator::lower_private g l = 16 * nodes (syntax l.object.tree.now) + 9
 
+abbrev pub decreases-assignment::lower_assignment : goal.decreases-assignment::lower_assignment
+decreases-assignment::lower_assignment g l = 16 * nodes (seen_expression (expression.Assignment l.at l.operator l.target l.right)) + 2
+
+abbrev pub decreases-assignment::lower_assigned : goal.decreases-assignment::lower_assigned
+decreases-assignment::lower_assigned g l = 16 * (nodes (syntax l.target.tree.now) + nodes (syntax l.right.tree.now) + 1) + 1
+
+abbrev pub decreases-assignment::lower_compound : goal.decreases-assignment::lower_compound
+decreases-assignment::lower_compound g l = 16 * (nodes (syntax l.target.tree.now) + nodes (syntax l.right.tree.now) + 1) + 1
+
+abbrev pub decreases-assignment::update_member_by : goal.decreases-assignment::update_member_by
+decreases-assignment::update_member_by g l = 16 * nodes (syntax l.right.tree.now) + 9
+
 abbrev pub decreases-access::lower_static : goal.decreases-access::lower_static
 decreases-access::lower_static g l = 16 * nodes (syntax l.object.tree.now) + 9
 

@@ -8,7 +8,8 @@ use Rattle.rl_lower.proofs.case_test.note_moved.Goals as goal
 
 pub returns-then-may_move-clause-state : goal.returns-then-may_move-clause-state
 returns-then-may_move-clause-state g c =
-    moving_kept (seen c.args.names.now) (syntax c.args.tree.now) (state_of g.U.ReadsUnit.tables c.args.builder.now) (sym c.if-may_move.ensures)
+    moving_kept (seen c.args.names.now) (syntax c.args.tree.now) (state_of g.U.ReadsUnit.tables c.args.builder.now)
+    (sym c.if-may_move.ensures)
 
 pub returns-in_ok-diagnostic-in-Node-clause-state : goal.returns-in_ok-diagnostic-in-Node-clause-state
 returns-in_ok-diagnostic-in-Node-clause-state g c =

@@ -22,7 +22,8 @@ returns-in_ok-terminate_with_continuation-in-Expression-clause-lowered g c =
 
 pub lower_statements-requires-clause-may : goal.lower_statements-requires-clause-may
 lower_statements-requires-clause-may g c =
-    body_may (seen c.args.names.now) (state_of g.U.ReadsUnit.tables c.args.builder.now) (c.function_body_view-body.ensures ∙ ap seen_arrow_body (sym c.in-Body.is))
+    body_may (seen c.args.names.now) (state_of g.U.ReadsUnit.tables c.args.builder.now)
+    (c.function_body_view-body.ensures ∙ ap seen_arrow_body (sym c.in-Body.is))
     c.requires.outermost c.requires.may
 
 pub returns-in-Body-clause-lowered : goal.returns-in-Body-clause-lowered

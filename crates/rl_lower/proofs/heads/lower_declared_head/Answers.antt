@@ -13,6 +13,7 @@ lower_value_to_temporary-requires g c =
 
 pub returns-clause-lowered : goal.returns-clause-lowered
 returns-clause-lowered g c =
-    declared_head_ok c.args.bind.now.name.now (maybe c.args.bind.now.annotation (λ t. syntax t.tree.now)) c.lower_value_to_temporary.result c.args.value c.args.at _
+    declared_head_ok c.args.bind.now.name.now (maybe c.args.bind.now.annotation (λ t. syntax t.tree.now)) c.lower_value_to_temporary.result
+    c.args.value c.args.at _
     (annotation_fits (λ t. syntax t.tree.now) c.args.bind.now.annotation (λ t. t.fit)) c.in_ok-identifier.ensures.found
     c.set_identifier_declaration_span.ensures.state c.lower_value_to_temporary.ensures.state c.lower_value_to_temporary.ensures.place

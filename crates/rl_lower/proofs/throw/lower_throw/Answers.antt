@@ -1,6 +1,6 @@
 use Rattle.std.proofs.Common.{ℕ, ◌+◌, refl, arith}
 use Rattle.rl_builder.specs.Builder.{State, state_of}
-use Rattle.rl_lowered.specs.Promised.{HasRoom, share}
+use Rattle.rl_lowered.specs.Promised.{share}
 use Rattle.rl_names.specs.Seen.{seen}
 use Rattle.rl_syntax.specs.Syntax.{nodes, syntax}
 use Rattle.rl_lower_expressions.proofs.Derivations.{room_after}
@@ -17,5 +17,6 @@ end_by_throw-requires g c =
 
 pub returns-clause-lowered : goal.returns-clause-lowered
 returns-clause-lowered g c =
-    throw_ok (seen c.args.names.now) c.args.at _ _ c.end_by_throw.result refl c.in_ok-value.ensures.lowered c.in_ok-note_handler.ensures.state
+    throw_ok (seen c.args.names.now) c.args.at _ _ c.end_by_throw.result refl c.in_ok-value.ensures.lowered
+    c.in_ok-note_handler.ensures.state
     c.end_by_throw.ensures.state

@@ -8,9 +8,9 @@ use Rattle.rl_lower_expressions.proofs.name.update_local.Goals as goal
 pub returns-then-is_const-clause-lowered : goal.returns-then-is_const-clause-lowered
 returns-then-is_const-clause-lowered g c =
     updated_constant_ok c.lower_undefined.result (seen c.args.names.now) c.args.at c.args.there c.args.symbol _
-    (Said (update_text c.args.operator)) (Flag c.args.prefix) _ _ _
+    (Said (update_text c.args.operator)) (Flag c.args.prefix) _
     c.in_ok-resolve_variable.ensures.state c.in_ok-resolve_variable.ensures.found (sym c.is_const.ensures ∙ c.if-is_const.true)
-    c.name.ensures c.in_ok-diagnostic.ensures c.in_ok-record_diagnostic.ensures.state
+    c.in_ok-refuse_constant.ensures.state
     c.lower_undefined.ensures.state c.lower_undefined.ensures.place
 
 pub returns-clause-lowered : goal.returns-clause-lowered

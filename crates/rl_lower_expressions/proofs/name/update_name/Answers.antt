@@ -7,5 +7,7 @@ use Rattle.rl_lower_expressions.proofs.name.update_name.Goals as goal
 
 pub returns-in-Outer-clause-lowered : goal.returns-in-Outer-clause-lowered
 returns-in-Outer-clause-lowered g c =
-    outer_update_ok (seen c.args.names.now) _ c.refuse_as_undefined.result c.args.at c.args.identifier.now.at c.in-Outer.binding _ (Said (update_text c.args.operator)) (Flag c.args.prefix) _
-    (sym c.in_ok-symbol.ensures ∙ c.in-Outer.is) c.row_of_update.ensures c.refuse_as_undefined.ensures.state c.refuse_as_undefined.ensures.place
+    outer_update_ok (seen c.args.names.now) _ c.refuse_as_undefined.result c.args.at c.args.identifier.now.at c.in-Outer.binding _
+    (Said (update_text c.args.operator)) (Flag c.args.prefix) _
+    (sym c.in_ok-symbol.ensures ∙ c.in-Outer.is) c.row_of_update.ensures c.refuse_as_undefined.ensures.state
+    c.refuse_as_undefined.ensures.place
