@@ -1,8 +1,11 @@
 -- Trees without refusals: none of the parts that are lowered has one.
 use Rattle.std.proofs.Common.{◌≡◌, Bool, true, false, if◌then◌else◌, List, [], ◌∷◌, ◌++◌, refl}
 use Rattle.rl_names.specs.Names.{Names}
-use Rattle.rl_promises.specs.Rows.{refusals, refusals_in}
-use Rattle.rl_syntax.specs.Syntax.{Pieces, End, Then}
+use Rattle.rl_promises.specs.Chains.{Spine}
+use Rattle.rl_promises.specs.Rows.{refusals, refusals_by, refusals_in}
+use Rattle.rl_syntax.specs.Syntax.{Syntax, Node, Pieces, End, Then}
+use Rattle.rl_syntax.specs.declared.numbered.At.{At}
+use Rattle.rl_syntax.specs.declared.word.Word.TheVariants as word
 
 -- Two lists that are empty together.
 pub nil_parts : {X : Type 0} (xs ys : List X) → xs ++ ys ≡ [] → (xs ≡ []) × (ys ≡ [])
@@ -28,3 +31,27 @@ pub are_accepted : (names : Names) (parts : Pieces) → refusals_in names parts 
 are_accepted names End none = tt
 are_accepted names (Then piece pieces) none =
     let both = nil_parts (refusals names piece) (refusals_in names pieces) none in (both.0, are_accepted names pieces both.1)
+
+-- The same of a link or a chain: its object, callee or expression may stand on the spine.
+pub link_accepted : (names : Names) (place : Spine) (object : Syntax) (rest : Pieces)
+    → refusals_by names place object ++ refusals_in names rest ≡ [] → (refusals_by names place object ≡ []) × AreAccepted names rest
+link_accepted names place object rest none =
+    let both = nil_parts (refusals_by names place object) (refusals_in names rest) none in (both.0, are_accepted names rest both.1)
+
+-- The parts of a property off the spine of a chain.
+
+three_accepted : (names : Names) (optional object : Syntax) (rest : Pieces)
+    → refusals names optional ++ refusals names object ++ refusals_in names rest ≡ []
+    → AreAccepted names (Then optional (Then object rest))
+three_accepted names optional object rest none =
+    let both = nil_parts (refusals names optional ++ refusals names object) (refusals_in names rest) none in
+    let first = nil_parts (refusals names optional) (refusals names object) both.0 in
+    (first.0, (first.1, are_accepted names rest both.1))
+
+pub member_accepted : (names : Names) (at : At) (parts : Pieces) → refusals names (Node at word.Member parts) ≡ [] → AreAccepted names parts
+member_accepted names at (Then optional (Then object rest)) none = three_accepted names optional object rest none
+member_accepted names at parts none = are_accepted names parts none
+
+pub index_accepted : (names : Names) (at : At) (parts : Pieces) → refusals names (Node at word.Index parts) ≡ [] → AreAccepted names parts
+index_accepted names at (Then optional (Then object rest)) none = three_accepted names optional object rest none
+index_accepted names at parts none = are_accepted names parts none

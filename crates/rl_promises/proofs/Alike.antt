@@ -404,6 +404,7 @@ module _ (t : Scene) (stored : ℕ → Option SymbolId) (early : Bool → ℕ �
     exec_alike own tried (Node at word.Paren parts) covered none = refl
     exec_alike own tried (Node at word.Nonnull parts) covered none = refl
     exec_alike own tried (Node at word.Member parts) covered none = refl
+    exec_alike own tried (Node at word.Chain parts) covered none = refl
     exec_alike own tried (Node at word.Index parts) covered none = refl
     exec_alike own tried (Node at word.Call parts) covered none = refl
     exec_alike own tried (Node at word.Template parts) covered none = refl

@@ -8,7 +8,8 @@ use Rattle.rl_base.specs.declared.span.Span.{Span}
 use Rattle.rl_machine.specs.Traces.{truthy}
 use Rattle.rl_machine.specs.declared.trace.Value.{Value}
 use Rattle.rl_machine.specs.declared.trace.Value.TheVariants as value
-use Rattle.rl_promises.proofs.Accepted.{AreAccepted, are_accepted, nil_parts, none_else, none_then}
+use Rattle.rl_promises.proofs.Accepted.{AreAccepted, are_accepted, index_accepted, link_accepted, member_accepted, nil_parts}
+use Rattle.rl_promises.proofs.Accepted.{none_else, none_then}
 use Rattle.rl_promises.proofs.FormedParts.{AreAssignable}
 use Rattle.rl_promises.proofs.KeptVariables as kept
 use Rattle.rl_promises.proofs.KeptVariables.{Keeps, eval_keeps}
@@ -16,9 +17,10 @@ use Rattle.rl_promises.proofs.OrderlyCalls as orderly
 use Rattle.rl_promises.proofs.OrderlyCalls.{IsOrderlyAt, lends_at}
 use Rattle.rl_promises.proofs.SteadyTargets.{index_steady, member_steady, swapped}
 use Rattle.rl_promises.proofs.SteadyTests.{IsSteady, steady}
+use Rattle.rl_promises.specs.Chains.{Off, Spine, Top, below_link}
 use Rattle.rl_promises.specs.Outs.{is_known_key, is_lost_delete}
-use Rattle.rl_promises.specs.Rows.{refusals, refusals_below, refusals_in, said_of_assigned, said_of_updated}
-use Rattle.rl_model.specs.Actions.{Action, ◌>>=◌, ◌>>◌, ask, give, no_meaning, test}
+use Rattle.rl_promises.specs.Rows.{refusals, refusals_below, refusals_by, refusals_in, said_of_assertion, said_of_assigned, said_of_updated}
+use Rattle.rl_model.specs.Actions.{Action, ◌>>=◌, ◌>>◌, ask, chained, give, no_meaning, test}
 use Rattle.rl_model.specs.Events as events
 use Rattle.rl_model.specs.Expressions.{assign_to, assignment, assignment_in, call_kind, callee, called, compound, delete_property, eval}
 use Rattle.rl_model.specs.Expressions.{eval_last}
@@ -241,113 +243,126 @@ module _ (t : Scene) (stored : ℕ → Option SymbolId) (early : Bool → ℕ �
     write_property scene p.0 p.1 v
 
   mutual
-    pub eval_alike : (e : Syntax) → LendsAlike e → refusals t.names e ≡ [] → eval s e ≡ eval t e
-    eval_alike (Node at word.Empty parts) covered none = refl
-    eval_alike (Node at word.Expr parts) covered none = refl
-    eval_alike (Node at word.Return parts) covered none = refl
-    eval_alike (Node at word.If parts) covered none = refl
-    eval_alike (Node at word.For parts) covered none = refl
-    eval_alike (Node at word.Forin parts) covered none = refl
-    eval_alike (Node at word.Forof parts) covered none = refl
-    eval_alike (Node at word.While parts) covered none = refl
-    eval_alike (Node at word.Dowhile parts) covered none = refl
-    eval_alike (Node at word.Break parts) covered none = refl
-    eval_alike (Node at word.Continue parts) covered none = refl
-    eval_alike (Node at word.Labeled parts) covered none = refl
-    eval_alike (Node at word.Switch parts) covered none = refl
-    eval_alike (Node at word.Case parts) covered none = refl
-    eval_alike (Node at word.Try parts) covered none = refl
-    eval_alike (Node at word.Catch parts) covered none = refl
-    eval_alike (Node at word.Throw parts) covered none = refl
-    eval_alike (Node at word.With parts) covered none = refl
-    eval_alike (Node at word.Block parts) covered none = refl
-    eval_alike (Node at word.Params parts) covered none = refl
-    eval_alike (Node at word.Param parts) covered none = refl
-    eval_alike (Node at word.Body parts) covered none = refl
-    eval_alike (Node at word.Bind parts) covered none = refl
-    eval_alike (Node at word.Hole parts) covered none = refl
-    eval_alike (Node at word.Quasi parts) covered none = refl
-    eval_alike (Node at word.Spread parts) covered none = refl
-    eval_alike (Node at word.Debugger parts) covered none = refl
-    eval_alike (Node at word.Var parts) covered none = refl
-    eval_alike (Node at word.Declarator parts) covered none = refl
-    eval_alike (Node at word.Type parts) covered none = refl
-    eval_alike (Node at word.Name parts) covered none = refl
-    eval_alike (Node at word.Private parts) covered none = refl
-    eval_alike (Node at word.Bigint parts) covered none = refl
-    eval_alike (Node at word.Privatein parts) covered none = refl
-    eval_alike (Node at word.Yield parts) covered none = refl
-    eval_alike (Node at word.Newtarget parts) covered none = refl
-    eval_alike (Node at word.Super parts) covered none = refl
-    eval_alike (Node at word.This parts) covered none = refl
-    eval_alike (Node at word.Importcall parts) covered none = refl
-    eval_alike (Node at word.Privatemember parts) covered none = refl
-    eval_alike (Node at word.Prop parts) covered none = refl
-    eval_alike (Node at word.Null parts) covered none = null_alike at parts
-    eval_alike (Node at word.Bool parts) covered none = bool_alike at parts
-    eval_alike (Node at word.Num parts) covered none = num_alike at parts
-    eval_alike (Node at word.Str parts) covered none = str_alike at parts
-    eval_alike (Node at word.Regexp parts) covered none = regexp_alike at parts
-    eval_alike (Node at word.Importmeta parts) covered none = importmeta_alike at parts
-    eval_alike (Node at word.Id parts) covered none = id_alike at parts
-    eval_alike (Node at word.Paren parts) covered none = paren_alike at parts covered.2 (are_accepted t.names parts none)
-    eval_alike (Node at word.Nonnull parts) covered none = nonnull_alike at parts covered.2 (are_accepted t.names parts none)
-    eval_alike (Node at word.As parts) covered none = as_alike at parts covered.2 (are_accepted t.names parts none)
-    eval_alike (Node at word.Satisfies parts) covered none = satisfies_alike at parts covered.2 (are_accepted t.names parts none)
-    eval_alike (Node at word.Assert parts) covered none = assert_alike at parts covered.2 (are_accepted t.names parts none)
-    eval_alike (Node at word.Instantiate parts) covered none = instantiate_alike at parts covered.2 none
-    eval_alike (Node at word.Template parts) covered none = template_alike at parts covered.2 (are_accepted t.names parts none)
-    eval_alike (Node at word.Tagged parts) covered none = tagged_alike at parts covered.1.lends covered.2 none
-    eval_alike (Node at word.Object parts) covered none = object_alike at parts covered.2 (are_accepted t.names parts none)
-    eval_alike (Node at word.Array parts) covered none = array_alike at parts covered.2 (are_accepted t.names parts none)
-    eval_alike (Node at word.Unary parts) covered none = unary_alike at parts covered.2 none
-    eval_alike (Node at word.Update parts) covered none = update_alike at parts covered.2 none
-    eval_alike (Node at word.Binary parts) covered none = binary_alike at parts covered.2 (are_accepted t.names parts none)
-    eval_alike (Node at word.Logical parts) covered none = logical_alike at parts covered.2 none
-    eval_alike (Node at word.Cond parts) covered none = conditional_alike at parts covered.2 none
-    eval_alike (Node at word.Seq parts) covered none = sequence_alike at parts covered.2 (are_accepted t.names parts none)
-    eval_alike (Node at word.Await parts) covered none = await_alike at parts covered.2 (are_accepted t.names parts none)
-    eval_alike (Node at word.Assign parts) covered none = assign_alike at parts covered.1 covered.2 none
-    eval_alike (Node at word.Member parts) covered none = member_alike at parts covered.2 (are_accepted t.names parts none)
-    eval_alike (Node at word.Index parts) covered none = index_alike at parts covered.2 (are_accepted t.names parts none)
-    eval_alike (Node at word.Call parts) covered none = call_alike at parts covered.1.lends covered.2 (are_accepted t.names parts none)
-    eval_alike (Node at word.New parts) covered none = new_alike at parts covered.2 (are_accepted t.names parts none)
-    eval_alike (Listed parts) covered none = refl
-    eval_alike (Said text) covered none = refl
-    eval_alike (Count number) covered none = refl
-    eval_alike (Flag flag) covered none = refl
-    eval_alike Absent covered none = refl
-    eval_alike _ covered none = absurd (true≢false (sym covered.0))
+    -- An expression on the spine of a chain, or off it.
+    pub eval_by : (spine : Spine) (e : Syntax) → LendsAlike e → refusals_by t.names spine e ≡ [] → eval s e ≡ eval t e
+    eval_by spine (Node at word.Empty parts) covered none = refl
+    eval_by spine (Node at word.Expr parts) covered none = refl
+    eval_by spine (Node at word.Return parts) covered none = refl
+    eval_by spine (Node at word.If parts) covered none = refl
+    eval_by spine (Node at word.For parts) covered none = refl
+    eval_by spine (Node at word.Forin parts) covered none = refl
+    eval_by spine (Node at word.Forof parts) covered none = refl
+    eval_by spine (Node at word.While parts) covered none = refl
+    eval_by spine (Node at word.Dowhile parts) covered none = refl
+    eval_by spine (Node at word.Break parts) covered none = refl
+    eval_by spine (Node at word.Continue parts) covered none = refl
+    eval_by spine (Node at word.Labeled parts) covered none = refl
+    eval_by spine (Node at word.Switch parts) covered none = refl
+    eval_by spine (Node at word.Case parts) covered none = refl
+    eval_by spine (Node at word.Try parts) covered none = refl
+    eval_by spine (Node at word.Catch parts) covered none = refl
+    eval_by spine (Node at word.Throw parts) covered none = refl
+    eval_by spine (Node at word.With parts) covered none = refl
+    eval_by spine (Node at word.Block parts) covered none = refl
+    eval_by spine (Node at word.Params parts) covered none = refl
+    eval_by spine (Node at word.Param parts) covered none = refl
+    eval_by spine (Node at word.Body parts) covered none = refl
+    eval_by spine (Node at word.Bind parts) covered none = refl
+    eval_by spine (Node at word.Hole parts) covered none = refl
+    eval_by spine (Node at word.Quasi parts) covered none = refl
+    eval_by spine (Node at word.Spread parts) covered none = refl
+    eval_by spine (Node at word.Debugger parts) covered none = refl
+    eval_by spine (Node at word.Var parts) covered none = refl
+    eval_by spine (Node at word.Declarator parts) covered none = refl
+    eval_by spine (Node at word.Type parts) covered none = refl
+    eval_by spine (Node at word.Name parts) covered none = refl
+    eval_by spine (Node at word.Private parts) covered none = refl
+    eval_by spine (Node at word.Bigint parts) covered none = refl
+    eval_by spine (Node at word.Privatein parts) covered none = refl
+    eval_by spine (Node at word.Yield parts) covered none = refl
+    eval_by spine (Node at word.Newtarget parts) covered none = refl
+    eval_by spine (Node at word.Super parts) covered none = refl
+    eval_by spine (Node at word.This parts) covered none = refl
+    eval_by spine (Node at word.Importcall parts) covered none = refl
+    eval_by spine (Node at word.Privatemember parts) covered none = refl
+    eval_by spine (Node at word.Prop parts) covered none = refl
+    eval_by spine (Node at word.Null parts) covered none = null_alike at parts
+    eval_by spine (Node at word.Bool parts) covered none = bool_alike at parts
+    eval_by spine (Node at word.Num parts) covered none = num_alike at parts
+    eval_by spine (Node at word.Str parts) covered none = str_alike at parts
+    eval_by spine (Node at word.Regexp parts) covered none = regexp_alike at parts
+    eval_by spine (Node at word.Importmeta parts) covered none = importmeta_alike at parts
+    eval_by spine (Node at word.Id parts) covered none = id_alike at parts
+    eval_by spine (Node at word.Paren parts) covered none = paren_alike at parts covered.2 (are_accepted t.names parts none)
+    eval_by spine (Node at word.Nonnull parts) covered none = nonnull_alike spine at parts covered.2 none
+    eval_by spine (Node at word.Chain parts) covered none = chain_alike spine at parts covered.2 none
+    eval_by spine (Node at word.As parts) covered none = as_alike at parts covered.2 (are_accepted t.names parts none)
+    eval_by spine (Node at word.Satisfies parts) covered none = satisfies_alike at parts covered.2 (are_accepted t.names parts none)
+    eval_by spine (Node at word.Assert parts) covered none = assert_alike at parts covered.2 (are_accepted t.names parts none)
+    eval_by spine (Node at word.Instantiate parts) covered none = instantiate_alike spine at parts covered.2 none
+    eval_by spine (Node at word.Template parts) covered none = template_alike at parts covered.2 (are_accepted t.names parts none)
+    eval_by spine (Node at word.Tagged parts) covered none = tagged_alike spine at parts covered.1.lends covered.2 none
+    eval_by spine (Node at word.Object parts) covered none = object_alike at parts covered.2 (are_accepted t.names parts none)
+    eval_by spine (Node at word.Array parts) covered none = array_alike at parts covered.2 (are_accepted t.names parts none)
+    eval_by spine (Node at word.Unary parts) covered none = unary_alike spine at parts covered.2 none
+    eval_by spine (Node at word.Update parts) covered none = update_alike spine at parts covered.2 none
+    eval_by spine (Node at word.Binary parts) covered none = binary_alike at parts covered.2 (are_accepted t.names parts none)
+    eval_by spine (Node at word.Logical parts) covered none = logical_alike spine at parts covered.2 none
+    eval_by spine (Node at word.Cond parts) covered none = conditional_alike spine at parts covered.2 none
+    eval_by spine (Node at word.Seq parts) covered none = sequence_alike at parts covered.2 (are_accepted t.names parts none)
+    eval_by spine (Node at word.Await parts) covered none = await_alike at parts covered.2 (are_accepted t.names parts none)
+    eval_by spine (Node at word.Assign parts) covered none = assign_alike spine at parts covered.1 covered.2 none
+    eval_by spine (Node at word.Member parts) covered none = member_alike spine at parts covered.2 none
+    eval_by spine (Node at word.Index parts) covered none = index_alike spine at parts covered.2 none
+    eval_by spine (Node at word.Call parts) covered none = call_alike spine at parts covered.1.lends covered.2 none
+    eval_by spine (Node at word.New parts) covered none = new_alike at parts covered.2 (are_accepted t.names parts none)
+    eval_by spine (Listed parts) covered none = refl
+    eval_by spine (Said text) covered none = refl
+    eval_by spine (Count number) covered none = refl
+    eval_by spine (Flag flag) covered none = refl
+    eval_by spine Absent covered none = refl
+    eval_by spine _ covered none = absurd (true≢false (sym covered.0))
 
     paren_alike : (at : At) (parts : Pieces) → LendAlike parts → AreAccepted t.names parts
         → eval s (Node at word.Paren parts) ≡ eval t (Node at word.Paren parts)
-    paren_alike at (Then expression End) covered accepted = eval_alike expression covered.0 accepted.0
+    paren_alike at (Then expression End) covered accepted = eval_by Off expression covered.0 accepted.0
     paren_alike at _ covered accepted = refl
 
-    nonnull_alike : (at : At) (parts : Pieces) → LendAlike parts → AreAccepted t.names parts
+    nonnull_alike : (spine : Spine) (at : At) (parts : Pieces) → LendAlike parts
+        → refusals_by t.names spine (Node at word.Nonnull parts) ≡ []
         → eval s (Node at word.Nonnull parts) ≡ eval t (Node at word.Nonnull parts)
-    nonnull_alike at (Then expression End) covered accepted = eval_alike expression covered.0 accepted.0
-    nonnull_alike at _ covered accepted = refl
+    nonnull_alike spine at (Then expression End) covered none =
+        let said = nil_parts (said_of_assertion spine at.span expression ++ refusals_by t.names spine expression) [] none in
+        eval_by spine expression covered.0
+        (nil_parts (said_of_assertion spine at.span expression) (refusals_by t.names spine expression) said.0).1
+    nonnull_alike spine at _ covered none = refl
+
+    chain_alike : (spine : Spine) (at : At) (parts : Pieces) → LendAlike parts → refusals_by t.names spine (Node at word.Chain parts) ≡ []
+        → eval s (Node at word.Chain parts) ≡ eval t (Node at word.Chain parts)
+    chain_alike spine at (Then expression End) covered none = λ i.
+        chained value.Undefined (eval_by Top expression covered.0 (link_accepted t.names Top expression End none).0 i)
+    chain_alike spine at _ covered none = refl
 
     as_alike : (at : At) (parts : Pieces) → LendAlike parts → AreAccepted t.names parts
         → eval s (Node at word.As parts) ≡ eval t (Node at word.As parts)
-    as_alike at (Then expression (Then type End)) covered accepted = eval_alike expression covered.0 accepted.0
+    as_alike at (Then expression (Then type End)) covered accepted = eval_by Off expression covered.0 accepted.0
     as_alike at _ covered accepted = refl
 
     satisfies_alike : (at : At) (parts : Pieces) → LendAlike parts → AreAccepted t.names parts
         → eval s (Node at word.Satisfies parts) ≡ eval t (Node at word.Satisfies parts)
-    satisfies_alike at (Then expression (Then type End)) covered accepted = eval_alike expression covered.0 accepted.0
+    satisfies_alike at (Then expression (Then type End)) covered accepted = eval_by Off expression covered.0 accepted.0
     satisfies_alike at _ covered accepted = refl
 
     assert_alike : (at : At) (parts : Pieces) → LendAlike parts → AreAccepted t.names parts
         → eval s (Node at word.Assert parts) ≡ eval t (Node at word.Assert parts)
-    assert_alike at (Then type (Then expression End)) covered accepted = eval_alike expression covered.1.0 accepted.1.0
+    assert_alike at (Then type (Then expression End)) covered accepted = eval_by Off expression covered.1.0 accepted.1.0
     assert_alike at _ covered accepted = refl
 
-    instantiate_alike : (at : At) (parts : Pieces) → LendsFirst parts → refusals t.names (Node at word.Instantiate parts) ≡ []
+    instantiate_alike : (spine : Spine) (at : At) (parts : Pieces) → LendsFirst parts
+        → refusals_by t.names spine (Node at word.Instantiate parts) ≡ []
         → eval s (Node at word.Instantiate parts) ≡ eval t (Node at word.Instantiate parts)
-    instantiate_alike at (Then expression (Then names End)) covered none = eval_alike expression covered none
-    instantiate_alike at _ covered none = refl
+    instantiate_alike spine at (Then expression (Then names End)) covered none = eval_by Off expression covered none
+    instantiate_alike spine at _ covered none = refl
 
     template_alike : (at : At) (parts : Pieces) → LendAlike parts → AreAccepted t.names parts
         → eval s (Node at word.Template parts) ≡ eval t (Node at word.Template parts)
@@ -370,37 +385,37 @@ module _ (t : Scene) (stored : ℕ → Option SymbolId) (early : Bool → ℕ �
       ask t (events.event (codes "object") (shapes.shapes properties) vs))
     object_alike at _ covered accepted = refl
 
-    tagged_alike : (at : At) (parts : Pieces) → lends_at word.Tagged parts ≡ false → LendAlike parts
-        → refusals t.names (Node at word.Tagged parts) ≡ [] → eval s (Node at word.Tagged parts) ≡ eval t (Node at word.Tagged parts)
-    tagged_alike at (Then tag (Then (Node there word.Template parts) rest)) alone covered none =
-        template_tagged at tag there parts rest alone (eval_alike tag covered.0) covered.1.0.2 none
-    tagged_alike at _ alone covered none = refl
+    tagged_alike : (spine : Spine) (at : At) (parts : Pieces) → lends_at word.Tagged parts ≡ false → LendAlike parts
+        → refusals_by t.names spine (Node at word.Tagged parts) ≡ [] → eval s (Node at word.Tagged parts) ≡ eval t (Node at word.Tagged parts)
+    tagged_alike spine at (Then tag (Then (Node there word.Template parts) rest)) alone covered none =
+        template_tagged spine at tag there parts rest alone (eval_by Off tag covered.0) covered.1.0.2 none
+    tagged_alike spine at _ alone covered none = refl
 
-    template_tagged : (at : At) (tag : Syntax) (there : At) (parts rest : Pieces) → lends tag ≡ false
+    template_tagged : (spine : Spine) (at : At) (tag : Syntax) (there : At) (parts rest : Pieces) → lends tag ≡ false
         → (refusals t.names tag ≡ [] → eval s tag ≡ eval t tag) → LendAlike parts
-        → refusals t.names (Node at word.Tagged (Then tag (Then (Node there word.Template parts) rest))) ≡ []
+        → refusals_by t.names spine (Node at word.Tagged (Then tag (Then (Node there word.Template parts) rest))) ≡ []
         → eval s (Node at word.Tagged (Then tag (Then (Node there word.Template parts) rest)))
         ≡ eval t (Node at word.Tagged (Then tag (Then (Node there word.Template parts) rest)))
-    template_tagged at tag there (Then (Listed quasis) (Then (Listed expressions) End)) End alone same more none =
+    template_tagged spine at tag there (Then (Listed quasis) (Then (Listed expressions) End)) End alone same more none =
         let told = none_then (shapes.are_raw quasis) (refusals t.names tag ++ refusals_in t.names expressions) _ none in
         let both = nil_parts (refusals t.names tag) (refusals_in t.names expressions) told in
         as_tagged s tag quasis expressions at there alone
         ∙ (λ i. tagged_by t (shapes.are_raw quasis) (one_value (same both.0 i)) (values_alike expressions more.1.0 both.1 i)
         (shapes.quasis quasis ++ shapes.shapes expressions))
         ∙ sym (as_tagged t tag quasis expressions at there alone)
-    template_tagged at tag there _ _ alone same more none = refl
+    template_tagged spine at tag there _ _ alone same more none = refl
 
-    unary_alike : (at : At) (parts : Pieces) → LendAlike parts → refusals t.names (Node at word.Unary parts) ≡ []
+    unary_alike : (spine : Spine) (at : At) (parts : Pieces) → LendAlike parts → refusals_by t.names spine (Node at word.Unary parts) ≡ []
         → eval s (Node at word.Unary parts) ≡ eval t (Node at word.Unary parts)
-    unary_alike at (Then (Said operator) (Then argument End)) covered none =
+    unary_alike spine at (Then (Said operator) (Then argument End)) covered none =
         let told = none_else (is_lost_delete operator argument) _ (refusals t.names argument) none in
-        unary_with operator argument (delete_alike argument covered.1.0 told) (eval_alike argument covered.1.0 told) at
-    unary_alike at _ covered none = refl
+        unary_with operator argument (delete_alike argument covered.1.0 told) (eval_by Off argument covered.1.0 told) at
+    unary_alike spine at _ covered none = refl
 
     delete_alike : (e : Syntax) → LendsAlike e → refusals t.names e ≡ [] → delete_property s e ≡ delete_property t e
     delete_alike (Node at word.Paren parts) covered none = paren_deleted at parts covered.2 (are_accepted t.names parts none)
-    delete_alike (Node at word.Member parts) covered none = member_deleted at parts covered.2 (are_accepted t.names parts none)
-    delete_alike (Node at word.Index parts) covered none = index_deleted at parts covered.2 (are_accepted t.names parts none)
+    delete_alike (Node at word.Member parts) covered none = member_deleted at parts covered.2 (member_accepted t.names at parts none)
+    delete_alike (Node at word.Index parts) covered none = index_deleted at parts covered.2 (index_accepted t.names at parts none)
     delete_alike _ covered none = refl
 
     paren_deleted : (at : At) (parts : Pieces) → LendAlike parts → AreAccepted t.names parts
@@ -411,57 +426,57 @@ module _ (t : Scene) (stored : ℕ → Option SymbolId) (early : Bool → ℕ �
     member_deleted : (at : At) (parts : Pieces) → LendAlike parts → AreAccepted t.names parts
         → delete_property s (Node at word.Member parts) ≡ delete_property t (Node at word.Member parts)
     member_deleted at (Then optional (Then object (Then (Said name) End))) covered accepted = λ i. (do
-      v ← eval_alike object covered.1.0 accepted.1.0 i
+      v ← eval_by Off object covered.1.0 accepted.1.0 i
       ask t (events.delete v (events.fixed_key (value.Text name))))
     member_deleted at _ covered accepted = refl
 
     index_deleted : (at : At) (parts : Pieces) → LendAlike parts → AreAccepted t.names parts
         → delete_property s (Node at word.Index parts) ≡ delete_property t (Node at word.Index parts)
     index_deleted at (Then optional (Then object (Then property End))) covered accepted = λ i. (do
-      v ← eval_alike object covered.1.0 accepted.1.0 i
-      key ← key_in property (eval_alike property covered.1.1.0 accepted.1.1.0 i)
+      v ← eval_by Off object covered.1.0 accepted.1.0 i
+      key ← key_in property (eval_by Off property covered.1.1.0 accepted.1.1.0 i)
       ask t (events.delete v key))
     index_deleted at _ covered accepted = refl
 
-    update_alike : (at : At) (parts : Pieces) → LendAlike parts → refusals t.names (Node at word.Update parts) ≡ []
+    update_alike : (spine : Spine) (at : At) (parts : Pieces) → LendAlike parts → refusals_by t.names spine (Node at word.Update parts) ≡ []
         → eval s (Node at word.Update parts) ≡ eval t (Node at word.Update parts)
-    update_alike at (Then (Said operator) (Then (Flag prefix) (Then target rest))) covered none =
-        target_updated operator prefix at target rest covered.1.1.0 none
-    update_alike at _ covered none = refl
+    update_alike spine at (Then (Said operator) (Then (Flag prefix) (Then target rest))) covered none =
+        target_updated spine operator prefix at target rest covered.1.1.0 none
+    update_alike spine at _ covered none = refl
 
-    target_updated : (operator : List ℕ) (prefix : Bool) (at : At) (target : Syntax) (rest : Pieces) → LendsAlike target
-        → refusals t.names (update_at operator prefix at target rest) ≡ []
+    target_updated : (spine : Spine) (operator : List ℕ) (prefix : Bool) (at : At) (target : Syntax) (rest : Pieces) → LendsAlike target
+        → refusals_by t.names spine (update_at operator prefix at target rest) ≡ []
         → eval s (update_at operator prefix at target rest) ≡ eval t (update_at operator prefix at target rest)
-    target_updated operator prefix at (Node there word.Id parts) rest covered none = id_updated operator prefix at there parts rest
-    target_updated operator prefix at (Node there word.Member parts) End covered none = λ i. (do
-      p ← member_placed there parts covered.2 (are_accepted t.names parts none) i
+    target_updated spine operator prefix at (Node there word.Id parts) rest covered none = id_updated operator prefix at there parts rest
+    target_updated spine operator prefix at (Node there word.Member parts) End covered none = λ i. (do
+      p ← member_placed there parts covered.2 (member_accepted t.names there parts none) i
       update_property t prefix operator p.0 p.1)
-    target_updated operator prefix at (Node there word.Index parts) End covered none = λ i. (do
-      p ← index_placed there parts covered.2 (are_accepted t.names parts none) i
+    target_updated spine operator prefix at (Node there word.Index parts) End covered none = λ i. (do
+      p ← index_placed there parts covered.2 (index_accepted t.names there parts none) i
       update_property t prefix operator p.0 p.1)
-    target_updated operator prefix at _ End covered none = refl
-    target_updated operator prefix at _ (Then first rest) covered none = refl
+    target_updated spine operator prefix at _ End covered none = refl
+    target_updated spine operator prefix at _ (Then first rest) covered none = refl
 
     member_placed : (at : At) (parts : Pieces) → LendAlike parts → AreAccepted t.names parts
         → place s (Node at word.Member parts) ≡ place t (Node at word.Member parts)
     member_placed at (Then optional (Then object (Then (Said name) End))) covered accepted = λ i. (do
-      v ← eval_alike object covered.1.0 accepted.1.0 i
+      v ← eval_by Off object covered.1.0 accepted.1.0 i
       give (v, events.fixed_key (value.Text name)))
     member_placed at _ covered accepted = refl
 
     index_placed : (at : At) (parts : Pieces) → LendAlike parts → AreAccepted t.names parts
         → place s (Node at word.Index parts) ≡ place t (Node at word.Index parts)
     index_placed at (Then optional (Then object (Then property End))) covered accepted = λ i. (do
-      v ← eval_alike object covered.1.0 accepted.1.0 i
-      key ← key_in property (eval_alike property covered.1.1.0 accepted.1.1.0 i)
+      v ← eval_by Off object covered.1.0 accepted.1.0 i
+      key ← key_in property (eval_by Off property covered.1.1.0 accepted.1.1.0 i)
       give (v, key))
     index_placed at _ covered accepted = refl
 
     -- Assignments.
 
-    assign_alike : (at : At) (parts : Pieces) → IsOrderlyAt t.names assigned at word.Assign parts → LendAlike parts
-        → refusals t.names (Node at word.Assign parts) ≡ [] → eval s (Node at word.Assign parts) ≡ eval t (Node at word.Assign parts)
-    assign_alike at (Then (Said operator) (Then target (Then right End))) facts covered none =
+    assign_alike : (spine : Spine) (at : At) (parts : Pieces) → IsOrderlyAt t.names assigned at word.Assign parts → LendAlike parts
+        → refusals_by t.names spine (Node at word.Assign parts) ≡ [] → eval s (Node at word.Assign parts) ≡ eval t (Node at word.Assign parts)
+    assign_alike spine at (Then (Said operator) (Then target (Then right End))) facts covered none =
         let ahead : List Diagnostic = refusals t.names right in
         let taken : List Diagnostic = said_of_assigned t.names at.span target (refusals_below t.names target) in
         let stored_to : List Diagnostic = said_of_updated t.names target in
@@ -473,11 +488,11 @@ module _ (t : Scene) (stored : ℕ → Option SymbolId) (early : Bool → ℕ �
         (λ either told.
         let both = nil_parts ahead taken told in
         plain_alike at.span target right facts.formed either covered.1.0 covered.1.1.0 both.0 both.1
-        (eval_alike right covered.1.1.0 both.0))
+        (eval_by Off right covered.1.1.0 both.0))
         (λ told.
         let both = nil_parts (refusals t.names target) ahead (nil_parts (refusals t.names target ++ ahead) stored_to told).0 in
-        compound_alike (shapes.operator_in operator) target right covered.1.0 both.0 (eval_alike right covered.1.1.0 both.1))
-    assign_alike at _ facts covered none = refl
+        compound_alike (shapes.operator_in operator) target right covered.1.0 both.0 (eval_by Off right covered.1.1.0 both.1))
+    assign_alike spine at _ facts covered none = refl
 
     plain_alike : (at : Span) (target right : Syntax) → AreAssignable target right
         → is_steady t.names assigned right || is_steady_target t.names assigned target ≡ true → LendsAlike target → LendsAlike right
@@ -517,37 +532,39 @@ module _ (t : Scene) (stored : ℕ → Option SymbolId) (early : Bool → ℕ �
       v ← ask t (events.binary operator old w)
       write_alike t stored early (t.names.meaning there.reference.0 name) name v i)
     compound_alike operator (Node there word.Member parts) right covered none same = λ i.
-        computed_by t operator (member_placed there parts covered.2 (are_accepted t.names parts none) i) (same i)
+        computed_by t operator (member_placed there parts covered.2 (member_accepted t.names there parts none) i) (same i)
     compound_alike operator (Node there word.Index parts) right covered none same = λ i.
-        computed_by t operator (index_placed there parts covered.2 (are_accepted t.names parts none) i) (same i)
+        computed_by t operator (index_placed there parts covered.2 (index_accepted t.names there parts none) i) (same i)
     compound_alike operator target right covered none same = λ i. compound_by t operator target (same i)
 
     binary_alike : (at : At) (parts : Pieces) → LendAlike parts → AreAccepted t.names parts
         → eval s (Node at word.Binary parts) ≡ eval t (Node at word.Binary parts)
     binary_alike at (Then (Said operator) (Then left (Then right End))) covered accepted = λ i. (do
-      v ← eval_alike left covered.1.0 accepted.1.0 i
-      w ← eval_alike right covered.1.1.0 accepted.1.1.0 i
+      v ← eval_by Off left covered.1.0 accepted.1.0 i
+      w ← eval_by Off right covered.1.1.0 accepted.1.1.0 i
       ask t (events.binary operator v w))
     binary_alike at _ covered accepted = refl
 
-    logical_alike : (at : At) (parts : Pieces) → LendAlike parts → refusals t.names (Node at word.Logical parts) ≡ []
+    logical_alike : (spine : Spine) (at : At) (parts : Pieces) → LendAlike parts
+        → refusals_by t.names spine (Node at word.Logical parts) ≡ []
         → eval s (Node at word.Logical parts) ≡ eval t (Node at word.Logical parts)
-    logical_alike at (Then (Said operator) (Then left (Then right End))) covered none =
+    logical_alike spine at (Then (Said operator) (Then left (Then right End))) covered none =
         let both = nil_parts (refusals t.names right) (refusals t.names left) none in λ i. (do
-          v ← eval_alike left covered.1.0 both.1 i
+          v ← eval_by Off left covered.1.0 both.1 i
           needed ← needs_right t operator v
-          if needed then eval_alike right covered.1.1.0 both.0 i else give v)
-    logical_alike at _ covered none = refl
+          if needed then eval_by Off right covered.1.1.0 both.0 i else give v)
+    logical_alike spine at _ covered none = refl
 
-    conditional_alike : (at : At) (parts : Pieces) → LendAlike parts → refusals t.names (Node at word.Cond parts) ≡ []
+    conditional_alike : (spine : Spine) (at : At) (parts : Pieces) → LendAlike parts
+        → refusals_by t.names spine (Node at word.Cond parts) ≡ []
         → eval s (Node at word.Cond parts) ≡ eval t (Node at word.Cond parts)
-    conditional_alike at (Then condition (Then consequent (Then alternate End))) covered none =
+    conditional_alike spine at (Then condition (Then consequent (Then alternate End))) covered none =
         let first = nil_parts (refusals t.names consequent ++ refusals t.names alternate) (refusals t.names condition) none in
         let both = nil_parts (refusals t.names consequent) (refusals t.names alternate) first.0 in λ i. (do
-          v ← eval_alike condition covered.0 first.1 i
+          v ← eval_by Off condition covered.0 first.1 i
           met ← test t (truthy v)
-          if met then eval_alike consequent covered.1.0 both.0 i else eval_alike alternate covered.1.1.0 both.1 i)
-    conditional_alike at _ covered none = refl
+          if met then eval_by Off consequent covered.1.0 both.0 i else eval_by Off alternate covered.1.1.0 both.1 i)
+    conditional_alike spine at _ covered none = refl
 
     sequence_alike : (at : At) (parts : Pieces) → LendAlike parts → AreAccepted t.names parts
         → eval s (Node at word.Seq parts) ≡ eval t (Node at word.Seq parts)
@@ -557,76 +574,83 @@ module _ (t : Scene) (stored : ℕ → Option SymbolId) (early : Bool → ℕ �
     last_alike : (expressions : Pieces) → LendAlike expressions → refusals_in t.names expressions ≡ []
         → eval_last s expressions ≡ eval_last t expressions
     last_alike End covered none = refl
-    last_alike (Then expression End) covered none = eval_alike expression covered.0 (nil_parts (refusals t.names expression) [] none).0
+    last_alike (Then expression End) covered none = eval_by Off expression covered.0 (nil_parts (refusals t.names expression) [] none).0
     last_alike (Then expression (Then next expressions)) covered none =
         let both = nil_parts (refusals t.names expression) (refusals_in t.names (Then next expressions)) none in λ i. (do
-          eval_alike expression covered.0 both.0 i
+          eval_by Off expression covered.0 both.0 i
           last_alike (Then next expressions) covered.1 both.1 i)
 
     await_alike : (at : At) (parts : Pieces) → LendAlike parts → AreAccepted t.names parts
         → eval s (Node at word.Await parts) ≡ eval t (Node at word.Await parts)
     await_alike at (Then argument End) covered accepted = λ i. (do
-      v ← eval_alike argument covered.0 accepted.0 i
+      v ← eval_by Off argument covered.0 accepted.0 i
       ask t (events.event (codes "await") [] (v ∷ [])))
     await_alike at _ covered accepted = refl
 
-    member_alike : (at : At) (parts : Pieces) → LendAlike parts → AreAccepted t.names parts
+    member_alike : (spine : Spine) (at : At) (parts : Pieces) → LendAlike parts → refusals_by t.names spine (Node at word.Member parts) ≡ []
         → eval s (Node at word.Member parts) ≡ eval t (Node at word.Member parts)
-    member_alike at (Then (Flag optional) (Then object (Then (Said name) End))) covered accepted = λ i. (do
-      v ← eval_alike object covered.1.0 accepted.1.0 i
-      unless_nullish t optional v
-      ask t (events.load v (events.fixed_key (value.Text name))))
-    member_alike at _ covered accepted = refl
+    member_alike spine at (Then (Flag optional) (Then object (Then (Said name) End))) covered none =
+        let accepted = link_accepted t.names (below_link spine) object (Then (Said name) End) none in λ i. (do
+          v ← eval_by (below_link spine) object covered.1.0 accepted.0 i
+          unless_nullish t optional v
+          ask t (events.load v (events.fixed_key (value.Text name))))
+    member_alike spine at _ covered none = refl
 
-    index_alike : (at : At) (parts : Pieces) → LendAlike parts → AreAccepted t.names parts
+    index_alike : (spine : Spine) (at : At) (parts : Pieces) → LendAlike parts → refusals_by t.names spine (Node at word.Index parts) ≡ []
         → eval s (Node at word.Index parts) ≡ eval t (Node at word.Index parts)
-    index_alike at (Then (Flag optional) (Then object (Then property End))) covered accepted = λ i. (do
-      v ← eval_alike object covered.1.0 accepted.1.0 i
-      unless_nullish t optional v
-      key ← key_in property (eval_alike property covered.1.1.0 accepted.1.1.0 i)
-      ask t (events.load v key))
-    index_alike at _ covered accepted = refl
+    index_alike spine at (Then (Flag optional) (Then object (Then property End))) covered none =
+        let accepted = link_accepted t.names (below_link spine) object (Then property End) none in λ i. (do
+          v ← eval_by (below_link spine) object covered.1.0 accepted.0 i
+          unless_nullish t optional v
+          key ← key_in property (eval_by Off property covered.1.1.0 accepted.1.0 i)
+          ask t (events.load v key))
+    index_alike spine at _ covered none = refl
 
-    call_alike : (at : At) (parts : Pieces) → lends_at word.Call parts ≡ false → LendAlike parts → AreAccepted t.names parts
-        → eval s (Node at word.Call parts) ≡ eval t (Node at word.Call parts)
-    call_alike at (Then (Flag optional) (Then called_part (Then (Listed arguments) End))) alone covered accepted =
+    call_alike : (spine : Spine) (at : At) (parts : Pieces) → lends_at word.Call parts ≡ false → LendAlike parts
+        → refusals_by t.names spine (Node at word.Call parts) ≡ [] → eval s (Node at word.Call parts) ≡ eval t (Node at word.Call parts)
+    call_alike spine at (Then (Flag optional) (Then called_part (Then (Listed arguments) End))) alone covered none =
+        let accepted = link_accepted t.names (below_link spine) called_part (Then (Listed arguments) End) none in
         as_called s optional called_part arguments at alone
         ∙ (λ i. call_by t optional
-        (head_alike called_part (is_link called_part) refl (callee_alike called_part covered.1.0 accepted.1.0)
-        (eval_alike called_part covered.1.0 accepted.1.0) i)
-        (values_alike arguments covered.1.1.0 accepted.1.1.0 i) (shapes.shapes arguments))
+        (head_alike called_part (is_link called_part) refl (callee_alike (below_link spine) called_part covered.1.0 accepted.0)
+        (eval_by (below_link spine) called_part covered.1.0 accepted.0) i)
+        (values_alike arguments covered.1.1.0 accepted.1.0 i) (shapes.shapes arguments))
         ∙ sym (as_called t optional called_part arguments at alone)
-    call_alike at _ alone covered accepted = refl
+    call_alike spine at _ alone covered none = refl
 
-    callee_alike : (e : Syntax) → LendsAlike e → refusals t.names e ≡ [] → is_link e ≡ true → callee s e ≡ callee t e
-    callee_alike (Node at word.Member parts) covered none link = member_called at parts covered.2 (are_accepted t.names parts none)
-    callee_alike (Node at word.Index parts) covered none link = index_called at parts covered.2 (are_accepted t.names parts none)
-    callee_alike (Node at word.Privatemember parts) covered none link = refl
-    callee_alike _ covered none link = absurd (true≢false (sym link))
+    callee_alike : (spine : Spine) (e : Syntax) → LendsAlike e → refusals_by t.names spine e ≡ [] → is_link e ≡ true
+        → callee s e ≡ callee t e
+    callee_alike spine (Node at word.Member parts) covered none link = member_called spine at parts covered.2 none
+    callee_alike spine (Node at word.Index parts) covered none link = index_called spine at parts covered.2 none
+    callee_alike spine (Node at word.Privatemember parts) covered none link = refl
+    callee_alike spine _ covered none link = absurd (true≢false (sym link))
 
-    member_called : (at : At) (parts : Pieces) → LendAlike parts → AreAccepted t.names parts
+    member_called : (spine : Spine) (at : At) (parts : Pieces) → LendAlike parts
+        → refusals_by t.names spine (Node at word.Member parts) ≡ []
         → callee s (Node at word.Member parts) ≡ callee t (Node at word.Member parts)
-    member_called at (Then (Flag optional) (Then object (Then (Said name) End))) covered accepted = λ i. (do
-      v ← eval_alike object covered.1.0 accepted.1.0 i
-      unless_nullish t optional v
-      f ← ask t (events.load v (events.fixed_key (value.Text name)))
-      give (v ∷ f ∷ []))
-    member_called at _ covered accepted = refl
+    member_called spine at (Then (Flag optional) (Then object (Then (Said name) End))) covered none =
+        let accepted = link_accepted t.names (below_link spine) object (Then (Said name) End) none in λ i. (do
+          v ← eval_by (below_link spine) object covered.1.0 accepted.0 i
+          unless_nullish t optional v
+          f ← ask t (events.load v (events.fixed_key (value.Text name)))
+          give (v ∷ f ∷ []))
+    member_called spine at _ covered none = refl
 
-    index_called : (at : At) (parts : Pieces) → LendAlike parts → AreAccepted t.names parts
+    index_called : (spine : Spine) (at : At) (parts : Pieces) → LendAlike parts → refusals_by t.names spine (Node at word.Index parts) ≡ []
         → callee s (Node at word.Index parts) ≡ callee t (Node at word.Index parts)
-    index_called at (Then (Flag optional) (Then object (Then property End))) covered accepted = λ i. (do
-      v ← eval_alike object covered.1.0 accepted.1.0 i
-      unless_nullish t optional v
-      key ← key_in property (eval_alike property covered.1.1.0 accepted.1.1.0 i)
-      f ← ask t (events.load v key)
-      give (v ∷ f ∷ []))
-    index_called at _ covered accepted = refl
+    index_called spine at (Then (Flag optional) (Then object (Then property End))) covered none =
+        let accepted = link_accepted t.names (below_link spine) object (Then property End) none in λ i. (do
+          v ← eval_by (below_link spine) object covered.1.0 accepted.0 i
+          unless_nullish t optional v
+          key ← key_in property (eval_by Off property covered.1.1.0 accepted.1.0 i)
+          f ← ask t (events.load v key)
+          give (v ∷ f ∷ []))
+    index_called spine at _ covered none = refl
 
     new_alike : (at : At) (parts : Pieces) → LendAlike parts → AreAccepted t.names parts
         → eval s (Node at word.New parts) ≡ eval t (Node at word.New parts)
     new_alike at (Then called_part (Then (Listed arguments) End)) covered accepted = λ i. (do
-      v ← eval_alike called_part covered.0 accepted.0 i
+      v ← eval_by Off called_part covered.0 accepted.0 i
       vs ← values_alike arguments covered.1.0 accepted.1.0 i
       ask t (events.event (codes "new") (shapes.shapes arguments) (v ∷ vs)))
     new_alike at _ covered accepted = refl
@@ -635,7 +659,7 @@ module _ (t : Scene) (stored : ℕ → Option SymbolId) (early : Bool → ℕ �
     values_alike End covered none = refl
     values_alike (Then part parts) covered none =
         let both = nil_parts (refusals t.names part) (refusals_in t.names parts) none in λ i. (do
-          vs ← item_alike part covered.0 both.0 (eval_alike part covered.0 both.0) i
+          vs ← item_alike part covered.0 both.0 (eval_by Off part covered.0 both.0) i
           ws ← values_alike parts covered.1 both.1 i
           give (vs ++ ws))
 
@@ -658,7 +682,7 @@ module _ (t : Scene) (stored : ℕ → Option SymbolId) (early : Bool → ℕ �
     spread_alike : (at : At) (parts : Pieces) → LendAlike parts → AreAccepted t.names parts
         → values_of s (Node at word.Spread parts) (eval s (Node at word.Spread parts))
         ≡ values_of t (Node at word.Spread parts) (eval t (Node at word.Spread parts))
-    spread_alike at (Then argument End) covered accepted = λ i. one_value (eval_alike argument covered.0 accepted.0 i)
+    spread_alike at (Then argument End) covered accepted = λ i. one_value (eval_by Off argument covered.0 accepted.0 i)
     spread_alike at _ covered accepted = refl
 
     prop_alike : (at : At) (parts : Pieces) → LendAlike parts → refusals t.names (Node at word.Prop parts) ≡ []
@@ -667,7 +691,11 @@ module _ (t : Scene) (stored : ℕ → Option SymbolId) (early : Bool → ℕ �
     prop_alike at (Then (Flag computed) (Then key (Then expression End))) covered none =
         let told = none_then (is_known_key computed key) (refusals t.names key ++ refusals t.names expression) _ none in
         let both = nil_parts (refusals t.names key) (refusals t.names expression) told in λ i. (do
-          vs ← property_key computed key (eval_alike key covered.1.0 both.0 i)
-          v ← eval_alike expression covered.1.1.0 both.1 i
+          vs ← property_key computed key (eval_by Off key covered.1.0 both.0 i)
+          v ← eval_by Off expression covered.1.1.0 both.1 i
           give (vs ++ v ∷ []))
     prop_alike at _ covered none = refl
+
+  -- An expression off the spine.
+  pub eval_alike : (e : Syntax) → LendsAlike e → refusals t.names e ≡ [] → eval s e ≡ eval t e
+  eval_alike e covered none = eval_by Off e covered none

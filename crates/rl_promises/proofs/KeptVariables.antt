@@ -8,7 +8,7 @@ use Rattle.rl_machine.specs.declared.trace.Assignment.{Assignment}
 use Rattle.rl_machine.specs.declared.trace.Event.{Event}
 use Rattle.rl_machine.specs.declared.trace.Value.{Value}
 use Rattle.rl_machine.specs.declared.trace.Value.TheVariants as value
-use Rattle.rl_model.specs.Actions.{Action, Ways, ◌>>=◌, ◌>>◌, answer_to, ask, assign, end_short, give, no_meaning, test, variable}
+use Rattle.rl_model.specs.Actions.{Action, Ways, ◌>>=◌, ◌>>◌, answer_to, ask, assign, chained, end_short, give, no_meaning, test, variable}
 use Rattle.rl_model.specs.Code.{assigned_by, contains, local_of}
 use Rattle.rl_model.specs.Events as events
 use Rattle.rl_model.specs.Expressions.{assign_to, assignment, assignment_in, callee, called, compound, delete_property, eval, eval_last}
@@ -27,11 +27,17 @@ use Rattle.rl_syntax.specs.declared.word.Word.TheVariants as word
 abbrev pub Agree : (assigned : List ℕ) → (after before : Store) → Type 0
 Agree assigned after before = (symbol : ℕ) → contains assigned symbol ≡ false → after symbol ≡ before symbol
 
--- Behind the action these variables have their old values: what comes behind it matters for such stores alone.
+-- The ways, where a chain that ends early goes on with `short`.
+abbrev pub ending : Ways → (short : Cont) → Ways
+ending ways short = record ways { short = short }
+
+-- Behind the action these variables have their old values, also where a chain ends early: what comes behind it matters for such stores
+-- alone.
 pub record Keeps (assigned : List ℕ) {A : Type 0} (action : Action A) : Type 0 where
-  pub holds : (ways : Ways) (f g : A → Cont) (store : Store) (answers : List Answer)
+  pub holds : (ways : Ways) (h k : Cont) (f g : A → Cont) (store : Store) (answers : List Answer)
+      → ((after : Store) (rest : List Answer) → Agree assigned after store → h after rest ≡ k after rest)
       → ((a : A) (after : Store) (rest : List Answer) → Agree assigned after store → f a after rest ≡ g a after rest)
-      → action ways f store answers ≡ action ways g store answers
+      → action (ending ways h) f store answers ≡ action (ending ways k) g store answers
 
 module _ (t : Scene) (assigned : List ℕ) (closed : (symbol : ℕ) → t.world.opens symbol ≡ false) where
   pub agree_self : (store : Store) → Agree assigned store store
@@ -43,30 +49,38 @@ module _ (t : Scene) (assigned : List ℕ) (closed : (symbol : ℕ) → t.world.
   -- Actions by their parts.
 
   pub keeps_give : {A : Type 0} (a : A) → Keeps assigned (give a)
-  keeps_give a = record { holds = λ ways f g store answers same. same a store answers (agree_self store) }
+  keeps_give a = record { holds = λ ways h k f g store answers short same. same a store answers (agree_self store) }
 
   pub keeps_none : {A : Type 0} → Keeps assigned {A = A} no_meaning
-  keeps_none = record { holds = λ ways f g store answers same. refl }
+  keeps_none = record { holds = λ ways h k f g store answers short same. refl }
 
   keeps_short : {A : Type 0} → Keeps assigned {A = A} end_short
-  keeps_short = record { holds = λ ways f g store answers same. refl }
+  keeps_short = record { holds = λ ways h k f g store answers short same. short store answers (agree_self store) }
 
   pub keeps_bind : {A B : Type 0} (action : Action A) (next : A → Action B) → Keeps assigned action → ((a : A) → Keeps assigned (next a))
       → Keeps assigned (action >>= next)
   keeps_bind action next first second = record {
-    holds = λ ways f g store answers same.
-        first.holds ways (λ a. next a ways f) (λ a. next a ways g) store answers
-        (λ a after rest agree. (second a).holds ways f g after rest
+    holds = λ ways h k f g store answers short same.
+        first.holds ways h k (λ a. next a (ending ways h) f) (λ a. next a (ending ways k) g) store answers short
+        (λ a after rest agree. (second a).holds ways h k f g after rest
+        (λ last left agrees. short last left (agree_then last after store agrees agree))
         (λ b last left agrees. same b last left (agree_then last after store agrees agree)));
   }
 
   pub keeps_row : {A B : Type 0} (action : Action A) (next : Action B) → Keeps assigned action → Keeps assigned next
       → Keeps assigned (action >> next)
   keeps_row action next first second = record {
-    holds = λ ways f g store answers same.
-        first.holds ways (λ a. next ways f) (λ a. next ways g) store answers
-        (λ a after rest agree. second.holds ways f g after rest
+    holds = λ ways h k f g store answers short same.
+        first.holds ways h k (λ a. next (ending ways h) f) (λ a. next (ending ways k) g) store answers short
+        (λ a after rest agree. second.holds ways h k f g after rest
+        (λ last left agrees. short last left (agree_then last after store agrees agree))
         (λ b last left agrees. same b last left (agree_then last after store agrees agree)));
+  }
+
+  -- A chain that ends early goes on as one that does not.
+  keeps_chained : {A : Type 0} (early : A) (action : Action A) → Keeps assigned action → Keeps assigned (chained early action)
+  keeps_chained early action keeps = record {
+    holds = λ ways h k f g store answers short same. keeps.holds ways (f early) (g early) f g store answers (same early) same;
   }
 
   keeps_if : {A : Type 0} (test : Bool) (first second : Action A) → Keeps assigned first → Keeps assigned second
@@ -85,23 +99,25 @@ module _ (t : Scene) (assigned : List ℕ) (closed : (symbol : ℕ) → t.world.
   agree_set : (assignments : List Assignment) (store : Store) → Agree assigned (set_open t.world.opens assignments store) store
   agree_set assignments store symbol kept = ap (λ (s : Store). s symbol) (closed_sets assignments store)
 
-  answered : (event : Event) (ways : Ways) (f g : Answer → Cont) (store : Store) (answers : List Answer)
+  answered : (event : Event) (ways : Ways) (k : Cont) (f g : Answer → Cont) (store : Store) (answers : List Answer)
       → ((a : Answer) (after : Store) (rest : List Answer) → Agree assigned after store → f a after rest ≡ g a after rest)
-      → answer_to t event ways f store answers ≡ answer_to t event ways g store answers
-  answered event ways f g store [] same = refl
-  answered event ways f g store (answer ∷ rest) same =
+      → answer_to t event ways f store answers ≡ answer_to t event (ending ways k) g store answers
+  answered event ways k f g store [] same = refl
+  answered event ways k f g store (answer ∷ rest) same =
       let after : Store = set_open t.world.opens answer.assignments store in
       let goes : f answer after rest ≡ g answer after rest = same answer after rest (agree_set answer.assignments store) in
       λ i. emit event (by_kind answer.kind (goes i) (goes i) (ways.throws answer.value after rest))
 
   keeps_answer : (event : Event) → Keeps assigned (answer_to t event)
-  keeps_answer event = record { holds = answered event }
+  keeps_answer event = record {
+    holds = λ ways h k f g store answers short same. answered event (ending ways h) k f g store answers same;
+  }
 
-  answered_test : (event : Event) (ways : Ways) (f g : Bool → Cont) (store : Store) (answers : List Answer)
+  answered_test : (event : Event) (ways : Ways) (k : Cont) (f g : Bool → Cont) (store : Store) (answers : List Answer)
       → ((b : Bool) (after : Store) (rest : List Answer) → Agree assigned after store → f b after rest ≡ g b after rest)
-      → test t event ways f store answers ≡ test t event ways g store answers
-  answered_test event ways f g store [] same = refl
-  answered_test event ways f g store (answer ∷ rest) same =
+      → test t event ways f store answers ≡ test t event (ending ways k) g store answers
+  answered_test event ways k f g store [] same = refl
+  answered_test event ways k f g store (answer ∷ rest) same =
       let after : Store = set_open t.world.opens answer.assignments store in
       let agree : Agree assigned after store = agree_set answer.assignments store in
       λ i. emit event (by_kind answer.kind (same true after rest agree i) (same false after rest agree i) (same false after rest agree i))
@@ -110,12 +126,16 @@ module _ (t : Scene) (assigned : List ℕ) (closed : (symbol : ℕ) → t.world.
   keeps_ask event = keeps_bind (answer_to t event) (λ a. give a.value) (keeps_answer event) (λ a. keeps_give a.value)
 
   pub keeps_test : (event : Event) → Keeps assigned (test t event)
-  keeps_test event = record { holds = answered_test event }
+  keeps_test event = record {
+    holds = λ ways h k f g store answers short same. answered_test event (ending ways h) k f g store answers same;
+  }
 
   -- Names.
 
   keeps_variable : (symbol : ℕ) → Keeps assigned (variable symbol)
-  keeps_variable symbol = record { holds = λ ways f g store answers same. same (store symbol) store answers (agree_self store) }
+  keeps_variable symbol = record {
+    holds = λ ways h k f g store answers short same. same (store symbol) store answers (agree_self store);
+  }
 
   other_symbol : (assigned_one kept : ℕ) → contains assigned assigned_one ≡ true → contains assigned kept ≡ false
       → nat_eq kept assigned_one ≡ false
@@ -128,7 +148,7 @@ module _ (t : Scene) (assigned : List ℕ) (closed : (symbol : ℕ) → t.world.
 
   keeps_assign : (symbol : ℕ) (v : Value) → contains assigned symbol ≡ true → Keeps assigned (assign symbol v)
   keeps_assign symbol v there = record {
-    holds = λ ways f g store answers same. same (tt {0}) (set store symbol v) answers
+    holds = λ ways h k f g store answers short same. same (tt {0}) (set store symbol v) answers
         (λ other kept. ap (λ (b : Bool). if b then v else store other) (other_symbol symbol other there kept));
   }
 
@@ -276,7 +296,7 @@ module _ (t : Scene) (assigned : List ℕ) (closed : (symbol : ℕ) → t.world.
     eval_keeps (Node at word.Call parts) covered = call_keeps at parts covered.2
     eval_keeps (Node at word.New parts) covered = new_keeps at parts covered.2
     eval_keeps (Node at word.Assign parts) covered = assign_keeps at parts covered.1 covered.2
-    eval_keeps (Node at word.Chain parts) covered = absurd (true≢false (sym covered.0))
+    eval_keeps (Node at word.Chain parts) covered = chain_keeps at parts covered.2
     eval_keeps (Node at word.Arrow parts) covered = absurd (true≢false (sym covered.0))
     eval_keeps (Node at word.Funexpr parts) covered = absurd (true≢false (sym covered.0))
     eval_keeps (Node at word.Element parts) covered = absurd (true≢false (sym covered.0))
@@ -358,8 +378,8 @@ module _ (t : Scene) (assigned : List ℕ) (closed : (symbol : ℕ) → t.world.
         keeps_bind _ _ (member_placed there parts covered.2) (λ p. keeps_property prefix operator p.0 p.1)
     target_keeps operator prefix at (Node there word.Index parts) End orderly covered =
         keeps_bind _ _ (index_placed there parts covered.2) (λ p. keeps_property prefix operator p.0 p.1)
-    target_keeps operator prefix at _ End orderly covered = record { holds = λ ways f g store answers same. refl }
-    target_keeps operator prefix at _ (Then first rest) orderly covered = record { holds = λ ways f g store answers same. refl }
+    target_keeps operator prefix at _ End orderly covered = record { holds = λ ways h k f g store answers short same. refl }
+    target_keeps operator prefix at _ (Then first rest) orderly covered = record { holds = λ ways h k f g store answers short same. refl }
 
     name_keeps : (operator : List ℕ) (prefix : Bool) (at there : At) (parts rest : Pieces)
         → IsOrderlyAt t.names assigned at word.Update
@@ -368,9 +388,9 @@ module _ (t : Scene) (assigned : List ℕ) (closed : (symbol : ℕ) → t.world.
     name_keeps operator prefix at there (Then (Said name) End) End orderly =
         keeps_update prefix operator (t.names.meaning there.reference.0 name) orderly.assigns
     name_keeps operator prefix at there (Then (Said name) End) (Then first rest) orderly =
-        record { holds = λ ways f g store answers same. refl }
-    name_keeps operator prefix at there _ End orderly = record { holds = λ ways f g store answers same. refl }
-    name_keeps operator prefix at there _ (Then first rest) orderly = record { holds = λ ways f g store answers same. refl }
+        record { holds = λ ways h k f g store answers short same. refl }
+    name_keeps operator prefix at there _ End orderly = record { holds = λ ways h k f g store answers short same. refl }
+    name_keeps operator prefix at there _ (Then first rest) orderly = record { holds = λ ways h k f g store answers short same. refl }
 
     -- Assignments.
 
@@ -482,6 +502,10 @@ module _ (t : Scene) (assigned : List ℕ) (closed : (symbol : ℕ) → t.world.
         (keeps_bind _ _ (values_keep arguments covered.1.1.0) (λ vs. keeps_ask _)))
     call_keeps at _ covered = keeps_none
 
+    chain_keeps : (at : At) (parts : Pieces) → AreAllCovered parts → Keeps assigned (eval t (Node at word.Chain parts))
+    chain_keeps at (Then expression End) covered = keeps_chained value.Undefined _ (eval_keeps expression covered.0)
+    chain_keeps at _ covered = keeps_none
+
     -- A callee that lends its object.
     callee_keeps : (e : Syntax) → Covered e → Keeps assigned (callee t e)
     callee_keeps (Node at word.Paren (Then expression End)) covered = callee_keeps expression covered.2.0
@@ -490,7 +514,7 @@ module _ (t : Scene) (assigned : List ℕ) (closed : (symbol : ℕ) → t.world.
     callee_keeps (Node at word.Assert (Then type (Then expression End))) covered = callee_keeps expression covered.2.1.0
     callee_keeps (Node at word.Nonnull (Then expression End)) covered = callee_keeps expression covered.2.0
     callee_keeps (Node at word.Instantiate (Then expression (Then names End))) covered = callee_keeps expression covered.2
-    callee_keeps (Node at word.Chain parts) covered = absurd (true≢false (sym covered.0))
+    callee_keeps (Node at word.Chain (Then expression End)) covered = keeps_chained _ _ (callee_keeps expression covered.2.0)
     callee_keeps (Node at word.Member (Then (Flag optional) (Then object (Then (Said name) End)))) covered =
         keeps_bind _ _ (eval_keeps object covered.2.1.0) (λ v.
         keeps_row _ _ (keeps_missing optional v) (keeps_bind _ _ (keeps_ask _) (λ f. keeps_give _)))

@@ -3,6 +3,7 @@ pub mod Alike
 pub mod AlikeExpressions
 pub mod BodyStopping
 pub mod CaseStopping
+mod ChainExamples
 pub mod CountedCode
 pub mod CountedLives
 pub mod CountedOnce
@@ -19,6 +20,7 @@ pub mod FunctionParts
 mod HeadExamples
 pub mod HeldOnce
 pub mod InnerScopes
+pub mod KeptChains
 pub mod KeptVariables
 pub mod Least
 pub mod LeavingOut

@@ -1,5 +1,5 @@
 -- Covered trees without a stop: the lowering goes through them.
-use Rattle.std.proofs.Common.{◌≡◌, ℕ, Bool, true, false, not, if◌then◌else◌, Option, Some, None, List, [], ◌∷◌, codes, ap, sym, refl, ◌∙◌}
+use Rattle.std.proofs.Common.{◌≡◌, ℕ, Bool, true, false, true≢false, not, if◌then◌else◌, Option, Some, None, List, [], ◌∷◌, codes, ap, sym, refl, ◌∙◌}
 use Rattle.std.specs.Option.{option_or}
 use Rattle.std.specs.Str.{bytes_eq}
 use Rattle.rl_base.specs.Reserved.{is_reserved}
@@ -15,18 +15,21 @@ use Rattle.rl_model.specs.Shapes.{are_raw, is_logical}
 use Rattle.rl_names.specs.Functions.{body_in, params_in}
 use Rattle.rl_names.specs.Names.{Names, local_of}
 use Rattle.rl_promises.proofs.LoopHeads.{plain_in_front}
+use Rattle.rl_promises.specs.Chains.{AreChained, Below, HasChains, IsChained, IsChainedAt, Off, Spine, Top}
 use Rattle.rl_promises.specs.Conditions.{is_plain_head}
 use Rattle.rl_promises.specs.Covered.{AreCovered, IsCovered, IsCoveredFunction}
 use Rattle.rl_promises.proofs.CoveredWorlds.{body_covered, params_covered}
 use Rattle.rl_promises.proofs.Unwrapped.{AreUnwrapped, IsUnwrapped, body_unwrapped, params_unwrapped}
 use Rattle.rl_promises.specs.Jumps.{Around, InLoop, InSwitch, own_label, within_label}
 use Rattle.rl_promises.specs.Locals.{DeclareIn, DeclaresIn, DeclaresVariable, HasLocals}
-use Rattle.rl_promises.specs.Lowerable.{AreLowerable, AreLowerableCases, AreLowerableIn, DeclaresFree, IsFree, IsLowerable, IsLowerableBody}
-use Rattle.rl_promises.specs.Lowerable.{IsLowerableCase, IsLowerableHead, IsLowerableIn, Where}
+use Rattle.rl_promises.specs.Lowerable.{AreLowerable, AreLowerableCases, AreLowerableIn, DeclaresFree, IsFree, IsLowerable, IsLowerableAt}
+use Rattle.rl_promises.specs.Lowerable.{IsLowerableBody, IsLowerableCase, IsLowerableHead, IsLowerableIn, Where}
 use Rattle.rl_promises.specs.Outs.{is_known_key, is_lost_delete, is_lost_head, is_wrapped}
 use Rattle.rl_promises.specs.Stops.{first_among, first_stop, stop_among, stop_at_head, stop_in, stop_in_body, stop_in_case, stop_in_cases}
 use Rattle.rl_promises.specs.Stops.{stop_of, stop_of_local}
 use Rattle.rl_syntax.specs.Syntax.{Syntax, Node, Listed, Said, Count, Flag, Absent, Pieces, End, Then}
+use Rattle.rl_syntax.specs.declared.numbered.At.{At}
+use Rattle.rl_syntax.specs.declared.word.Word.{Word}
 use Rattle.rl_syntax.specs.declared.word.Word.TheVariants as word
 
 -- Of two searches that find nothing, neither does.
@@ -73,224 +76,367 @@ where_assigned plain true target right A none holds = tt
 where_assigned true false target right A none holds = let both = none_both right target none in holds both.1 both.0
 where_assigned false false target right A none holds = let both = none_both target right none in holds both.0 both.1
 
+-- True of chains, their links, and `!`: the nodes that are on a spine, or have one.
+abbrev is_spine : Word → Bool
+is_spine word.Chain = true
+is_spine word.Member = true
+is_spine word.Index = true
+is_spine word.Privatemember = true
+is_spine word.Call = true
+is_spine word.Nonnull = true
+is_spine _ = false
+
+-- The parts of a node that is no part of a chain stand off the spine.
+chained_parts : (place : Spine) (at : At) (w : Word) (parts : Pieces) → is_spine w ≡ false → IsChainedAt place (Node at w parts)
+    → AreChained parts
+chained_parts place at word.Chain parts other chained = absurd (true≢false other)
+chained_parts place at word.Member parts other chained = absurd (true≢false other)
+chained_parts place at word.Index parts other chained = absurd (true≢false other)
+chained_parts place at word.Privatemember parts other chained = absurd (true≢false other)
+chained_parts place at word.Call parts other chained = absurd (true≢false other)
+chained_parts place at word.Nonnull parts other chained = absurd (true≢false other)
+chained_parts Off at w parts other chained = chained
+chained_parts Top at w parts other chained = chained
+chained_parts Below at w parts other chained = chained
+
+-- A conditional or logical expression and a declarator are lowerable anywhere, if their parts are.
+
+conditional_at : (names : Names) (place : Spine) (at : At) (parts : Pieces) → AreLowerable names parts
+    → IsLowerableAt names place (Node at word.Cond parts)
+conditional_at names Off at parts are = (refl, are)
+conditional_at names Top at parts are = (refl, are)
+conditional_at names Below at parts are = (refl, are)
+
+logical_at : (names : Names) (place : Spine) (at : At) (parts : Pieces) → AreLowerable names parts
+    → IsLowerableAt names place (Node at word.Logical parts)
+logical_at names Off at parts are = (refl, are)
+logical_at names Top at parts are = (refl, are)
+logical_at names Below at parts are = (refl, are)
+
+declarator_at : (names : Names) (place : Spine) (at : At) (parts : Pieces) → AreLowerable names parts
+    → IsLowerableAt names place (Node at word.Declarator parts)
+declarator_at names Off at parts are = (refl, are)
+declarator_at names Top at parts are = (refl, are)
+declarator_at names Below at parts are = (refl, are)
+
+-- The parts of a link on the spine: its flag, its object or callee below it, and those behind.
+abbrev AreLinked : Names → (optional object : Syntax) → (rest : Pieces) → Type 0
+AreLinked names optional object rest = IsLowerableAt names Off optional × IsLowerableAt names Below object × AreLowerable names rest
+
+linked : (names : Names) (optional object : Syntax) (rest : Pieces) → first_among names (Then optional (Then object rest)) ≡ None
+    → (first_stop names optional ≡ None → IsLowerableAt names Off optional)
+    → (first_stop names object ≡ None → IsLowerableAt names Below object)
+    → (first_among names rest ≡ None → AreLowerable names rest) → AreLinked names optional object rest
+linked names optional object rest none flag front more =
+    let first = none_both (first_stop names optional) (option_or (first_stop names object) (first_among names rest)) none in
+    let others = none_both (first_stop names object) (first_among names rest) first.1 in (flag first.0, front others.0, more others.1)
+
 mutual
-  -- A covered tree without a stop whose declarations are of variables is lowerable.
-  pub lowerable : (names : Names) (t : Syntax) → IsCovered t → IsUnwrapped t → DeclaresIn names t → first_stop names t ≡ None
-      → IsLowerable names t
-  lowerable names (Node at word.Id (Then (Said name) End)) covered unwrapped declares none =
+  -- A covered tree without a stop whose declarations are of variables, and whose links are where they may be, is lowerable.
+  pub lowerable_at : (names : Names) (place : Spine) (t : Syntax) → IsCovered t → IsUnwrapped t → IsChainedAt place t → DeclaresIn names t
+      → first_stop names t ≡ None → IsLowerableAt names place t
+  lowerable_at names place (Node at word.Id (Then (Said name) End)) covered unwrapped chained declares none =
       free_local names (local_of (names.meaning at.reference.0 name)) at.span none
-  lowerable names (Node at word.Bind (Then (Said name) type)) covered unwrapped declares none =
+  lowerable_at names place (Node at word.Bind (Then (Said name) type)) covered unwrapped chained declares none =
       free_declared names at.id.0 at.span declares.0 none
-  lowerable names (Node at word.Bind parts) covered unwrapped declares none =
-      (covered.0, all_lowerable names parts covered.1 unwrapped.1 declares.1 none)
-  lowerable names (Node at word.Cond (Then condition (Then consequent (Then alternate End)))) covered unwrapped declares none =
+  lowerable_at names Off (Node at word.Bind parts) covered unwrapped chained declares none =
+      (covered.0, all_lowerable names parts covered.1 unwrapped.1 chained declares.1 none)
+  lowerable_at names Top (Node at word.Bind parts) covered unwrapped chained declares none =
+      (covered.0, all_lowerable names parts covered.1 unwrapped.1 chained declares.1 none)
+  lowerable_at names Below (Node at word.Bind parts) covered unwrapped chained declares none =
+      (covered.0, all_lowerable names parts covered.1 unwrapped.1 chained declares.1 none)
+  lowerable_at names place (Node at word.Cond (Then condition (Then consequent (Then alternate End)))) covered unwrapped chained declares
+      none =
+      let parts : Pieces = Then condition (Then consequent (Then alternate End)) in
+      let inside = chained_parts place at word.Cond parts refl chained in
       let first = none_both (first_stop names consequent) (option_or (first_stop names alternate) (first_stop names condition)) none in
-      let others = none_both (first_stop names alternate) (first_stop names condition) first.1 in (
-        covered.0,
+      let others = none_both (first_stop names alternate) (first_stop names condition) first.1 in
+      conditional_at names place at parts (
+        lowerable_at names Off condition covered.1.0 unwrapped.1.0 inside.0 declares.0 others.1,
         (
-          lowerable names condition covered.1.0 unwrapped.1.0 declares.0 others.1,
-          (
-            lowerable names consequent covered.1.1.0 unwrapped.1.1.0 declares.1.0 first.0,
-            (lowerable names alternate covered.1.1.1.0 unwrapped.1.1.1.0 declares.1.1.0 others.0, tt),
-          ),
+          lowerable_at names Off consequent covered.1.1.0 unwrapped.1.1.0 inside.1.0 declares.1.0 first.0,
+          (lowerable_at names Off alternate covered.1.1.1.0 unwrapped.1.1.1.0 inside.1.1.0 declares.1.1.0 others.0, tt),
         ),
       )
-  lowerable names (Node at word.Logical (Then (Said operator) (Then left (Then right End)))) covered unwrapped declares none =
-      let both = none_both (first_stop names right) (first_stop names left) none in (
-        covered.0,
+  lowerable_at names place (Node at word.Logical (Then (Said operator) (Then left (Then right End)))) covered unwrapped chained declares
+      none =
+      let parts : Pieces = Then (Said operator) (Then left (Then right End)) in
+      let inside = chained_parts place at word.Logical parts refl chained in
+      let both = none_both (first_stop names right) (first_stop names left) none in
+      logical_at names place at parts (
+        tt,
         (
-          tt,
-          (
-            lowerable names left covered.1.1.0 unwrapped.1.1.0 declares.1.0 both.1,
-            (lowerable names right covered.1.1.1.0 unwrapped.1.1.1.0 declares.1.1.0 both.0, tt),
-          ),
+          lowerable_at names Off left covered.1.1.0 unwrapped.1.1.0 inside.1.0 declares.1.0 both.1,
+          (lowerable_at names Off right covered.1.1.1.0 unwrapped.1.1.1.0 inside.1.1.0 declares.1.1.0 both.0, tt),
         ),
       )
-  lowerable names (Node at word.Declarator (Then pattern (Then init End))) covered unwrapped declares none =
-      let both = none_both (first_stop names init) (first_stop names pattern) none in (
-        covered.0,
-        (
-          lowerable names pattern covered.1.0 unwrapped.1.0 declares.0 both.1,
-          (lowerable names init covered.1.1.0 unwrapped.1.1.0 declares.1.0 both.0, tt),
-        ),
+  lowerable_at names place (Node at word.Declarator (Then pattern (Then init End))) covered unwrapped chained declares none =
+      let parts : Pieces = Then pattern (Then init End) in
+      let inside = chained_parts place at word.Declarator parts refl chained in
+      let both = none_both (first_stop names init) (first_stop names pattern) none in
+      declarator_at names place at parts (
+        lowerable_at names Off pattern covered.1.0 unwrapped.1.0 inside.0 declares.0 both.1,
+        (lowerable_at names Off init covered.1.1.0 unwrapped.1.1.0 inside.1.0 declares.1.0 both.0, tt),
       )
-  lowerable names (Node at word.Type parts) covered unwrapped declares none = tt
-  lowerable names (Node at word.Instantiate (Then expression types)) covered unwrapped declares none =
-      lowerable names expression covered.1.0 unwrapped.1.0 declares.0 none
-  lowerable names (Node at word.Yield parts) covered unwrapped declares none = tt
-  lowerable names (Node at word.Unary (Then (Said operator) (Then argument End))) covered unwrapped declares none =
+  lowerable_at names place (Node at word.Type parts) covered unwrapped chained declares none = tt
+  lowerable_at names place (Node at word.Instantiate (Then expression types)) covered unwrapped chained declares none =
+      let inside = chained_parts place at word.Instantiate (Then expression types) refl chained in
+      lowerable_at names Off expression covered.1.0 unwrapped.1.0 inside.0 declares.0 none
+  lowerable_at names place (Node at word.Yield parts) covered unwrapped chained declares none = tt
+  lowerable_at names place (Node at word.Unary (Then (Said operator) (Then argument End))) covered unwrapped chained declares none =
+      let inside = chained_parts place at word.Unary (Then (Said operator) (Then argument End)) refl chained in
       where_not (is_lost_delete operator argument) (first_stop names argument) (IsLowerable names argument) none
-      (λ n. lowerable names argument covered.1.1.0 unwrapped.1.1.0 declares.1.0 n)
-  lowerable names (Node at word.Update (Then operator (Then prefix (Then target End)))) covered unwrapped declares none =
+      (λ n. lowerable_at names Off argument covered.1.1.0 unwrapped.1.1.0 inside.1.0 declares.1.0 n)
+  lowerable_at names place (Node at word.Update (Then operator (Then prefix (Then target End)))) covered unwrapped chained declares none =
+      let inside = chained_parts place at word.Update (Then operator (Then prefix (Then target End))) refl chained in
       where_not (is_wrapped target) (first_stop names target) (IsLowerable names target) none
-      (λ n. lowerable names target covered.1.1.1.0 unwrapped.1.1.1.0 declares.1.1.0 n)
-  lowerable names (Node at word.Assign (Then (Said operator) (Then target (Then right End)))) covered unwrapped declares none = (
-    unwrapped.0,
-    where_assigned (bytes_eq operator (codes "=")) (is_logical operator) (first_stop names target) (first_stop names right)
-        (IsLowerable names target × IsLowerable names right) none
-        (λ t r. (
-          lowerable names target covered.1.1.0 unwrapped.1.1.0 declares.1.0 t,
-          lowerable names right covered.1.1.1.0 unwrapped.1.1.1.0 declares.1.1.0 r,
-        )),
-  )
-  lowerable names
+      (λ n. lowerable_at names Off target covered.1.1.1.0 unwrapped.1.1.1.0 inside.1.1.0 declares.1.1.0 n)
+  lowerable_at names place (Node at word.Assign (Then (Said operator) (Then target (Then right End)))) covered unwrapped chained declares
+      none =
+      let inside = chained_parts place at word.Assign (Then (Said operator) (Then target (Then right End))) refl chained in (
+        unwrapped.0,
+        where_assigned (bytes_eq operator (codes "=")) (is_logical operator) (first_stop names target) (first_stop names right)
+            (IsLowerable names target × IsLowerable names right) none
+            (λ t r. (
+              lowerable_at names Off target covered.1.1.0 unwrapped.1.1.0 inside.1.0 declares.1.0 t,
+              lowerable_at names Off right covered.1.1.1.0 unwrapped.1.1.1.0 inside.1.1.0 declares.1.1.0 r,
+            )),
+      )
+  lowerable_at names place
       (Node at word.Tagged (Then tag (Then (Node there word.Template (Then (Listed quasis) (Then (Listed expressions) End))) End)))
-      covered unwrapped declares none =
+      covered unwrapped chained declares none =
+      let inside = chained_parts place at word.Tagged
+      (Then tag (Then (Node there word.Template (Then (Listed quasis) (Then (Listed expressions) End))) End)) refl chained in
       where_test (are_raw quasis) (option_or (first_stop names tag) (first_among names expressions))
       (IsLowerable names tag × AreLowerable names expressions) none
       (λ n. let both = none_both (first_stop names tag) (first_among names expressions) n in (
-        lowerable names tag covered.1.0 unwrapped.1.0 declares.0 both.0,
-        all_lowerable names expressions covered.1.1.0.1.1.0 unwrapped.1.1.0.1.1.0 declares.1.0.1.0 both.1,
+        lowerable_at names Off tag covered.1.0 unwrapped.1.0 inside.0 declares.0 both.0,
+        all_lowerable names expressions covered.1.1.0.1.1.0 unwrapped.1.1.0.1.1.0 inside.1.0.1.0 declares.1.0.1.0 both.1,
       ))
-  lowerable names (Node at word.Prop (Then (Flag computed) (Then key (Then expression End)))) covered unwrapped declares none =
+  lowerable_at names place (Node at word.Prop (Then (Flag computed) (Then key (Then expression End)))) covered unwrapped chained declares
+      none =
+      let inside = chained_parts place at word.Prop (Then (Flag computed) (Then key (Then expression End))) refl chained in
       where_test (is_known_key computed key) (option_or (first_stop names key) (first_stop names expression))
       (IsLowerable names key × IsLowerable names expression) none
       (λ n. let both = none_both (first_stop names key) (first_stop names expression) n in (
-        lowerable names key covered.1.1.0 unwrapped.1.1.0 declares.1.0 both.0,
-        lowerable names expression covered.1.1.1.0 unwrapped.1.1.1.0 declares.1.1.0 both.1,
+        lowerable_at names Off key covered.1.1.0 unwrapped.1.1.0 inside.1.0 declares.1.0 both.0,
+        lowerable_at names Off expression covered.1.1.1.0 unwrapped.1.1.1.0 inside.1.1.0 declares.1.1.0 both.1,
       ))
-  lowerable names (Node at w parts) covered unwrapped declares none =
-      (covered.0, all_lowerable names parts covered.1 unwrapped.1 declares none)
-  lowerable names (Listed parts) covered unwrapped declares none = all_lowerable names parts covered unwrapped declares none
-  lowerable names (Said text) covered unwrapped declares none = tt
-  lowerable names (Count number) covered unwrapped declares none = tt
-  lowerable names (Flag flag) covered unwrapped declares none = tt
-  lowerable names Absent covered unwrapped declares none = tt
+  lowerable_at names place (Node at word.Chain (Then expression rest)) covered unwrapped chained declares none = (
+    chained.0,
+    lowerable_at names Top expression covered.1.0 unwrapped.1.0 chained.1 declares.0
+        (none_both (first_stop names expression) (first_among names rest) none).0,
+  )
+  lowerable_at names Off (Node at word.Member parts) covered unwrapped chained declares none =
+      (chained.0, all_lowerable names parts covered.1 unwrapped.1 chained.1 declares none)
+  lowerable_at names Off (Node at word.Index parts) covered unwrapped chained declares none =
+      (chained.0, all_lowerable names parts covered.1 unwrapped.1 chained.1 declares none)
+  lowerable_at names Off (Node at word.Privatemember parts) covered unwrapped chained declares none =
+      (chained.0, all_lowerable names parts covered.1 unwrapped.1 chained.1 declares none)
+  lowerable_at names Off (Node at word.Call parts) covered unwrapped chained declares none =
+      (chained.0, all_lowerable names parts covered.1 unwrapped.1 chained.1 declares none)
+  lowerable_at names Off (Node at w parts) covered unwrapped chained declares none =
+      (covered.0, all_lowerable names parts covered.1 unwrapped.1 chained declares none)
+  lowerable_at names Top (Node at word.Member (Then optional (Then object rest))) covered unwrapped chained declares none =
+      linked names optional object rest none (lowerable_at names Off optional covered.1.0 unwrapped.1.0 chained.0 declares.0)
+      (lowerable_at names Below object covered.1.1.0 unwrapped.1.1.0 chained.1 declares.1.0)
+      (all_lowerable names rest covered.1.1.1 unwrapped.1.1.1 chained.2 declares.1.1)
+  lowerable_at names Top (Node at word.Member parts) covered unwrapped chained declares none = tt
+  lowerable_at names Top (Node at word.Index (Then optional (Then object rest))) covered unwrapped chained declares none =
+      linked names optional object rest none (lowerable_at names Off optional covered.1.0 unwrapped.1.0 chained.0 declares.0)
+      (lowerable_at names Below object covered.1.1.0 unwrapped.1.1.0 chained.1 declares.1.0)
+      (all_lowerable names rest covered.1.1.1 unwrapped.1.1.1 chained.2 declares.1.1)
+  lowerable_at names Top (Node at word.Index parts) covered unwrapped chained declares none = tt
+  lowerable_at names Top (Node at word.Privatemember (Then optional (Then object rest))) covered unwrapped chained declares none =
+      linked names optional object rest none (lowerable_at names Off optional covered.1.0 unwrapped.1.0 chained.0 declares.0)
+      (lowerable_at names Below object covered.1.1.0 unwrapped.1.1.0 chained.1 declares.1.0)
+      (all_lowerable names rest covered.1.1.1 unwrapped.1.1.1 chained.2 declares.1.1)
+  lowerable_at names Top (Node at word.Privatemember parts) covered unwrapped chained declares none = tt
+  lowerable_at names Top (Node at word.Call (Then optional (Then object rest))) covered unwrapped chained declares none =
+      linked names optional object rest none (lowerable_at names Off optional covered.1.0 unwrapped.1.0 chained.0 declares.0)
+      (lowerable_at names Below object covered.1.1.0 unwrapped.1.1.0 chained.1 declares.1.0)
+      (all_lowerable names rest covered.1.1.1 unwrapped.1.1.1 chained.2 declares.1.1)
+  lowerable_at names Top (Node at word.Call parts) covered unwrapped chained declares none = tt
+  lowerable_at names Top (Node at word.Nonnull (Then expression rest)) covered unwrapped chained declares none =
+      lowerable_at names Top expression covered.1.0 unwrapped.1.0 chained declares.0
+      (none_both (first_stop names expression) (first_among names rest) none).0
+  lowerable_at names Top (Node at w parts) covered unwrapped chained declares none =
+      (covered.0, all_lowerable names parts covered.1 unwrapped.1 chained declares none)
+  lowerable_at names Below (Node at word.Member (Then optional (Then object rest))) covered unwrapped chained declares none =
+      linked names optional object rest none (lowerable_at names Off optional covered.1.0 unwrapped.1.0 chained.0 declares.0)
+      (lowerable_at names Below object covered.1.1.0 unwrapped.1.1.0 chained.1 declares.1.0)
+      (all_lowerable names rest covered.1.1.1 unwrapped.1.1.1 chained.2 declares.1.1)
+  lowerable_at names Below (Node at word.Member parts) covered unwrapped chained declares none = tt
+  lowerable_at names Below (Node at word.Index (Then optional (Then object rest))) covered unwrapped chained declares none =
+      linked names optional object rest none (lowerable_at names Off optional covered.1.0 unwrapped.1.0 chained.0 declares.0)
+      (lowerable_at names Below object covered.1.1.0 unwrapped.1.1.0 chained.1 declares.1.0)
+      (all_lowerable names rest covered.1.1.1 unwrapped.1.1.1 chained.2 declares.1.1)
+  lowerable_at names Below (Node at word.Index parts) covered unwrapped chained declares none = tt
+  lowerable_at names Below (Node at word.Privatemember (Then optional (Then object rest))) covered unwrapped chained declares none =
+      linked names optional object rest none (lowerable_at names Off optional covered.1.0 unwrapped.1.0 chained.0 declares.0)
+      (lowerable_at names Below object covered.1.1.0 unwrapped.1.1.0 chained.1 declares.1.0)
+      (all_lowerable names rest covered.1.1.1 unwrapped.1.1.1 chained.2 declares.1.1)
+  lowerable_at names Below (Node at word.Privatemember parts) covered unwrapped chained declares none = tt
+  lowerable_at names Below (Node at word.Call (Then optional (Then object rest))) covered unwrapped chained declares none =
+      linked names optional object rest none (lowerable_at names Off optional covered.1.0 unwrapped.1.0 chained.0 declares.0)
+      (lowerable_at names Below object covered.1.1.0 unwrapped.1.1.0 chained.1 declares.1.0)
+      (all_lowerable names rest covered.1.1.1 unwrapped.1.1.1 chained.2 declares.1.1)
+  lowerable_at names Below (Node at word.Call parts) covered unwrapped chained declares none = tt
+  lowerable_at names Below (Node at word.Nonnull (Then expression rest)) covered unwrapped chained declares none =
+      lowerable_at names Below expression covered.1.0 unwrapped.1.0 chained declares.0
+      (none_both (first_stop names expression) (first_among names rest) none).0
+  lowerable_at names Below (Node at w parts) covered unwrapped chained declares none =
+      (covered.0, all_lowerable names parts covered.1 unwrapped.1 chained declares none)
+  lowerable_at names Off (Listed parts) covered unwrapped chained declares none =
+      all_lowerable names parts covered unwrapped chained declares none
+  lowerable_at names Top (Listed parts) covered unwrapped chained declares none = tt
+  lowerable_at names Below (Listed parts) covered unwrapped chained declares none = tt
+  lowerable_at names place (Said text) covered unwrapped chained declares none = tt
+  lowerable_at names place (Count number) covered unwrapped chained declares none = tt
+  lowerable_at names place (Flag flag) covered unwrapped chained declares none = tt
+  lowerable_at names place Absent covered unwrapped chained declares none = tt
 
-  -- As `lowerable`, for parts in a row.
-  pub all_lowerable : (names : Names) (ps : Pieces) → AreCovered ps → AreUnwrapped ps → DeclareIn names ps → first_among names ps ≡ None
-      → AreLowerable names ps
-  all_lowerable names End covered unwrapped declares none = tt
-  all_lowerable names (Then p ps) covered unwrapped declares none =
-      let both = none_both (first_stop names p) (first_among names ps) none in
-      (lowerable names p covered.0 unwrapped.0 declares.0 both.0, all_lowerable names ps covered.1 unwrapped.1 declares.1 both.1)
+  -- As `lowerable_at`, for parts in a row off the spine.
+  pub all_lowerable : (names : Names) (ps : Pieces) → AreCovered ps → AreUnwrapped ps → AreChained ps → DeclareIn names ps
+      → first_among names ps ≡ None → AreLowerable names ps
+  all_lowerable names End covered unwrapped chained declares none = tt
+  all_lowerable names (Then p ps) covered unwrapped chained declares none =
+      let both = none_both (first_stop names p) (first_among names ps) none in (
+        lowerable_at names Off p covered.0 unwrapped.0 chained.0 declares.0 both.0,
+        all_lowerable names ps covered.1 unwrapped.1 chained.1 declares.1 both.1,
+      )
+
+-- As `lowerable_at`, for a tree off the spine.
+pub lowerable : (names : Names) (t : Syntax) → IsCovered t → IsUnwrapped t → IsChained t → DeclaresIn names t → first_stop names t ≡ None
+    → IsLowerable names t
+lowerable names t covered unwrapped chained declares none = lowerable_at names Off t covered unwrapped chained declares none
 
 -- As `lowerable`, for the head of a `for`-`in` or `for`-`of` loop.
-head_lowerable : (names : Names) (head : Syntax) → is_plain_head head ≡ true → IsCovered head → IsUnwrapped head → DeclaresIn names head
+head_lowerable : (names : Names) (head : Syntax) → is_plain_head head ≡ true → IsCovered head → IsUnwrapped head → IsChained head → DeclaresIn names head
     → stop_at_head names head ≡ None → IsLowerableHead names head
-head_lowerable names head plain covered unwrapped declares none = record {
+head_lowerable names head plain covered unwrapped chained declares none = record {
   plain = plain;
   lowerable =
       where_not (is_lost_head head) (first_stop names head) (IsLowerable names head) none
-      (λ n. lowerable names head covered unwrapped declares n);
+      (λ n. lowerable names head covered unwrapped chained declares n);
 }
 
 mutual
   -- As `lowerable`, for a statement inside others, with the label that is its own.
-  pub lowerable_in : (names : Names) (around : List Around) (own : Label) (s : Syntax) → IsCovered s → IsUnwrapped s → DeclaresIn names s
+  pub lowerable_in : (names : Names) (around : List Around) (own : Label) (s : Syntax) → IsCovered s → IsUnwrapped s → IsChained s → DeclaresIn names s
       → stop_in names around own s ≡ None → IsLowerableIn names around own s
-  lowerable_in names around own (Node at word.Break (Then Absent End)) covered unwrapped declares none = none
-  lowerable_in names around own (Node at word.Break (Then (Said label) End)) covered unwrapped declares none = none
-  lowerable_in names around own (Node at word.Continue (Then Absent End)) covered unwrapped declares none = none
-  lowerable_in names around own (Node at word.Continue (Then (Said label) End)) covered unwrapped declares none = none
-  lowerable_in names around own (Node at word.Block (Then (Listed statements) End)) covered unwrapped declares none =
-      all_lowerable_in names around statements covered.1.0 unwrapped.1.0 declares.0 none
-  lowerable_in names around own (Node at word.If (Then condition (Then consequent (Then alternate End)))) covered unwrapped declares none =
+  lowerable_in names around own (Node at word.Break (Then Absent End)) covered unwrapped chained declares none = none
+  lowerable_in names around own (Node at word.Break (Then (Said label) End)) covered unwrapped chained declares none = none
+  lowerable_in names around own (Node at word.Continue (Then Absent End)) covered unwrapped chained declares none = none
+  lowerable_in names around own (Node at word.Continue (Then (Said label) End)) covered unwrapped chained declares none = none
+  lowerable_in names around own (Node at word.Block (Then (Listed statements) End)) covered unwrapped chained declares none =
+      all_lowerable_in names around statements covered.1.0 unwrapped.1.0 chained.0 declares.0 none
+  lowerable_in names around own (Node at word.If (Then condition (Then consequent (Then alternate End)))) covered unwrapped chained declares none =
       let first = none_both (stop_in names around None consequent)
       (option_or (stop_in names around None alternate) (first_stop names condition)) none in
       let others = none_both (stop_in names around None alternate) (first_stop names condition) first.1 in (
-        lowerable names condition covered.1.0 unwrapped.1.0 declares.0 others.1,
-        lowerable_in names around None consequent covered.1.1.0 unwrapped.1.1.0 declares.1.0 first.0,
-        lowerable_in names around None alternate covered.1.1.1.0 unwrapped.1.1.1.0 declares.1.1.0 others.0,
+        lowerable names condition covered.1.0 unwrapped.1.0 chained.0 declares.0 others.1,
+        lowerable_in names around None consequent covered.1.1.0 unwrapped.1.1.0 chained.1.0 declares.1.0 first.0,
+        lowerable_in names around None alternate covered.1.1.1.0 unwrapped.1.1.1.0 chained.1.1.0 declares.1.1.0 others.0,
       )
-  lowerable_in names around own (Node at word.While (Then condition (Then body End))) covered unwrapped declares none =
+  lowerable_in names around own (Node at word.While (Then condition (Then body End))) covered unwrapped chained declares none =
       let both = none_both (stop_in names (InLoop own ∷ around) None body) (first_stop names condition) none in (
-        lowerable names condition covered.1.0 unwrapped.1.0 declares.0 both.1,
-        lowerable_in names (InLoop own ∷ around) None body covered.1.1.0 unwrapped.1.1.0 declares.1.0 both.0,
+        lowerable names condition covered.1.0 unwrapped.1.0 chained.0 declares.0 both.1,
+        lowerable_in names (InLoop own ∷ around) None body covered.1.1.0 unwrapped.1.1.0 chained.1.0 declares.1.0 both.0,
       )
-  lowerable_in names around own (Node at word.Dowhile (Then body (Then condition End))) covered unwrapped declares none =
+  lowerable_in names around own (Node at word.Dowhile (Then body (Then condition End))) covered unwrapped chained declares none =
       let both = none_both (stop_in names (InLoop own ∷ around) None body) (first_stop names condition) none in (
-        lowerable_in names (InLoop own ∷ around) None body covered.1.0 unwrapped.1.0 declares.0 both.0,
-        lowerable names condition covered.1.1.0 unwrapped.1.1.0 declares.1.0 both.1,
+        lowerable_in names (InLoop own ∷ around) None body covered.1.0 unwrapped.1.0 chained.0 declares.0 both.0,
+        lowerable names condition covered.1.1.0 unwrapped.1.1.0 chained.1.0 declares.1.0 both.1,
       )
-  lowerable_in names around own (Node at word.For (Then init (Then condition (Then update (Then body End))))) covered unwrapped declares
+  lowerable_in names around own (Node at word.For (Then init (Then condition (Then update (Then body End))))) covered unwrapped chained declares
       none =
       let within : Option Diagnostic = option_or (stop_in names (InLoop own ∷ around) None body) (first_stop names condition) in
       let first = none_both (first_stop names init) (option_or (first_stop names update) within) none in
       let second = none_both (first_stop names update) within first.1 in
       let both = none_both (stop_in names (InLoop own ∷ around) None body) (first_stop names condition) second.1 in (
-        lowerable names init covered.1.0 unwrapped.1.0 declares.0 first.0,
-        lowerable names condition covered.1.1.0 unwrapped.1.1.0 declares.1.0 both.1,
-        lowerable names update covered.1.1.1.0 unwrapped.1.1.1.0 declares.1.1.0 second.0,
-        lowerable_in names (InLoop own ∷ around) None body covered.1.1.1.1.0 unwrapped.1.1.1.1.0 declares.1.1.1.0 both.0,
+        lowerable names init covered.1.0 unwrapped.1.0 chained.0 declares.0 first.0,
+        lowerable names condition covered.1.1.0 unwrapped.1.1.0 chained.1.0 declares.1.0 both.1,
+        lowerable names update covered.1.1.1.0 unwrapped.1.1.1.0 chained.1.1.0 declares.1.1.0 second.0,
+        lowerable_in names (InLoop own ∷ around) None body covered.1.1.1.1.0 unwrapped.1.1.1.1.0 chained.1.1.1.0 declares.1.1.1.0 both.0,
       )
-  lowerable_in names around own (Node at word.Forin (Then head (Then right (Then body End)))) covered unwrapped declares none =
+  lowerable_in names around own (Node at word.Forin (Then head (Then right (Then body End)))) covered unwrapped chained declares none =
       let inside = InLoop own ∷ around in
       let first = none_both (stop_in names inside None body) (option_or (first_stop names right) (stop_at_head names head)) none in
       let others = none_both (first_stop names right) (stop_at_head names head) first.1 in (
-        lowerable_in names inside None body covered.1.1.1.0 unwrapped.1.1.1.0 declares.1.1.0 first.0,
-        lowerable names right covered.1.1.0 unwrapped.1.1.0 declares.1.0 others.0,
-        head_lowerable names head (plain_in_front head (Then right (Then body End)) covered.0) covered.1.0 unwrapped.1.0 declares.0
+        lowerable_in names inside None body covered.1.1.1.0 unwrapped.1.1.1.0 chained.1.1.0 declares.1.1.0 first.0,
+        lowerable names right covered.1.1.0 unwrapped.1.1.0 chained.1.0 declares.1.0 others.0,
+        head_lowerable names head (plain_in_front head (Then right (Then body End)) covered.0) covered.1.0 unwrapped.1.0 chained.0 declares.0
             others.1,
       )
   lowerable_in names around own (Node at word.Forof (Then (Flag is_await) (Then head (Then right (Then body End))))) covered unwrapped
-      declares none =
+      chained declares none =
       let inside : List Around = InLoop own ∷ around in
       let stop : Option Diagnostic =
       option_or (stop_in names inside None body) (option_or (first_stop names right) (stop_at_head names head)) in
       where_not is_await stop (IsLowerableIn names inside None body × IsLowerable names right × IsLowerableHead names head) none (λ n.
       let first = none_both (stop_in names inside None body) (option_or (first_stop names right) (stop_at_head names head)) n in
       let others = none_both (first_stop names right) (stop_at_head names head) first.1 in (
-        lowerable_in names inside None body covered.1.1.1.1.0 unwrapped.1.1.1.1.0 declares.1.1.1.0 first.0,
-        lowerable names right covered.1.1.1.0 unwrapped.1.1.1.0 declares.1.1.0 others.0,
-        head_lowerable names head covered.0 covered.1.1.0 unwrapped.1.1.0 declares.1.0 others.1,
+        lowerable_in names inside None body covered.1.1.1.1.0 unwrapped.1.1.1.1.0 chained.1.1.1.0 declares.1.1.1.0 first.0,
+        lowerable names right covered.1.1.1.0 unwrapped.1.1.1.0 chained.1.1.0 declares.1.1.0 others.0,
+        head_lowerable names head covered.0 covered.1.1.0 unwrapped.1.1.0 chained.1.0 declares.1.0 others.1,
       ))
-  lowerable_in names around own (Node at word.Switch (Then discriminant (Then (Listed cases) End))) covered unwrapped declares none =
+  lowerable_in names around own (Node at word.Switch (Then discriminant (Then (Listed cases) End))) covered unwrapped chained declares none =
       let both = none_both (stop_in_cases names (InSwitch own ∷ around) cases) (first_stop names discriminant) none in (
-        cases_lowerable names (InSwitch own ∷ around) cases covered.1.1.0 unwrapped.1.1.0 declares.1.0 both.0,
-        lowerable names discriminant covered.1.0 unwrapped.1.0 declares.0 both.1,
+        cases_lowerable names (InSwitch own ∷ around) cases covered.1.1.0 unwrapped.1.1.0 chained.1.0 declares.1.0 both.0,
+        lowerable names discriminant covered.1.0 unwrapped.1.0 chained.0 declares.0 both.1,
       )
   lowerable_in names around own
       (Node at word.Try (Then block (Then (Node there word.Catch (Then param (Then body End))) (Then finalizer End)))) covered unwrapped
-      declares none =
+      chained declares none =
       let first = none_both (first_stop names param) (option_or (stop_in names around None body) (stop_in names around None block)) none in
       let others = none_both (stop_in names around None body) (stop_in names around None block) first.1 in (
-        lowerable names param covered.1.1.0.1.0 unwrapped.1.1.0.1.0 declares.1.0.0 first.0,
-        lowerable_in names around None body covered.1.1.0.1.1.0 unwrapped.1.1.0.1.1.0 declares.1.0.1.0 others.0,
-        lowerable_in names around None block covered.1.0 unwrapped.1.0 declares.0 others.1,
+        lowerable names param covered.1.1.0.1.0 unwrapped.1.1.0.1.0 chained.1.0.0 declares.1.0.0 first.0,
+        lowerable_in names around None body covered.1.1.0.1.1.0 unwrapped.1.1.0.1.1.0 chained.1.0.1.0 declares.1.0.1.0 others.0,
+        lowerable_in names around None block covered.1.0 unwrapped.1.0 chained.0 declares.0 others.1,
       )
-  lowerable_in names around own (Node at word.Try parts) covered unwrapped declares none = tt
-  lowerable_in names around own (Node at word.With parts) covered unwrapped declares none = tt
-  lowerable_in names around own (Node at word.Labeled (Then (Said label) (Then body End))) covered unwrapped declares none =
-      lowerable_in names (within_label label body around) (own_label label body) body covered.1.1.0 unwrapped.1.1.0 declares.1.0 none
-  lowerable_in names around own s covered unwrapped declares none = lowerable names s covered unwrapped declares none
+  lowerable_in names around own (Node at word.Try parts) covered unwrapped chained declares none = tt
+  lowerable_in names around own (Node at word.With parts) covered unwrapped chained declares none = tt
+  lowerable_in names around own (Node at word.Labeled (Then (Said label) (Then body End))) covered unwrapped chained declares none =
+      lowerable_in names (within_label label body around) (own_label label body) body covered.1.1.0 unwrapped.1.1.0 chained.1.0 declares.1.0 none
+  lowerable_in names around own s covered unwrapped chained declares none = lowerable names s covered unwrapped chained declares none
 
   -- As `lowerable_in`, for statements in a row.
-  pub all_lowerable_in : (names : Names) (around : List Around) (ss : Pieces) → AreCovered ss → AreUnwrapped ss → DeclareIn names ss
+  pub all_lowerable_in : (names : Names) (around : List Around) (ss : Pieces) → AreCovered ss → AreUnwrapped ss → AreChained ss → DeclareIn names ss
       → stop_among names around ss ≡ None → AreLowerableIn names around ss
-  all_lowerable_in names around End covered unwrapped declares none = tt
-  all_lowerable_in names around (Then s ss) covered unwrapped declares none =
+  all_lowerable_in names around End covered unwrapped chained declares none = tt
+  all_lowerable_in names around (Then s ss) covered unwrapped chained declares none =
       let both = none_both (stop_in names around None s) (stop_among names around ss) none in (
-        lowerable_in names around None s covered.0 unwrapped.0 declares.0 both.0,
-        all_lowerable_in names around ss covered.1 unwrapped.1 declares.1 both.1,
+        lowerable_in names around None s covered.0 unwrapped.0 chained.0 declares.0 both.0,
+        all_lowerable_in names around ss covered.1 unwrapped.1 chained.1 declares.1 both.1,
       )
 
   -- As `lowerable_in`, for a case of a `switch`.
-  case_lowerable : (names : Names) (around : List Around) (case : Syntax) → IsCovered case → IsUnwrapped case → DeclaresIn names case
+  case_lowerable : (names : Names) (around : List Around) (case : Syntax) → IsCovered case → IsUnwrapped case → IsChained case → DeclaresIn names case
       → stop_in_case names around case ≡ None → IsLowerableCase names around case
-  case_lowerable names around (Node at word.Case (Then condition (Then (Listed statements) End))) covered unwrapped declares none =
+  case_lowerable names around (Node at word.Case (Then condition (Then (Listed statements) End))) covered unwrapped chained declares none =
       let both = none_both (stop_among names around statements) (first_stop names condition) none in (
-        all_lowerable_in names around statements covered.1.1.0 unwrapped.1.1.0 declares.1.0 both.0,
-        lowerable names condition covered.1.0 unwrapped.1.0 declares.0 both.1,
+        all_lowerable_in names around statements covered.1.1.0 unwrapped.1.1.0 chained.1.0 declares.1.0 both.0,
+        lowerable names condition covered.1.0 unwrapped.1.0 chained.0 declares.0 both.1,
       )
-  case_lowerable names around _ covered unwrapped declares none = tt
+  case_lowerable names around _ covered unwrapped chained declares none = tt
 
   -- As `case_lowerable`, for cases in a row.
-  cases_lowerable : (names : Names) (around : List Around) (cases : Pieces) → AreCovered cases → AreUnwrapped cases → DeclareIn names cases
+  cases_lowerable : (names : Names) (around : List Around) (cases : Pieces) → AreCovered cases → AreUnwrapped cases → AreChained cases → DeclareIn names cases
       → stop_in_cases names around cases ≡ None → AreLowerableCases names around cases
-  cases_lowerable names around End covered unwrapped declares none = tt
-  cases_lowerable names around (Then case cases) covered unwrapped declares none =
+  cases_lowerable names around End covered unwrapped chained declares none = tt
+  cases_lowerable names around (Then case cases) covered unwrapped chained declares none =
       let both = none_both (stop_in_cases names around cases) (stop_in_case names around case) none in (
-        case_lowerable names around case covered.0 unwrapped.0 declares.0 both.1,
-        cases_lowerable names around cases covered.1 unwrapped.1 declares.1 both.0,
+        case_lowerable names around case covered.0 unwrapped.0 chained.0 declares.0 both.1,
+        cases_lowerable names around cases covered.1 unwrapped.1 chained.1 declares.1 both.0,
       )
 
 -- As `lowerable`, for a body.
-lowerable_body : (names : Names) (b : Syntax) → IsCovered b → IsUnwrapped b → DeclaresIn names b → stop_in_body names b ≡ None
+lowerable_body : (names : Names) (b : Syntax) → IsCovered b → IsUnwrapped b → IsChained b → DeclaresIn names b → stop_in_body names b ≡ None
     → IsLowerableBody names b
-lowerable_body names (Node at word.Body (Then directives (Then (Listed statements) End))) covered unwrapped declares none =
-    all_lowerable_in names [] statements covered.1.1.0 unwrapped.1.1.0 declares.1.0 none
-lowerable_body names b covered unwrapped declares none = lowerable names b covered unwrapped declares none
+lowerable_body names (Node at word.Body (Then directives (Then (Listed statements) End))) covered unwrapped chained declares none =
+    all_lowerable_in names [] statements covered.1.1.0 unwrapped.1.1.0 chained.1.0 declares.1.0 none
+lowerable_body names b covered unwrapped chained declares none = lowerable names b covered unwrapped chained declares none
 
 -- Of a function without a stop neither the parameters nor the body has one, and no target is wrapped.
 pub record HasNoStops (names : Names) (f : Syntax) : Type 0 where
@@ -307,14 +453,14 @@ no_stops names f none =
     record { wrapped = second.0; params = both.0; body = both.1 }
 
 -- The parameters of a covered function without a stop are lowerable, and so is its body.
-pub params_lowerable : (names : Names) (f : Syntax) → IsCoveredFunction f → HasLocals names f → stop_of names f ≡ None
+pub params_lowerable : (names : Names) (f : Syntax) → IsCoveredFunction f → HasChains f → HasLocals names f → stop_of names f ≡ None
     → IsLowerable names (params_in f)
-params_lowerable names f covered locals none =
-    lowerable names (params_in f) (params_covered f covered) (params_unwrapped f covered (no_stops names f none).wrapped) locals.params
-    (no_stops names f none).params
+params_lowerable names f covered chains locals none =
+    lowerable names (params_in f) (params_covered f covered) (params_unwrapped f covered (no_stops names f none).wrapped) chains.params
+    locals.params (no_stops names f none).params
 
-pub body_lowerable : (names : Names) (f : Syntax) → IsCoveredFunction f → HasLocals names f → stop_of names f ≡ None
+pub body_lowerable : (names : Names) (f : Syntax) → IsCoveredFunction f → HasChains f → HasLocals names f → stop_of names f ≡ None
     → IsLowerableBody names (body_in f)
-body_lowerable names f covered locals none =
-    lowerable_body names (body_in f) (body_covered f covered) (body_unwrapped f covered (no_stops names f none).wrapped) locals.body
-    (no_stops names f none).body
+body_lowerable names f covered chains locals none =
+    lowerable_body names (body_in f) (body_covered f covered) (body_unwrapped f covered (no_stops names f none).wrapped) chains.body
+    locals.body (no_stops names f none).body

@@ -395,8 +395,8 @@ callee_covered = refl
 callee_not_orderly : is_orderly parenthesized None ≡ false
 callee_not_orderly = refl
 
--- Nodes outside the marked function are free. Inside it a class is not covered, nor is a function, nor a pattern, nor a call or a property
--- that is optional, nor a sequence without expressions; the least id is given.
+-- Nodes outside the marked function are free. Inside it a class is not covered, nor is a function, nor a pattern, nor a sequence without
+-- expressions; the least id is given.
 abbrev class_at : (start : ℕ) → Syntax
 class_at start = node start word.Classdecl (Absent ∷ Absent ∷ Listed End ∷ [])
 
@@ -412,12 +412,6 @@ pattern = refl
 
 unmarked : pending (unit_of (function [] (node 11 word.Expr (node 12 word.Arrow (Flag false ∷ Flag false ∷ node 13 word.Params (Listed End ∷ Absent ∷ []) ∷ node 14 word.Null [] ∷ []) ∷ []) ∷ []))) ≡ Some 7
 unmarked = refl
-
-optional_call : pending (unit_of (arrow [] (node 11 word.Call (Flag true ∷ name 12 (codes "f") ∷ Listed End ∷ [])))) ≡ Some 5
-optional_call = refl
-
-optional_member : pending (unit_of (arrow [] (node 11 word.Member (Flag true ∷ name 12 (codes "f") ∷ Said (codes "a") ∷ [])))) ≡ Some 5
-optional_member = refl
 
 no_expressions : pending (unit_of (arrow [] (node 11 word.Seq (Listed End ∷ [])))) ≡ Some 5
 no_expressions = refl

@@ -30,7 +30,8 @@ commuted : {A B C : Type 0} (assigned : List ℕ) (first : Action A) (second : A
     → (second >>= (λ b. first >>= (λ a. next a b))) ≡ (first >>= (λ a. second >>= (λ b. next a b)))
 commuted assigned first second next keeps still = λ i ways f store answers. (
     still.gives ways (λ b. first ways (λ a. next a b ways f)) store answers
-    ∙ keeps.holds ways (λ a. next a (still.of store) ways f) (λ a. second ways (λ b. next a b ways f)) store answers
+    ∙ keeps.holds ways ways.short ways.short (λ a. next a (still.of store) ways f) (λ a. second ways (λ b. next a b ways f)) store answers
+    (λ after rest agree. refl)
     (λ a after rest agree.
     ap (λ b. next a b ways f after rest) (sym (still.same after store agree))
     ∙ sym (still.gives ways (λ b. next a b ways f) after rest))) i

@@ -193,8 +193,9 @@ module _ (t : Scene) (assigned : List ℕ) (closed : (symbol : ℕ) → t.world.
       let matched : Action (Unit {0}) = exec_all t statements >> exec_cases t cases in
       let later : Action (Unit {0}) = try_cases t cases v (known cases are.1 first) other in
       let late : Action (Unit {0}) = try_cases t cases v [] other in
-      (keeps_test t assigned closed (matches v (are.0.of first))).holds ways (λ same. (if same then matched else later) ways onward)
-      (λ same. (if same then matched else late) ways onward) store answers
+      (keeps_test t assigned closed (matches v (are.0.of first))).holds ways ways.short ways.short
+      (λ same. (if same then matched else later) ways onward) (λ same. (if same then matched else late) ways onward) store answers
+      (λ after rest agrees. refl)
       (λ same after rest agrees. chosen_same matched later late ways onward after rest same
       (compared cases are.1 first after (agree_then t assigned closed after store first agrees agree) v other ways onward rest))
       ∙ ap (λ (x : Value). chosen matched late v x ways onward store answers) (sym (are.0.same store first agree))
@@ -210,6 +211,7 @@ module _ (t : Scene) (assigned : List ℕ) (closed : (symbol : ℕ) → t.world.
       ≡ (eval t discriminant >>= (λ v. breakable (try_cases t cases v [] other)))
   switched discriminant cases are keeps other = λ i ways onward store answers. (
       evaluated cases are ways (λ vs. eval t discriminant ways (λ v. breakable (try_cases t cases v vs other) ways onward)) store answers
-      ∙ keeps.holds ways (λ v. breakable (try_cases t cases v (known cases are store) other) ways onward)
+      ∙ keeps.holds ways ways.short ways.short (λ v. breakable (try_cases t cases v (known cases are store) other) ways onward)
       (λ v. breakable (try_cases t cases v [] other) ways onward) store answers
+      (λ after rest agree. refl)
       (λ v after rest agree. compared cases are store after agree v other _ onward rest)) i

@@ -9,11 +9,6 @@ abbrev pub no_default : Pieces → Bool
 no_default (Then pattern (Then Absent End)) = true
 no_default _ = false
 
--- True of the parts of a property or a call that is not optional: the flag in front is false.
-abbrev pub not_optional : Pieces → Bool
-not_optional (Then (Flag false) parts) = true
-not_optional _ = false
-
 -- True of the parts of a sequence that holds an expression.
 abbrev pub not_empty : Pieces → Bool
 not_empty (Then (Listed (Then expression expressions)) End) = true

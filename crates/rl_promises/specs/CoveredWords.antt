@@ -1,6 +1,6 @@
 -- The nodes that the lowering covers, by their words. Written by tools/syntax.py from tools/grammar.txt.
 use Rattle.std.specs.Prelude.{Bool, true, false}
-use Rattle.rl_promises.specs.Conditions.{no_default, not_empty, not_optional, plain_head}
+use Rattle.rl_promises.specs.Conditions.{no_default, not_empty, plain_head}
 use Rattle.rl_syntax.specs.Syntax.{Pieces}
 use Rattle.rl_syntax.specs.declared.word.Word.{Word}
 use Rattle.rl_syntax.specs.declared.word.Word.TheVariants as word
@@ -69,10 +69,11 @@ covers word.Satisfies parts = true
 covers word.Assert parts = true
 covers word.Nonnull parts = true
 covers word.Instantiate parts = true
-covers word.Member parts = not_optional parts
-covers word.Index parts = not_optional parts
-covers word.Privatemember parts = not_optional parts
-covers word.Call parts = not_optional parts
+covers word.Member parts = true
+covers word.Index parts = true
+covers word.Privatemember parts = true
+covers word.Call parts = true
+covers word.Chain parts = true
 covers word.Template parts = true
 covers word.Quasi parts = true
 covers word.Spread parts = true

@@ -5,11 +5,14 @@ use Rattle.rl_base.specs.declared.ids.SymbolId.{SymbolId}
 use Rattle.rl_model.specs.Actions.{Label}
 use Rattle.rl_model.specs.Shapes.{are_raw, is_logical}
 use Rattle.rl_names.specs.Names.{Names, local_of}
+use Rattle.rl_promises.specs.Chains.{Off, Spine, Top, below_link}
 use Rattle.rl_promises.specs.Conditions.{is_plain_head}
 use Rattle.rl_promises.specs.CoveredWords.{covers}
 use Rattle.rl_promises.specs.Jumps.{Around, InLoop, InSwitch, own_label, stop_of_break, stop_of_continue, within_label}
 use Rattle.rl_promises.specs.Locals.{IsVariable}
 use Rattle.rl_promises.specs.Outs.{is_known_key, is_lost_delete, is_lost_head, is_wrapped}
+use Rattle.rl_rules.specs.Chains.{has_optional}
+use Rattle.rl_rules.specs.Pieces.{first_is, is_yes}
 use Rattle.rl_syntax.specs.Syntax.{Syntax, Node, Listed, Said, Count, Flag, Absent, Pieces, End, Then}
 use Rattle.rl_syntax.specs.declared.word.Word.TheVariants as word
 
@@ -31,35 +34,61 @@ pub record DeclaresFree (names : Names) (declared : Option SymbolId) : Type 0 wh
   pub free : is_reserved (names.name symbol.0) ≡ false
 
 abbrev mutual
-  -- Each node of the tree that is lowered is covered, and stops nothing.
-  pub IsLowerable : Names → Syntax → Type 0
-  IsLowerable names (Node at word.Id (Then (Said name) End)) = IsFree names (local_of (names.meaning at.reference.0 name))
-  IsLowerable names (Node at word.Bind (Then (Said name) type)) = DeclaresFree names (names.declared at.id.0)
-  IsLowerable names (Node at word.Type parts) = Unit {0}
-  IsLowerable names (Node at word.Instantiate (Then expression types)) = IsLowerable names expression
-  IsLowerable names (Node at word.Yield parts) = Unit {0}
-  IsLowerable names (Node at word.Unary (Then (Said operator) (Then argument End))) =
-      Where (not (is_lost_delete operator argument)) (IsLowerable names argument)
-  IsLowerable names (Node at word.Update (Then operator (Then prefix (Then target End)))) =
-      Where (not (is_wrapped target)) (IsLowerable names target)
-  IsLowerable names (Node at word.Assign (Then (Said operator) (Then target (Then right End)))) =
-      (is_wrapped target ≡ false) × Where (not (is_logical operator)) (IsLowerable names target × IsLowerable names right)
-  IsLowerable names
+  -- Each node of the tree that is lowered is covered, stops nothing, and is optional only where it stands on the spine of a chain.
+  pub IsLowerableAt : Names → Spine → Syntax → Type 0
+  IsLowerableAt names place (Node at word.Id (Then (Said name) End)) = IsFree names (local_of (names.meaning at.reference.0 name))
+  IsLowerableAt names place (Node at word.Bind (Then (Said name) type)) = DeclaresFree names (names.declared at.id.0)
+  IsLowerableAt names place (Node at word.Type parts) = Unit {0}
+  IsLowerableAt names place (Node at word.Instantiate (Then expression types)) = IsLowerableAt names Off expression
+  IsLowerableAt names place (Node at word.Yield parts) = Unit {0}
+  IsLowerableAt names place (Node at word.Unary (Then (Said operator) (Then argument End))) =
+      Where (not (is_lost_delete operator argument)) (IsLowerableAt names Off argument)
+  IsLowerableAt names place (Node at word.Update (Then operator (Then prefix (Then target End)))) =
+      Where (not (is_wrapped target)) (IsLowerableAt names Off target)
+  IsLowerableAt names place (Node at word.Assign (Then (Said operator) (Then target (Then right End)))) =
+      (is_wrapped target ≡ false)
+      × Where (not (is_logical operator)) (IsLowerableAt names Off target × IsLowerableAt names Off right)
+  IsLowerableAt names place
       (Node at word.Tagged (Then tag (Then (Node there word.Template (Then (Listed quasis) (Then (Listed expressions) End))) End))) =
-      Where (are_raw quasis) (IsLowerable names tag × AreLowerable names expressions)
-  IsLowerable names (Node at word.Prop (Then (Flag computed) (Then key (Then expression End)))) =
-      Where (is_known_key computed key) (IsLowerable names key × IsLowerable names expression)
-  IsLowerable names (Node at w parts) = (covers w parts ≡ true) × AreLowerable names parts
-  IsLowerable names (Listed parts) = AreLowerable names parts
-  IsLowerable names (Said text) = Unit {0}
-  IsLowerable names (Count number) = Unit {0}
-  IsLowerable names (Flag flag) = Unit {0}
-  IsLowerable names Absent = Unit {0}
+      Where (are_raw quasis) (IsLowerableAt names Off tag × AreLowerable names expressions)
+  IsLowerableAt names place (Node at word.Prop (Then (Flag computed) (Then key (Then expression End)))) =
+      Where (is_known_key computed key) (IsLowerableAt names Off key × IsLowerableAt names Off expression)
+  IsLowerableAt names place (Node at word.Chain (Then expression rest)) =
+      (has_optional expression ≡ true) × IsLowerableAt names Top expression
+  IsLowerableAt names Off (Node at word.Member parts) = (first_is is_yes parts ≡ false) × AreLowerable names parts
+  IsLowerableAt names Off (Node at word.Index parts) = (first_is is_yes parts ≡ false) × AreLowerable names parts
+  IsLowerableAt names Off (Node at word.Privatemember parts) = (first_is is_yes parts ≡ false) × AreLowerable names parts
+  IsLowerableAt names Off (Node at word.Call parts) = (first_is is_yes parts ≡ false) × AreLowerable names parts
+  IsLowerableAt names Off (Node at w parts) = (covers w parts ≡ true) × AreLowerable names parts
+  IsLowerableAt names place (Node at word.Member (Then optional (Then object rest))) =
+      IsLowerableAt names Off optional × IsLowerableAt names (below_link place) object × AreLowerable names rest
+  IsLowerableAt names place (Node at word.Member parts) = Unit {0}
+  IsLowerableAt names place (Node at word.Index (Then optional (Then object rest))) =
+      IsLowerableAt names Off optional × IsLowerableAt names (below_link place) object × AreLowerable names rest
+  IsLowerableAt names place (Node at word.Index parts) = Unit {0}
+  IsLowerableAt names place (Node at word.Privatemember (Then optional (Then object rest))) =
+      IsLowerableAt names Off optional × IsLowerableAt names (below_link place) object × AreLowerable names rest
+  IsLowerableAt names place (Node at word.Privatemember parts) = Unit {0}
+  IsLowerableAt names place (Node at word.Call (Then optional (Then callee rest))) =
+      IsLowerableAt names Off optional × IsLowerableAt names (below_link place) callee × AreLowerable names rest
+  IsLowerableAt names place (Node at word.Call parts) = Unit {0}
+  IsLowerableAt names place (Node at word.Nonnull (Then expression rest)) = IsLowerableAt names place expression
+  IsLowerableAt names place (Node at w parts) = (covers w parts ≡ true) × AreLowerable names parts
+  IsLowerableAt names Off (Listed parts) = AreLowerable names parts
+  IsLowerableAt names place (Listed parts) = Unit {0}
+  IsLowerableAt names place (Said text) = Unit {0}
+  IsLowerableAt names place (Count number) = Unit {0}
+  IsLowerableAt names place (Flag flag) = Unit {0}
+  IsLowerableAt names place Absent = Unit {0}
 
-  -- As `IsLowerable`, for parts in a row.
+  -- As `IsLowerableAt`, for parts in a row that stand off the spine.
   pub AreLowerable : Names → Pieces → Type 0
   AreLowerable names End = Unit {0}
-  AreLowerable names (Then piece pieces) = IsLowerable names piece × AreLowerable names pieces
+  AreLowerable names (Then piece pieces) = IsLowerableAt names Off piece × AreLowerable names pieces
+
+-- As `IsLowerableAt`, for a tree that stands off the spine.
+abbrev pub IsLowerable : Names → Syntax → Type 0
+IsLowerable names tree = IsLowerableAt names Off tree
 
 -- As `IsLowerable`, for the head of a `for`-`in` or `for`-`of` loop: one variable is declared, without an initializer, or a target takes
 -- the values.

@@ -15,12 +15,14 @@ use Rattle.rl_hir.specs.declared.instruction.NonLocalBinding.{NonLocalBinding}
 use Rattle.rl_hir.specs.declared.instruction.NonLocalBinding.TheVariants as binding
 use Rattle.rl_names.specs.Functions.{body_in, params_in}
 use Rattle.rl_names.specs.Names.{Names}
+use Rattle.rl_promises.specs.Chains.{Below, Off, Spine, Top, below_link}
 use Rattle.rl_promises.specs.Moved.{said_of_moved}
 use Rattle.rl_promises.specs.Outs.{is_known_key, is_lost_delete, is_lost_head, is_wrapped}
 use Rattle.rl_promises.specs.Stops.{has_using, stop_of}
 use Rattle.rl_names.specs.declared.names.Meaning.{Meaning}
 use Rattle.rl_names.specs.declared.names.Meaning.TheVariants.{Local, Outer}
 use Rattle.rl_model.specs.Shapes.{are_raw, is_absent, is_logical}
+use Rattle.rl_rules.specs.Chains.{has_optional}
 use Rattle.rl_semantic.specs.Items.{of_item}
 
 -- The text is the given word.
@@ -109,6 +111,12 @@ abbrev pub said_of_updated : Names → (target : Syntax) → List Diagnostic
 said_of_updated names (Node there word.Id (Then (Said name) End)) = said_of_stored names there.span (names.meaning there.reference.0 name)
 said_of_updated names target = []
 
+-- The diagnostics of a `!` at `at` around an expression: F44 below a link of a chain, where the expression has an optional link on its own
+-- spine.
+abbrev pub said_of_assertion : Spine → (at : Span) → (expression : Syntax) → List Diagnostic
+said_of_assertion Below at expression = if has_optional expression then refusal row.F44 at ∷ [] else []
+said_of_assertion place at expression = []
+
 -- The row of a target that is left out in the head of a loop: F11 of a private property, F45 of a target under a wrapper.
 abbrev pub row_of_head : Word → Row
 row_of_head word.Privatemember = row.F11
@@ -126,47 +134,65 @@ said_of_test at Absent = refusal row.F32 at ∷ []
 said_of_test at condition = []
 
 abbrev mutual
-  -- The diagnostics of a tree without statements in it, in the order in which the lowering meets the nodes: a node by itself, and then its
-  -- parts from left to right. Branches are lowered before the test that leads to them, a variable is declared behind its initializer, the
-  -- value of `=` comes before its target, and a private name is met behind its object. A logical assignment is left out (row F23). Types,
-  -- the argument of a `yield`, and what a row leaves out are not lowered.
-  pub refusals : Names → Syntax → List Diagnostic
-  refusals names (Node at word.Cond (Then condition (Then consequent (Then alternate End)))) =
-      refusals names consequent ++ refusals names alternate ++ refusals names condition
-  refusals names (Node at word.Logical (Then operator (Then left (Then right End)))) = refusals names right ++ refusals names left
-  refusals names (Node at word.Var (Then (Said kind) (Then declarators End))) =
-      (if bytes_eq kind (codes "var") then refusal row.F39 at.span ∷ [] else []) ++ refusals names declarators
-  refusals names (Node at word.Declarator (Then pattern (Then init End))) = refusals names init ++ refusals names pattern
-  refusals names (Node at word.Type parts) = []
-  refusals names (Node at word.Instantiate (Then expression types)) = refusals names expression
-  refusals names (Node at word.Yield parts) = said_of names (Node at word.Yield parts)
-  refusals names (Node at word.Privatemember (Then optional (Then object name))) = refusals names object ++ refusal row.F3 at.span ∷ []
-  refusals names (Node at word.Unary (Then (Said operator) (Then argument End))) =
-      if is_lost_delete operator argument then refusal row.F12 at.span ∷ [] else refusals names argument
-  refusals names (Node at word.Update (Then operator (Then prefix (Then target End)))) =
-      said_of_target names at.span target (refusals names target)
-  refusals names (Node at word.Assign (Then (Said operator) (Then target (Then right End)))) =
-      if bytes_eq operator (codes "=") then refusals names right ++ said_of_assigned names at.span target (refusals_below names target)
+  -- The diagnostics of a tree without statements in it, on the spine of a chain or off it, in the order in which the lowering meets the
+  -- nodes: a node by itself, and then its parts from left to right. Branches are lowered before the test that leads to them, a variable is
+  -- declared behind its initializer, the value of `=` comes before its target, and a private name is met behind its object. A logical
+  -- assignment is left out (row F23). Types, the argument of a `yield`, and what a row leaves out are not lowered.
+  pub refusals_by : Names → Spine → Syntax → List Diagnostic
+  refusals_by names place (Node at word.Cond (Then condition (Then consequent (Then alternate End)))) =
+      refusals_by names Off consequent ++ refusals_by names Off alternate ++ refusals_by names Off condition
+  refusals_by names place (Node at word.Logical (Then operator (Then left (Then right End)))) =
+      refusals_by names Off right ++ refusals_by names Off left
+  refusals_by names place (Node at word.Var (Then (Said kind) (Then declarators End))) =
+      (if bytes_eq kind (codes "var") then refusal row.F39 at.span ∷ [] else []) ++ refusals_by names Off declarators
+  refusals_by names place (Node at word.Declarator (Then pattern (Then init End))) =
+      refusals_by names Off init ++ refusals_by names Off pattern
+  refusals_by names place (Node at word.Type parts) = []
+  refusals_by names place (Node at word.Instantiate (Then expression types)) = refusals_by names Off expression
+  refusals_by names place (Node at word.Yield parts) = said_of names (Node at word.Yield parts)
+  refusals_by names place (Node at word.Privatemember (Then optional (Then object name))) =
+      refusals_by names (below_link place) object ++ refusal row.F3 at.span ∷ []
+  refusals_by names place (Node at word.Member (Then optional (Then object rest))) =
+      refusals_by names Off optional ++ refusals_by names (below_link place) object ++ refusals_in names rest
+  refusals_by names place (Node at word.Index (Then optional (Then object rest))) =
+      refusals_by names Off optional ++ refusals_by names (below_link place) object ++ refusals_in names rest
+  refusals_by names place (Node at word.Call (Then optional (Then callee rest))) =
+      refusals_by names Off optional ++ refusals_by names (below_link place) callee ++ refusals_in names rest
+  refusals_by names place (Node at word.Nonnull (Then expression rest)) =
+      said_of_assertion place at.span expression ++ refusals_by names place expression ++ refusals_in names rest
+  refusals_by names place (Node at word.Chain (Then expression rest)) = refusals_by names Top expression ++ refusals_in names rest
+  refusals_by names place (Node at word.Unary (Then (Said operator) (Then argument End))) =
+      if is_lost_delete operator argument then refusal row.F12 at.span ∷ [] else refusals_by names Off argument
+  refusals_by names place (Node at word.Update (Then operator (Then prefix (Then target End)))) =
+      said_of_target names at.span target (refusals_by names Off target)
+  refusals_by names place (Node at word.Assign (Then (Said operator) (Then target (Then right End)))) =
+      if bytes_eq operator (codes "=")
+      then refusals_by names Off right ++ said_of_assigned names at.span target (refusals_below names target)
       else if is_logical operator then refusal row.F23 at.span ∷ []
-      else refusals names target ++ refusals names right ++ said_of_updated names target
-  refusals names
+      else refusals_by names Off target ++ refusals_by names Off right ++ said_of_updated names target
+  refusals_by names place
       (Node at word.Tagged (Then tag (Then (Node there word.Template (Then (Listed quasis) (Then (Listed expressions) End))) End))) =
-      if are_raw quasis then refusals names tag ++ refusals_in names expressions else refusal row.F13 at.span ∷ []
-  refusals names (Node at word.Prop (Then (Flag computed) (Then key (Then expression End)))) =
-      if is_known_key computed key then refusals names key ++ refusals names expression else refusal row.F9 (span_of key) ∷ []
-  refusals names (Node at word parts) = said_of names (Node at word parts) ++ refusals_in names parts
-  refusals names (Listed parts) = refusals_in names parts
-  refusals names _ = []
+      if are_raw quasis then refusals_by names Off tag ++ refusals_in names expressions else refusal row.F13 at.span ∷ []
+  refusals_by names place (Node at word.Prop (Then (Flag computed) (Then key (Then expression End)))) =
+      if is_known_key computed key then refusals_by names Off key ++ refusals_by names Off expression
+      else refusal row.F9 (span_of key) ∷ []
+  refusals_by names place (Node at word parts) = said_of names (Node at word parts) ++ refusals_in names parts
+  refusals_by names place (Listed parts) = refusals_in names parts
+  refusals_by names place _ = []
 
   -- As `refusals`, for parts in a row.
   pub refusals_in : Names → Pieces → List Diagnostic
   refusals_in names End = []
-  refusals_in names (Then piece pieces) = refusals names piece ++ refusals_in names pieces
+  refusals_in names (Then piece pieces) = refusals_by names Off piece ++ refusals_in names pieces
 
   -- As `refusals`, for the parts of a node.
   pub refusals_below : Names → Syntax → List Diagnostic
   refusals_below names (Node at word parts) = refusals_in names parts
   refusals_below names _ = []
+
+-- As `refusals_by`, for a tree that stands off the spine of a chain.
+abbrev pub refusals : Names → Syntax → List Diagnostic
+refusals names tree = refusals_by names Off tree
 
 -- As `refusals`, for the head of a `for`-`in` or `for`-`of` loop, which may declare by `var`.
 abbrev pub refusals_at_head : Names → Syntax → List Diagnostic

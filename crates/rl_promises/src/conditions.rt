@@ -25,19 +25,6 @@ pub(crate) fn no_default(parts: &[Numbered]) -> bool
     }
 }
 
-/// True of the parts of a property or a call that is not optional.
-pub(crate) fn not_optional(parts: &[Numbered]) -> bool
-    ensures { result ≡ spec.not_optional (pieces_of (map syntax parts.now)) }
-{
-    match split_first(parts) {
-        Some((optional, _rest)) => match as_flag(optional) {
-            Some(optional) => !optional,
-            None => false,
-        },
-        None => false,
-    }
-}
-
 /// True of the parts of a sequence that holds an expression.
 pub(crate) fn not_empty(parts: &[Numbered]) -> bool
     ensures { result ≡ spec.not_empty (pieces_of (map syntax parts.now)) }

@@ -4,7 +4,7 @@ ghost use Rattle.std.specs.Prelude.{◌≡◌, map};
 ghost use Rattle.rl_promises.specs.CoveredWords as spec;
 ghost use Rattle.rl_syntax.specs.Syntax.{pieces_of, syntax};
 
-use crate::conditions::{no_default, not_empty, not_optional, plain_head};
+use crate::conditions::{no_default, not_empty, plain_head};
 use rl_syntax::numbered::Numbered;
 use rl_syntax::word::Word;
 
@@ -102,11 +102,11 @@ pub(crate) fn covers(word: Word, parts: &[Numbered]) -> bool
         Word::Nonnull => true,
         Word::Instantiate => true,
         Word::Classexpr => false,
-        Word::Member => not_optional(parts),
-        Word::Index => not_optional(parts),
-        Word::Privatemember => not_optional(parts),
-        Word::Call => not_optional(parts),
-        Word::Chain => false,
+        Word::Member => true,
+        Word::Index => true,
+        Word::Privatemember => true,
+        Word::Call => true,
+        Word::Chain => true,
         Word::Template => true,
         Word::Quasi => true,
         Word::Spread => true,

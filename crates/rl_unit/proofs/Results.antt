@@ -15,6 +15,7 @@ use Rattle.rl_hir.specs.declared.function.Lowered.{Lowered}
 use Rattle.rl_hir.specs.declared.function.Pair.{Pair}
 use Rattle.rl_promises.proofs.Alike.{same_as_written}
 use Rattle.rl_promises.proofs.CountedOnce.{function_placed}
+use Rattle.rl_promises.proofs.KeptChains.{has_chains}
 use Rattle.rl_promises.specs.Covered.{IsCoveredFunction, uncovered_in}
 use Rattle.rl_promises.specs.Fields.{HaveSymbolsOf, IsNamedPair}
 use Rattle.rl_promises.specs.Headline.{IsGraph}
@@ -59,6 +60,7 @@ may_lower u f names r rules found none same =
     let has = has_body u tree rules found in
     record {
       covered = covered;
+      chained = has_chains u tree rules found;
       body = body_there f (marked_fits u tree found r.spells.grammar) has;
       locals = subst (λ (n : Names). HasLocals n tree) (sym same)
           (has_locals u tree r.spells.grammar r.spells.numbers r.spells.spelled.writable (short_unit u r)

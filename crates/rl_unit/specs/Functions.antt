@@ -6,6 +6,7 @@ use Rattle.rl_hir.specs.Listing.{lowered}
 use Rattle.rl_hir.specs.declared.function.Lowered.{Lowered}
 use Rattle.rl_lower.specs.Scenes.{IsSceneOf}
 use Rattle.rl_lower.specs.Rooms.{IsSmallTree}
+use Rattle.rl_promises.specs.Chains.{HasChains}
 use Rattle.rl_promises.specs.Covered.{IsCoveredFunction, pending}
 use Rattle.rl_promises.specs.Fields.{HasIdentifiersOf}
 use Rattle.rl_promises.specs.Headline.{IsGraph, IsLowered}
@@ -34,10 +35,11 @@ pub record IsRead (u : Syntax) : Type 0 where
   pub spells : Spells bytes u
   pub within : IsTooLarge bytes → ⊥
 
--- The function may be lowered under these names: it is covered and has a body, its local variables are known, it is not too large, and
--- its nodes stand where they are numbered.
+-- The function may be lowered under these names: it is covered and has a body, its links of chains are where they may be, its local
+-- variables are known, it is not too large, and its nodes stand where they are numbered.
 pub record MayLower (names : Names) (f : Syntax) : Type 0 where
   pub covered : IsCoveredFunction f
+  pub chained : HasChains f
   pub body : body_in f ≢ Absent
   pub locals : HasLocals names f
   pub few : nodes f ≤ 65536
