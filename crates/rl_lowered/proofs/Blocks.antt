@@ -1,6 +1,7 @@
 -- The lowering preserves the blocks, and what is lowered of an expression completes, refused or not.
 use Rattle.std.proofs.Common.{◌≡◌, ℕ, ◌+◌, ◌<◌, inl, inr, Bool, true, false, List, [], ◌∷◌, Option, Some, None, refl, arith}
 use Rattle.rl_base.specs.declared.diagnostic.Diagnostic.{Diagnostic}
+use Rattle.rl_base.specs.declared.ids.BlockId.{BlockId}
 use Rattle.rl_base.specs.declared.ids.SymbolId.{SymbolId}
 use Rattle.rl_base.specs.declared.operator.BinaryOperator.{BinaryOperator}
 use Rattle.rl_base.specs.declared.operator.UpdateOperator.{UpdateOperator}
@@ -41,13 +42,15 @@ use Rattle.rl_hir.specs.declared.terminal.ReturnVariant.{ReturnVariant}
 use Rattle.rl_hir.specs.declared.terminal.ReturnVariant.TheVariants as returns
 use Rattle.rl_hir.specs.declared.terminal.Terminal.{Terminal}
 use Rattle.rl_hir.specs.Pieces.{Piece}
+use Rattle.rl_lowered.proofs.ChainFrames.{BlocksTo, linked_blocks, linked_lives, linked_state}
 use Rattle.rl_lowered.proofs.Catches.{blocks_promoted, blocks_throwing, stores_caught}
 use Rattle.rl_lowered.proofs.LiveFrames.{logical_lives, sequence_lives, ternary_lives}
 use Rattle.rl_lowered.proofs.Names.{found_within}
 use Rattle.rl_lowered.proofs.Redeclared.{blocks_redeclared}
-use Rattle.rl_lowered.specs.Forms.{MemberKey, load_of, store_of, type_of, typed}
+use Rattle.rl_lowered.specs.Forms.{Front, MemberKey, call_of, load_of, store_of, tested_front, type_of, typed}
 use Rattle.rl_lowered.specs.Lowered.{Lowered, LoweredBody, LoweredCaseTest, LoweredCases, LoweredDeclarators, LoweredHead, LoweredInit}
-use Rattle.rl_lowered.specs.Lowered.{LoweredLast, LoweredLoop, LoweredParts, LoweredStatement, LoweredStatements, LoweredTest}
+use Rattle.rl_lowered.specs.Lowered.{LoweredFront, LoweredLast, LoweredLink, LoweredLoop, LoweredParts, LoweredSpine, LoweredStatement}
+use Rattle.rl_lowered.specs.Lowered.{LoweredStatements, LoweredTest, private_met}
 use Rattle.rl_lowered.specs.Lowered.{assigned_to, catch_begun, catch_bound, caught, declaring, found_again, kind_of, member_assigned}
 use Rattle.rl_lowered.specs.Lowered.{member_computed, member_loaded, member_one, member_stored, member_updated, name_computed}
 use Rattle.rl_lowered.specs.Lowered.{name_reloaded, name_stored, part_span, promoted, throwing, update_of, value_span, variable_at}
@@ -55,6 +58,10 @@ use Rattle.rl_lowered.specs.Lowered as lowered
 use Rattle.rl_lowered.specs.Named.{IsFound, found}
 use Rattle.rl_model.specs.Actions.{Label}
 use Rattle.rl_names.specs.Names.{Names}
+use Rattle.rl_optional_frames.proofs.Reaching.{link_of_blocks}
+use Rattle.rl_optional_frames.specs.Frames.{link_at, link_objected}
+use Rattle.rl_optional_frames.specs.Links.{LinkBlocks}
+use Rattle.rl_optional_frames.specs.Parts.{link_opened}
 use Rattle.rl_promises.specs.Jumps.{is_loop}
 use Rattle.rl_promises.specs.Moved.{type_name}
 use Rattle.rl_promises.specs.Rows.{refusal, row_of_head}
@@ -271,6 +278,41 @@ mutual
       ternary_blocks s s2 s3 s4 c a p at.span (span_of consequent) (span_of alternate) (expression_blocks dc) (expression_blocks da)
       (expression_blocks dt)
   expression_blocks (lowered.Sequence at e es s s2 p d) = sequence_blocks s s2 p at.span at.span (last_blocks d)
+  expression_blocks (lowered.Chain at e s t p d) = spine_blocks d
+
+  pub spine_blocks : {names : Names} {below : Bool} {e : Syntax} {s t : State} {p : Place} → LoweredSpine names below e s t p
+      → PreservesBlocks s t
+  spine_blocks (lowered.Outermost e s t front p d) = link_blocks d
+  spine_blocks (lowered.Asserted at e s t p d) = spine_blocks d
+  spine_blocks (lowered.Broken at e s t p is d) =
+      blocks_then s (recorded s (refusal row.F44 at.span)) t (blocks_recorded s (refusal row.F44 at.span)) (spine_blocks d)
+
+  pub link_blocks : {names : Names} {alternate : Option BlockId} {e : Syntax} {s t : State} {front : Front} {p : Place}
+      → LoweredLink names alternate e s t front p → BlocksTo alternate s t
+  link_blocks (lowered.LinkedProperty alternate at w optional object rest parts pieces o key s t u is d ds) =
+      linked_blocks alternate s t (with_value u (load_of o key) (Some at.span)) at.span optional o (temporary u (Some at.span))
+      (front_blocks d)
+      (blocks_then (link_objected (link_at s at.span optional alternate) t o) u _ (all_blocks ds)
+      (blocks_value u (load_of o key) (Some at.span)))
+  link_blocks (lowered.LinkedPrivate alternate at optional object name o s t d) =
+      let opened : State = link_objected (link_at s at.span optional alternate) t o in
+      linked_blocks alternate s t (with_value (private_met opened at.span) (values.Primitive primitives.Undefined) (Some at.span))
+      at.span optional o (temporary (private_met opened at.span) (Some at.span)) (front_blocks d)
+      (blocks_noted_value opened (refusal row.F3 at.span) (values.Primitive primitives.Undefined) (Some at.span))
+  link_blocks (lowered.LinkedCall alternate at optional callee es pieces given front s t u d ds is) =
+      linked_blocks alternate s t (with_value u (call_of front given) (Some at.span)) at.span optional (tested_front front)
+      (temporary u (Some at.span)) (front_blocks d)
+      (blocks_then (link_objected (link_at s at.span optional alternate) t (tested_front front)) u _ (all_blocks ds)
+      (blocks_value u (call_of front given) (Some at.span)))
+
+  pub front_blocks : {names : Names} {alternate : BlockId} {is_called : Bool} {e : Syntax} {s t : State} {front : Front}
+      → LoweredFront names alternate is_called e s t front → LinkBlocks alternate.0 s t
+  front_blocks (lowered.FrontLink alternate is_called e s t front p d) = link_blocks d
+  front_blocks (lowered.FrontBroken alternate is_called at e s t p d) = link_of_blocks alternate.0 s t (spine_blocks d)
+  front_blocks (lowered.FrontMethod alternate at w fields parts pieces object key s t is ds) =
+      link_of_blocks alternate.0 s (with_value t (load_of object key) (Some at.span))
+      (blocks_then s t _ (all_blocks ds) (blocks_value t (load_of object key) (Some at.span)))
+  front_blocks (lowered.FrontAlone alternate is_called e s t p is d) = link_of_blocks alternate.0 s t (expression_blocks d)
 
   pub all_blocks : {names : Names} {of_object : Bool} {es : Pieces} {s t : State} {pieces : List Piece} → LoweredParts names of_object es s t pieces
       → PreservesBlocks s t
@@ -382,6 +424,14 @@ reloaded_passes names u operator q p at there symbol identifier f =
     (value_passes u (values.BinaryExpression operator q p) (Some at))
     (value_passes (found names computed symbol there) value (Some at)))
 
+-- A link of a chain completes where its holes do.
+linked_passes : (alternate : Option BlockId) (s s2 s4 : State) (span : Span) (optional : Bool) (object value : Place)
+    → Extends (link_opened alternate s span) s2 → Extends (link_objected (link_at s span optional alternate) s2 object) s4
+    → Passes (link_opened alternate s span) s2 → Passes (link_objected (link_at s span optional alternate) s2 object) s4
+    → Passes s (linked_state alternate s span optional s4 value)
+linked_passes alternate s s2 s4 span optional object value go gk first second =
+    passed (linked_lives unkeyed alternate s s2 s4 span optional object value [] [] go gk (passing first) (passing second))
+
 mutual
   pub expression_passes : {names : Names} {e : Syntax} {s t : State} {p : Place} → Lowered names e s t p → Passes s t
   expression_passes (lowered.Literal at w fields p s is) = value_passes s (values.Primitive p) (Some at.span)
@@ -464,6 +514,42 @@ mutual
       (expression_blocks dt) (passing (expression_passes dc)) (passing (expression_passes da)) (passing (expression_passes dt)))
   expression_passes (lowered.Sequence at e es s s2 p d) =
       passed (sequence_lives unkeyed s s2 p at.span at.span [] (passing (last_passes d)))
+  expression_passes (lowered.Chain at e s t p d) = spine_passes d
+
+  pub spine_passes : {names : Names} {below : Bool} {e : Syntax} {s t : State} {p : Place} → LoweredSpine names below e s t p
+      → Passes s t
+  spine_passes (lowered.Outermost e s t front p d) = link_passes d
+  spine_passes (lowered.Asserted at e s t p d) = spine_passes d
+  spine_passes (lowered.Broken at e s t p is d) = spine_passes d
+
+  pub link_passes : {names : Names} {alternate : Option BlockId} {e : Syntax} {s t : State} {front : Front} {p : Place}
+      → LoweredLink names alternate e s t front p → Passes s t
+  link_passes (lowered.LinkedProperty alternate at w optional object rest parts pieces o key s t u is d ds) =
+      let opened : State = link_objected (link_at s at.span optional alternate) t o in
+      linked_passes alternate s t (with_value u (load_of o key) (Some at.span)) at.span optional o (temporary u (Some at.span))
+      (front_blocks d).extends (extends_then (all_blocks ds).extends (extends_value u (load_of o key) (Some at.span)))
+      (front_passes d) (passes_value opened u (load_of o key) (Some at.span) (all_passes ds))
+  link_passes (lowered.LinkedPrivate alternate at optional object name o s t d) =
+      let opened : State = link_objected (link_at s at.span optional alternate) t o in
+      let value : InstructionValue = values.Primitive primitives.Undefined in
+      linked_passes alternate s t (with_value (private_met opened at.span) value (Some at.span))
+      at.span optional o (temporary (private_met opened at.span) (Some at.span)) (front_blocks d).extends
+      (blocks_noted_value opened (refusal row.F3 at.span) value (Some at.span)).extends (front_passes d)
+      (value_passes (private_met opened at.span) value (Some at.span))
+  link_passes (lowered.LinkedCall alternate at optional callee es pieces given front s t u d ds is) =
+      let opened : State = link_objected (link_at s at.span optional alternate) t (tested_front front) in
+      linked_passes alternate s t (with_value u (call_of front given) (Some at.span)) at.span optional (tested_front front)
+      (temporary u (Some at.span)) (front_blocks d).extends
+      (extends_then (all_blocks ds).extends (extends_value u (call_of front given) (Some at.span))) (front_passes d)
+      (passes_value opened u (call_of front given) (Some at.span) (all_passes ds))
+
+  pub front_passes : {names : Names} {alternate : BlockId} {is_called : Bool} {e : Syntax} {s t : State} {front : Front}
+      → LoweredFront names alternate is_called e s t front → Passes s t
+  front_passes (lowered.FrontLink alternate is_called e s t front p d) = link_passes d
+  front_passes (lowered.FrontBroken alternate is_called at e s t p d) = spine_passes d
+  front_passes (lowered.FrontMethod alternate at w fields parts pieces object key s t is ds) =
+      passes_value s t (load_of object key) (Some at.span) (all_passes ds)
+  front_passes (lowered.FrontAlone alternate is_called e s t p is d) = expression_passes d
 
   pub all_passes : {names : Names} {of_object : Bool} {es : Pieces} {s t : State} {pieces : List Piece}
       → LoweredParts names of_object es s t pieces → Passes s t

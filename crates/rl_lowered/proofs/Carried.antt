@@ -11,7 +11,8 @@ use Rattle.rl_base.specs.declared.type_kind.TypeKind.TheVariants as types
 use Rattle.rl_base.specs.declared.type_kind.TypeKind.{TypeKind}
 use Rattle.rl_base.specs.declared.variable_kind.VariableKind.TheVariants as kinds
 use Rattle.rl_base.specs.declared.variable_kind.VariableKind.{VariableKind}
-use Rattle.rl_builder.specs.Builder.{State, completed_by, innermost, new_block, pushed, pushed_under, recorded, reserved, with_temporary}
+use Rattle.rl_builder.specs.Builder.{State, completed_by, entered, innermost, new_block, pushed, pushed_under, recorded, reserved}
+use Rattle.rl_builder.specs.Builder.{with_temporary}
 use Rattle.rl_builder.specs.Temporaries.{temporary, unordered, with_value}
 use Rattle.rl_frames.specs.Frames.{ForParts, IfParts, LogicalParts, SequenceParts, TernaryParts, TryParts, do_while_bodied, for_after}
 use Rattle.rl_frames.specs.Frames.{for_after_init, for_after_update, for_at, for_bodied, for_ended, for_inited, for_updated}
@@ -19,7 +20,8 @@ use Rattle.rl_frames.specs.Frames.{if_after_consequent, if_alternate, if_at, if_
 use Rattle.rl_frames.specs.Frames.{logical_after, logical_at, logical_ended, logical_righted, sequence_at, sequence_ended, ternary_after}
 use Rattle.rl_frames.specs.Frames.{ternary_alternated, ternary_at, ternary_consequent, ternary_ended, ternary_parted, try_after, try_at}
 use Rattle.rl_frames.specs.Frames.{try_caught, try_ended, while_after, while_at, while_bodied, while_ended}
-use Rattle.rl_frames.specs.Parts.{for_begun, forin_begun, forof_begun, if_begun, label_begun, loads, logical_begun, logical_entered}
+use Rattle.rl_frames.specs.Parts.{chain_reserved, for_begun, forin_begun, forof_begun, if_begun, label_begun, loads, logical_begun}
+use Rattle.rl_frames.specs.Parts.{logical_entered}
 use Rattle.rl_frames.specs.Parts.{logical_left, logical_place, sequence_begun, ternary_begun, try_started, while_begun}
 use Rattle.rl_frames.specs.Rounds.{ForOfParts, RoundsParts, forin_at, forin_headed, forin_righted, forof_after, forof_at, forof_bodied}
 use Rattle.rl_frames.specs.Rounds.{forof_ended, forof_headed, forof_iterator, forof_righted, forof_shut, forof_tested, rounds_bodied}
@@ -43,16 +45,18 @@ use Rattle.rl_hir.specs.declared.terminal.GotoVariant.TheVariants as gotos
 use Rattle.rl_hir.specs.declared.terminal.ReturnVariant.TheVariants as returns
 use Rattle.rl_lowered.proofs.Catches.{catch_declared, declares_caught, stores_caught}
 use Rattle.rl_lowered.proofs.Plain.{lowered_plain}
-use Rattle.rl_lowered.specs.Forms.{IsMember, MemberKey, Static, load_of, store_of, typed}
+use Rattle.rl_lowered.specs.Forms.{Front, IsMember, MemberKey, Static, call_of, load_of, store_of, tested_front, typed}
 use Rattle.rl_lowered.specs.Lowered as lowered
 use Rattle.rl_lowered.specs.Lowered.{name_computed, name_stored, variable_at, member_computed, Lowered, LoweredBody, LoweredCaseTest}
 use Rattle.rl_lowered.specs.Lowered.{LoweredCases, LoweredDeclarators, LoweredHead, LoweredInit, LoweredLast, LoweredLoop, LoweredParts}
 use Rattle.rl_lowered.specs.Lowered.{LoweredStatement, LoweredStatements, LoweredTest, catch_at, catch_begun, catch_bound, declaring}
 use Rattle.rl_lowered.specs.Lowered.{found_again, kind_of, member_loaded, member_one, member_stored, member_updated, part_span, promoted}
-use Rattle.rl_lowered.specs.Lowered.{throwing, throwing_under, value_span}
+use Rattle.rl_lowered.specs.Lowered.{LoweredFront, LoweredLink, LoweredSpine, private_met, throwing, throwing_under, value_span}
 use Rattle.rl_lowered.specs.Named.{IsFound, found}
 use Rattle.rl_model.specs.Actions.{Label}
 use Rattle.rl_names.specs.Names.{Names}
+use Rattle.rl_optional_frames.specs.Frames.{LinkParts, link_after, link_at, link_ended, link_objected}
+use Rattle.rl_optional_frames.specs.Parts.{link_opened, undefined_made}
 use Rattle.rl_promises.specs.Moved.{type_name}
 use Rattle.rl_promises.specs.Outs.{is_lost_head}
 use Rattle.rl_promises.specs.Rebound.{is_symbol, span_at_head, span_behind, span_behind_all, span_behind_body, span_behind_cases}
@@ -264,6 +268,43 @@ module _ {names : Names} {R : (behind : (symbol : ℕ) → (before : Span) → S
       (joined opened tested _ (moves.same opened tested refl)
       (carried_value tested (values.IteratorNext (forof_iterator f s collection) collection) (Some left))))
 
+  -- A link of a chain.
+
+  carried_link_made : (s : State) (span : Span) → R unchanged s (chain_reserved s span)
+  carried_link_made s span =
+      joined s (reserved (reserved s)) _ (moves.same s (reserved (reserved s)) refl) (moves.temporary (reserved (reserved s)) (Some span))
+
+  pub carried_link_opened : (alternate : Option BlockId) (s : State) (span : Span) → R unchanged s (link_opened alternate s span)
+  carried_link_opened None s span =
+      let made : State = chain_reserved s span in
+      let begun : State = entered (reserved made) (new_block made.env.next_block blocks.Value) in
+      let valued : State = undefined_made begun span in
+      let stored : State = stored_in valued (temporary s (Some span)) (temporary made (Some span)) span in
+      joined s made _ (carried_link_made s span)
+      (joined made begun _ (moves.same made begun refl)
+      (joined begun valued _ (carried_value begun (values.Primitive primitives.Undefined) (Some span))
+      (joined valued stored _ (carried_stored valued (temporary s (Some span)) (temporary made (Some span)) span)
+      (moves.same stored (link_opened None s span) refl))))
+  carried_link_opened (Some given) s span =
+      joined s (chain_reserved s span) _ (carried_link_made s span)
+      (moves.same (chain_reserved s span) (link_opened (Some given) s span) refl)
+
+  carried_link_ended : (f : LinkParts) (s : State) (value : Place) → R unchanged s (link_ended f s value)
+  carried_link_ended f s value =
+      joined s (stored_in s f.place value f.span) (link_ended f s value) (carried_stored s f.place value f.span)
+      (moves.same (stored_in s f.place value f.span) (link_ended f s value) refl)
+
+  -- From the states in its holes.
+  carried_linked : (alternate : Option BlockId) (s s2 s4 : State) (span : Span) (optional : Bool) (object value : Place)
+      → R unchanged (link_opened alternate s span) s2 → R unchanged (link_objected (link_at s span optional alternate) s2 object) s4
+      → R unchanged s (link_ended (link_after (link_at s span optional alternate)) s4 value)
+  carried_linked alternate s s2 s4 span optional object value first second =
+      let f : LinkParts = link_at s span optional alternate in
+      joined s (link_opened alternate s span) _ (carried_link_opened alternate s span)
+      (joined (link_opened alternate s span) s2 _ first
+      (joined s2 (link_objected f s2 object) _ (moves.same s2 (link_objected f s2 object) refl)
+      (joined (link_objected f s2 object) s4 _ second (carried_link_ended (link_after f) s4 value))))
+
   -- A `throw`, and the front of a `try` statement whose `catch` has a parameter.
 
   carried_throwing_under : (handler : Option BlockId) (s : State) (at : Span)
@@ -390,6 +431,41 @@ module _ {names : Names} {R : (behind : (symbol : ℕ) → (before : Span) → S
         let begun : State = sequence_begun s at.span in
         joined s begun _ (carried_sequence_begun s at.span)
         (joined begun s2 _ (last_carried l) (carried_sequence_ended (sequence_at s at.span) s2 p at.span))
+    expression_carried (lowered.Chain at e s t p l) = spine_carried l
+
+    pub spine_carried : {below : Bool} {e : Syntax} {s t : State} {p : Place} → LoweredSpine names below e s t p → R unchanged s t
+    spine_carried (lowered.Outermost e s t front p l) = link_carried l
+    spine_carried (lowered.Asserted at e s t p l) = spine_carried l
+    spine_carried (lowered.Broken at e s t p is l) =
+        let noted : State = recorded s (refusal row.F44 at.span) in
+        joined s noted t (moves.noted s (refusal row.F44 at.span)) (spine_carried l)
+
+    pub link_carried : {alternate : Option BlockId} {e : Syntax} {s t : State} {front : Front} {p : Place}
+        → LoweredLink names alternate e s t front p → R unchanged s t
+    link_carried (lowered.LinkedProperty alternate at w optional object rest parts pieces o key s t u is l more) =
+        let x : State = link_objected (link_at s at.span optional alternate) t o in
+        let loaded : State = with_value u (load_of o key) (Some at.span) in
+        carried_linked alternate s t loaded at.span optional o (temporary u (Some at.span)) (front_carried l)
+        (joined x u loaded (all_carried more) (carried_value u (load_of o key) (Some at.span)))
+    link_carried (lowered.LinkedPrivate alternate at optional object name o s t l) =
+        let x : State = link_objected (link_at s at.span optional alternate) t o in
+        let met : State = private_met x at.span in
+        let made : State = with_value met (values.Primitive primitives.Undefined) (Some at.span) in
+        carried_linked alternate s t made at.span optional o (temporary met (Some at.span)) (front_carried l)
+        (carried_noted x (refusal row.F3 at.span) (values.Primitive primitives.Undefined) (Some at.span))
+    link_carried (lowered.LinkedCall alternate at optional callee es pieces given front s t u l more is) =
+        let x : State = link_objected (link_at s at.span optional alternate) t (tested_front front) in
+        let called : State = with_value u (call_of front given) (Some at.span) in
+        carried_linked alternate s t called at.span optional (tested_front front) (temporary u (Some at.span)) (front_carried l)
+        (joined x u called (all_carried more) (carried_value u (call_of front given) (Some at.span)))
+
+    pub front_carried : {alternate : BlockId} {is_called : Bool} {e : Syntax} {s t : State} {front : Front}
+        → LoweredFront names alternate is_called e s t front → R unchanged s t
+    front_carried (lowered.FrontLink alternate is_called e s t front p l) = link_carried l
+    front_carried (lowered.FrontBroken alternate is_called at e s t p l) = spine_carried l
+    front_carried (lowered.FrontMethod alternate at w fields parts pieces object key s t is l) =
+        joined s t _ (all_carried l) (carried_value t (load_of object key) (Some at.span))
+    front_carried (lowered.FrontAlone alternate is_called e s t p other l) = expression_carried l
 
     pub all_carried : {of_object : Bool} {es : Pieces} {s t : State} {pieces : List Piece} → LoweredParts names of_object es s t pieces
         → R unchanged s t

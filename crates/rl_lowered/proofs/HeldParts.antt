@@ -1,26 +1,35 @@
 -- The counted nodes of what is lowered, from those of its parts.
 use Rattle.std.proofs.Common.{◌≡◌, ℕ, ◌++◌, ◌&&◌, if◌then◌else◌, Bool, true, false, List, [], ◌∷◌, Option, Some, None, codes, refl, ap, ◌∙◌}
+use Rattle.std.proofs.Common.{sym}
 use Rattle.std.proofs.Common.{append-nil}
 use Rattle.std.specs.List.{list_any}
 use Rattle.std.specs.Str.{bytes_eq}
+use Rattle.rl_base.specs.declared.ids.BlockId.{BlockId}
 use Rattle.rl_base.specs.declared.span.Span.{Span}
+use Rattle.rl_builder.specs.Builder.{State}
 use Rattle.rl_hir.specs.declared.instruction.InstructionValue.{InstructionValue}
 use Rattle.rl_hir.specs.declared.instruction.InstructionValue.TheVariants as values
 use Rattle.rl_hir.specs.declared.instruction.Place.{Place}
+use Rattle.rl_hir.specs.declared.instruction.PlaceOrSpread.{PlaceOrSpread}
 use Rattle.rl_hir.specs.declared.instruction.PrimitiveValue.{PrimitiveValue}
 use Rattle.rl_hir.specs.declared.instruction.TemplateQuasi.{TemplateQuasi}
 use Rattle.rl_hir.specs.Pieces.{Piece}
 use Rattle.rl_hir.specs.Written.{value_word}
 use Rattle.rl_lowered.proofs.Keys.{HasText, Name, has_text}
-use Rattle.rl_lowered.specs.Forms.{AreQuasis, IsAnnotation, IsCast, IsForm, IsInside, IsLiteral, IsMember, IsWrapper, MemberKey}
+use Rattle.rl_lowered.specs.Forms.{AreQuasis, Front, IsAnnotation, IsCast, IsForm, IsInside, IsLinkKey, IsLiteral, IsMember, IsWrapper}
+use Rattle.rl_lowered.specs.Forms.{MemberKey, call_of, handed_on, is_property}
 use Rattle.rl_lowered.specs.Forms as forms
+use Rattle.rl_lowered.specs.Lowered.{LoweredFront}
+use Rattle.rl_lowered.specs.Lowered as lowered
 use Rattle.rl_lowered.specs.Promised.{counted_word}
 use Rattle.rl_model.specs.Shapes.{key_text}
 use Rattle.rl_model.specs.Worlds.{is_reassign}
+use Rattle.rl_names.specs.Names.{Names}
 use Rattle.rl_promises.proofs.Unheld.{names_unheld, type_unheld}
 use Rattle.rl_promises.specs.Held.{is_of}
 use Rattle.rl_promises.specs.Live.{Held, held_among, held_as, held_in}
-use Rattle.rl_promises.specs.Tallies.{Awaits, Calls, Constructions, IsHeldKind, Stores, held_span, held_word, is_among, store_word}
+use Rattle.rl_promises.specs.Tallies.{Awaits, Calls, Constructions, IsHeldKind, Stores, call_word, held_span, held_word, is_among}
+use Rattle.rl_promises.specs.Tallies.{store_word}
 use Rattle.rl_syntax.specs.declared.numbered.At.{At}
 use Rattle.rl_syntax.specs.declared.word.Word.{Word}
 use Rattle.rl_syntax.specs.declared.word.Word.TheVariants as word
@@ -161,6 +170,54 @@ method_held (forms.Indexed {object} {property} other) at there es =
 method_held (forms.Numbered {object} is) at there es =
     ap (λ (l : List Held). record { word = codes "methodcall"; span = at.span } ∷ ((held_in object ++ []) ++ l))
     (append-nil (held_among es))
+
+-- Links of chains: a call is counted before what its callee and its arguments hold, and no property is.
+
+pub link_held : {w : Word} {rest parts : Pieces} {pieces : List Piece} {key : MemberKey} → IsLinkKey w rest parts pieces key → (at : At)
+    (optional : Bool) (object : Syntax)
+    → held_in (Node at w (Then (Flag optional) (Then object rest))) ≡ held_in object ++ held_among parts
+link_held forms.LinkStatic at optional object = refl
+link_held _ at optional object = refl
+
+pub call_link_held : (at : At) (optional : Bool) (callee : Syntax) (es : Pieces)
+    → held_in (Node at word.Call (Then (Flag optional) (Then callee (Then (Listed es) End))))
+    ≡ record { word = call_word callee; span = at.span } ∷ (held_in callee ++ held_among es)
+call_link_held at optional callee es =
+    ap (λ (l : List Held). record { word = call_word callee; span = at.span } ∷ (held_in callee ++ l)) (append-nil (held_among es))
+
+-- The instruction of a call has the word of its callee: a property lends its object.
+
+handed_word : (e : Syntax) (front : Front) (p : Place) (given : List PlaceOrSpread)
+    → counted_word (call_of (handed_on (is_property e) front p) given) ≡ Some (call_word e)
+handed_word (Node at word.Member parts) front p given = refl
+handed_word (Node at word.Index parts) front p given = refl
+handed_word _ front p given = refl
+
+member_call : (at : At) {w : Word} {fields parts : Pieces} {pieces : List Piece} {object : Place} {key : MemberKey}
+    → IsMember w fields parts pieces object key → call_word (Node at w fields) ≡ codes "methodcall"
+member_call at forms.Static = refl
+member_call at _ = refl
+
+plain_call : (e : Syntax) → is_property e ≡ false → call_word e ≡ codes "call"
+plain_call (Node at word.Member parts) is = absurd (cc)
+plain_call (Node at word.Index parts) is = absurd (cc)
+plain_call _ is = refl
+
+front_word : {names : Names} {alternate : BlockId} {is_called : Bool} {e : Syntax} {s t : State} {front : Front}
+    → LoweredFront names alternate is_called e s t front → is_called ≡ true → (given : List PlaceOrSpread)
+    → counted_word (call_of front given) ≡ Some (call_word e)
+front_word (lowered.FrontLink alternate is_called e s t front p d) called given =
+    ap (λ (b : Bool). counted_word (call_of (handed_on (b && is_property e) front p) given)) called ∙ handed_word e front p given
+front_word (lowered.FrontBroken alternate is_called at e s t p d) called given = refl
+front_word (lowered.FrontMethod alternate at w fields parts pieces object key s t is d) called given =
+    ap (λ (text : List ℕ). Some text) (sym (member_call at is))
+front_word (lowered.FrontAlone alternate is_called e s t p other d) called given =
+    ap (λ (text : List ℕ). Some text) (sym (plain_call e (sym (ap (λ (b : Bool). b && is_property e) called) ∙ other)))
+
+pub link_word : {names : Names} {alternate : BlockId} {callee : Syntax} {s t : State} {front : Front}
+    → LoweredFront names alternate true callee s t front → (given : List PlaceOrSpread)
+    → IsHeldAs (Some (call_word callee)) (call_of front given)
+link_word {callee} d given = HeldBy (call_word callee) refl (front_word d refl given)
 
 -- Assignments: that to a name is counted by its store, and one to a property is not.
 

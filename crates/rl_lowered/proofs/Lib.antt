@@ -5,7 +5,10 @@ pub mod Bodies
 pub mod Carried
 pub mod CatchRuns
 pub mod Catches
+pub mod ChainFrames
+pub mod ChainRuns
 pub mod Clean
+pub mod CleanChains
 pub mod Forms
 pub mod HeadRuns
 pub mod HeldParts
@@ -28,6 +31,7 @@ pub mod Sizes
 pub mod Sound
 pub mod SoundAssignments
 pub mod SoundCatches
+pub mod SoundChains
 pub mod SoundForms
 pub mod SoundFrames
 pub mod SoundHeads
@@ -44,11 +48,13 @@ pub mod SpannedForms
 pub mod SpannedFrames
 pub mod SpannedMoves
 pub mod SpannedTrees
+pub mod Spines
 pub mod StatementLives
 pub mod StatementRuns
 pub mod StepMoves
 pub mod Stepless
 pub mod Steps
+pub mod Sums
 pub mod Tallies
 pub mod Throws
 pub mod Told

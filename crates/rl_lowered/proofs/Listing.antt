@@ -31,6 +31,7 @@ use Rattle.rl_hir.specs.declared.instruction.InstructionKind.{InstructionKind}
 use Rattle.rl_hir.specs.declared.instruction.InstructionValue.{InstructionValue}
 use Rattle.rl_hir.specs.declared.instruction.InstructionValue.TheVariants as values
 use Rattle.rl_hir.specs.declared.instruction.Place.{Place}
+use Rattle.rl_hir.specs.declared.instruction.PlaceOrSpread.{PlaceOrSpread}
 use Rattle.rl_hir.specs.declared.instruction.PrimitiveValue.TheVariants as primitives
 use Rattle.rl_hir.specs.declared.terminal.Case.{Case}
 use Rattle.rl_hir.specs.declared.terminal.GotoVariant.TheVariants as gotos
@@ -40,14 +41,16 @@ use Rattle.rl_hir.specs.declared.terminal.TerminalKind.TheVariants as kinds
 use Rattle.rl_hir.specs.Pieces.{Piece}
 use Rattle.rl_lowered.proofs.Catches.{catch_declared, declares_caught, stores_caught}
 use Rattle.rl_lowered.proofs.ListingMoves.{beside, lists_beside, lists_completed, lists_entered, lists_for_opened, lists_if_ended}
+use Rattle.rl_lowered.proofs.ListingMoves.{lists_link}
 use Rattle.rl_lowered.proofs.ListingMoves.{lists_last, lists_logical_begun, lists_logical_ended, lists_logical_righted, lists_next}
 use Rattle.rl_lowered.proofs.ListingMoves.{lists_refl, lists_same, lists_scope_ended, lists_scope_left, lists_sequence_ended}
 use Rattle.rl_lowered.proofs.ListingMoves.{lists_ternary_alternated, lists_ternary_consequent, lists_then, lists_value}
-use Rattle.rl_lowered.specs.Forms.{IsForm, MemberKey, delete_of, load_of, store_of, typed}
+use Rattle.rl_lowered.specs.Forms.{Front, IsForm, MemberKey, call_of, delete_of, load_of, store_of, tested_front, typed}
 use Rattle.rl_lowered.specs.Forms as forms
 use Rattle.rl_lowered.specs.Listing.{ListsSince}
 use Rattle.rl_lowered.specs.Lowered.{Lowered, LoweredBody, LoweredCaseTest, LoweredCases, LoweredDeclarators, LoweredHead, LoweredInit}
-use Rattle.rl_lowered.specs.Lowered.{LoweredLast, LoweredLoop, LoweredParts, LoweredStatement, LoweredStatements, LoweredTest, assigned_to}
+use Rattle.rl_lowered.specs.Lowered.{LoweredFront, LoweredLast, LoweredLink, LoweredLoop, LoweredParts, LoweredSpine, LoweredStatement}
+use Rattle.rl_lowered.specs.Lowered.{LoweredStatements, LoweredTest, assigned_to, private_met}
 use Rattle.rl_lowered.specs.Lowered.{catch_begun, catch_bound, caught, declaring, found_again, member_assigned, member_computed}
 use Rattle.rl_lowered.specs.Lowered.{member_loaded, member_one, member_stored, member_updated, name_computed, name_reloaded, name_stored}
 use Rattle.rl_lowered.specs.Lowered.{part_span, promoted, throwing, throwing_under, update_of, value_span, variable_at}
@@ -55,6 +58,7 @@ use Rattle.rl_lowered.specs.Lowered as lowered
 use Rattle.rl_lowered.specs.Named.{found}
 use Rattle.rl_model.specs.Actions.{Label}
 use Rattle.rl_names.specs.Names.{Names}
+use Rattle.rl_optional_frames.specs.Frames.{link_at, link_objected}
 use Rattle.rl_promises.specs.Moved.{type_name}
 use Rattle.rl_promises.specs.Rows.{refusal, row_of_head}
 use Rattle.rl_runs.specs.Moves.{branch, ends_by, goto, last_hole, next_hole, return_of, returned_from, threw_from, without_handler}
@@ -85,6 +89,10 @@ form_plain : {w : Word} {fields parts : Pieces} {pieces : List Piece} {v : Instr
 form_plain (forms.Load {object} {key} is) = load_plain object key
 form_plain (forms.Delete operator {object} {key} is inside member) = delete_plain object key
 form_plain _ = refl
+
+call_plain : (front : Front) (given : List PlaceOrSpread) → is_function_expression (call_of front given) ≡ false
+call_plain (forms.Alone p) given = refl
+call_plain (forms.Lent receiver function) given = refl
 
 -- A look-up, a diagnostic, the type of a cast, the keyword of a declaration, and a value behind some of these.
 
@@ -261,6 +269,39 @@ mutual
       lists_then s (beside outer begun) _ (lists_entered s begun refl refl refl)
       (lists_then (beside outer begun) (beside outer s2) _ (lists_beside outer begun s2 (last_lists l))
       (lists_sequence_ended (sequence_at s at.span) s2 p at.span refl))
+  expression_lists (lowered.Chain at e s t p l) = spine_lists l
+
+  pub spine_lists : {names : Names} {below : Bool} {e : Syntax} {s t : State} {p : Place} → LoweredSpine names below e s t p
+      → ListsSince s t
+  spine_lists (lowered.Outermost e s t front p l) = link_lists l
+  spine_lists (lowered.Asserted at e s t p l) = spine_lists l
+  spine_lists (lowered.Broken at e s t p is l) =
+      lists_then s (recorded s (refusal row.F44 at.span)) t (lists_noted s (refusal row.F44 at.span)) (spine_lists l)
+
+  pub link_lists : {names : Names} {alternate : Option BlockId} {e : Syntax} {s t : State} {front : Front} {p : Place}
+      → LoweredLink names alternate e s t front p → ListsSince s t
+  link_lists (lowered.LinkedProperty alternate at w optional object rest parts pieces o key s t u is l more) =
+      let opened : State = link_objected (link_at s at.span optional alternate) t o in
+      lists_link alternate s t (with_value u (load_of o key) (Some at.span)) at.span optional o (temporary u (Some at.span)) (front_lists l)
+      (lists_then opened u _ (all_lists more) (lists_value u (load_of o key) (Some at.span) (load_plain o key)))
+  link_lists (lowered.LinkedPrivate alternate at optional object name o s t l) =
+      let opened : State = link_objected (link_at s at.span optional alternate) t o in
+      lists_link alternate s t (with_value (private_met opened at.span) (values.Primitive primitives.Undefined) (Some at.span)) at.span
+      optional o (temporary (private_met opened at.span) (Some at.span)) (front_lists l)
+      (lists_undefined opened (refusal row.F3 at.span) at.span)
+  link_lists (lowered.LinkedCall alternate at optional part es pieces given front s t u l more gathers) =
+      let opened : State = link_objected (link_at s at.span optional alternate) t (tested_front front) in
+      lists_link alternate s t (with_value u (call_of front given) (Some at.span)) at.span optional (tested_front front)
+      (temporary u (Some at.span)) (front_lists l)
+      (lists_then opened u _ (all_lists more) (lists_value u (call_of front given) (Some at.span) (call_plain front given)))
+
+  pub front_lists : {names : Names} {alternate : BlockId} {is_called : Bool} {e : Syntax} {s t : State} {front : Front}
+      → LoweredFront names alternate is_called e s t front → ListsSince s t
+  front_lists (lowered.FrontLink alternate is_called e s t front p l) = link_lists l
+  front_lists (lowered.FrontBroken alternate is_called at e s t p l) = spine_lists l
+  front_lists (lowered.FrontMethod alternate at w fields parts pieces object key s t is l) =
+      lists_then s t _ (all_lists l) (lists_value t (load_of object key) (Some at.span) (load_plain object key))
+  front_lists (lowered.FrontAlone alternate is_called e s t p is l) = expression_lists l
 
   pub all_lists : {names : Names} {of_object : Bool} {es : Pieces} {s t : State} {pieces : List Piece}
       → LoweredParts names of_object es s t pieces → ListsSince s t

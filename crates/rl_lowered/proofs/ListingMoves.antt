@@ -1,11 +1,11 @@
 -- The instructions that blocks list behind the moves of the frames and of the builder.
-use Rattle.std.proofs.Common.{◌≡◌, ℕ, ◌+◌, ◌<◌, ◌≤◌, ◌++◌, false, List, [], ◌∷◌, All, length, length-append, append-nil}
+use Rattle.std.proofs.Common.{◌≡◌, ℕ, ◌+◌, ◌<◌, ◌≤◌, ◌++◌, Bool, false, List, [], ◌∷◌, All, length, length-append, append-nil}
 use Rattle.std.proofs.Common.{Option, Some, None, refl, sym, ap, ◌∙◌, subst, arith}
 use Rattle.std.proofs.lemmas.List.Elements.{All-append, All-cons, All-head, All-nil, All-push, All-tail}
 use Rattle.rl_base.specs.declared.ids.BlockId.{BlockId}
 use Rattle.rl_base.specs.declared.ids.InstructionId.{InstructionId}
 use Rattle.rl_base.specs.declared.span.Span.{Span}
-use Rattle.rl_builder.specs.Builder.{State, completed_by, ended_by, innermost, maybe_throw, new_block, plainly_pushed, pushed}
+use Rattle.rl_builder.specs.Builder.{State, completed_by, ended_by, entered, innermost, maybe_throw, new_block, plainly_pushed, pushed}
 use Rattle.rl_builder.specs.Builder.{pushed_under, reserved, with_temporary}
 use Rattle.rl_builder.specs.declared.blocks.WipBlock.{WipBlock}
 use Rattle.rl_builder.specs.Dropped.{is_function_expression}
@@ -14,7 +14,7 @@ use Rattle.rl_frames.specs.Frames.{ForParts, IfParts, LogicalParts, SequencePart
 use Rattle.rl_frames.specs.Frames.{for_opened, if_ended}
 use Rattle.rl_frames.specs.Frames.{logical_ended, logical_righted}
 use Rattle.rl_frames.specs.Frames.{sequence_ended, ternary_alternated, ternary_aside, ternary_consequent}
-use Rattle.rl_frames.specs.Parts.{if_end}
+use Rattle.rl_frames.specs.Parts.{chain_begun, chain_reserved, chain_undefined, if_end, link_begun, link_end, link_finished, link_object}
 use Rattle.rl_frames.specs.Parts.{loads, logical_begun, logical_entered, logical_left, logical_place}
 use Rattle.rl_hir.specs.Blocks.{Pair as BlockPair}
 use Rattle.rl_hir.specs.declared.function.BlockKind.{BlockKind}
@@ -24,13 +24,17 @@ use Rattle.rl_hir.specs.declared.instruction.InstructionKind.TheVariants as vari
 use Rattle.rl_hir.specs.declared.instruction.InstructionValue.{InstructionValue}
 use Rattle.rl_hir.specs.declared.instruction.InstructionValue.TheVariants as values
 use Rattle.rl_hir.specs.declared.instruction.Place.{Place}
+use Rattle.rl_hir.specs.declared.instruction.PrimitiveValue.TheVariants as primitives
 use Rattle.rl_hir.specs.declared.terminal.GotoVariant.{GotoVariant}
 use Rattle.rl_hir.specs.declared.terminal.GotoVariant.TheVariants as gotos
 use Rattle.rl_hir.specs.declared.terminal.Terminal.{Terminal}
 use Rattle.rl_hir.specs.declared.terminal.TerminalKind.TheVariants as kinds
 use Rattle.rl_hir.specs.Numbered.{listed_in}
+use Rattle.rl_lowered.proofs.ChainFrames.{linked_state}
 use Rattle.rl_lowered.proofs.Occurring.{occurs_append, occurs_blocks, occurs_numbers, within_last, within_none, within_then}
 use Rattle.rl_lowered.specs.Listing.{ListsSince, ListsTable, all_listed, occurrences, one_within}
+use Rattle.rl_optional_frames.specs.Frames.{link_at, link_objected}
+use Rattle.rl_optional_frames.specs.Parts.{link_opened}
 use Rattle.rl_order.specs.Numbering.{orders_of}
 use Rattle.rl_runs.proofs.Listed.{ListsBelow, numbers, orders_append}
 use Rattle.rl_runs.specs.Listed.{AreBelow}
@@ -332,3 +336,47 @@ lists_sequence_ended f s value part none =
 
 pub lists_if_ended : (f : IfParts) (s : State) (test : Place) → f.behind.instructions ≡ [] → ListsSince s (if_ended f s test)
 lists_if_ended f s test none = lists_completed s (if_end f.behind.id.0 f.consequent f.alternate test f.span) f.behind none
+
+-- A link of an optional chain, from a state in which it may begin.
+link_from : (x s2 s4 : State) (optional : Bool) (f q a : ℕ) (kind : BlockKind) (span : Span) (object place value : Place)
+    → ListsSince (link_begun x) s2 → ListsSince (link_object s2 f q a span object) s4
+    → ListsSince x (link_finished s4 f x.env.next_block optional kind span place value x.current)
+link_from x s2 s4 optional f q a kind span object place value o k =
+    let outer : List InstructionId = x.current.instructions in
+    let opened : State = link_object s2 f q a span object in
+    let shut : State = last_hole (stored_in s4 place value span) f gotos.Break span x.current in
+    lists_then x (beside outer (link_begun x)) _ (lists_entered x (link_begun x) refl refl refl)
+    (lists_then (beside outer (link_begun x)) (beside outer s2) _ (lists_beside outer (link_begun x) s2 o)
+    (lists_then (beside outer s2) (beside outer opened) _
+    (lists_beside outer s2 opened (lists_completed s2 (branch object q a f span) (new_block q blocks.Value) refl))
+    (lists_then (beside outer opened) (beside outer s4) _ (lists_beside outer opened s4 k)
+    (lists_then (beside outer s4) shut _ (lists_stored_last s4 place value span span f x.current)
+    (lists_completed shut (link_end f x.env.next_block optional span) (new_block f kind) refl)))))
+
+-- The block in which a chain ends early.
+early_from : (s : State) (span : Span) → ListsSince (chain_reserved s span) (chain_begun s span)
+early_from s span =
+    let outer : List InstructionId = s.current.instructions in
+    let y : State = chain_reserved s span in
+    let begun : State = entered (reserved y) (new_block (s.env.next_block + 1 + 1) blocks.Value) in
+    let made : State = chain_undefined s span in
+    lists_then y (beside outer begun) _ (lists_entered y begun refl refl refl)
+    (lists_then (beside outer begun) (beside outer made) _
+    (lists_beside outer begun made (lists_value begun (values.Primitive primitives.Undefined) (Some span) refl))
+    (lists_stored_last made (temporary s (Some span)) (temporary y (Some span)) span span s.env.next_block s.current))
+
+pub lists_link : (alternate : Option BlockId) (s s2 s4 : State) (span : Span) (optional : Bool) (object value : Place)
+    → ListsSince (link_opened alternate s span) s2 → ListsSince (link_objected (link_at s span optional alternate) s2 object) s4
+    → ListsSince s (linked_state alternate s span optional s4 value)
+lists_link (Some alternate) s s2 s4 span optional object value o k =
+    let y : State = chain_reserved s span in
+    lists_then s y _ (lists_same s y refl)
+    (link_from y s2 s4 optional s.env.next_block (s.env.next_block + 1) alternate.0 s.current.kind span object (temporary s (Some span))
+    value o k)
+lists_link None s s2 s4 span optional object value o k =
+    let y : State = chain_reserved s span in
+    let x : State = chain_begun s span in
+    lists_then s y _ (lists_same s y refl)
+    (lists_then y x _ (early_from s span)
+    (link_from x s2 s4 optional s.env.next_block (s.env.next_block + 1) (s.env.next_block + 1 + 1) s.current.kind span object
+    (temporary s (Some span)) value o k))

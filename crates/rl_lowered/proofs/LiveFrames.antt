@@ -1,6 +1,7 @@
 -- Live instructions of constructs, from those of their parts.
 use Rattle.std.proofs.Common.{◌≡◌, ◌+◌, ◌++◌, Bool, true, false, List, [], ◌∷◌, Option, Some, if◌then◌else◌, refl, sym, subst, append-nil}
-use Rattle.std.proofs.lemmas.List.Elements.{All-append}
+use Rattle.std.proofs.Common.{All}
+use Rattle.std.proofs.lemmas.List.Elements.{All-append, All-cons, All-head, All-tail}
 use Rattle.std.specs.List.{list_any}
 use Rattle.rl_base.specs.declared.ids.BlockId.{BlockId}
 use Rattle.rl_base.specs.declared.operator.LogicalOperator.{LogicalOperator}
@@ -33,6 +34,14 @@ use Rattle.rl_runs.specs.Moves.{block_id, last_hole, stored_in}
 to_only : (b : BlockId) → list_any (same_id b) (b ∷ []) ≡ true
 to_only b = or_left (same_id b b) false (same_self b)
 
+-- One of some elements comes first.
+all_ahead : {K : Type 0} (P : K → Type 0) (xs ys : List K) (x : K) → All P (xs ++ x ∷ ys) → All P (x ∷ (xs ++ ys))
+all_ahead P [] ys x all = all
+all_ahead P (y ∷ xs) ys x all =
+    let rest = all_ahead P xs ys x (All-tail P y (xs ++ x ∷ ys) all) in
+    All-cons P x (y ∷ (xs ++ ys)) (All-head P x (xs ++ ys) rest)
+    (All-cons P y (xs ++ ys) (All-head P y (xs ++ x ∷ ys) all) (All-tail P x (xs ++ ys) rest))
+
 module _ {K : Type 0} (key_of : Instruction → Option K) where
   -- Moves without live instructions behind a part.
   pub lives_on : (s : State) {t u : State} {live : List K} {completes : Bool} → Extends t u → Passes t u
@@ -55,6 +64,13 @@ module _ {K : Type 0} (key_of : Instruction → Option K) where
     stands = λ c cover entry led. All-append (Stands key_of c entry) second first
         (l2.stands c cover entry (l1.onward refl c (contained_before g cover) entry led))
         (l1.stands c (contained_before g cover) entry led);
+  }
+
+  pub lives_first : (s t : State) (xs ys : List K) (x : K) → Lives key_of (xs ++ x ∷ ys) true s t
+      → Lives key_of (x ∷ (xs ++ ys)) true s t
+  lives_first s t xs ys x l = record {
+    onward = l.onward;
+    stands = λ c cover entry led. all_ahead (Stands key_of c entry) xs ys x (l.stands c cover entry led);
   }
 
   -- A value whose instruction has no key, or a key.

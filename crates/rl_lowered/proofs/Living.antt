@@ -1,6 +1,7 @@
 -- Live calls, constructions, awaits and stores have an instruction in a block that is reached, where nothing was refused.
 use Rattle.std.proofs.Common.{◌≡◌, ℕ, ◌++◌, Bool, true, false, List, [], ◌∷◌, Option, Some, None, codes, refl, sym, ap, ◌∙◌, subst}
 use Rattle.std.proofs.Common.{append-nil}
+use Rattle.rl_base.specs.declared.ids.BlockId.{BlockId}
 use Rattle.rl_base.specs.declared.ids.SymbolId.{SymbolId}
 use Rattle.rl_base.specs.declared.operator.AssignmentOperator.{AssignmentOperator}
 use Rattle.rl_base.specs.declared.operator.BinaryOperator.{BinaryOperator}
@@ -19,20 +20,30 @@ use Rattle.rl_hir.specs.declared.instruction.InstructionValue.TheVariants as val
 use Rattle.rl_hir.specs.declared.instruction.Place.{Place}
 use Rattle.rl_hir.specs.declared.instruction.PrimitiveValue.TheVariants as primitives
 use Rattle.rl_hir.specs.Pieces.{Piece}
-use Rattle.rl_lowered.proofs.Blocks.{all_blocks, blocks_cast, blocks_member, declarators_blocks, expression_blocks, last_blocks}
+use Rattle.rl_lowered.proofs.Blocks.{all_blocks, blocks_cast, blocks_member, declarators_blocks, expression_blocks, front_blocks}
+use Rattle.rl_lowered.proofs.Blocks.{last_blocks}
+use Rattle.rl_lowered.proofs.ChainFrames.{linked_lives}
 use Rattle.rl_lowered.proofs.Clean.{assigned_clean, assigned_member_clean, branches_clean, cast_clean, compound_clean}
 use Rattle.rl_lowered.proofs.Clean.{compound_member_clean, computed_row_clean, constant_assigned_never, constant_compound_never}
 use Rattle.rl_lowered.proofs.Clean.{constant_update_never, first_none, form_clean, fraction_row_never, method_clean, outer_never}
 use Rattle.rl_lowered.proofs.Clean.{private_assigned_never, private_clean, private_never, property_row_clean, refused_never, refusing_never}
 use Rattle.rl_lowered.proofs.Clean.{row_clean, second_none, spread_row_clean, unknown_row_never, updated_member_clean, wrapper_clean}
+use Rattle.rl_lowered.proofs.HeldParts.{call_link_held, link_held, link_word, member_held}
 use Rattle.rl_lowered.proofs.HeldParts.{HeldBy, IsHeldAs, Unheld, assigned_held, assigned_member_held, cast_held, compound_held}
 use Rattle.rl_lowered.proofs.HeldParts.{computed_held, declarator_held, form_held, form_span, form_word, literal_held, method_held}
 use Rattle.rl_lowered.proofs.HeldParts.{property_held, updated_held, wrapper_held}
-use Rattle.rl_lowered.proofs.LiveFrames.{lives_ahead, lives_on, logical_lives, sequence_lives, ternary_lives, value_keyed, value_keyless}
+use Rattle.rl_lowered.proofs.LiveFrames.{lives_ahead, lives_first, lives_on, logical_lives, sequence_lives, ternary_lives, value_keyed}
+use Rattle.rl_lowered.proofs.LiveFrames.{value_keyless}
 use Rattle.rl_lowered.proofs.Meant.{private_member_never}
 use Rattle.rl_lowered.proofs.Plain.{lowered_plain}
 use Rattle.rl_lowered.proofs.Refusals.{applied_plain}
-use Rattle.rl_lowered.specs.Forms.{IsPrivate, MemberKey, PrivateUpdate, applied_by, load_of, store_of, type_of, typed}
+use Rattle.rl_lowered.proofs.CleanChains.{asserted_clean, below_off, broken_never, call_link_clean, method_front_clean}
+use Rattle.rl_lowered.proofs.CleanChains.{private_link_never, property_link_clean, spine_place}
+use Rattle.rl_lowered.proofs.Spines.{outermost_clean}
+use Rattle.rl_lowered.specs.Forms.{Front, IsPrivate, MemberKey, PrivateUpdate, applied_by, call_of, load_of, store_of, tested_front}
+use Rattle.rl_lowered.specs.Forms.{type_of, typed}
+use Rattle.rl_lowered.specs.Lowered.{Asserted, Broken, Chain, FrontAlone, FrontBroken, FrontLink, FrontMethod, LinkedCall}
+use Rattle.rl_lowered.specs.Lowered.{LinkedPrivate, LinkedProperty, LoweredFront, LoweredLink, LoweredSpine, Outermost}
 use Rattle.rl_lowered.specs.Lowered.{Asked, AssignedConstant, AssignedGlobal, AssignedMember, AssignedPrivate, AssignedVariable, Cast}
 use Rattle.rl_lowered.specs.Lowered.{CompoundConstant, CompoundGlobal, CompoundMember, CompoundPrivate, CompoundVariable, Conditional}
 use Rattle.rl_lowered.specs.Lowered.{EarlierPart, Global, LastPart, Literal, Logical, Lowered, LoweredDeclarators, LoweredLast}
@@ -44,9 +55,11 @@ use Rattle.rl_lowered.specs.Lowered.{member_updated, name_computed, name_stored,
 use Rattle.rl_lowered.specs.Named.{found}
 use Rattle.rl_lowered.specs.Promised.{held_by, held_of}
 use Rattle.rl_names.specs.Names.{Names}
+use Rattle.rl_optional_frames.specs.Frames.{link_at, link_objected}
+use Rattle.rl_promises.specs.Chains.{Below, Top}
 use Rattle.rl_promises.specs.Live.{Held, held_among, held_as, held_in}
-use Rattle.rl_promises.specs.Rows.{refusals, refusals_in}
-use Rattle.rl_promises.specs.Tallies.{held_word}
+use Rattle.rl_promises.specs.Rows.{refusals, refusals_by, refusals_in}
+use Rattle.rl_promises.specs.Tallies.{call_word, held_word}
 use Rattle.rl_runs.proofs.Living.{lives_refl, lives_then}
 use Rattle.rl_runs.proofs.Moves.{extends_resolved, extends_then, extends_value}
 use Rattle.rl_runs.specs.Blocks.{Lives}
@@ -287,6 +300,51 @@ mutual
       lives_same (append-nil (held_in e ++ held_among es))
       (sequence_lives held_by s s2 p at.span at.span (held_in e ++ held_among es)
       (last_lives d (first_none (refusals_in names (Then e es)) [] none)))
+  expression_lives {names} (Chain at e s t p d) none =
+      lives_same (append-nil (held_in e)) (spine_lives d (first_none (refusals_by names Top e) [] none))
+
+  pub spine_lives : {names : Names} {below : Bool} {e : Syntax} {s t : State} {p : Place} → LoweredSpine names below e s t p
+      → refusals_by names (spine_place below) e ≡ [] → Lives held_by (held_in e) true s t
+  spine_lives (Outermost {below} e s t front p d) none = link_lives d (outermost_clean d below none)
+  spine_lives {names} (Asserted at e s t p d) none =
+      lives_same (append-nil (held_in e)) (spine_lives d (asserted_clean names at e none))
+  spine_lives {names} (Broken at e s t p is d) none = absurd (broken_never names at e is none)
+
+  pub link_lives : {names : Names} {alternate : Option BlockId} {e : Syntax} {s t : State} {front : Front} {p : Place}
+      → LoweredLink names alternate e s t front p → refusals_by names Below e ≡ [] → Lives held_by (held_in e) true s t
+  link_lives {names} (LinkedProperty alternate at w optional object rest parts pieces o key s t u is d ds) none =
+      let clean = property_link_clean is names Below refl at optional object none in
+      let opened : State = link_objected (link_at s at.span optional alternate) t o in
+      let loaded : State = with_value u (load_of o key) (Some at.span) in
+      let g : Extends u loaded = extends_value u (load_of o key) (Some at.span) in
+      lives_same (link_held is at optional object)
+      (linked_lives held_by alternate s t loaded at.span optional o (temporary u (Some at.span)) (held_in object) (held_among parts)
+      (front_blocks d).extends (extends_then (all_blocks ds).extends g) (front_lives d clean.0)
+      (lives_behind opened g (value_keyless held_by u (load_of o key) (Some at.span)) (all_lives ds clean.1)))
+  link_lives {names} (LinkedPrivate alternate at optional object name o s t d) none =
+      absurd (private_link_never names Below at (Flag optional) object (Said name) none)
+  link_lives {names} (LinkedCall alternate at optional callee es pieces given front s t u d ds is) none =
+      let clean = call_link_clean names Below refl at optional callee es none in
+      let call : Held = record { word = call_word callee; span = at.span } in
+      let opened : State = link_objected (link_at s at.span optional alternate) t (tested_front front) in
+      let called : State = with_value u (call_of front given) (Some at.span) in
+      let g : Extends u called = extends_value u (call_of front given) (Some at.span) in
+      lives_same (call_link_held at optional callee es)
+      (lives_first held_by s _ (held_in callee) (held_among es) call
+      (linked_lives held_by alternate s t called at.span optional (tested_front front) (temporary u (Some at.span)) (held_in callee)
+      (call ∷ held_among es) (front_blocks d).extends (extends_then (all_blocks ds).extends g) (front_lives d clean.0)
+      (lives_ahead held_by opened u called (held_among es) (call ∷ []) g (all_lives ds clean.1)
+      (computed_lives (Some (call_word callee)) u (call_of front given) at.span (link_word d given)))))
+
+  pub front_lives : {names : Names} {alternate : BlockId} {is_called : Bool} {e : Syntax} {s t : State} {front : Front}
+      → LoweredFront names alternate is_called e s t front → refusals_by names Below e ≡ [] → Lives held_by (held_in e) true s t
+  front_lives (FrontLink alternate is_called e s t front p d) none = link_lives d none
+  front_lives (FrontBroken alternate is_called at e s t p d) none = spine_lives d none
+  front_lives {names} (FrontMethod alternate at w fields parts pieces object key s t is d) none =
+      lives_same (member_held is at)
+      (lives_behind s (extends_value t (load_of object key) (Some at.span)) (value_keyless held_by t (load_of object key) (Some at.span))
+      (all_lives d (method_front_clean is names at none)))
+  front_lives {names} (FrontAlone alternate is_called e s t p other d) none = expression_lives d (below_off names e none)
 
   pub all_lives : {names : Names} {of_object : Bool} {es : Pieces} {s t : State} {pieces : List Piece}
       → LoweredParts names of_object es s t pieces → refusals_in names es ≡ [] → Lives held_by (held_among es) true s t

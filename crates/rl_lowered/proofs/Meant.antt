@@ -36,7 +36,7 @@ use Rattle.rl_syntax.specs.Syntax.{Syntax, Node, Said, Flag, Pieces, End, Then}
 use Rattle.rl_text.specs.Numeral.{number_of}
 
 -- A key in brackets that is neither a numeral nor refused is computed.
-computed_there : (names : Names) (property : Syntax) (computed : Action Value) → is_number_key property ≡ false
+pub computed_there : (names : Names) (property : Syntax) (computed : Action Value) → is_number_key property ≡ false
     → refusals names property ≡ []
     → key_in property computed ≡ (computed >>= (λ v. give (computed_key v)))
 computed_there names (Node at word.Num (Then (Said text) End)) computed other none =
@@ -116,7 +116,7 @@ form_unlinked : {w : Word} {fields parts : Pieces} {pieces : List Piece} {v : In
 form_unlinked (forms.Load is) at plain = absurd (different (sym (member_called is at) ∙ plain))
 form_unlinked _ at plain = refl
 
-unlinked : {names : Names} {e : Syntax} {s t : State} {p : Place} → Lowered names e s t p → refusals names e ≡ []
+pub unlinked : {names : Names} {e : Syntax} {s t : State} {p : Place} → Lowered names e s t p → refusals names e ≡ []
     → call_word e ≡ codes "call" → is_link e ≡ false
 unlinked (lowered.Literal at w fields p s is) none plain = literal_unlinked is at
 unlinked {names} (lowered.Refused at w fields r s is) none plain = absurd (refused_never names at is none)

@@ -7,6 +7,7 @@ use Rattle.std.proofs.lemmas.List.Elements.{All-push}
 use Rattle.std.proofs.lemmas.Option.{cond_some, same_Some}
 use Rattle.std.specs.Str.{bytes_eq}
 use Rattle.rl_base.specs.declared.diagnostic.Diagnostic.{Diagnostic}
+use Rattle.rl_base.specs.declared.ids.BlockId.{BlockId}
 use Rattle.rl_base.specs.declared.ids.SymbolId.{SymbolId}
 use Rattle.rl_base.specs.declared.span.Span.{Span}
 use Rattle.rl_builder.specs.Builder.{State, recorded, with_temporary}
@@ -23,19 +24,21 @@ use Rattle.rl_hir.specs.declared.instruction.Place.{Place}
 use Rattle.rl_hir.specs.declared.terminal.Case.{Case}
 use Rattle.rl_hir.specs.Pairs.{identifier_of, pair}
 use Rattle.rl_hir.specs.Pieces.{Piece}
-use Rattle.rl_lowered.proofs.Carried.{IsCarried, Naming, naming, all_carried, body_carried, carried_catch_begun, carried_logical_begun}
-use Rattle.rl_lowered.proofs.Carried.{carried_logical_righted, carried_sequence_begun, carried_ternary_alternated, carried_ternary_begun}
-use Rattle.rl_lowered.proofs.Carried.{carried_ternary_consequent, carried_value, case_test_carried, cases_carried, expression_carried}
-use Rattle.rl_lowered.proofs.Carried.{head_carried, init_carried, last_carried, loop_carried, statement_carried, statements_carried}
-use Rattle.rl_lowered.proofs.Carried.{test_carried}
+use Rattle.rl_lowered.proofs.Carried.{IsCarried, Naming, naming, all_carried, body_carried, carried_catch_begun, carried_link_opened}
+use Rattle.rl_lowered.proofs.Carried.{carried_logical_begun, carried_logical_righted, carried_sequence_begun, carried_ternary_alternated}
+use Rattle.rl_lowered.proofs.Carried.{carried_ternary_begun, carried_ternary_consequent, carried_value, case_test_carried, cases_carried}
+use Rattle.rl_lowered.proofs.Carried.{expression_carried, front_carried, head_carried, init_carried, last_carried, link_carried}
+use Rattle.rl_lowered.proofs.Carried.{loop_carried, spine_carried, statement_carried, statements_carried, test_carried}
 use Rattle.rl_lowered.proofs.Catches.{length_promoted}
 use Rattle.rl_lowered.proofs.Redeclared.{names_redeclared}
-use Rattle.rl_lowered.specs.Lowered.{Lowered, LoweredBody, LoweredCaseTest, LoweredCases, LoweredHead, LoweredInit, LoweredLast}
-use Rattle.rl_lowered.specs.Lowered.{LoweredLoop, LoweredParts, LoweredStatement, LoweredStatements, LoweredTest, catch_begun, found_again}
-use Rattle.rl_lowered.specs.Lowered.{promoted}
+use Rattle.rl_lowered.specs.Forms.{Front}
+use Rattle.rl_lowered.specs.Lowered.{Lowered, LoweredBody, LoweredCaseTest, LoweredCases, LoweredFront, LoweredHead, LoweredInit}
+use Rattle.rl_lowered.specs.Lowered.{LoweredLast, LoweredLink, LoweredLoop, LoweredParts, LoweredSpine, LoweredStatement}
+use Rattle.rl_lowered.specs.Lowered.{LoweredStatements, LoweredTest, catch_begun, found_again, promoted}
 use Rattle.rl_lowered.specs.Named.{IsFound, IsNamed, KeepsNames, declared_span, found}
 use Rattle.rl_model.specs.Actions.{Label}
 use Rattle.rl_names.specs.Names.{Names}
+use Rattle.rl_optional_frames.specs.Parts.{link_opened}
 use Rattle.rl_promises.specs.Fields.{IsNamedPair, name_at}
 use Rattle.rl_promises.specs.Locals.{IsVariable}
 use Rattle.rl_runs.proofs.Steps.{get_more}
@@ -296,10 +299,26 @@ names_sequence_begun s span = carried_sequence_begun names_carried s span
 pub names_catch_begun : {names : Names} (s : State) (param : Span) → KeepsNames names s (catch_begun s param)
 names_catch_begun s param = carried_catch_begun names_carried s param
 
+pub names_link_opened : {names : Names} (alternate : Option BlockId) (s : State) (span : Span)
+    → KeepsNames names s (link_opened alternate s span)
+names_link_opened alternate s span = carried_link_opened names_carried alternate s span
+
 -- Parts.
 
 pub expression_names : {names : Names} {e : Syntax} {s t : State} {p : Place} → Lowered names e s t p → KeepsNames names s t
 expression_names l = expression_carried names_carried l
+
+pub spine_names : {names : Names} {below : Bool} {e : Syntax} {s t : State} {p : Place} → LoweredSpine names below e s t p
+    → KeepsNames names s t
+spine_names l = spine_carried names_carried l
+
+pub link_names : {names : Names} {alternate : Option BlockId} {e : Syntax} {s t : State} {front : Front} {p : Place}
+    → LoweredLink names alternate e s t front p → KeepsNames names s t
+link_names l = link_carried names_carried l
+
+pub front_names : {names : Names} {alternate : BlockId} {called : Bool} {e : Syntax} {s t : State} {front : Front}
+    → LoweredFront names alternate called e s t front → KeepsNames names s t
+front_names l = front_carried names_carried l
 
 pub all_names : {names : Names} {of_object : Bool} {es : Pieces} {s t : State} {pieces : List Piece}
     → LoweredParts names of_object es s t pieces → KeepsNames names s t

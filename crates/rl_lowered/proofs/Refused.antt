@@ -18,13 +18,14 @@ use Rattle.rl_base.specs.Diagnostics.{diagnostic_at}
 use Rattle.rl_base.specs.Operators.{update_text}
 use Rattle.rl_base.specs.VariableKinds.{variable_text}
 use Rattle.rl_bindings.specs.declared.event.Bound.{Bound}
-use Rattle.rl_builder.specs.Builder.{State, innermost, pushed, pushed_under, recorded, reserved, with_temporary}
+use Rattle.rl_builder.specs.Builder.{State, entered, innermost, new_block, pushed, pushed_under, recorded, reserved, with_temporary}
 use Rattle.rl_builder.specs.Names.{fbt_label, resolved_by}
 use Rattle.rl_builder.specs.Temporaries.{temporary, unordered, with_value}
 use Rattle.rl_frames.specs.Frames.{LogicalParts, TernaryParts, logical_at, sequence_at, ternary_at}
-use Rattle.rl_frames.specs.Parts.{loads, logical_begun, logical_entered, logical_left, logical_place, try_handler}
+use Rattle.rl_frames.specs.Parts.{chain_reserved, loads, logical_begun, logical_entered, logical_left, logical_place, try_handler}
 use Rattle.rl_frames.specs.Rounds.{ForOfParts, RoundsParts, forin_at, forin_headed, forof_at, forof_headed, forof_iterator, forof_shut}
 use Rattle.rl_frames.specs.Rounds.{forof_tested, rounds_shut}
+use Rattle.rl_hir.specs.declared.function.BlockKind.TheVariants as blocks
 use Rattle.rl_hir.specs.declared.instruction.Instruction.{Instruction}
 use Rattle.rl_hir.specs.declared.instruction.InstructionKind.{InstructionKind}
 use Rattle.rl_hir.specs.declared.instruction.InstructionKind.TheVariants as variables
@@ -38,6 +39,7 @@ use Rattle.rl_hir.specs.Pieces.{Piece}
 use Rattle.rl_lowered.proofs.Blocks.{blocks_caught, cases_blocks, declares_of, expression_blocks, init_blocks, statement_blocks}
 use Rattle.rl_lowered.proofs.Catches.{catch_declared, declares_caught, stores_caught}
 use Rattle.rl_lowered.proofs.Clean.{finalizer_said}
+use Rattle.rl_lowered.proofs.CleanChains.{spine_place}
 use Rattle.rl_lowered.proofs.Plain.{init_said, lowered_plain, test_unsaid}
 use Rattle.rl_lowered.proofs.Refusals.{assigned_member_refuses, bind_refuses, cast_refuses, compound_member_refuses, compound_refuses}
 use Rattle.rl_lowered.proofs.Refusals.{computed_refuses, constant_refuses, declared_head_refuses, form_refuses, fraction_refuses}
@@ -45,8 +47,10 @@ use Rattle.rl_lowered.proofs.Refusals.{literal_refuses, lost_head_refuses, membe
 use Rattle.rl_lowered.proofs.Refusals.{outer_head_refuses, outer_refuses, private_refuses, property_refuses, refused_refuses}
 use Rattle.rl_lowered.proofs.Refusals.{refusing_refuses, stored_head_refuses, unknown_refuses, update_refuses, updated_member_refuses}
 use Rattle.rl_lowered.proofs.Refusals.{wrapper_refuses}
-use Rattle.rl_lowered.specs.Forms.{IsAnnotation, MemberKey, load_of, store_of, typed}
+use Rattle.rl_lowered.proofs.Spines.{broken_refuses, front_refuses, link_refuses, lowered_off, outermost_refuses}
+use Rattle.rl_lowered.specs.Forms.{Front, IsAnnotation, MemberKey, call_of, load_of, store_of, typed}
 use Rattle.rl_lowered.specs.Lowered.{Lowered, LoweredBody, LoweredCaseTest, LoweredCases, LoweredDeclarators, LoweredHead, LoweredInit}
+use Rattle.rl_lowered.specs.Lowered.{LoweredFront, LoweredLink, LoweredSpine, private_met}
 use Rattle.rl_lowered.specs.Lowered.{LoweredLast, LoweredLoop, LoweredParts, LoweredStatement, LoweredStatements, LoweredTest, catch_begun}
 use Rattle.rl_lowered.specs.Lowered.{catch_bound, declaring, found_again, label_part, member_computed, member_loaded, member_one}
 use Rattle.rl_lowered.specs.Lowered.{member_stored, member_updated, name_computed, name_stored, promoted, throwing, throwing_under}
@@ -56,10 +60,14 @@ use Rattle.rl_lowered.specs.Named.{IsFound, TellDeclarations, found}
 use Rattle.rl_model.specs.Actions.{Label}
 use Rattle.rl_names.specs.declared.names.Meaning.TheVariants.{Local}
 use Rattle.rl_names.specs.Names.{Names}
+use Rattle.rl_optional_frames.specs.Frames.{LinkParts, link_after, link_at, link_ended, link_objected}
+use Rattle.rl_optional_frames.specs.Parts.{link_opened, undefined_made}
 use Rattle.rl_promises.proofs.Covering.{none_in}
+use Rattle.rl_promises.specs.Chains.{Below, Top}
 use Rattle.rl_promises.specs.Moved.{may_move, said_of_moved, type_name}
 use Rattle.rl_promises.specs.Rows.{IsTold, Nothing, Records, Renamed, Told, label_of, refusal, refusals, refusals_among, refusals_at}
-use Rattle.rl_promises.specs.Rows.{refusals_at_head, refusals_in, refusals_in_body, refusals_in_cases, row_of_head, said_of_init}
+use Rattle.rl_promises.specs.Rows.{refusals_at_head, refusals_by, refusals_in, refusals_in_body, refusals_in_cases, row_of_head}
+use Rattle.rl_promises.specs.Rows.{said_of_init}
 use Rattle.rl_promises.specs.Rows.{said_of_local, said_of_test, said_of_throw}
 use Rattle.rl_resolver.specs.Lookups.{declaration_ident}
 use Rattle.rl_runs.proofs.Holes.{last_added}
@@ -150,6 +158,19 @@ member_said t object key operator there =
     value_said updated (store_of object key (temporary one (Some there))) (Some there)
     ∙ value_said one _ (Some there) ∙ value_said loaded (values.Primitive (primitives.Number 1)) None
     ∙ value_said t (load_of object key) (Some there)
+
+-- A link of a chain begins, and ends.
+
+link_opened_said : (alternate : Option BlockId) (s : State) (span : Span) → said (link_opened alternate s span) ≡ said s
+link_opened_said None s span =
+    let x : State = chain_reserved s span in
+    let begun : State = entered (reserved x) (new_block x.env.next_block blocks.Value) in
+    stored_said (undefined_made begun span) (temporary s (Some span)) (temporary x (Some span)) span
+    ∙ value_said begun (values.Primitive primitives.Undefined) (Some span)
+link_opened_said (Some given) s span = refl
+
+link_ended_said : (f : LinkParts) (s : State) (value : Place) → said (link_ended f s value) ≡ said s
+link_ended_said f s value = stored_said s f.place value f.span
 
 -- A diagnostic, and a value behind it.
 noted_said : (s : State) (d : Diagnostic) (v : InstructionValue) (span : Option Span)
@@ -369,6 +390,59 @@ mutual
   expression_refused {names} (lowered.Sequence at e es s s2 p l) =
       records_behind _ (said s) (said s2) _ (stored_said s2 (sequence_at s at.span).place p at.span)
       (records_unit (refusals_in names (Then e es)) (said s) (said s2) (last_refused l))
+  expression_refused {names} (lowered.Chain at e s t p l) = records_unit (refusals_by names Top e) (said s) (said t) (spine_refused l)
+
+  -- A chain, by its links.
+
+  pub spine_refused : {names : Names} {below : Bool} {e : Syntax} {s t : State} {p : Place} → LoweredSpine names below e s t p
+      → Records (refusals_by names (spine_place below) e) (said s) (said t)
+  spine_refused (lowered.Outermost {below} e s t front p l) =
+      records_same _ _ (said s) (said t) (outermost_refuses l below) (link_refused l)
+  spine_refused {names} (lowered.Asserted at e s t p l) = records_unit (refusals_by names Top e) (said s) (said t) (spine_refused l)
+  spine_refused {names} (lowered.Broken at e s t p is l) =
+      let d : Diagnostic = refusal row.F44 at.span in
+      records_same _ _ (said s) (said t) (broken_refuses names at e is)
+      (records_unit (d ∷ refusals_by names Below e) (said s) (said t)
+      (records_then (d ∷ []) (refusals_by names Below e) (said s) (said (recorded s d)) (said t) (records_all (d ∷ []) (said s) _ refl)
+      (spine_refused l)))
+
+  pub link_refused : {names : Names} {alternate : Option BlockId} {e : Syntax} {s t : State} {front : Front} {p : Place}
+      → LoweredLink names alternate e s t front p → Records (refusals_by names Below e) (said s) (said t)
+  link_refused {names} (lowered.LinkedProperty alternate at w optional object rest parts pieces o key s t u is l more) =
+      let f : LinkParts = link_after (link_at s at.span optional alternate) in
+      let loaded : State = with_value u (load_of o key) (Some at.span) in
+      records_same _ _ (said s) _ (link_refuses names Below at optional object is)
+      (records_behind _ (said s) (said u) _
+      (link_ended_said f loaded (temporary u (Some at.span)) ∙ value_said u (load_of o key) (Some at.span))
+      (records_then (refusals_by names Below object) (refusals_in names parts) (said s) (said t) (said u)
+      (records_before _ (said s) _ (said t) (link_opened_said alternate s at.span) (front_refused l)) (all_refused more)))
+  link_refused {names} (lowered.LinkedPrivate alternate at optional object name o s t l) =
+      let f : LinkParts = link_at s at.span optional alternate in
+      let x : State = link_objected f t o in
+      let met : State = private_met x at.span in
+      let made : State = with_value met (values.Primitive primitives.Undefined) (Some at.span) in
+      records_behind _ (said s) (said made) _ (link_ended_said (link_after f) made (temporary met (Some at.span)))
+      (records_then (refusals_by names Below object) (refusal row.F3 at.span ∷ []) (said s) (said t) _
+      (records_before _ (said s) _ (said t) (link_opened_said alternate s at.span) (front_refused l))
+      (noted_said x (refusal row.F3 at.span) (values.Primitive primitives.Undefined) (Some at.span)))
+  link_refused {names} (lowered.LinkedCall alternate at optional callee es pieces given front s t u l more is) =
+      let f : LinkParts = link_after (link_at s at.span optional alternate) in
+      let called : State = with_value u (call_of front given) (Some at.span) in
+      records_behind _ (said s) (said u) _
+      (link_ended_said f called (temporary u (Some at.span)) ∙ value_said u (call_of front given) (Some at.span))
+      (records_then (refusals_by names Below callee) (refusals_in names es ++ []) (said s) (said t) (said u)
+      (records_before _ (said s) _ (said t) (link_opened_said alternate s at.span) (front_refused l))
+      (records_unit (refusals_in names es) (said t) (said u) (all_refused more)))
+
+  pub front_refused : {names : Names} {alternate : BlockId} {called : Bool} {e : Syntax} {s t : State} {front : Front}
+      → LoweredFront names alternate called e s t front → Records (refusals_by names Below e) (said s) (said t)
+  front_refused (lowered.FrontLink alternate called e s t front p l) = link_refused l
+  front_refused (lowered.FrontBroken alternate called at e s t p l) = spine_refused l
+  front_refused (lowered.FrontMethod alternate at w fields parts pieces object key s t is l) =
+      records_same _ _ (said s) _ (front_refuses is l at)
+      (records_behind _ (said s) (said t) _ (value_said t (load_of object key) (Some at.span)) (all_refused l))
+  front_refused (lowered.FrontAlone alternate called e s t p other l) =
+      records_same _ _ (said s) (said t) (lowered_off l).below (expression_refused l)
 
   pub all_refused : {names : Names} {of_object : Bool} {es : Pieces} {s t : State} {pieces : List Piece}
       → LoweredParts names of_object es s t pieces → Records (refusals_in names es) (said s) (said t)

@@ -1,7 +1,8 @@
 -- Lowered expressions have the runs of the source, where nothing of them was refused.
-use Rattle.std.proofs.Common.{◌≡◌, ℕ, ◌++◌, Bool, true, false, if◌then◌else◌, is_some, List, [], ◌∷◌, length, map, codes, Option, Some, refl, sym}
-use Rattle.std.proofs.Common.{ap, ◌∙◌, subst}
+use Rattle.std.proofs.Common.{◌≡◌, ℕ, ◌++◌, ◌&&◌, Bool, true, false, if◌then◌else◌, is_some, List, [], ◌∷◌, length, map}
+use Rattle.std.proofs.Common.{codes, Option, Some, refl, sym, ap, ◌∙◌, subst}
 use Rattle.rl_base.specs.Operators.{logical_text, operator_text, update_text}
+use Rattle.rl_base.specs.declared.ids.BlockId.{BlockId}
 use Rattle.rl_base.specs.declared.ids.SymbolId.{SymbolId}
 use Rattle.rl_base.specs.declared.operator.LogicalOperator.{LogicalOperator}
 use Rattle.rl_base.specs.declared.operator.LogicalOperator.TheVariants as logical
@@ -30,24 +31,32 @@ use Rattle.rl_hir.specs.Instructions.{binding_texts}
 use Rattle.rl_hir.specs.Pieces.{Piece, argument_pieces, gathered, property_pieces, texts}
 use Rattle.rl_lowered.proofs.AssignmentRuns.{assigned_member_runs, behind_runs, combined, combined_runs, compound_member_runs}
 use Rattle.rl_lowered.proofs.AssignmentRuns.{name_compound, name_written, outer_runs, reloaded_runs, variable_runs}
-use Rattle.rl_lowered.proofs.Blocks.{all_blocks, expression_blocks, last_blocks}
+use Rattle.rl_lowered.proofs.Blocks.{all_blocks, expression_blocks, front_blocks, last_blocks}
+use Rattle.rl_lowered.proofs.ChainRuns.{LinkRuns, alone_front, asserted_never, call_hands, call_link, call_means, call_runs, front_action}
+use Rattle.rl_lowered.proofs.ChainRuns.{front_identifiers, front_unlinked, link_front, link_lends, link_means, links_of_all}
+use Rattle.rl_lowered.proofs.ChainRuns.{method_front_runs, property_hands, property_link, property_means, property_runs}
 use Rattle.rl_lowered.proofs.Clean.{assigned_clean, assigned_member_clean, branches_clean, cast_clean, compound_clean}
 use Rattle.rl_lowered.proofs.Clean.{compound_member_clean, computed_row_clean, constant_assigned_never, constant_compound_never}
 use Rattle.rl_lowered.proofs.Clean.{constant_update_never, first_none, form_clean, fraction_row_never, method_clean, outer_never}
 use Rattle.rl_lowered.proofs.Clean.{private_assigned_never, private_clean, private_never, property_row_clean, refused_never, refusing_never}
 use Rattle.rl_lowered.proofs.Clean.{second_none, unknown_row_never, updated_member_clean, wrapper_clean}
+use Rattle.rl_lowered.proofs.CleanChains.{asserted_clean, below_off, broken_never, call_link_clean, method_front_clean}
+use Rattle.rl_lowered.proofs.CleanChains.{private_link_never, property_link_clean, spine_below, spine_place}
 use Rattle.rl_lowered.proofs.Forms.{event_with, form_acts, form_event, given_values, identifiers_in, key_by, load_acts, object_acts, store_acts}
 use Rattle.rl_lowered.proofs.Keys.{HasText, Name, has_text}
 use Rattle.rl_lowered.proofs.Living.{private_compound_never}
 use Rattle.rl_lowered.proofs.Meant.{form_means, member_means, private_member_never}
 use Rattle.rl_lowered.proofs.Plain.{all_shapes, first_value, lowered_plain}
 use Rattle.rl_lowered.specs.Forms.{IsCast, IsLiteral, IsMember, IsWrapper, MemberKey, load_of, places_in, store_of, type_of, typed}
+use Rattle.rl_lowered.specs.Forms.{Alone, Front, call_of, handed_on, is_property, tested_front}
 use Rattle.rl_lowered.specs.Forms.{As, Boolean, Computed, Fixed, Indexed, Null, Number, Numbered, Parenthesized, Static, String}
 use Rattle.rl_lowered.specs.Lowered.{Asked, Cast, Conditional, EarlierPart, Global, LastPart, Literal, Logical, Lowered, LoweredLast}
 use Rattle.rl_lowered.specs.Lowered.{LoweredParts, Method, NextComputed, NextFraction, NextHole, NextPart, NextProperty, NextSpread}
 use Rattle.rl_lowered.specs.Lowered.{NextUnknown, NoPart, Object, Private, Refused, RefusedBefore, RefusedBehind, RefusedGlobal, Same}
 use Rattle.rl_lowered.specs.Lowered.{AssignedConstant, AssignedGlobal, AssignedMember, AssignedPrivate, AssignedVariable}
 use Rattle.rl_lowered.specs.Lowered.{CompoundConstant, CompoundGlobal, CompoundMember, CompoundPrivate, CompoundVariable}
+use Rattle.rl_lowered.specs.Lowered.{Asserted, Broken, Chain, FrontAlone, FrontBroken, FrontLink, FrontMethod, LinkedCall, LinkedPrivate}
+use Rattle.rl_lowered.specs.Lowered.{LinkedProperty, LoweredFront, LoweredLink, LoweredSpine, Outermost}
 use Rattle.rl_lowered.specs.Lowered.{Sequence, UpdatedConstant, UpdatedMember, UpdatedVariable, Variable}
 use Rattle.rl_lowered.specs.Lowered.{binary_of, member_one, member_result, member_stored, name_computed, update_of, value_span}
 use Rattle.rl_lowered.specs.Named.{IsFound, found}
@@ -57,7 +66,7 @@ use Rattle.rl_machine.specs.declared.trace.Event.{Event}
 use Rattle.rl_machine.specs.declared.trace.Value.{Value}
 use Rattle.rl_machine.specs.Traces.{Store, ValueCont, World}
 use Rattle.rl_machine.specs.declared.trace.Value.TheVariants as value
-use Rattle.rl_model.specs.Actions.{Action, Ways, ◌>>=◌, ask, give, no_meaning}
+use Rattle.rl_model.specs.Actions.{Action, Ways, ◌>>=◌, ask, chained, give, no_meaning}
 use Rattle.rl_model.specs.Events.{event, global, load}
 use Rattle.rl_model.specs.Expressions.{call_kind, callee, eval, eval_last, first_piece, one_value, place, property_key, read}
 use Rattle.rl_model.specs.Expressions.{update_name, update_property, values as values_in}
@@ -66,14 +75,19 @@ use Rattle.rl_model.specs.Shapes.{first_character, is_computed, key_text, lends_
 use Rattle.rl_names.specs.Names.{Names}
 use Rattle.rl_names.specs.declared.names.Meaning.{Meaning}
 use Rattle.rl_names.specs.declared.names.Meaning.TheVariants.{Local, Outer}
-use Rattle.rl_promises.specs.Rows.{refusals, refusals_in}
+use Rattle.rl_optional_frames.proofs.Taken.{links_same}
+use Rattle.rl_optional_frames.specs.Frames.{link_at, link_objected}
+use Rattle.rl_promises.specs.Chains.{Below, Spine, Top, below_link}
+use Rattle.rl_promises.specs.Rows.{refusals, refusals_by, refusals_in}
 use Rattle.rl_runs.proofs.Expressions.{all_asked, literal_runs, means_same, next_runs, none_run}
+use Rattle.rl_runs.proofs.Links.{link_plain, links_one}
 use Rattle.rl_runs.proofs.Moves.{extends_refl, extends_resolved, extends_then, extends_value}
+use Rattle.rl_runs.proofs.Preserving.{blocks_then, blocks_value}
 use Rattle.rl_runs.proofs.Properties.{method_runs, property_postfix_runs, property_prefix_runs}
 use Rattle.rl_runs.proofs.Types.{cast_runs, variable_cast_runs}
 use Rattle.rl_runs.proofs.Variables.{postfix_runs, prefix_runs, read_runs}
 use Rattle.rl_runs.specs.Facts.{Extends}
-use Rattle.rl_runs.specs.Simulation.{RunsAll, RunsExpression}
+use Rattle.rl_runs.specs.Simulation.{RunsAll, RunsExpression, RunsLinks}
 use Rattle.rl_syntax.specs.declared.numbered.At.{At}
 use Rattle.rl_syntax.specs.declared.word.Word.{Word}
 use Rattle.rl_syntax.specs.declared.word.Word.TheVariants as word
@@ -443,6 +457,80 @@ mutual
   expression_runs {names} (Sequence at e es s s2 p by) none scene same ported =
       sequence_runs s s2 p at.span at.span (last_blocks by).extends scene.world (eval_last scene (Then e es))
       (last_runs by (first_none (refusals_in names (Then e es)) [] none) scene same ported)
+  expression_runs {names} (Chain at e s t p by) none scene same ported =
+      spine_runs by (first_none (refusals_by names Top e) [] none) scene same ported
+
+  pub spine_runs : {names : Names} {below : Bool} {e : Syntax} {s t : State} {p : Place} → LoweredSpine names below e s t p
+      → refusals_by names (spine_place below) e ≡ [] → (scene : Scene) → scene.names ≡ names → scene.ported ≡ true
+      → RunsExpression scene.world (chained value.Undefined (eval scene e)) s t p.identifier.0
+  spine_runs {below} (Outermost e s t front p by) none scene same ported =
+      link_runs by (spine_place below) (spine_below below) none scene same ported
+  spine_runs {names} (Asserted at e s t p by) none scene same ported = spine_runs by (asserted_clean names at e none) scene same ported
+  spine_runs {names} (Broken at e s t p is by) none scene same ported = absurd (broken_never names at e is none)
+
+  pub link_runs : {names : Names} {alternate : Option BlockId} {e : Syntax} {s t : State} {front : Front} {p : Place}
+      → LoweredLink names alternate e s t front p → (stands : Spine) → below_link stands ≡ Below → refusals_by names stands e ≡ []
+      → (scene : Scene) → scene.names ≡ names → scene.ported ≡ true → LinkRuns scene alternate e s t front p
+  link_runs {names} (LinkedProperty alternate at w optional object rest parts pieces o key s t u is by all) stands below none scene same
+      ported =
+      let clean = property_link_clean is names stands below at optional object none in
+      let opened : State = link_objected (link_at s at.span optional alternate) t o in
+      link_means scene alternate (Node at w (Then (Flag optional) (Then object rest))) s t
+      (with_value u (load_of o key) (Some at.span)) at.span optional (Alone o) (temporary u (Some at.span))
+      (one_value (eval scene object)) (property_link scene key parts)
+      (record {
+        opened = front_blocks by;
+        linked = blocks_then opened u _ (all_blocks all) (blocks_value u (load_of o key) (Some at.span));
+        object = front_runs by clean.0 scene same ported;
+        link = property_runs is scene opened u o at.span (all_blocks all).extends (all_runs all clean.1 scene same ported);
+      })
+      (property_means is all clean.1 scene at optional object)
+      (property_hands is at (Then (Flag optional) (Then object rest)) s at.span o)
+  link_runs {names} (LinkedPrivate alternate at optional object name o s t by) stands below none scene same ported =
+      absurd (private_link_never names stands at (Flag optional) object (Said name) none)
+  link_runs {names} (LinkedCall alternate at optional part es pieces given front s t u by all gathers) stands below none scene same
+      ported =
+      let clean = call_link_clean names stands below at optional part es none in
+      let opened : State = link_objected (link_at s at.span optional alternate) t (tested_front front) in
+      link_means scene alternate (Node at word.Call (Then (Flag optional) (Then part (Then (Listed es) End)))) s t
+      (with_value u (call_of front given) (Some at.span)) at.span optional front (temporary u (Some at.span))
+      (front_action scene true part) (call_link scene es)
+      (record {
+        opened = front_blocks by;
+        linked = blocks_then opened u _ (all_blocks all) (blocks_value u (call_of front given) (Some at.span));
+        object = front_runs by clean.0 scene same ported;
+        link = call_runs front given pieces gathers scene es opened u at.span (all_shapes all clean.1) (all_blocks all).extends
+            (all_runs all clean.1 scene same ported);
+      })
+      (call_means scene at optional part es)
+      (call_hands at (Then (Flag optional) (Then part (Then (Listed es) End))) s at.span front)
+
+  pub front_runs : {names : Names} {alternate : BlockId} {is_called : Bool} {e : Syntax} {s t : State} {front : Front}
+      → LoweredFront names alternate is_called e s t front → refusals_by names Below e ≡ []
+      → (scene : Scene) → scene.names ≡ names → scene.ported ≡ true
+      → RunsLinks scene.world (front_action scene is_called e) s t alternate.0 (front_identifiers front)
+  front_runs {names} (FrontLink alternate is_called e s t front p by) none scene same ported =
+      subst (λ (d : Action (List Value)). RunsLinks scene.world d s t alternate.0
+      (front_identifiers (handed_on (is_called && is_property e) front p)))
+      (link_front scene is_called e ported (link_lends by none))
+      (link_runs by Below refl none scene same ported is_called)
+  front_runs (FrontBroken alternate is_called at e s t p by) none scene same ported = absurd (asserted_never by refl none)
+  front_runs {names} (FrontMethod alternate at w fields parts pieces object key s t is all) none scene same ported =
+      let clean = method_front_clean is names at none in
+      let loaded : State = with_value t (load_of object key) (Some at.span) in
+      links_same scene.world s loaded alternate.0 _
+      (λ ways k source answers.
+      member_means is all clean scene at ways
+      (λ p. ask scene (load p.0 p.1) ways (λ f. k (p.0 ∷ f ∷ []))) source answers
+      ∙ ap (λ (a : Action (List Value)). a ways k source answers) (callee_means is scene at ported))
+      (links_of_all scene.world s loaded _ alternate.0 _
+      (method_front_runs is scene s t at.span (all_blocks all).extends (all_runs all clean scene same ported)))
+  front_runs {names} (FrontAlone alternate is_called e s t p is by) none scene same ported =
+      let clean = below_off names e none in
+      subst (λ (d : Action (List Value)). RunsLinks scene.world d s t alternate.0 (p.identifier.0 ∷ []))
+      (alone_front scene is_called e ported (front_unlinked by clean is_called is))
+      (links_one scene.world s t (eval scene e) alternate.0 p.identifier.0
+      (link_plain scene.world s t (eval scene e) alternate.0 p.identifier.0 (expression_runs by clean scene same ported)))
 
   pub all_runs : {names : Names} {of_object : Bool} {es : Pieces} {s t : State} {pieces : List Piece}
       → LoweredParts names of_object es s t pieces

@@ -1,5 +1,6 @@
 -- The numbers of blocks, types, identifiers and instructions that the lowering of a part adds, together: a bound by the part's nodes.
 use Rattle.std.proofs.Common.{ℕ, ◌+◌, ◌≤◌, Bool, true, false, Option, Some, None, List, [], ◌∷◌, length-append, arith}
+use Rattle.rl_base.specs.declared.ids.BlockId.{BlockId}
 use Rattle.rl_base.specs.declared.ids.SymbolId.{SymbolId}
 use Rattle.rl_base.specs.declared.operator.UpdateOperator.{UpdateOperator}
 use Rattle.rl_base.specs.declared.row.Row.{Row}
@@ -30,10 +31,11 @@ use Rattle.rl_hir.specs.Pairs.{identifier_of}
 use Rattle.rl_hir.specs.Pieces.{Piece}
 use Rattle.rl_lowered.proofs.Catches.{size_promoted, size_throwing, stores_caught}
 use Rattle.rl_lowered.proofs.Redeclared.{size_redeclared}
-use Rattle.rl_lowered.specs.Forms.{IsCast, IsForm, IsInside, IsMember, IsPrivate, IsRefusing, IsWrapper, MemberKey, load_of, store_of}
-use Rattle.rl_lowered.specs.Forms.{type_of, typed}
+use Rattle.rl_lowered.specs.Forms.{Front, IsCast, IsForm, IsInside, IsLinkKey, IsMember, IsPrivate, IsRefusing, IsWrapper, MemberKey}
+use Rattle.rl_lowered.specs.Forms.{call_of, load_of, store_of, tested_front, type_of, typed}
 use Rattle.rl_lowered.specs.Forms as forms
 use Rattle.rl_lowered.specs.Lowered.{Lowered, LoweredBody, LoweredCaseTest, LoweredCases, LoweredDeclarators, LoweredHead, LoweredInit}
+use Rattle.rl_lowered.specs.Lowered.{LoweredFront, LoweredLink, LoweredSpine, private_met}
 use Rattle.rl_lowered.specs.Lowered.{LoweredLast, LoweredLoop, LoweredParts, LoweredStatement, LoweredStatements, LoweredTest, binary_of}
 use Rattle.rl_lowered.specs.Lowered.{assigned_to, catch_begun, caught, declaring, found_again, member_computed, member_loaded, member_one}
 use Rattle.rl_lowered.specs.Lowered.{member_stored, member_updated, name_computed, name_stored, promoted, update_of, value_span}
@@ -43,6 +45,9 @@ use Rattle.rl_lowered.specs.Named.{found}
 use Rattle.rl_lowered.specs.Promised.{share}
 use Rattle.rl_model.specs.Actions.{Label}
 use Rattle.rl_names.specs.Names.{Names}
+use Rattle.rl_optional_frames.proofs.Sizes.{inner_link_size, outer_link_size}
+use Rattle.rl_optional_frames.specs.Frames.{link_after, link_at, link_ended, link_objected}
+use Rattle.rl_optional_frames.specs.Parts.{link_opened}
 use Rattle.rl_promises.specs.Rows.{refusal}
 use Rattle.rl_runs.proofs.Sizes.{size_value}
 use Rattle.rl_runs.specs.Blocks.{size_of}
@@ -150,6 +155,27 @@ form_nodes (forms.Template texts given) = omega arith
 form_nodes (forms.Tagged raw texts given) = omega arith
 form_nodes forms.RegExp = omega arith
 form_nodes forms.ImportMeta = omega arith
+
+link_nodes : {w : Word} {rest parts : Pieces} {pieces : List Piece} {key : MemberKey} → IsLinkKey w rest parts pieces key
+    → nodes_of parts ≤ nodes_of rest
+link_nodes forms.LinkStatic = omega arith
+link_nodes (forms.LinkIndexed other) = omega arith
+link_nodes (forms.LinkNumbered is) = omega arith
+
+-- A link of a chain, inside it or outermost.
+linked_size : (alternate : Option BlockId) (s s2 s4 : State) (object value : Place) (span : Span) (optional : Bool) (m k : ℕ)
+    → size_of s2 ≤ size_of (link_opened alternate s span) + m
+    → size_of s4 ≤ size_of (link_objected (link_at s span optional alternate) s2 object) + k
+    → size_of (link_ended (link_after (link_at s span optional alternate)) s4 value) ≤ size_of s + (18 + m + k)
+linked_size None s s2 s4 object value span optional m k first second =
+    outer_link_size s s2 s4 object value span optional m k first second
+linked_size (Some given) s s2 s4 object value span optional m k first second =
+    let less = inner_link_size s s2 s4 object value span optional given m k first second in omega (arith, less)
+
+-- A value behind some parts.
+made_size : (s u : State) (v : InstructionValue) (span : Span) (m : ℕ) → size_of u ≤ size_of s + m
+    → size_of (with_value u v (Some span)) ≤ size_of s + (m + 4)
+made_size s u v span m less = omega (arith, less, size_value u v (Some span))
 
 mutual
   pub expression_size : {names : Names} {e : Syntax} {s t : State} {p : Place} → Lowered names e s t p
@@ -271,6 +297,44 @@ mutual
       omega (arith, begun, expression_size second, between, expression_size third, behind, expression_size first)
   expression_size (lowered.Sequence at e es s s2 p l) =
       omega (arith, last_size l, sequence_begun_size s at.span, sequence_ended_size (sequence_at s at.span) s2 p at.span)
+  expression_size (lowered.Chain at e s t p l) = omega (arith, spine_size l)
+
+  pub spine_size : {names : Names} {below : Bool} {e : Syntax} {s t : State} {p : Place} → LoweredSpine names below e s t p
+      → size_of t ≤ size_of s + share (nodes e)
+  spine_size (lowered.Outermost e s t front p l) = link_size l
+  spine_size (lowered.Asserted at e s t p l) = omega (arith, spine_size l)
+  spine_size (lowered.Broken at e s t p is l) = omega (arith, spine_size l)
+
+  pub link_size : {names : Names} {alternate : Option BlockId} {e : Syntax} {s t : State} {front : Front} {p : Place}
+      → LoweredLink names alternate e s t front p → size_of t ≤ size_of s + share (nodes e)
+  link_size (lowered.LinkedProperty alternate at w optional object rest parts pieces o key s t u is l more) =
+      let opened : State = link_objected (link_at s at.span optional alternate) t o in
+      let whole = linked_size alternate s t (with_value u (load_of o key) (Some at.span)) o (temporary u (Some at.span)) at.span optional
+      (share (nodes object)) (share (nodes_of parts) + 4) (front_size l)
+      (made_size opened u (load_of o key) at.span (share (nodes_of parts)) (all_size more)) in
+      omega (arith, link_nodes is, whole)
+  link_size (lowered.LinkedPrivate alternate at optional object name o s t l) =
+      let opened : State = link_objected (link_at s at.span optional alternate) t o in
+      let met : State = private_met opened at.span in
+      let whole = linked_size alternate s t (with_value met (values.Primitive primitives.Undefined) (Some at.span)) o
+      (temporary met (Some at.span)) at.span optional (share (nodes object)) (0 + 4) (front_size l)
+      (made_size opened met (values.Primitive primitives.Undefined) at.span 0 (omega arith)) in
+      omega (arith, whole)
+  link_size (lowered.LinkedCall alternate at optional callee es pieces given front s t u l more is) =
+      let o : Place = tested_front front in
+      let opened : State = link_objected (link_at s at.span optional alternate) t o in
+      let whole = linked_size alternate s t (with_value u (call_of front given) (Some at.span)) o (temporary u (Some at.span)) at.span
+      optional (share (nodes callee)) (share (nodes_of es) + 4) (front_size l)
+      (made_size opened u (call_of front given) at.span (share (nodes_of es)) (all_size more)) in
+      omega (arith, whole)
+
+  pub front_size : {names : Names} {alternate : BlockId} {is_called : Bool} {e : Syntax} {s t : State} {front : Front}
+      → LoweredFront names alternate is_called e s t front → size_of t ≤ size_of s + share (nodes e)
+  front_size (lowered.FrontLink alternate is_called e s t front p l) = link_size l
+  front_size (lowered.FrontBroken alternate is_called at e s t p l) = spine_size l
+  front_size (lowered.FrontMethod alternate at w fields parts pieces object key s t is l) =
+      omega (arith, member_nodes is, all_size l, size_value t (load_of object key) (Some at.span))
+  front_size (lowered.FrontAlone alternate is_called e s t p other l) = expression_size l
 
   pub all_size : {names : Names} {of_object : Bool} {es : Pieces} {s t : State} {pieces : List Piece}
       → LoweredParts names of_object es s t pieces → size_of t ≤ size_of s + share (nodes_of es)

@@ -1,8 +1,9 @@
 -- Lowering an expression keeps places known and parts writable, and its value is in a place that was made.
-use Rattle.std.proofs.Common.{◌≡◌, ℕ, ◌<◌, Bool, true, false, List, [], ◌∷◌, length, map, All, Some, None, codes, refl}
+use Rattle.std.proofs.Common.{◌≡◌, ℕ, ◌<◌, ◌&&◌, Bool, true, false, List, [], ◌∷◌, length, map, All, Option, Some, None, codes, refl}
 use Rattle.std.proofs.Common.{sym, subst, arith}
 use Rattle.std.proofs.lemmas.List.Elements.{All-cons, All-head, All-nil, All-weaker}
 use Rattle.rl_base.specs.Operators.{assignment_text, logical_text, update_text}
+use Rattle.rl_base.specs.declared.ids.BlockId.{BlockId}
 use Rattle.rl_base.specs.declared.ids.SymbolId.{SymbolId}
 use Rattle.rl_base.specs.declared.operator.LogicalOperator.{LogicalOperator}
 use Rattle.rl_base.specs.declared.operator.UpdateOperator.{UpdateOperator}
@@ -28,6 +29,7 @@ use Rattle.rl_model.specs.WellFormed.{AreKnown, operand_places, value_places}
 use Rattle.rl_names.specs.Locals.{HasTexts}
 use Rattle.rl_names.specs.Names.{Names}
 use Rattle.rl_names.specs.declared.names.Meaning.TheVariants.{Outer}
+use Rattle.rl_optional_frames.specs.Frames.{link_at, link_objected}
 use Rattle.rl_promises.specs.Locals.{IsSmallSpan, KnowsNames}
 use Rattle.rl_promises.specs.Rows.{refusal}
 use Rattle.rl_syntax.specs.declared.numbered.At.{At}
@@ -35,8 +37,10 @@ use Rattle.rl_syntax.specs.declared.word.Word.{Word}
 use Rattle.rl_syntax.specs.declared.word.Word.TheVariants as word
 use Rattle.rl_syntax.specs.Syntax.{Syntax, Node, Listed, Said, Flag, Pieces, End, Then, span_of}
 use Rattle.rl_text.specs.Notation.{IsWritable}
+use Rattle.rl_lowered.specs.Forms.{Front, Lent, call_of, front_places, is_property, tested_front}
 use Rattle.rl_lowered.specs.Forms.{IsForm, IsMember, Indexed, MemberKey, Numbered, Static, load_of, places_in, type_of, typed}
-use Rattle.rl_lowered.specs.Lowered.{Lowered, LoweredLast, LoweredParts}
+use Rattle.rl_lowered.specs.Lowered.{Asserted, Broken, Chain, FrontAlone, FrontBroken, FrontLink, FrontMethod, LinkedCall, LinkedPrivate}
+use Rattle.rl_lowered.specs.Lowered.{LinkedProperty, Lowered, LoweredFront, LoweredLast, LoweredLink, LoweredParts, LoweredSpine, Outermost}
 use Rattle.rl_lowered.specs.Lowered.{AssignedConstant, AssignedGlobal, AssignedMember, AssignedPrivate, AssignedVariable}
 use Rattle.rl_lowered.specs.Lowered.{CompoundConstant, CompoundGlobal, CompoundMember, CompoundPrivate, CompoundVariable}
 use Rattle.rl_lowered.specs.Lowered.{Asked, Cast, Conditional, Global, Literal, Logical, Method, Object, Private, Refused, RefusedBefore}
@@ -44,7 +48,7 @@ use Rattle.rl_lowered.specs.Lowered.{RefusedBehind, RefusedGlobal, Same, Sequenc
 use Rattle.rl_lowered.specs.Lowered.{EarlierPart, LastPart, NextComputed, NextFraction, NextHole, NextPart, NextProperty, NextSpread}
 use Rattle.rl_lowered.specs.Lowered.{NextUnknown, NoPart}
 use Rattle.rl_lowered.specs.Lowered.{binary_of, member_loaded, member_one, member_result, member_stored, member_updated, update_of}
-use Rattle.rl_lowered.specs.Lowered.{value_span}
+use Rattle.rl_lowered.specs.Lowered.{private_met, value_span}
 use Rattle.rl_lowered.specs.Named.{IsFound, found}
 use Rattle.rl_lowered.specs.Sound.{AreSmallTrees, IsSmallTree, IsSoundPlace, StaysSound}
 use Rattle.rl_lowered.proofs.Keys.{has_text}
@@ -52,6 +56,8 @@ use Rattle.rl_lowered.proofs.SoundAssignments.{assigned_constant_sound, assigned
 use Rattle.rl_lowered.proofs.SoundAssignments.{assigned_private_sound, assigned_variable_sound, compound_constant_sound}
 use Rattle.rl_lowered.proofs.SoundAssignments.{compound_global_sound, compound_member_sound, compound_private_sound}
 use Rattle.rl_lowered.proofs.SoundAssignments.{compound_variable_sound, constant_sound}
+use Rattle.rl_lowered.proofs.SoundChains.{WasMade, call_value, handed_sound, objected_grow, opened_made, places_grown, private_value}
+use Rattle.rl_lowered.proofs.SoundChains.{property_small, property_value, tested_sound, whole_link}
 use Rattle.rl_lowered.proofs.SoundForms.{AreWritten, cast_small, form_places, form_small, form_writable, hole_utf8}
 use Rattle.rl_lowered.proofs.SoundForms.{key_utf8, literal_writable, member_small, method_places}
 use Rattle.rl_lowered.proofs.SoundForms.{method_writable, object_places, object_writable, private_small, refusing_small}
@@ -275,6 +281,24 @@ method_sound small s t u at there given_pieces given {pieces} {object} {key} is 
     first : IsSound small t loaded method
     first = loaded_sound small t there is all inner
 
+-- A property that is called in front of a chain
+
+method_front_sound : (s t : State) (at : At) {w : Word} {fields parts : Pieces} {pieces : List Piece} {object : Place} {key : MemberKey}
+    → IsMember w fields parts pieces object key → StaysSound (IsSmallTree (Node at w fields)) s t
+    → All (IsSoundPlace (IsSmallTree (Node at w fields)) t) (places_in pieces)
+    → StaysSound (IsSmallTree (Node at w fields)) s (with_value t (load_of object key) (Some at.span))
+    × All (IsSoundPlace (IsSmallTree (Node at w fields)) (with_value t (load_of object key) (Some at.span)))
+    (front_places (Lent object (temporary t (Some at.span))))
+method_front_sound s t at {w} {fields} {pieces} {object} {key} is before all =
+    let small : Type 0 = IsSmallTree (Node at w fields) in
+    let loaded : State = with_value t (load_of object key) (Some at.span) in
+    let method : Place = temporary t (Some at.span) in
+    let first : IsSound small t loaded method = loaded_sound small t at is all (λ holds. holds) in (
+      sound_next small s t loaded before first.0,
+      All-cons (IsSoundPlace small loaded) object (method ∷ [])
+          (place_next small t loaded object first.0 (member_object (IsSoundPlace small t) is all)) (one_place small loaded method first.1),
+    )
+
 -- A value under a type
 
 cast_sound : (small : Type 0) (s t : State) (p : Place) (k : TypeKind) (there at : Span) → StaysSound small s t → IsSoundPlace small t p
@@ -490,6 +514,89 @@ mutual
       (expression_sound knows second) (expression_sound knows third)
   expression_sound knows (Sequence at e es s s2 p last) =
       sequence_tree_sound at (Then e es) s s2 p (last_sound knows last)
+  expression_sound knows (Chain at e s t p by) =
+      let inner = spine_sound knows by in
+      let small : Type 0 = IsSmallTree (Node at word.Chain (Then e End)) in (
+        sound_weaker (IsSmallTree e) small s t (λ holds. (holds.0.1.0, holds.1.1.0)) inner.0,
+        place_weaker (IsSmallTree e) small t p (λ holds. (holds.0.1.0, holds.1.1.0)) inner.1,
+      )
+
+  pub spine_sound : {names : Names} {below : Bool} {e : Syntax} {s t : State} {p : Place} → KnowsNames names
+      → LoweredSpine names below e s t p → StaysSound (IsSmallTree e) s t × IsSoundPlace (IsSmallTree e) t p
+  spine_sound knows (Outermost e s t front p by) = let inner = link_sound knows by tt in (inner.0, inner.1)
+  spine_sound knows (Asserted at e s t p by) =
+      let inner = spine_sound knows by in
+      let small : Type 0 = IsSmallTree (Node at word.Nonnull (Then e End)) in (
+        sound_weaker (IsSmallTree e) small s t (λ holds. (holds.0.1.0, holds.1.1.0)) inner.0,
+        place_weaker (IsSmallTree e) small t p (λ holds. (holds.0.1.0, holds.1.1.0)) inner.1,
+      )
+  spine_sound knows (Broken at e s t p is by) =
+      let inner = spine_sound knows by in
+      let noted : State = recorded s (refusal row.F44 at.span) in
+      let small : Type 0 = IsSmallTree (Node at word.Nonnull (Then e End)) in (
+        sound_next small s noted t (sound_recorded small s (refusal row.F44 at.span))
+            (sound_weaker (IsSmallTree e) small noted t (λ holds. (holds.0.1.0, holds.1.1.0)) inner.0),
+        place_weaker (IsSmallTree e) small t p (λ holds. (holds.0.1.0, holds.1.1.0)) inner.1,
+      )
+
+  -- The block in which the chain ends early was numbered before.
+  pub link_sound : {names : Names} {alternate : Option BlockId} {e : Syntax} {s t : State} {front : Front} {p : Place} → KnowsNames names
+      → LoweredLink names alternate e s t front p → WasMade alternate s
+      → StaysSound (IsSmallTree e) s t × IsSoundPlace (IsSmallTree e) t p × IsSoundPlace (IsSmallTree e) t (tested_front front)
+  link_sound knows (LinkedProperty alternate at w optional object rest parts pieces o key s t u is by all) made =
+      let small : Type 0 = IsSmallTree (Node at w (Then (Flag optional) (Then object rest))) in
+      let before : small → IsSmallTree object = λ holds. (property_small is at optional object holds).0 in
+      let behind : small → AreSmallTrees parts = λ holds. (property_small is at optional object holds).1 in
+      let opened : State = link_objected (link_at s at.span optional alternate) t o in
+      let first = front_sound knows by (opened_made alternate s at.span optional made) in
+      let others = all_sound knows all in
+      whole_link small alternate s t (with_value u (load_of o key) (Some at.span)) at.span optional o (temporary u (Some at.span)) made
+      (λ holds. holds.0.0) (sound_weaker (IsSmallTree object) small _ t before first.0)
+      (place_weaker (IsSmallTree object) small t o before (All-head (IsSoundPlace (IsSmallTree object) t) o [] first.1))
+      (λ tested. property_value small opened u at optional object o is (sound_weaker (AreSmallTrees parts) small opened u behind others.0)
+      tested (places_weaker (AreSmallTrees parts) small u (places_in pieces) behind others.1) (λ holds. holds))
+  link_sound knows (LinkedPrivate alternate at optional object name o s t by) made =
+      let small : Type 0 =
+      IsSmallTree (Node at word.Privatemember (Then (Flag optional) (Then object (Then (Said name) End)))) in
+      let before : small → IsSmallTree object = λ holds. (holds.0.1.1.0, holds.1.1.1.0) in
+      let opened : State = link_objected (link_at s at.span optional alternate) t o in
+      let first = front_sound knows by (opened_made alternate s at.span optional made) in
+      whole_link small alternate s t (with_value (private_met opened at.span) (values.Primitive primitives.Undefined) (Some at.span))
+      at.span optional o (temporary (private_met opened at.span) (Some at.span)) made (λ holds. holds.0.0)
+      (sound_weaker (IsSmallTree object) small _ t before first.0)
+      (place_weaker (IsSmallTree object) small t o before (All-head (IsSoundPlace (IsSmallTree object) t) o [] first.1))
+      (λ tested. private_value small opened at.span (λ holds. holds.0.0))
+  link_sound knows (LinkedCall alternate at optional part es pieces given front s t u by all gathers) made =
+      let small : Type 0 = IsSmallTree (Node at word.Call (Then (Flag optional) (Then part (Then (Listed es) End)))) in
+      let before : small → IsSmallTree part = λ holds. (holds.0.1.1.0, holds.1.1.1.0) in
+      let behind : small → AreSmallTrees es = λ holds. (holds.0.1.1.1.0, holds.1.1.1.1.0) in
+      let opened : State = link_objected (link_at s at.span optional alternate) t (tested_front front) in
+      let first = front_sound knows by (opened_made alternate s at.span optional made) in
+      let places = places_weaker (IsSmallTree part) small t (front_places front) before first.1 in
+      let others = all_sound knows all in
+      whole_link small alternate s t (with_value u (call_of front given) (Some at.span)) at.span optional (tested_front front)
+      (temporary u (Some at.span)) made (λ holds. holds.0.0) (sound_weaker (IsSmallTree part) small _ t before first.0)
+      (tested_sound (IsSoundPlace small t) front places)
+      (λ tested. call_value small opened u at.span front given pieces gathers
+      (sound_weaker (AreSmallTrees es) small opened u behind others.0)
+      (places_grown small t opened (front_places front) (objected_grow alternate s t at.span optional (tested_front front)) places)
+      (places_weaker (AreSmallTrees es) small u (places_in pieces) behind others.1) (λ holds. holds.0.0))
+
+  pub front_sound : {names : Names} {alternate : BlockId} {is_called : Bool} {e : Syntax} {s t : State} {front : Front} → KnowsNames names
+      → LoweredFront names alternate is_called e s t front → alternate.0 < s.env.next_block
+      → StaysSound (IsSmallTree e) s t × All (IsSoundPlace (IsSmallTree e) t) (front_places front)
+  front_sound knows (FrontLink alternate is_called e s t front p by) made =
+      let inner = link_sound knows by made in
+      (inner.0, handed_sound (IsSoundPlace (IsSmallTree e) t) (is_called && is_property e) front p inner.2 inner.1)
+  front_sound knows (FrontBroken alternate is_called at e s t p by) made =
+      let inner = spine_sound knows by in
+      (inner.0, one_place (IsSmallTree (Node at word.Nonnull (Then e End))) t p inner.1)
+  front_sound knows (FrontMethod alternate at w fields parts pieces object key s t is all) made =
+      let inner = all_sound knows all in
+      method_front_sound s t at is (sound_weaker (AreSmallTrees parts) (IsSmallTree (Node at w fields)) s t (member_small is at) inner.0)
+      (places_weaker (AreSmallTrees parts) (IsSmallTree (Node at w fields)) t (places_in pieces) (member_small is at) inner.1)
+  front_sound knows (FrontAlone alternate is_called e s t p is by) made =
+      let inner = expression_sound knows by in (inner.0, one_place (IsSmallTree e) t p inner.1)
 
   pub all_sound : {names : Names} {of_object : Bool} {es : Pieces} {s t : State} {pieces : List Piece} → KnowsNames names
       → LoweredParts names of_object es s t pieces

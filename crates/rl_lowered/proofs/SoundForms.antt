@@ -124,6 +124,11 @@ pub method_places : (object method : Place) (given : List PlaceOrSpread) (pieces
 method_places object method given pieces is =
     ap (λ (l : List Place). object ∷ method ∷ l) (operand_places_in (gathered argument_pieces given) ∙ ap places_in is)
 
+pub called_places : (callee : Place) (given : List PlaceOrSpread) (pieces : List Piece) → gathered argument_pieces given ≡ pieces
+    → value_places (values.CallExpression callee given) ≡ callee ∷ places_in pieces
+called_places callee given pieces is =
+    ap (λ (l : List Place). callee ∷ l) (operand_places_in (gathered argument_pieces given) ∙ ap places_in is)
+
 pub object_places : (given : List ObjectProperty) (pieces : List Piece) → gathered property_pieces given ≡ pieces
     → value_places (values.ObjectExpression given) ≡ places_in pieces
 object_places given pieces is = operand_places_in (gathered property_pieces given) ∙ ap places_in is
@@ -135,8 +140,7 @@ form_places (Unary plain) = refl
 form_places Await = refl
 form_places (Load is) = (member_places is).0
 form_places (Delete operator deletes inside is) = (member_places is).1
-form_places (Call {callee} {es} {f} {pieces} {given} plain are) =
-    ap (λ (l : List Place). f ∷ l) (operand_places_in (gathered argument_pieces given) ∙ ap places_in are)
+form_places (Call {callee} {es} {f} {pieces} {given} plain are) = called_places f given pieces are
 form_places (New {callee} {es} {f} {pieces} {given} are) =
     ap (λ (l : List Place). f ∷ l) (operand_places_in (gathered argument_pieces given) ∙ ap places_in are)
 form_places (Array {es} {pieces} {elements} are) = operand_places_in (gathered element_pieces elements) ∙ ap places_in are
@@ -305,6 +309,12 @@ method_writable object method given pieces is all =
     asks_writable (codes "methodcall") (used object ∷ used method ∷ gathered argument_pieces given) (lit< tt, refl) (arguments_written given)
     (subst (λ (l : List Piece). All WritesPlace (object ∷ method ∷ places_in l)) (sym is) all)
 
+pub called_writable : (callee : Place) (given : List PlaceOrSpread) (pieces : List Piece) → gathered argument_pieces given ≡ pieces
+    → All WritesPlace (callee ∷ places_in pieces) → IsWritable (listing.value (values.CallExpression callee given))
+called_writable callee given pieces is all =
+    asks_writable (codes "call") (used callee ∷ gathered argument_pieces given) (lit< tt, refl) (arguments_written given)
+    (subst (λ (l : List Piece). All WritesPlace (callee ∷ places_in l)) (sym is) all)
+
 pub debugger_writable : IsWritable (listing.value values.Debugger)
 debugger_writable = ((lit< tt, refl), (tt, (tt, tt)))
 
@@ -333,9 +343,7 @@ form_writable (Await {e} {p}) at small all = asks_writable (codes "await") (used
 form_writable (Load is) at small all = load_writable is at small all
 form_writable (Delete operator {there} deletes inside is) at small all =
     delete_writable is there (inside_small inside (small.0.1.1.0, small.1.1.1.0)) all
-form_writable (Call {callee} {es} {f} {pieces} {given} plain are) at small all =
-    asks_writable (codes "call") (used f ∷ gathered argument_pieces given) (lit< tt, refl) (arguments_written given)
-    (subst (λ (l : List Piece). All WritesPlace (f ∷ places_in l)) (sym are) all)
+form_writable (Call {callee} {es} {f} {pieces} {given} plain are) at small all = called_writable f given pieces are all
 form_writable (New {callee} {es} {f} {pieces} {given} are) at small all =
     asks_writable (codes "new") (used f ∷ gathered argument_pieces given) (lit< tt, refl) (arguments_written given)
     (subst (λ (l : List Piece). All WritesPlace (f ∷ places_in l)) (sym are) all)

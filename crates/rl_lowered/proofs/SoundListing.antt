@@ -268,6 +268,11 @@ pub ternary_writable : (test behind : ℕ) (at : Span) → test ≤ largest → 
 ternary_writable test behind at first second span =
     ((lit< tt, refl), (omega arith, (span_writable at span, (first, (second, tt)))))
 
+pub optional_writable : (optional : Bool) (test behind : ℕ) (at : Span) → test ≤ largest → behind ≤ largest → IsSmallSpan at
+    → IsWritable (listing.terminal (ends_by (ends.Optional optional (block_id test) (block_id behind)) (Some at)))
+optional_writable optional test behind at first second span =
+    ((lit< tt, refl), (omega arith, (span_writable at span, (tt, (first, (second, tt))))))
+
 pub sequence_writable : (block behind : ℕ) (at : Span) → block ≤ largest → behind ≤ largest → IsSmallSpan at
     → IsWritable (listing.terminal (ends_by (ends.Sequence (block_id block) (block_id behind)) (Some at)))
 sequence_writable block behind at first second span =

@@ -1,7 +1,8 @@
 -- Lowering a part gives no span that is none of the part's nodes or of a declaration, and its value is in a place without another.
-use Rattle.std.proofs.Common.{◌≡◌, ℕ, Bool, true, List, [], ◌∷◌, Some, None, sym, subst, Option}
+use Rattle.std.proofs.Common.{◌≡◌, ℕ, ◌&&◌, Bool, true, List, [], ◌∷◌, Some, None, sym, subst, Option}
 use Rattle.std.proofs.lemmas.List.Elements.{All-append}
 use Rattle.std.specs.Prelude.{IfSome}
+use Rattle.rl_base.specs.declared.ids.BlockId.{BlockId}
 use Rattle.rl_base.specs.declared.ids.SymbolId.{SymbolId}
 use Rattle.rl_base.specs.declared.operator.BinaryOperator.{BinaryOperator}
 use Rattle.rl_base.specs.declared.row.Row.TheVariants as row
@@ -33,15 +34,18 @@ use Rattle.rl_lowered.proofs.Plain.{lowered_plain, operand_span}
 use Rattle.rl_lowered.proofs.SoundForms.{form_places, method_places, object_places, stored_places}
 use Rattle.rl_lowered.proofs.SpannedForms.{cast_each, form_cast, form_each, load_spans, member_each, object_spanned, outer_spanned}
 use Rattle.rl_lowered.proofs.SpannedForms.{private_each, refusing_each, result_spanned, store_cast, update_cast, update_spanned}
-use Rattle.rl_lowered.proofs.SpannedForms.{update_spans, wrapper_each}
+use Rattle.rl_lowered.proofs.SpannedForms.{handed_spanned, link_call_spans, link_each, link_load_spans, tested_spanned, update_spans}
+use Rattle.rl_lowered.proofs.SpannedForms.{wrapper_each}
 use Rattle.rl_lowered.proofs.SpannedFrames.{bound_spans, case_begun_spans, case_ended_spans, declared_spans, do_while_spans}
 use Rattle.rl_lowered.proofs.SpannedFrames.{for_plain_spans, for_spans, forin_spans, forof_spans, if_else_spans, if_then_spans, label_spans}
 use Rattle.rl_lowered.proofs.SpannedFrames.{logical_spans, sequence_spans, switch_spans, ternary_spans, threw_spans, throwing_spans}
-use Rattle.rl_lowered.proofs.SpannedFrames.{tried_spans, while_spans}
+use Rattle.rl_lowered.proofs.SpannedFrames.{linked_spans, tried_spans, while_spans}
 use Rattle.rl_lowered.proofs.SpannedMoves.{found_spans, more_spanned, next_hole_spans, none_spanned, one_spanned, recorded_spans}
 use Rattle.rl_lowered.proofs.SpannedMoves.{redeclared_spans, reserved_spans, return_spans, returned_spans, span_or, type_spans, value_spans}
-use Rattle.rl_lowered.specs.Forms.{IsMember, MemberKey, load_of, places_in, store_of, type_of, typed}
+use Rattle.rl_lowered.specs.Forms.{Alone, Front, IsMember, MemberKey, call_of, front_places, is_property, load_of, places_in, store_of}
+use Rattle.rl_lowered.specs.Forms.{tested_front, type_of, typed}
 use Rattle.rl_lowered.specs.Lowered.{Lowered, LoweredBody, LoweredCaseTest, LoweredCases, LoweredDeclarators, LoweredHead, LoweredInit}
+use Rattle.rl_lowered.specs.Lowered.{LoweredFront, LoweredLink, LoweredSpine, private_met}
 use Rattle.rl_lowered.specs.Lowered.{LoweredLast, LoweredLoop, LoweredParts, LoweredStatement, LoweredStatements, LoweredTest, caught}
 use Rattle.rl_lowered.specs.Lowered.{assigned_to, declaring, found_again, member_computed, name_computed, name_stored, part_span, throwing}
 use Rattle.rl_lowered.specs.Lowered.{update_of, value_span, variable_at}
@@ -51,6 +55,7 @@ use Rattle.rl_lowered.specs.Spanned.{EachSpan, EachSpanAmong, KeepsSpans}
 use Rattle.rl_model.specs.Actions.{Label}
 use Rattle.rl_model.specs.WellFormed.{case_places}
 use Rattle.rl_names.specs.Names.{Names}
+use Rattle.rl_optional_frames.specs.Frames.{link_at, link_objected}
 use Rattle.rl_promises.specs.Moved.{type_name}
 use Rattle.rl_promises.specs.Rows.{refusal, row_of_head}
 use Rattle.rl_promises.specs.Spans.{AreSpanned}
@@ -76,18 +81,65 @@ module _ (P : Span → Type 0) where
 
   -- Places
 
-  pub place_spanned : {names : Names} {e : Syntax} {s t : State} {p : Place} → Lowered names e s t p → EachSpan P e → IfSome p.span P
-  place_spanned (lowered.Private at w fields e s t p is by) each = place_spanned by (private_each P is each.1)
-  place_spanned (lowered.Same at w fields e s t p wrapper by) each = place_spanned by (wrapper_each P wrapper each.1)
-  place_spanned (lowered.UpdatedMember at there w fields parts pieces object key operator prefix s t is all) each =
-      result_spanned P t object key operator prefix there.span each.1.1.1.0.0
-  place_spanned (lowered.AssignedVariable at there name right symbol identifier s t p is mutable by f) each = each.1.1.0.0
-  place_spanned (lowered.AssignedConstant at there name right symbol identifier s t p is constant by f) each = each.1.1.0.0
-  place_spanned (lowered.AssignedGlobal at there name right binding s t p is by) each = each.1.1.0.0
-  place_spanned (lowered.AssignedMember at there w fields parts pieces object key right s t u p is by all) each = each.1.1.0.0
-  place_spanned (lowered.CompoundMember at there w fields parts pieces object key operator applied right s t u p is applies all by) each =
-      each.1.1.0.0
-  place_spanned _ each = each.0
+  mutual
+    pub place_spanned : {names : Names} {e : Syntax} {s t : State} {p : Place} → Lowered names e s t p → EachSpan P e → IfSome p.span P
+    place_spanned (lowered.Private at w fields e s t p is by) each = place_spanned by (private_each P is each.1)
+    place_spanned (lowered.Same at w fields e s t p wrapper by) each = place_spanned by (wrapper_each P wrapper each.1)
+    place_spanned (lowered.UpdatedMember at there w fields parts pieces object key operator prefix s t is all) each =
+        result_spanned P t object key operator prefix there.span each.1.1.1.0.0
+    place_spanned (lowered.AssignedVariable at there name right symbol identifier s t p is mutable by f) each = each.1.1.0.0
+    place_spanned (lowered.AssignedConstant at there name right symbol identifier s t p is constant by f) each = each.1.1.0.0
+    place_spanned (lowered.AssignedGlobal at there name right binding s t p is by) each = each.1.1.0.0
+    place_spanned (lowered.AssignedMember at there w fields parts pieces object key right s t u p is by all) each = each.1.1.0.0
+    place_spanned (lowered.CompoundMember at there w fields parts pieces object key operator applied right s t u p is applies all by) each =
+        each.1.1.0.0
+    place_spanned (lowered.Chain at e s t p by) each = spine_spanned by each.1.0
+    place_spanned _ each = each.0
+
+    pub spine_spanned : {names : Names} {below : Bool} {e : Syntax} {s t : State} {p : Place} → LoweredSpine names below e s t p
+        → EachSpan P e → IfSome p.span P
+    spine_spanned (lowered.Outermost e s t front p by) each = link_spanned by each
+    spine_spanned (lowered.Asserted at e s t p by) each = spine_spanned by each.1.0
+    spine_spanned (lowered.Broken at e s t p is by) each = spine_spanned by each.1.0
+
+    link_spanned : {names : Names} {alternate : Option BlockId} {e : Syntax} {s t : State} {front : Front} {p : Place}
+        → LoweredLink names alternate e s t front p → EachSpan P e → IfSome p.span P
+    link_spanned (lowered.LinkedPrivate alternate at optional object name o s t by) each = each.0
+    link_spanned _ each = each.0
+
+    handed_over : {names : Names} {alternate : Option BlockId} {e : Syntax} {s t : State} {front : Front} {p : Place}
+        → LoweredLink names alternate e s t front p → EachSpan P e → AreSpanned P (front_places front)
+    handed_over (lowered.LinkedProperty alternate at w optional object rest parts pieces o key s t u is by all) each =
+        front_spanned by each.1.1.0
+    handed_over (lowered.LinkedPrivate alternate at optional object name o s t by) each = front_spanned by each.1.1.0
+    handed_over (lowered.LinkedCall alternate at optional callee es pieces given front s t u by all is) each =
+        front_spanned by each.1.1.0
+
+    pub front_spanned : {names : Names} {alternate : BlockId} {is_called : Bool} {e : Syntax} {s t : State} {front : Front}
+        → LoweredFront names alternate is_called e s t front → EachSpan P e → AreSpanned P (front_places front)
+    front_spanned (lowered.FrontLink alternate is_called e s t front p by) each =
+        handed_spanned P (is_called && is_property e) front p (handed_over by each) (link_spanned by each)
+    front_spanned (lowered.FrontBroken alternate is_called at e s t p by) each = one_spanned P p (spine_spanned by each)
+    front_spanned (lowered.FrontMethod alternate at w fields parts pieces object key s t is all) each =
+        more_spanned P object (temporary t (Some at.span) ∷ []) (object_spanned P is (places_spanned all (member_each P is each.1)))
+        (one_spanned P (temporary t (Some at.span)) each.0)
+    front_spanned (lowered.FrontAlone alternate is_called e s t p other by) each = one_spanned P p (place_spanned by each)
+
+    pub places_spanned : {names : Names} {of_object : Bool} {es : Pieces} {s t : State} {pieces : List Piece}
+        → LoweredParts names of_object es s t pieces → EachSpanAmong P es → AreSpanned P (places_in pieces)
+    places_spanned (lowered.NoPart s) each = none_spanned P
+    places_spanned (lowered.NextPart e es s t u p pieces first rest) each =
+        more_spanned P p (places_in pieces) (place_spanned first each.0) (places_spanned rest each.1)
+    places_spanned (lowered.NextSpread at e es s t u p pieces first rest) each =
+        more_spanned P p (places_in pieces) (place_spanned first each.0.1.0) (places_spanned rest each.1)
+    places_spanned (lowered.NextHole at es s u pieces rest) each = places_spanned rest each.1
+    places_spanned (lowered.NextProperty at computed key e text es s t u p pieces is by rest) each =
+        more_spanned P p (places_in pieces) (place_spanned by each.0.1.1.1.0) (places_spanned rest each.1)
+    places_spanned (lowered.NextComputed at key e es s r t u p q pieces is first second rest) each =
+        more_spanned P p (q ∷ places_in pieces) (place_spanned first each.0.1.1.0)
+        (more_spanned P q (places_in pieces) (place_spanned second each.0.1.1.1.0) (places_spanned rest each.1))
+    places_spanned (lowered.NextFraction at there e text es s t u p pieces is by rest) each = places_spanned rest each.1
+    places_spanned (lowered.NextUnknown at computed key e es s u pieces is rest) each = places_spanned rest each.1
 
   -- The place of the test of a `for` loop.
   test_spanned : {names : Names} {at : Span} {e : Syntax} {s t : State} {p : Place} → LoweredTest names at e s t p → P at → EachSpan P e
@@ -98,22 +150,6 @@ module _ (P : Span → Type 0) where
   -- The span of a part's value, and that of the part where its value has none.
   pub value_spanned : {names : Names} {e : Syntax} {s t : State} {p : Place} → Lowered names e s t p → EachSpan P e → P (value_span p e)
   value_spanned {e = e} {p = p} by each = span_or P p.span (span_of e) (place_spanned by each) (part_spanned by each)
-
-  pub places_spanned : {names : Names} {of_object : Bool} {es : Pieces} {s t : State} {pieces : List Piece}
-      → LoweredParts names of_object es s t pieces → EachSpanAmong P es → AreSpanned P (places_in pieces)
-  places_spanned (lowered.NoPart s) each = none_spanned P
-  places_spanned (lowered.NextPart e es s t u p pieces first rest) each =
-      more_spanned P p (places_in pieces) (place_spanned first each.0) (places_spanned rest each.1)
-  places_spanned (lowered.NextSpread at e es s t u p pieces first rest) each =
-      more_spanned P p (places_in pieces) (place_spanned first each.0.1.0) (places_spanned rest each.1)
-  places_spanned (lowered.NextHole at es s u pieces rest) each = places_spanned rest each.1
-  places_spanned (lowered.NextProperty at computed key e text es s t u p pieces is by rest) each =
-      more_spanned P p (places_in pieces) (place_spanned by each.0.1.1.1.0) (places_spanned rest each.1)
-  places_spanned (lowered.NextComputed at key e es s r t u p q pieces is first second rest) each =
-      more_spanned P p (q ∷ places_in pieces) (place_spanned first each.0.1.1.0)
-      (more_spanned P q (places_in pieces) (place_spanned second each.0.1.1.1.0) (places_spanned rest each.1))
-  places_spanned (lowered.NextFraction at there e text es s t u p pieces is by rest) each = places_spanned rest each.1
-  places_spanned (lowered.NextUnknown at computed key e es s u pieces is rest) each = places_spanned rest each.1
 
   pub last_spanned : {names : Names} {es : Pieces} {s t : State} {p : Place} → LoweredLast names es s t p → EachSpanAmong P es
       → IfSome p.span P
@@ -303,6 +339,43 @@ module _ (P : Span → Type 0) where
         (expression_spans third each.1.0) h
     expression_spans (lowered.Sequence at e es s s2 p last) each h =
         sequence_spans P s s2 at.span at.span p each.0 each.0 (last_spanned last each.1.0) (last_spans last each.1.0) h
+    expression_spans (lowered.Chain at e s t p by) each h = spine_spans by each.1.0 h
+
+    pub spine_spans : {names : Names} {below : Bool} {e : Syntax} {s t : State} {p : Place} → LoweredSpine names below e s t p
+        → EachSpan P e → KeepsSpans P s t
+    spine_spans (lowered.Outermost e s t front p by) each h = link_spans by each h
+    spine_spans (lowered.Asserted at e s t p by) each h = spine_spans by each.1.0 h
+    spine_spans (lowered.Broken at e s t p is by) each h = spine_spans by each.1.0 (recorded_spans P s (refusal row.F44 at.span) h)
+
+    pub link_spans : {names : Names} {alternate : Option BlockId} {e : Syntax} {s t : State} {front : Front} {p : Place}
+        → LoweredLink names alternate e s t front p → EachSpan P e → KeepsSpans P s t
+    link_spans (lowered.LinkedProperty alternate at w optional object rest parts pieces o key s t u is by all) each h =
+        let object_place = tested_spanned P (Alone o) (front_spanned by each.1.1.0) in
+        linked_spans P alternate s t (with_value u (load_of o key) (Some at.span)) at.span optional o (temporary u (Some at.span)) each.0
+        object_place each.0 (front_spans by each.1.1.0)
+        (λ k. link_load_spans P is u o at.span each.0 object_place (places_spanned all (link_each P is each.1.1.1))
+        (all_spans all (link_each P is each.1.1.1) k)) h
+    link_spans (lowered.LinkedPrivate alternate at optional object name o s t by) each h =
+        let x : State = link_objected (link_at s at.span optional alternate) t o in
+        let met : State = private_met x at.span in
+        linked_spans P alternate s t (with_value met (values.Primitive primitives.Undefined) (Some at.span)) at.span optional o
+        (temporary met (Some at.span)) each.0 (tested_spanned P (Alone o) (front_spanned by each.1.1.0)) each.0
+        (front_spans by each.1.1.0)
+        (λ k. undefined_spans met at.span each.0 (recorded_spans P x (refusal row.F3 at.span) k)) h
+    link_spans (lowered.LinkedCall alternate at optional callee es pieces given front s t u by all is) each h =
+        let called = front_spanned by each.1.1.0 in
+        linked_spans P alternate s t (with_value u (call_of front given) (Some at.span)) at.span optional (tested_front front)
+        (temporary u (Some at.span)) each.0 (tested_spanned P front called) each.0 (front_spans by each.1.1.0)
+        (λ k. link_call_spans P front u given pieces at.span is each.0 called (places_spanned all each.1.1.1.0)
+        (all_spans all each.1.1.1.0 k)) h
+
+    pub front_spans : {names : Names} {alternate : BlockId} {is_called : Bool} {e : Syntax} {s t : State} {front : Front}
+        → LoweredFront names alternate is_called e s t front → EachSpan P e → KeepsSpans P s t
+    front_spans (lowered.FrontLink alternate is_called e s t front p by) each h = link_spans by each h
+    front_spans (lowered.FrontBroken alternate is_called at e s t p by) each h = spine_spans by each h
+    front_spans (lowered.FrontMethod alternate at w fields parts pieces object key s t is all) each h =
+        load_spans P is t at.span each.0 (places_spanned all (member_each P is each.1)) (all_spans all (member_each P is each.1) h)
+    front_spans (lowered.FrontAlone alternate is_called e s t p other by) each h = expression_spans by each h
 
     pub all_spans : {names : Names} {of_object : Bool} {es : Pieces} {s t : State} {pieces : List Piece}
         → LoweredParts names of_object es s t pieces → EachSpanAmong P es → KeepsSpans P s t

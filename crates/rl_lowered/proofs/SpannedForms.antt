@@ -1,30 +1,45 @@
 -- Spans of the parts of a node, and of what is made of them.
-use Rattle.std.proofs.Common.{ℕ, Bool, true, false, List, [], ◌∷◌, map, Some, None, sym, subst}
+use Rattle.std.proofs.Common.{◌≡◌, ℕ, Bool, true, false, List, [], ◌∷◌, ◌++◌, map, Some, None, refl, sym, ap, ◌∙◌, subst}
 use Rattle.std.specs.Prelude.{IfSome}
-use Rattle.std.proofs.lemmas.List.Elements.{All-append, All-head}
+use Rattle.std.proofs.lemmas.List.Elements.{All-append, All-head, All-tail}
 use Rattle.rl_base.specs.declared.operator.UpdateOperator.{UpdateOperator}
 use Rattle.rl_base.specs.declared.row.Row.{Row}
 use Rattle.rl_base.specs.declared.span.Span.{Span}
 use Rattle.rl_builder.specs.Builder.{State}
-use Rattle.rl_builder.specs.Temporaries.{temporary}
-use Rattle.rl_hir.specs.Pieces.{Piece, Says, operands}
+use Rattle.rl_builder.specs.Temporaries.{temporary, with_value}
+use Rattle.rl_hir.specs.Pieces.{Piece, Says, argument_pieces, gathered, operands}
 use Rattle.rl_hir.specs.declared.instruction.InstructionValue.{InstructionValue}
 use Rattle.rl_hir.specs.declared.instruction.InstructionValue.TheVariants as values
 use Rattle.rl_hir.specs.declared.instruction.Place.{Place}
+use Rattle.rl_hir.specs.declared.instruction.PlaceOrSpread.{PlaceOrSpread}
 use Rattle.rl_hir.specs.declared.instruction.PrimitiveValue.TheVariants as primitives
-use Rattle.rl_lowered.proofs.SoundForms.{member_places, stored_places}
+use Rattle.rl_lowered.proofs.SoundForms.{member_places, method_places, operand_places_in, stored_places}
 use Rattle.rl_lowered.proofs.SpannedMoves.{more_spanned, none_spanned, one_spanned, value_spans}
 use Rattle.rl_lowered.specs.Forms.{Array, Await, Binary, Call, Delete, ImportMeta, IsForm, Load, New, RegExp, Tagged, Template, Unary}
 use Rattle.rl_lowered.specs.Forms.{Around, Bare, Computed, Fixed, Indexed, IsInside, IsMember, MemberKey, Numbered, Static}
 use Rattle.rl_lowered.specs.Forms.{As, Assert, Instantiated, IsCast, IsPrivate, IsRefusing, IsWrapper, Satisfies}
 use Rattle.rl_lowered.specs.Forms.{ImportCall, ImportCallWith, NonNull, Parenthesized, PrivateDelete, PrivateIn, PrivateUpdate}
-use Rattle.rl_lowered.specs.Forms.{delete_of, load_of, places_in, store_of}
+use Rattle.rl_lowered.specs.Forms.{Alone, Front, IsLinkKey, Lent, LinkIndexed, LinkNumbered, LinkStatic, call_of, delete_of, front_places}
+use Rattle.rl_lowered.specs.Forms.{handed_on, load_of, places_in, store_of, tested_front}
 use Rattle.rl_lowered.specs.Lowered.{binary_of, member_loaded, member_one, member_result, member_stored, member_updated, update_of}
 use Rattle.rl_lowered.specs.Spanned.{EachSpan, EachSpanAmong, KeepsSpans}
 use Rattle.rl_model.specs.WellFormed.{operand_places, value_places}
 use Rattle.rl_promises.specs.Spans.{AreSpanned, type_span}
 use Rattle.rl_syntax.specs.Syntax.{Syntax, Pieces}
 use Rattle.rl_syntax.specs.declared.word.Word.{Word}
+
+-- The places of a link's value: its object, or its callee behind the receiver, and those of the parts behind.
+
+link_places : {w : Word} {rest parts : Pieces} {pieces : List Piece} {key : MemberKey} → IsLinkKey w rest parts pieces key → (o : Place)
+    → value_places (load_of o key) ≡ o ∷ places_in pieces
+link_places LinkStatic o = refl
+link_places _ o = refl
+
+call_places : (front : Front) (given : List PlaceOrSpread) (pieces : List Piece) → gathered argument_pieces given ≡ pieces
+    → value_places (call_of front given) ≡ front_places front ++ places_in pieces
+call_places (Alone p) given pieces is =
+    ap (λ (l : List Place). p ∷ l) (operand_places_in (gathered argument_pieces given) ∙ ap places_in is)
+call_places (Lent receiver function) given pieces is = method_places receiver function given pieces is
 
 module _ (P : Span → Type 0) where
   -- The parts
@@ -74,6 +89,12 @@ module _ (P : Span → Type 0) where
   refusing_each PrivateIn each = each.1
   refusing_each ImportCall each = (each.0, tt)
   refusing_each ImportCallWith each = each
+
+  pub link_each : {w : Word} {rest parts : Pieces} {pieces : List Piece} {key : MemberKey} → IsLinkKey w rest parts pieces key
+      → EachSpanAmong P rest → EachSpanAmong P parts
+  link_each LinkStatic each = tt
+  link_each (LinkIndexed other) each = each
+  link_each (LinkNumbered numeral) each = tt
 
   -- No form is a cast.
 
@@ -154,3 +175,37 @@ module _ (P : Span → Type 0) where
       → IfSome (member_result t object key operator prefix there).span P
   result_spanned t object key operator true there at = at
   result_spanned t object key operator false there at = at
+
+  -- Links of chains: the places of what stands in front
+
+  pub tested_spanned : (front : Front) → AreSpanned P (front_places front) → IfSome (tested_front front).span P
+  tested_spanned (Alone p) all = All-head (λ (q : Place). IfSome q.span P) p [] all
+  tested_spanned (Lent receiver function) all =
+      All-head (λ (q : Place). IfSome q.span P) function []
+      (All-tail (λ (q : Place). IfSome q.span P) receiver (function ∷ []) all)
+
+  pub handed_spanned : (lends : Bool) (front : Front) (p : Place) → AreSpanned P (front_places front) → IfSome p.span P
+      → AreSpanned P (front_places (handed_on lends front p))
+  handed_spanned true front p all at = more_spanned P (tested_front front) (p ∷ []) (tested_spanned front all) (one_spanned P p at)
+  handed_spanned false front p all at = one_spanned P p at
+
+  -- Their values
+
+  pub link_load_spans : {w : Word} {rest parts : Pieces} {pieces : List Piece} {key : MemberKey} → IsLinkKey w rest parts pieces key
+      → (u : State) (o : Place) (span : Span) → P span → IfSome o.span P → AreSpanned P (places_in pieces)
+      → KeepsSpans P u (with_value u (load_of o key) (Some span))
+  link_load_spans {pieces} {key} is u o span at object places h =
+      value_spans P u (load_of o key) (Some span) at (load_cast o key)
+      (subst (AreSpanned P) (sym (link_places is o)) (more_spanned P o (places_in pieces) object places)) h
+
+  call_cast : (front : Front) (given : List PlaceOrSpread) → IfSome (type_span (call_of front given)) P
+  call_cast (Alone p) given = tt
+  call_cast (Lent receiver function) given = tt
+
+  pub link_call_spans : (front : Front) (u : State) (given : List PlaceOrSpread) (pieces : List Piece) (span : Span)
+      → gathered argument_pieces given ≡ pieces → P span → AreSpanned P (front_places front) → AreSpanned P (places_in pieces)
+      → KeepsSpans P u (with_value u (call_of front given) (Some span))
+  link_call_spans front u given pieces span is at called places h =
+      value_spans P u (call_of front given) (Some span) at (call_cast front given)
+      (subst (AreSpanned P) (sym (call_places front given pieces is))
+      (All-append (λ (p : Place). IfSome p.span P) (front_places front) (places_in pieces) called places)) h

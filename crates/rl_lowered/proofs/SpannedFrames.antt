@@ -10,14 +10,15 @@ use Rattle.rl_base.specs.declared.row.Row.TheVariants as row
 use Rattle.rl_base.specs.declared.span.Span.{Span}
 use Rattle.rl_builder.specs.Builder.{State, completed_by, entered, innermost, new_block, pushed, reserved, with_temporary}
 use Rattle.rl_builder.specs.declared.blocks.WipBlock.{WipBlock}
-use Rattle.rl_builder.specs.Temporaries.{with_value}
+use Rattle.rl_builder.specs.Temporaries.{temporary, with_value}
 use Rattle.rl_frames.specs.Frames.{ForParts, IfParts, LogicalParts, SequenceParts, TernaryParts, do_while_bodied, for_after, for_after_init}
 use Rattle.rl_frames.specs.Frames.{for_after_update, for_again, for_aside, for_at, for_bodied, for_ended, for_inited, for_opened}
 use Rattle.rl_frames.specs.Frames.{for_updated, if_after_consequent, if_alternate, if_at, if_consequent, if_ended, if_shut, label_at}
 use Rattle.rl_frames.specs.Frames.{label_ended, logical_after, logical_at, logical_ended, logical_righted, sequence_at, sequence_ended}
 use Rattle.rl_frames.specs.Frames.{ternary_after, ternary_alternated, ternary_at, ternary_consequent, ternary_ended, ternary_parted}
 use Rattle.rl_frames.specs.Frames.{while_after, while_at, while_bodied, while_ended}
-use Rattle.rl_frames.specs.Parts.{do_while_end, for_begun, forin_begun, forin_end, forof_begun, forof_end, if_begun, if_end, label_begun}
+use Rattle.rl_frames.specs.Parts.{chain_reserved, do_while_end, for_begun, forin_begun, forin_end, forof_begun, forof_end, if_begun, if_end}
+use Rattle.rl_frames.specs.Parts.{label_begun}
 use Rattle.rl_frames.specs.Parts.{label_end, loads, logical_begun, logical_entered, logical_left, logical_place, sequence_begun}
 use Rattle.rl_frames.specs.Parts.{ternary_begun, ternary_place, try_begun, try_handler, while_begun, while_end}
 use Rattle.rl_frames.specs.Rounds.{ForOfParts, forin_at, forin_headed, forin_righted, forof_after, forof_at, forof_bodied, forof_ended}
@@ -29,6 +30,7 @@ use Rattle.rl_hir.specs.declared.function.BlockKind.TheVariants as block
 use Rattle.rl_hir.specs.declared.function.Identifier.{Identifier}
 use Rattle.rl_hir.specs.declared.instruction.InstructionValue.TheVariants as values
 use Rattle.rl_hir.specs.declared.instruction.Place.{Place}
+use Rattle.rl_hir.specs.declared.instruction.PrimitiveValue.TheVariants as primitives
 use Rattle.rl_hir.specs.declared.terminal.Case.{Case}
 use Rattle.rl_hir.specs.declared.terminal.GotoVariant.{GotoVariant}
 use Rattle.rl_hir.specs.declared.terminal.GotoVariant.TheVariants as gotos
@@ -45,6 +47,8 @@ use Rattle.rl_machine.specs.Machine.{default_case}
 use Rattle.rl_model.specs.Actions.{Label}
 use Rattle.rl_model.specs.WellFormed.{case_places}
 use Rattle.rl_names.specs.Names.{Names}
+use Rattle.rl_optional_frames.specs.Frames.{LinkParts, link_after, link_at, link_block, link_ended, link_objected}
+use Rattle.rl_optional_frames.specs.Parts.{link_opened, link_reserved, undefined_made}
 use Rattle.rl_promises.specs.Rows.{refusal}
 use Rattle.rl_promises.specs.Spans.{AreSpanned, IsSpannedTerminal}
 use Rattle.rl_runs.specs.Moves.{block_id, branch, ends_by, goto, last_hole, next_hole, stored_in, threw_from, without_handler}
@@ -135,6 +139,50 @@ module _ (P : Span → Type 0) where
     where
       frame : SequenceParts
       frame = sequence_at s span
+
+  -- A link of a chain, inside it or outermost
+
+  link_opened_spans : (alternate : Option BlockId) (s : State) (span : Span) → P span → KeepsSpans P s (link_opened alternate s span)
+  link_opened_spans alternate s span at h =
+      entered_spans P (reserved x) (new_block x.env.next_block block.Value) (reserved_spans P x (begun alternate))
+    where
+      x : State
+      x = link_reserved alternate s span
+
+      y : State
+      y = chain_reserved s span
+
+      sa : State
+      sa = entered (reserved y) (new_block y.env.next_block block.Value)
+
+      numbered : HasSpans P y
+      numbered = temporary_spans P (reserved (reserved s)) (Some span) at (two_spans s h)
+
+      begun : (alternate : Option BlockId) → HasSpans P (link_reserved alternate s span)
+      begun None =
+          last_hole_spans P (stored_in (undefined_made sa span) (temporary s (Some span)) (temporary y (Some span)) span) s.env.next_block
+          gotos.Break span s.current at
+          (stored_spans P (undefined_made sa span) (temporary s (Some span)) (temporary y (Some span)) span at at at
+          (value_spans P sa (values.Primitive primitives.Undefined) (Some span) at tt (none_spanned P)
+          (entered_spans P (reserved y) (new_block y.env.next_block block.Value) (reserved_spans P y numbered))))
+      begun (Some given) = numbered
+
+  pub linked_spans : (alternate : Option BlockId) (s s2 s4 : State) (span : Span) (optional : Bool) (object value : Place) → P span
+      → IfSome object.span P → IfSome value.span P → KeepsSpans P (link_opened alternate s span) s2
+      → KeepsSpans P (link_objected (link_at s span optional alternate) s2 object) s4
+      → KeepsSpans P s (link_ended (link_after (link_at s span optional alternate)) s4 value)
+  linked_spans alternate s s2 s4 span optional object value at object_place value_place first second h =
+      completed_spans P (last_hole (stored_in s4 f.place value span) f.behind.id.0 gotos.Break span f.outer)
+      (ends_by (kinds.Optional optional (block_id f.test) f.behind.id) (Some span)) f.behind
+      (record { own = at; places = none_spanned P })
+      (last_hole_spans P (stored_in s4 f.place value span) f.behind.id.0 gotos.Break span f.outer at
+      (stored_spans P s4 f.place value span at value_place at
+      (second
+      (branched_spans s2 object (link_block f).id.0 f.alternate.0 f.behind.id.0 span (link_block f) at object_place
+      (first (link_opened_spans alternate s span at h))))))
+    where
+      f : LinkParts
+      f = link_at s span optional alternate
 
   -- An `if` statement
 

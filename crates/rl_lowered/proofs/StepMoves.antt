@@ -1,39 +1,48 @@
 -- Steps of loops, and the blocks at which none may stand, move by move.
-use Rattle.std.proofs.Common.{◌≡◌, ℕ, ◌<◌, ◌≤◌, inl, inr, ◌++◌, Bool, true, false, List, [], ◌∷◌, length, slice_get}
+use Rattle.std.proofs.Common.{◌≡◌, ℕ, ◌+◌, ◌<◌, ◌≤◌, inl, inr, ◌++◌, Bool, true, false, List, [], ◌∷◌, length, slice_get}
 use Rattle.std.proofs.Common.{Option, Some, None, refl, sym, ap, ◌∙◌, subst, arith}
 use Rattle.rl_base.specs.declared.diagnostic.Diagnostic.{Diagnostic}
 use Rattle.rl_base.specs.declared.ids.BlockId.{BlockId}
 use Rattle.rl_base.specs.declared.ids.InstructionId.{InstructionId}
 use Rattle.rl_base.specs.declared.span.Span.{Span}
-use Rattle.rl_builder.specs.Builder.{State, completed_by, innermost, maybe_throw, new_block, plainly_pushed, pushed, pushed_under, recorded}
+use Rattle.rl_builder.specs.Builder.{State, completed_by, entered, innermost, maybe_throw, new_block, plainly_pushed, pushed}
+use Rattle.rl_builder.specs.Builder.{pushed_under, recorded}
 use Rattle.rl_builder.specs.Builder.{reserved, with_temporary}
 use Rattle.rl_builder.specs.declared.blocks.WipBlock.{WipBlock}
 use Rattle.rl_builder.specs.declared.jumps.JumpScope.{JumpScope}
 use Rattle.rl_builder.specs.Temporaries.{temporary, unordered, with_value}
 use Rattle.rl_frames.proofs.RoundNotes.{pushed_listed, pushed_step}
 use Rattle.rl_frames.proofs.RoundStepless.{pushed_marks}
+use Rattle.rl_frames.specs.Parts.{chain_begun, chain_ended, chain_reserved, chain_undefined, link_begun, link_end, link_finished}
+use Rattle.rl_frames.specs.Parts.{link_object}
 use Rattle.rl_hir.specs.Blocks.{Pair as BlockPair}
 use Rattle.rl_hir.specs.declared.environment.Environment.{Environment}
 use Rattle.rl_hir.specs.declared.function.BlockKind.{BlockKind}
+use Rattle.rl_hir.specs.declared.function.BlockKind.TheVariants as blocks
 use Rattle.rl_hir.specs.declared.instruction.Instruction.{Instruction}
 use Rattle.rl_hir.specs.declared.instruction.InstructionKind.{InstructionKind}
 use Rattle.rl_hir.specs.declared.instruction.InstructionKind.TheVariants as kinds
 use Rattle.rl_hir.specs.declared.instruction.InstructionValue.{InstructionValue}
 use Rattle.rl_hir.specs.declared.instruction.InstructionValue.TheVariants as values
 use Rattle.rl_hir.specs.declared.instruction.Place.{Place}
+use Rattle.rl_hir.specs.declared.instruction.PrimitiveValue.TheVariants as primitives
 use Rattle.rl_hir.specs.declared.terminal.GotoVariant.{GotoVariant}
+use Rattle.rl_hir.specs.declared.terminal.GotoVariant.TheVariants as gotos
 use Rattle.rl_hir.specs.declared.terminal.Terminal.{Terminal}
+use Rattle.rl_lowered.proofs.ChainFrames.{linked_state}
 use Rattle.rl_lowered.specs.Steps.{KeepsStepsApart}
 use Rattle.rl_machine.specs.Acts.{act, declared}
 use Rattle.rl_machine.specs.Prunes.{IsStep, ReadsNote}
 use Rattle.rl_machine.specs.Traces.{Store}
+use Rattle.rl_optional_frames.specs.Frames.{link_at, link_objected}
+use Rattle.rl_optional_frames.specs.Parts.{link_opened}
 use Rattle.rl_runs.proofs.Moves.{extends_pushed}
 use Rattle.rl_runs.proofs.Naming.{named_none}
 use Rattle.rl_runs.proofs.ReadNotes.{marked_ended}
 use Rattle.rl_runs.proofs.StepNotes.{found_below, listed_aside, listed_ended, none_listed, steps_aside, steps_ended}
 use Rattle.rl_runs.proofs.Steps.{added_cases, get_more, get_seam}
 use Rattle.rl_runs.specs.Blocks.{WasNumbered}
-use Rattle.rl_runs.specs.Moves.{goto, next_hole, set_aside, stacked, stored_in}
+use Rattle.rl_runs.specs.Moves.{branch, goto, last_hole, next_hole, set_aside, stacked, stored_in}
 use Rattle.rl_runs.specs.ReadNotes.{HasId, MarkedAt}
 use Rattle.rl_runs.specs.StepNotes.{AreIn, HasStep, KnowsListed, KnowsStepless, StepIn, stepless_of}
 
@@ -386,3 +395,51 @@ unmarked_value x v span t next block none unmarked m = elim (marked_ended steple
   | inl old ↦ unmarked (pushed_marks (innermost x.handlers) (with_temporary x span) (unordered (temporary x span) v span) block old)
   | inr new ↦ absurd (named_none block (subst (λ (l : List BlockId). HasId l block) none new))
 ]
+
+-- A link of an optional chain, from a state in which it may begin.
+link_from : (x s2 s4 : State) (optional : Bool) (f q a : ℕ) (kind : BlockKind) (span : Span) (object place value : Place)
+    → KeepsStepsApart (link_begun x) s2 → KeepsStepsApart (link_object s2 f q a span object) s4
+    → KeepsStepsApart x (link_finished s4 f x.env.next_block optional kind span place value x.current)
+link_from x s2 s4 optional f q a kind span object place value o k =
+    let opened : State = link_object s2 f q a span object in
+    let stored : State = stored_in s4 place value span in
+    let shut : State = last_hole stored f gotos.Break span x.current in
+    let inside : KeepsStepsApart (link_begun x) stored =
+    apart_then (link_begun x) s2 _ o
+    (apart_then s2 opened _ (apart_ended s2 (branch object q a f span) (new_block q blocks.Value) refl refl)
+    (apart_then opened s4 _ k (apart_stored s4 place value span))) in
+    apart_then x (reserved x) _ (apart_same x (reserved x) refl refl refl (omega arith))
+    (apart_then (reserved x) shut _
+    (apart_hole (reserved x) stored (new_block x.env.next_block blocks.Value) x.scopes stored.scopes stored.handlers
+    (goto f gotos.Break span) refl refl inside)
+    (apart_ended shut (link_end f x.env.next_block optional span) (new_block f kind) refl refl))
+
+-- The block in which a chain ends early.
+early_from : (s : State) (span : Span) → KeepsStepsApart (chain_reserved s span) (chain_begun s span)
+early_from s span =
+    let y : State = chain_reserved s span in
+    let begun : State = entered (reserved y) (new_block (s.env.next_block + 1 + 1) blocks.Value) in
+    let made : State = chain_undefined s span in
+    let ended : State = chain_ended s span in
+    apart_then y (reserved y) _ (apart_same y (reserved y) refl refl refl (omega arith))
+    (apart_hole (reserved y) ended (new_block (s.env.next_block + 1 + 1) blocks.Value) s.scopes ended.scopes ended.handlers
+    (goto s.env.next_block gotos.Break span) refl refl
+    (apart_then begun made _ (apart_value begun (values.Primitive primitives.Undefined) (Some span) refl)
+    (apart_stored made (temporary s (Some span)) (temporary y (Some span)) span)))
+
+pub apart_link : (alternate : Option BlockId) (s s2 s4 : State) (span : Span) (optional : Bool) (object value : Place)
+    → KeepsStepsApart (link_opened alternate s span) s2
+    → KeepsStepsApart (link_objected (link_at s span optional alternate) s2 object) s4
+    → KeepsStepsApart s (linked_state alternate s span optional s4 value)
+apart_link (Some alternate) s s2 s4 span optional object value o k =
+    let y : State = chain_reserved s span in
+    apart_then s y _ (apart_same s y refl refl refl (omega arith))
+    (link_from y s2 s4 optional s.env.next_block (s.env.next_block + 1) alternate.0 s.current.kind span object (temporary s (Some span))
+    value o k)
+apart_link None s s2 s4 span optional object value o k =
+    let y : State = chain_reserved s span in
+    let x : State = chain_begun s span in
+    apart_then s y _ (apart_same s y refl refl refl (omega arith))
+    (apart_then y x _ (early_from s span)
+    (link_from x s2 s4 optional s.env.next_block (s.env.next_block + 1) (s.env.next_block + 1 + 1) s.current.kind span object
+    (temporary s (Some span)) value o k))

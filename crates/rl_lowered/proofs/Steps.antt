@@ -30,6 +30,7 @@ use Rattle.rl_hir.specs.declared.instruction.InstructionKind.{InstructionKind}
 use Rattle.rl_hir.specs.declared.instruction.InstructionValue.{InstructionValue}
 use Rattle.rl_hir.specs.declared.instruction.InstructionValue.TheVariants as values
 use Rattle.rl_hir.specs.declared.instruction.Place.{Place}
+use Rattle.rl_hir.specs.declared.instruction.PlaceOrSpread.{PlaceOrSpread}
 use Rattle.rl_hir.specs.declared.instruction.PrimitiveValue.TheVariants as primitives
 use Rattle.rl_hir.specs.declared.terminal.Case.{Case}
 use Rattle.rl_hir.specs.declared.terminal.GotoVariant.TheVariants as gotos
@@ -38,13 +39,15 @@ use Rattle.rl_hir.specs.declared.terminal.Terminal.{Terminal}
 use Rattle.rl_hir.specs.declared.terminal.TerminalKind.TheVariants as kinds
 use Rattle.rl_hir.specs.Pieces.{Piece}
 use Rattle.rl_lowered.proofs.Catches.{catch_declared, declares_caught, stores_caught}
-use Rattle.rl_lowered.proofs.StepMoves.{apart_ended, apart_hole, apart_marked, apart_next, apart_noted, apart_pushed, apart_refl}
+use Rattle.rl_lowered.proofs.StepMoves.{apart_ended, apart_hole, apart_link, apart_marked, apart_next, apart_noted, apart_pushed}
+use Rattle.rl_lowered.proofs.StepMoves.{apart_refl}
 use Rattle.rl_lowered.proofs.StepMoves.{apart_same, apart_step, apart_stored, apart_then, apart_value, is_step, unmarked_between}
 use Rattle.rl_lowered.proofs.StepMoves.{unmarked_value}
-use Rattle.rl_lowered.specs.Forms.{IsForm, MemberKey, delete_of, load_of, store_of, typed}
+use Rattle.rl_lowered.specs.Forms.{Front, IsForm, MemberKey, call_of, delete_of, load_of, store_of, tested_front, typed}
 use Rattle.rl_lowered.specs.Forms as forms
 use Rattle.rl_lowered.specs.Lowered.{Lowered, LoweredBody, LoweredCaseTest, LoweredCases, LoweredDeclarators, LoweredHead, LoweredInit}
-use Rattle.rl_lowered.specs.Lowered.{LoweredLast, LoweredLoop, LoweredParts, LoweredStatement, LoweredStatements, LoweredTest}
+use Rattle.rl_lowered.specs.Lowered.{LoweredFront, LoweredLast, LoweredLink, LoweredLoop, LoweredParts, LoweredSpine, LoweredStatement}
+use Rattle.rl_lowered.specs.Lowered.{LoweredStatements, LoweredTest, private_met}
 use Rattle.rl_lowered.specs.Lowered.{assigned_to, catch_begun, catch_bound, caught, declaring, found_again, member_assigned}
 use Rattle.rl_lowered.specs.Lowered.{member_computed, member_loaded, member_one, member_stored, member_updated, name_computed}
 use Rattle.rl_lowered.specs.Lowered.{name_reloaded, name_stored, part_span, promoted, throwing, throwing_under, update_of, value_span}
@@ -54,6 +57,7 @@ use Rattle.rl_lowered.specs.Named.{found}
 use Rattle.rl_lowered.specs.Steps.{KeepsStepsApart}
 use Rattle.rl_model.specs.Actions.{Label}
 use Rattle.rl_names.specs.Names.{Names}
+use Rattle.rl_optional_frames.specs.Frames.{link_at, link_objected}
 use Rattle.rl_promises.specs.Moved.{type_name}
 use Rattle.rl_promises.specs.Rows.{refusal, row_of_head}
 use Rattle.rl_runs.proofs.Moves.{extends_pushed}
@@ -89,6 +93,10 @@ form_still : {w : Word} {fields parts : Pieces} {pieces : List Piece} {v : Instr
 form_still (forms.Load {object} {key} is) = load_still object key
 form_still (forms.Delete operator {object} {key} is inside member) = delete_still object key
 form_still _ = refl
+
+call_still : (front : Front) (given : List PlaceOrSpread) → is_step (call_of front given) ≡ false
+call_still (forms.Alone p) given = refl
+call_still (forms.Lent receiver function) given = refl
 
 -- A look-up, a diagnostic, the type of a cast, the keyword of a declaration, and a value behind some of these.
 
@@ -298,6 +306,39 @@ mutual
       (apart_hole numbered stored (new_block (s.env.next_block + 1) blocks.Sequence) s.scopes stored.scopes stored.handlers
       (goto s.env.next_block gotos.Break at.span) refl refl inside)
       (apart_ended gone (ends_by (kinds.Sequence (record { 0 = f.block }) f.behind.id) (Some f.span)) f.behind refl refl))
+  expression_steps (lowered.Chain at e s t p l) = spine_steps l
+
+  pub spine_steps : {names : Names} {below : Bool} {e : Syntax} {s t : State} {p : Place} → LoweredSpine names below e s t p
+      → KeepsStepsApart s t
+  spine_steps (lowered.Outermost e s t front p l) = link_steps l
+  spine_steps (lowered.Asserted at e s t p l) = spine_steps l
+  spine_steps (lowered.Broken at e s t p is l) =
+      apart_then s (recorded s (refusal row.F44 at.span)) t (apart_noted s (refusal row.F44 at.span)) (spine_steps l)
+
+  pub link_steps : {names : Names} {alternate : Option BlockId} {e : Syntax} {s t : State} {front : Front} {p : Place}
+      → LoweredLink names alternate e s t front p → KeepsStepsApart s t
+  link_steps (lowered.LinkedProperty alternate at w optional object rest parts pieces o key s t u is l more) =
+      let opened : State = link_objected (link_at s at.span optional alternate) t o in
+      apart_link alternate s t (with_value u (load_of o key) (Some at.span)) at.span optional o (temporary u (Some at.span)) (front_steps l)
+      (apart_then opened u _ (all_steps more) (apart_value u (load_of o key) (Some at.span) (load_still o key)))
+  link_steps (lowered.LinkedPrivate alternate at optional object name o s t l) =
+      let opened : State = link_objected (link_at s at.span optional alternate) t o in
+      apart_link alternate s t (with_value (private_met opened at.span) (values.Primitive primitives.Undefined) (Some at.span)) at.span
+      optional o (temporary (private_met opened at.span) (Some at.span)) (front_steps l)
+      (apart_undefined opened (refusal row.F3 at.span) at.span)
+  link_steps (lowered.LinkedCall alternate at optional part es pieces given front s t u l more gathers) =
+      let opened : State = link_objected (link_at s at.span optional alternate) t (tested_front front) in
+      apart_link alternate s t (with_value u (call_of front given) (Some at.span)) at.span optional (tested_front front)
+      (temporary u (Some at.span)) (front_steps l)
+      (apart_then opened u _ (all_steps more) (apart_value u (call_of front given) (Some at.span) (call_still front given)))
+
+  pub front_steps : {names : Names} {alternate : BlockId} {is_called : Bool} {e : Syntax} {s t : State} {front : Front}
+      → LoweredFront names alternate is_called e s t front → KeepsStepsApart s t
+  front_steps (lowered.FrontLink alternate is_called e s t front p l) = link_steps l
+  front_steps (lowered.FrontBroken alternate is_called at e s t p l) = spine_steps l
+  front_steps (lowered.FrontMethod alternate at w fields parts pieces object key s t is l) =
+      apart_then s t _ (all_steps l) (apart_value t (load_of object key) (Some at.span) (load_still object key))
+  front_steps (lowered.FrontAlone alternate is_called e s t p is l) = expression_steps l
 
   pub all_steps : {names : Names} {of_object : Bool} {es : Pieces} {s t : State} {pieces : List Piece}
       → LoweredParts names of_object es s t pieces → KeepsStepsApart s t

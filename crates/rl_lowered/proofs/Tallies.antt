@@ -10,14 +10,15 @@ use Rattle.rl_base.specs.declared.variable_kind.VariableKind.{VariableKind}
 use Rattle.rl_base.specs.declared.variable_kind.VariableKind.TheVariants as kinds
 use Rattle.rl_base.specs.Operators.{assignment_text, update_text}
 use Rattle.rl_base.specs.VariableKinds.{variable_text}
-use Rattle.rl_builder.specs.Builder.{State, innermost, pushed, pushed_under, reserved, with_temporary}
+use Rattle.rl_builder.specs.Builder.{State, entered, innermost, new_block, pushed, pushed_under, reserved, with_temporary}
 use Rattle.rl_builder.specs.Temporaries.{temporary, unordered, with_value}
-use Rattle.rl_frames.specs.Parts.{loads, logical_entered, logical_left, logical_place, sequence_place, ternary_place}
+use Rattle.rl_frames.specs.Parts.{chain_reserved, loads, logical_entered, logical_left, logical_place, sequence_place, ternary_place}
 use Rattle.rl_frames.specs.Rounds.{ForOfParts, RoundsParts, forin_at, forin_headed, forof_at, forof_headed, forof_iterator, forof_shut}
 use Rattle.rl_frames.specs.Rounds.{forof_tested, rounds_shut}
 use Rattle.rl_grammar.proofs.Viewing.{rest_fit}
 use Rattle.rl_grammar.specs.declared.kind.Kind.TheVariants as sort
 use Rattle.rl_grammar.specs.Grammar.{every}
+use Rattle.rl_hir.specs.declared.function.BlockKind.TheVariants as blocks
 use Rattle.rl_hir.specs.declared.instruction.Instruction.{Instruction}
 use Rattle.rl_hir.specs.declared.instruction.InstructionKind.{InstructionKind}
 use Rattle.rl_hir.specs.declared.instruction.InstructionKind.TheVariants as variables
@@ -37,6 +38,7 @@ use Rattle.rl_lowered.proofs.Clean.{moved_never, never, outer_never, private_ass
 use Rattle.rl_lowered.proofs.Clean.{property_row_clean, refused_never, refusing_never, rounds_clean, row_clean, second_none}
 use Rattle.rl_lowered.proofs.Clean.{spread_row_clean, switch_clean, throw_clean, try_clean, unknown_row_never, updated_member_clean}
 use Rattle.rl_lowered.proofs.Clean.{while_clean, wrapper_clean}
+use Rattle.rl_lowered.proofs.HeldParts.{call_link_held, link_held, link_word}
 use Rattle.rl_lowered.proofs.HeldParts.{HeldBy, IsHeldAs, Unheld, assigned_held, assigned_member_held, cast_held, compound_held}
 use Rattle.rl_lowered.proofs.HeldParts.{counted_among, declarator_held, declared_head_held, form_held, form_span, form_word, is_held}
 use Rattle.rl_lowered.proofs.HeldParts.{literal_held, member_held, member_unstored, method_held, param_held, property_held, updated_held}
@@ -45,7 +47,18 @@ use Rattle.rl_lowered.proofs.Living.{private_compound_never}
 use Rattle.rl_lowered.proofs.Meant.{private_member_never}
 use Rattle.rl_lowered.proofs.Plain.{init_said, lowered_plain}
 use Rattle.rl_lowered.proofs.Refusals.{applied_plain}
-use Rattle.rl_lowered.specs.Forms.{Computed, Fixed, MemberKey, load_of, store_of, typed}
+use Rattle.rl_lowered.proofs.CleanChains.{asserted_clean, below_off, broken_never, call_link_clean, method_front_clean}
+use Rattle.rl_lowered.proofs.CleanChains.{private_link_never, property_link_clean, spine_place}
+use Rattle.rl_lowered.proofs.Spines.{outermost_clean}
+use Rattle.rl_lowered.proofs.Sums.{added_asked, added_assigned, added_behind, added_body, added_bound_try, added_branch, added_branches}
+use Rattle.rl_lowered.proofs.Sums.{added_call_link, added_case, added_compound, added_compound_member, added_computed, added_declared}
+use Rattle.rl_lowered.proofs.Sums.{added_do, added_for, added_four, added_initialized, added_inner, added_iterated, added_jump}
+use Rattle.rl_lowered.proofs.Sums.{added_labeled, added_leaf, added_link, added_loop, added_member, added_method, added_opened}
+use Rattle.rl_lowered.proofs.Sums.{added_plain_for, added_rounds, added_row, added_same, added_stored, added_three, added_try, added_two}
+use Rattle.rl_lowered.proofs.Sums.{added_unstored, none_more}
+use Rattle.rl_lowered.specs.Forms.{Computed, Fixed, Front, MemberKey, call_of, load_of, store_of, typed}
+use Rattle.rl_lowered.specs.Lowered.{Asserted, Broken, Chain, FrontAlone, FrontBroken, FrontLink, FrontMethod, LinkedCall}
+use Rattle.rl_lowered.specs.Lowered.{LinkedPrivate, LinkedProperty, LoweredFront, LoweredLink, LoweredSpine, Outermost}
 use Rattle.rl_lowered.specs.Lowered.{Asked, AssignedConstant, AssignedGlobal, AssignedMember, AssignedPrivate, AssignedVariable}
 use Rattle.rl_lowered.specs.Lowered.{AwaitRefused, Block, Break, CaseMoved, CaseTested, Cast, CompoundConstant, CompoundGlobal}
 use Rattle.rl_lowered.specs.Lowered.{CompoundMember, CompoundPrivate, CompoundVariable, Conditional, Continue, Debugger, Declared}
@@ -67,141 +80,21 @@ use Rattle.rl_model.specs.Actions.{Label}
 use Rattle.rl_model.specs.Counted.{Counted}
 use Rattle.rl_model.specs.Worlds.{is_reassign}
 use Rattle.rl_names.specs.Names.{Names}
+use Rattle.rl_optional_frames.specs.Parts.{link_opened, undefined_made}
 use Rattle.rl_promises.proofs.Unheld.{unheld_untallied}
 use Rattle.rl_promises.specs.Held.{is_of, is_span, times}
 use Rattle.rl_promises.specs.Live.{Held, held_among, held_as, held_in}
 use Rattle.rl_promises.specs.Moved.{said_of_moved}
-use Rattle.rl_promises.specs.Rows.{refusals, refusals_among, refusals_at, refusals_at_head, refusals_in, refusals_in_body}
+use Rattle.rl_promises.specs.Chains.{Below, Top}
+use Rattle.rl_promises.specs.Rows.{refusals, refusals_among, refusals_at, refusals_at_head, refusals_by, refusals_in, refusals_in_body}
 use Rattle.rl_promises.specs.Rows.{refusals_in_cases, said_of_init, said_of_test}
-use Rattle.rl_promises.specs.Tallies.{Awaits, Calls, Constructions, IsHeldKind, Stores, held_span, held_word, is_among, store_word, tallied}
+use Rattle.rl_promises.specs.Tallies.{Awaits, Calls, Constructions, IsHeldKind, Stores, call_word, held_span, held_word, is_among}
+use Rattle.rl_promises.specs.Tallies.{store_word, tallied}
 use Rattle.rl_promises.specs.Tallies.{tallied_among}
 use Rattle.rl_runs.specs.Moves.{stored_in}
 use Rattle.rl_syntax.specs.declared.numbered.At.{At}
 use Rattle.rl_syntax.specs.declared.word.Word.TheVariants as word
 use Rattle.rl_syntax.specs.Syntax.{Absent, Count, End, Flag, Listed, Node, Pieces, Said, Syntax, Then, span_of}
-
--- Sums of what was there and of what the parts add.
-
-none_more : (n : ℕ) → n ≡ 0 → 0 + n ≡ 0
-none_more n none = omega (arith, none)
-
-added_behind : (a b c n : ℕ) → b ≡ a + n → c ≡ b + 0 → c ≡ a + n
-added_behind a b c n first second = omega (arith, first, second)
-
-added_leaf : (a b n : ℕ) → n ≡ 0 → b ≡ a + 0 → b ≡ a + n
-added_leaf a b n none is = omega (arith, none, is)
-
-added_inner : (a b n own : ℕ) → own ≡ 0 → b ≡ a + n → b ≡ a + (own + (n + 0))
-added_inner a b n own none is = omega (arith, none, is)
-
-added_declared : (a b n : ℕ) → b ≡ a + n → b ≡ a + (0 + (0 + (n + 0)))
-added_declared a b n is = omega (arith, is)
-
-added_row : (a b c n m : ℕ) → b ≡ a + n → c ≡ b + m → c ≡ a + (n + m)
-added_row a b c n m first second = omega (arith, first, second)
-
-added_asked : (a b c fields parts own one : ℕ) → fields ≡ parts → one ≡ own → b ≡ a + parts → c ≡ b + one → c ≡ a + (own + fields)
-added_asked a b c fields parts own one same is first second = omega (arith, same, is, first, second)
-
-added_same : (a b n m : ℕ) → m ≡ n → b ≡ a + n → b ≡ a + m
-added_same a b n m same is = omega (arith, same, is)
-
-added_four : (a b c d e : ℕ) → b ≡ a + 0 → c ≡ b + 0 → d ≡ c + 0 → e ≡ d + 0 → e ≡ a + 0
-added_four a b c d e p q r s = omega (arith, p, q, r, s)
-
--- A store to a name, behind the value of `=` and behind the parts of a compound assignment, of which the variable is loaded again.
-
-added_stored : (a b own one : ℕ) → one ≡ own → b ≡ a + one → b ≡ a + (own + 0)
-added_stored a b own one is first = omega (arith, is, first)
-
-added_assigned : (a b c whole own one right : ℕ) → whole ≡ own + right → one ≡ own → b ≡ a + right → c ≡ b + one → c ≡ a + whole
-added_assigned a b c whole own one right same is p q = omega (arith, same, is, p, q)
-
-added_compound : (a b c d e whole own one right : ℕ) → whole ≡ own + right → one ≡ own → b ≡ a + 0 → c ≡ b + right → d ≡ c + 0
-    → e ≡ d + one → e ≡ a + whole
-added_compound a b c d e whole own one right same is p q r s = omega (arith, same, is, p, q, r, s)
-
--- The parts of an assignment to a property, in the order of `=` and in that of a compound one.
-
-added_member : (a b c d whole parts right : ℕ) → whole ≡ parts + right → b ≡ a + right → c ≡ b + parts → d ≡ c + 0 → d ≡ a + whole
-added_member a b c d whole parts right same p q r = omega (arith, same, p, q, r)
-
-added_compound_member : (a b c d e f whole parts right : ℕ) → whole ≡ parts + right → b ≡ a + parts → c ≡ b + 0 → d ≡ c + right
-    → e ≡ d + 0 → f ≡ e + 0 → f ≡ a + whole
-added_compound_member a b c d e f whole parts right same p q r s t = omega (arith, same, p, q, r, s, t)
-
-added_method : (a b c d e fields own one parts given : ℕ) → fields ≡ own + (parts + given) → one ≡ own → b ≡ a + parts → c ≡ b + 0
-    → d ≡ c + given → e ≡ d + one → e ≡ a + fields
-added_method a b c d e fields own one parts given whole is p q r s = omega (arith, whole, is, p, q, r, s)
-
-added_computed : (a b c d key value more : ℕ) → b ≡ a + key → c ≡ b + value → d ≡ c + more
-    → d ≡ a + ((0 + (0 + (key + (value + 0)))) + more)
-added_computed a b c d key value more p q r = omega (arith, p, q, r)
-
-added_initialized : (a b c d whole init more : ℕ) → whole ≡ init → b ≡ a + init → c ≡ b + 0 → d ≡ c + more → d ≡ a + (whole + more)
-added_initialized a b c d whole init more same p q r = omega (arith, same, p, q, r)
-
-added_two : (a b c d e f left right : ℕ) → b ≡ a + 0 → c ≡ b + right → d ≡ c + 0 → e ≡ d + left → f ≡ e + 0
-    → f ≡ a + (0 + (0 + (left + (right + 0))))
-added_two a b c d e f left right p q r s t = omega (arith, p, q, r, s, t)
-
-added_three : (a b c d e f test consequent alternate : ℕ) → b ≡ a + consequent → c ≡ b + 0 → d ≡ c + alternate → e ≡ d + 0
-    → f ≡ e + test → f ≡ a + (0 + (test + (consequent + (alternate + 0))))
-added_three a b c d e f test consequent alternate p q r s t = omega (arith, p, q, r, s, t)
-
-added_branch : (a b c test consequent : ℕ) → b ≡ a + consequent → c ≡ b + test → c ≡ a + (0 + (test + (consequent + (0 + 0))))
-added_branch a b c test consequent p q = omega (arith, p, q)
-
-added_branches : (a b c d test consequent alternate : ℕ) → b ≡ a + consequent → c ≡ b + alternate → d ≡ c + test
-    → d ≡ a + (0 + (test + (consequent + (alternate + 0))))
-added_branches a b c d test consequent alternate p q r = omega (arith, p, q, r)
-
-added_loop : (a b c first second : ℕ) → b ≡ a + first → c ≡ b + second → c ≡ a + (0 + (second + (first + 0)))
-added_loop a b c first second p q = omega (arith, p, q)
-
-added_do : (a b c first second : ℕ) → b ≡ a + first → c ≡ b + second → c ≡ a + (0 + (first + (second + 0)))
-added_do a b c first second p q = omega (arith, p, q)
-
-added_for : (a b c d e init test update body : ℕ) → b ≡ a + init → c ≡ b + update → d ≡ c + body → e ≡ d + test
-    → e ≡ a + (0 + (init + (test + (update + (body + 0)))))
-added_for a b c d e init test update body p q r s = omega (arith, p, q, r, s)
-
-added_plain_for : (a b c d init test body : ℕ) → b ≡ a + init → c ≡ b + body → d ≡ c + test
-    → d ≡ a + (0 + (init + (test + (0 + (body + 0)))))
-added_plain_for a b c d init test body p q r = omega (arith, p, q, r)
-
--- The store of a head counts with its loop.
-
-added_rounds : (a b c d e own head right body : ℕ) → b ≡ a + body → c ≡ b + right → d ≡ c + 0 → e ≡ d + (own + head)
-    → e ≡ a + (own + (head + (right + (body + 0))))
-added_rounds a b c d e own head right body p q r s = omega (arith, p, q, r, s)
-
-added_iterated : (a b c d e f own head right body : ℕ) → b ≡ a + body → c ≡ b + right → d ≡ c + 0 → e ≡ d + 0 → f ≡ e + (own + head)
-    → f ≡ a + (own + (0 + (head + (right + (body + 0)))))
-added_iterated a b c d e f own head right body p q r s t = omega (arith, p, q, r, s, t)
-
-added_unstored : (a b own n : ℕ) → own ≡ 0 → b ≡ a + n → b ≡ a + (own + n)
-added_unstored a b own n none is = omega (arith, none, is)
-
-added_jump : (a n : ℕ) → n ≡ 0 → a ≡ a + (0 + (n + 0))
-added_jump a n none = omega (arith, none)
-
-added_labeled : (a b body : ℕ) → b ≡ a + body → b ≡ a + (0 + (0 + (body + 0)))
-added_labeled a b body is = omega (arith, is)
-
-added_body : (a b directives statements : ℕ) → directives ≡ 0 → b ≡ a + statements → b ≡ a + (0 + (directives + (statements + 0)))
-added_body a b directives statements none is = omega (arith, none, is)
-
-added_case : (a b c d test statements cases : ℕ) → b ≡ a + cases → c ≡ b + statements → d ≡ c + test
-    → d ≡ a + ((0 + (test + (statements + 0))) + cases)
-added_case a b c d test statements cases p q r = omega (arith, p, q, r)
-
-added_try : (a b c block body : ℕ) → b ≡ a + body → c ≡ b + block → c ≡ a + (0 + (block + ((0 + (0 + (body + 0))) + (0 + 0))))
-added_try a b c block body p q = omega (arith, p, q)
-
-added_bound_try : (a b c d e block param body : ℕ) → param ≡ 0 → b ≡ a + 0 → c ≡ b + 0 → d ≡ c + body → e ≡ d + block
-    → e ≡ a + (0 + (block + ((0 + (param + (body + 0))) + (0 + 0))))
-added_bound_try a b c d e block param body none p q r s = omega (arith, none, p, q, r, s)
 
 -- The table of a state with one more instruction.
 table_under : (o : Option BlockId) (s : State) (i : Instruction) → (pushed_under o s i).table ≡ s.table ++ i ∷ []
@@ -363,6 +256,34 @@ module _ (key : Counted) (held : IsHeldKind key.kinds) where
       let first = weighed_among key parts in
       let second = weighed_among key es in
       omega (arith, whole, first, second, weigh_append key (held_among parts) (held_among es))
+
+  -- Links of chains.
+
+  link_tallied : (e object : Syntax) (parts : Pieces) → held_in e ≡ held_in object ++ held_among parts
+      → tallied key e ≡ tallied key object + tallied_among key parts
+  link_tallied e object parts same =
+      let whole = weighed key e ∙ ap (weigh key) same in
+      let first = weighed key object in
+      let second = weighed_among key parts in
+      omega (arith, whole, first, second, weigh_append key (held_in object) (held_among parts))
+
+  call_tallied : (e callee : Syntax) (es : Pieces) (text : List ℕ) (span : Span)
+      → held_in e ≡ record { word = text; span = span } ∷ (held_in callee ++ held_among es)
+      → tallied key e ≡ tally_by key (Some text) span + (tallied key callee + tallied_among key es)
+  call_tallied e callee es text span same =
+      let whole = weighed key e ∙ ap (weigh key) same in
+      let first = weighed key callee in
+      let second = weighed_among key es in
+      omega (arith, whole, first, second, weigh_append key (held_in callee) (held_among es))
+
+  opened_tallies : (alternate : Option BlockId) (s : State) (span : Span)
+      → times key (link_opened alternate s span).table ≡ times key s.table + 0
+  opened_tallies None s span =
+      let x : State = chain_reserved s span in
+      let begun : State = entered (reserved x) (new_block x.env.next_block blocks.Value) in
+      added_opened _ _ _ (unheld_tallies begun (values.Primitive primitives.Undefined) (Some span) refl)
+      (stored_tallies (undefined_made begun span) (temporary s (Some span)) (temporary x (Some span)) span)
+  opened_tallies (Some given) s span = omega arith
 
   -- An assignment to a name counts by its store, and one to a property by its parts.
 
@@ -539,6 +460,50 @@ module _ (key : Counted) (held : IsHeldKind key.kinds) where
         added_inner _ _ _ _ refl
         (added_behind _ _ _ _ (last_tallies d (first_none (refusals_in names (Then e es)) [] none))
         (stored_tallies s2 (sequence_place s at.span) p at.span))
+    expression_tallies {names} (Chain at e s t p d) none =
+        added_inner _ _ _ _ refl (spine_tallies d (first_none (refusals_by names Top e) [] none))
+
+    pub spine_tallies : {names : Names} {below : Bool} {e : Syntax} {s t : State} {p : Place} → LoweredSpine names below e s t p
+        → refusals_by names (spine_place below) e ≡ [] → times key t.table ≡ times key s.table + tallied key e
+    spine_tallies (Outermost {below} e s t front p d) none = link_tallies d (outermost_clean d below none)
+    spine_tallies {names} (Asserted at e s t p d) none =
+        added_inner _ _ _ _ refl (spine_tallies d (asserted_clean names at e none))
+    spine_tallies {names} (Broken at e s t p is d) none = absurd (broken_never names at e is none)
+
+    pub link_tallies : {names : Names} {alternate : Option BlockId} {e : Syntax} {s t : State} {front : Front} {p : Place}
+        → LoweredLink names alternate e s t front p → refusals_by names Below e ≡ []
+        → times key t.table ≡ times key s.table + tallied key e
+    link_tallies {names} (LinkedProperty alternate at w optional object rest parts pieces o k s t u is d ds) none =
+        let clean = property_link_clean is names Below refl at optional object none in
+        let loaded : State = with_value u (load_of o k) (Some at.span) in
+        added_link _ _ _ _ _ _ _ _ _
+        (link_tallied (Node at w (Then (Flag optional) (Then object rest))) object parts (link_held is at optional object))
+        (opened_tallies alternate s at.span) (front_tallies d clean.0) (all_tallies ds clean.1)
+        (unheld_tallies u (load_of o k) (Some at.span) (load_unheld o k))
+        (stored_tallies loaded (temporary s (Some at.span)) (temporary u (Some at.span)) at.span)
+    link_tallies {names} (LinkedPrivate alternate at optional object name o s t d) none =
+        absurd (private_link_never names Below at (Flag optional) object (Said name) none)
+    link_tallies {names} (LinkedCall alternate at optional callee es pieces given front s t u d ds is) none =
+        let clean = call_link_clean names Below refl at optional callee es none in
+        let called : State = with_value u (call_of front given) (Some at.span) in
+        added_call_link _ _ _ _ _ _ _ _ _ _ _
+        (call_tallied (Node at word.Call (Then (Flag optional) (Then callee (Then (Listed es) End)))) callee es (call_word callee) at.span
+        (call_link_held at optional callee es))
+        (weight (Some (call_word callee)) (call_of front given) at.span (link_word d given))
+        (opened_tallies alternate s at.span) (front_tallies d clean.0) (all_tallies ds clean.1)
+        (value_tallies u (call_of front given) (Some at.span))
+        (stored_tallies called (temporary s (Some at.span)) (temporary u (Some at.span)) at.span)
+
+    pub front_tallies : {names : Names} {alternate : BlockId} {is_called : Bool} {e : Syntax} {s t : State} {front : Front}
+        → LoweredFront names alternate is_called e s t front → refusals_by names Below e ≡ []
+        → times key t.table ≡ times key s.table + tallied key e
+    front_tallies (FrontLink alternate is_called e s t front p d) none = link_tallies d none
+    front_tallies (FrontBroken alternate is_called at e s t p d) none = spine_tallies d none
+    front_tallies {names} (FrontMethod alternate at w fields parts pieces object k s t is d) none =
+        added_same _ _ _ _ (row_tallied (Node at w fields) parts (member_held is at))
+        (added_behind _ _ _ _ (all_tallies d (method_front_clean is names at none))
+        (unheld_tallies t (load_of object k) (Some at.span) (load_unheld object k)))
+    front_tallies {names} (FrontAlone alternate is_called e s t p other d) none = expression_tallies d (below_off names e none)
 
     pub all_tallies : {names : Names} {of_object : Bool} {es : Pieces} {s t : State} {pieces : List Piece}
         → LoweredParts names of_object es s t pieces → refusals_in names es ≡ []

@@ -21,6 +21,7 @@ use Rattle.rl_frames.proofs.LoopStates.{loop_in}
 use Rattle.rl_frames.proofs.RoundStates.{init_extends, last_extends}
 use Rattle.rl_frames.specs.Frames.{logical_after, logical_at, logical_ended, logical_righted, sequence_at, sequence_ended, ternary_after}
 use Rattle.rl_frames.specs.Frames.{ternary_alternated, ternary_at, ternary_consequent, ternary_ended, ternary_parted}
+use Rattle.rl_frames.specs.Parts.{chain_begun, chain_reserved, link_begun, link_end, link_finished, link_object}
 use Rattle.rl_frames.specs.Parts.{do_while_body, do_while_end, for_begun, for_body, for_finished, for_update, forin_end, forin_init}
 use Rattle.rl_frames.specs.Parts.{forin_next, forof_end, forof_init, forof_next, forof_opened, forof_test, if_end, if_finished, label_begun}
 use Rattle.rl_frames.specs.Parts.{label_end, label_finished, loads, logical_begun, logical_end, logical_entered, logical_left}
@@ -28,6 +29,7 @@ use Rattle.rl_frames.specs.Parts.{logical_place, rounds_body, rounds_finished, s
 use Rattle.rl_frames.specs.Parts.{ternary_end, ternary_place, while_begun, while_body, while_finished}
 use Rattle.rl_frames.specs.SwitchParts.{switch_end, switch_finished}
 use Rattle.rl_hir.specs.Blocks.{same_id}
+use Rattle.rl_hir.specs.declared.function.BlockKind.{BlockKind}
 use Rattle.rl_hir.specs.declared.function.BlockKind.TheVariants as block
 use Rattle.rl_hir.specs.declared.instruction.Instruction.{Instruction}
 use Rattle.rl_hir.specs.declared.instruction.InstructionKind.{InstructionKind}
@@ -41,9 +43,10 @@ use Rattle.rl_hir.specs.declared.terminal.GotoVariant.TheVariants as gotos
 use Rattle.rl_hir.specs.declared.terminal.Terminal.{Terminal}
 use Rattle.rl_lowered.proofs.Blocks.{all_blocks, all_passes, blocks_assigned, blocks_cast, blocks_constant, blocks_found_value}
 use Rattle.rl_lowered.proofs.Blocks.{blocks_noted_value, blocks_reloaded, declarators_blocks, expression_blocks, last_blocks}
-use Rattle.rl_lowered.specs.Forms.{load_of, store_of, typed}
+use Rattle.rl_lowered.proofs.ChainFrames.{linked_state, opened_handlers}
+use Rattle.rl_lowered.specs.Forms.{Front, call_of, load_of, store_of, tested_front, typed}
 use Rattle.rl_lowered.specs.Lowered.{Lowered, LoweredDeclarators, LoweredLast, declaring, member_loaded, member_one, member_updated}
-use Rattle.rl_lowered.specs.Lowered.{name_computed, value_span}
+use Rattle.rl_lowered.specs.Lowered.{LoweredFront, LoweredLink, LoweredSpine, name_computed, private_met, value_span}
 use Rattle.rl_lowered.specs.Lowered as lowered
 use Rattle.rl_lowered.specs.Named.{found}
 use Rattle.rl_machine.specs.Machine.{Code}
@@ -51,6 +54,8 @@ use Rattle.rl_model.specs.Actions.{Label}
 use Rattle.rl_model.specs.Dead.{Lives as DeadLives, Outs, declares, goes_on, lives_in_row}
 use Rattle.rl_names.specs.Names.{Names}
 use Rattle.rl_order.proofs.Ordering.{or_left, or_right, same_self}
+use Rattle.rl_optional_frames.specs.Frames.{link_at, link_objected}
+use Rattle.rl_optional_frames.specs.Parts.{link_opened}
 use Rattle.rl_promises.specs.Rows.{refusal}
 use Rattle.rl_runs.proofs.Holes.{contained_hole, contained_stacked}
 use Rattle.rl_runs.proofs.Moves.{contained_before, extends_completed, extends_pushed, extends_resolved, extends_then, extends_value}
@@ -169,6 +174,39 @@ ternary_throws h s s2 s3 s4 span part other c a p g2 g3 g4 throws on code cover 
     (Leads s.current.id.0 (length s.current.instructions) end (block_id (n + 1)) led
     (terminal_met shut end next code (contained_before g4 met)) (to_only (block_id (n + 1))))
 
+-- A link of an optional chain, from a state in which it may begin.
+link_throws_from : (h : BlockId) (s x s2 s4 : State) (optional : Bool) (f q a : ℕ) (kind : BlockKind) (span : Span)
+    (object place value : Place) → x.current ≡ s.current → Extends (link_object s2 f q a span object) s4 → Throws h (link_begun x) s2
+    → Throws h s (link_finished s4 f x.env.next_block optional kind span place value x.current)
+link_throws_from h s x s2 s4 optional f q a kind span object place value position gk l c cover entry led =
+    let test : ℕ = x.env.next_block in
+    let end : Terminal = link_end f test optional span in
+    let next : WipBlock = new_block f kind in
+    let stored : State = stored_in s4 place value span in
+    let shut : State = last_hole stored f gotos.Break span x.current in
+    let met : IsContainedIn s4 c =
+    contained_before (extends_value s4 (values.StoreLocal variables.Const place value) (Some span))
+    (contained_hole stored f gotos.Break span x.current c (contained_before (extends_completed shut end next (λ none. refl)) cover)) in
+    l c
+    (contained_before (extends_completed s2 (branch object q a f span) (new_block q block.Value) (λ none. refl))
+    (contained_before gk met))
+    entry
+    (Leads x.current.id.0 (length x.current.instructions) end (block_id test)
+    (subst (λ (w : WipBlock). IsLedTo c entry w.id.0) (sym position) led) (terminal_met shut end next c cover)
+    (to_only (block_id test)))
+
+linked_throws : (h : BlockId) (alternate : Option BlockId) (s s2 s4 : State) (span : Span) (optional : Bool) (object value : Place)
+    → Extends (link_objected (link_at s span optional alternate) s2 object) s4
+    → (innermost (link_opened alternate s span).handlers ≡ Some h → Throws h (link_opened alternate s span) s2)
+    → innermost s.handlers ≡ Some h → Throws h s (linked_state alternate s span optional s4 value)
+linked_throws h (Some alternate) s s2 s4 span optional object value gk l on =
+    link_throws_from h s (chain_reserved s span) s2 s4 optional s.env.next_block (s.env.next_block + 1) alternate.0 s.current.kind span
+    object (temporary s (Some span)) value refl gk (l on)
+linked_throws h None s s2 s4 span optional object value gk l on =
+    link_throws_from h s (chain_begun s span) s2 s4 optional s.env.next_block (s.env.next_block + 1) (s.env.next_block + 1 + 1)
+    s.current.kind span object (temporary s (Some span)) value refl gk
+    (l (ap (λ (l : List BlockId). innermost l) (opened_handlers None s span) ∙ on))
+
 mutual
   pub expression_throws : {names : Names} {e : Syntax} {s t : State} {p : Place} → Lowered names e s t p → (h : BlockId)
       → innermost s.handlers ≡ Some h → Throws h s t
@@ -255,6 +293,37 @@ mutual
       (expression_blocks da).extends (expression_blocks dt).extends (expression_throws dt h) on
   expression_throws (lowered.Sequence at e es s s2 p d) h on =
       sequence_throws h s s2 at.span p (last_throws d h on)
+  expression_throws (lowered.Chain at e s t p d) h on = spine_throws d h on
+
+  spine_throws : {names : Names} {below : Bool} {e : Syntax} {s t : State} {p : Place} → LoweredSpine names below e s t p → (h : BlockId)
+      → innermost s.handlers ≡ Some h → Throws h s t
+  spine_throws (lowered.Outermost e s t front p d) h on = link_throws d h on
+  spine_throws (lowered.Asserted at e s t p d) h on = spine_throws d h on
+  spine_throws (lowered.Broken at e s t p is d) h on = spine_throws d h on
+
+  link_throws : {names : Names} {alternate : Option BlockId} {e : Syntax} {s t : State} {front : Front} {p : Place}
+      → LoweredLink names alternate e s t front p → (h : BlockId) → innermost s.handlers ≡ Some h → Throws h s t
+  link_throws (lowered.LinkedProperty alternate at w optional object rest parts pieces o key s t u is d ds) h on =
+      linked_throws h alternate s t (with_value u (load_of o key) (Some at.span)) at.span optional o (temporary u (Some at.span))
+      (extends_then (all_blocks ds).extends (extends_value u (load_of o key) (Some at.span))) (front_throws d h) on
+  link_throws (lowered.LinkedPrivate alternate at optional object name o s t d) h on =
+      let opened : State = link_objected (link_at s at.span optional alternate) t o in
+      linked_throws h alternate s t (with_value (private_met opened at.span) (values.Primitive primitives.Undefined) (Some at.span))
+      at.span optional o (temporary (private_met opened at.span) (Some at.span))
+      (blocks_noted_value opened (refusal row.F3 at.span) (values.Primitive primitives.Undefined) (Some at.span)).extends
+      (front_throws d h) on
+  link_throws (lowered.LinkedCall alternate at optional part es pieces given front s t u d ds gathers) h on =
+      linked_throws h alternate s t (with_value u (call_of front given) (Some at.span)) at.span optional (tested_front front)
+      (temporary u (Some at.span)) (extends_then (all_blocks ds).extends (extends_value u (call_of front given) (Some at.span)))
+      (front_throws d h) on
+
+  front_throws : {names : Names} {alternate : BlockId} {is_called : Bool} {e : Syntax} {s t : State} {front : Front}
+      → LoweredFront names alternate is_called e s t front → (h : BlockId) → innermost s.handlers ≡ Some h → Throws h s t
+  front_throws (lowered.FrontLink alternate is_called e s t front p d) h on = link_throws d h on
+  front_throws (lowered.FrontBroken alternate is_called at e s t p d) h on = spine_throws d h on
+  front_throws (lowered.FrontMethod alternate at w fields parts pieces object key s t is d) h on =
+      behind_throws h s t (load_of object key) (Some at.span) (all_blocks d).extends (all_passes d) on
+  front_throws (lowered.FrontAlone alternate is_called e s t p is d) h on = expression_throws d h on
 
   last_throws : {names : Names} {es : Pieces} {s t : State} {p : Place} → LoweredLast names es s t p → (h : BlockId)
       → innermost s.handlers ≡ Some h → Throws h s t

@@ -1,25 +1,42 @@
 -- Promises of the lowering of a part, from its derivation.
-use Rattle.std.proofs.Common.{List, Option, refl}
+use Rattle.std.proofs.Common.{Bool, List, Option, refl}
+use Rattle.rl_base.specs.declared.ids.BlockId.{BlockId}
 use Rattle.rl_base.specs.declared.span.Span.{Span}
 use Rattle.rl_builder.specs.Builder.{State}
 use Rattle.rl_frames.specs.SwitchParts.{switch_begun}
 use Rattle.rl_hir.specs.declared.instruction.Place.{Place}
 use Rattle.rl_hir.specs.declared.terminal.Case.{Case}
 use Rattle.rl_hir.specs.Pieces.{Piece}
-use Rattle.rl_lowered.proofs.Names.{all_names, case_test_names, cases_names, expression_names, head_names, init_names, last_names}
-use Rattle.rl_lowered.proofs.Names.{loop_names, names_same, statement_names, statements_names, test_names}
-use Rattle.rl_lowered.proofs.Sizes.{all_size, case_test_size, cases_size, expression_size, head_size, init_size, last_size, loop_size}
-use Rattle.rl_lowered.proofs.Sizes.{statement_size, statements_size, test_size}
-use Rattle.rl_lowered.specs.Lowered.{Lowered, LoweredAll, LoweredCaseTest, LoweredCases, LoweredHead, LoweredInit, LoweredLast}
-use Rattle.rl_lowered.specs.Lowered.{LoweredLoop, LoweredProperties, LoweredStatement, LoweredStatements, LoweredTest}
-use Rattle.rl_lowered.specs.Promised.{LowersAll, LowersCaseTest, LowersCases, LowersExpression, LowersHead, LowersInit, LowersLast}
-use Rattle.rl_lowered.specs.Promised.{LowersLoop, LowersProperties, LowersStatement, LowersStatements, LowersTest}
+use Rattle.rl_lowered.proofs.Names.{all_names, case_test_names, cases_names, expression_names, front_names, head_names, init_names}
+use Rattle.rl_lowered.proofs.Names.{last_names, link_names, loop_names, names_same, spine_names, statement_names, statements_names}
+use Rattle.rl_lowered.proofs.Names.{test_names}
+use Rattle.rl_lowered.proofs.Sizes.{all_size, case_test_size, cases_size, expression_size, front_size, head_size, init_size, last_size}
+use Rattle.rl_lowered.proofs.Sizes.{link_size, loop_size, spine_size, statement_size, statements_size, test_size}
+use Rattle.rl_lowered.specs.Forms.{Front}
+use Rattle.rl_lowered.specs.Lowered.{Lowered, LoweredAll, LoweredCaseTest, LoweredCases, LoweredFront, LoweredHead, LoweredInit}
+use Rattle.rl_lowered.specs.Lowered.{LoweredLast, LoweredLink, LoweredLoop, LoweredProperties, LoweredSpine, LoweredStatement}
+use Rattle.rl_lowered.specs.Lowered.{LoweredStatements, LoweredTest}
+use Rattle.rl_lowered.specs.Promised.{LowersAll, LowersCaseTest, LowersCases, LowersExpression, LowersFront, LowersHead, LowersInit}
+use Rattle.rl_lowered.specs.Promised.{LowersLast, LowersLink, LowersLoop, LowersProperties, LowersSpine, LowersStatement}
+use Rattle.rl_lowered.specs.Promised.{LowersStatements, LowersTest}
 use Rattle.rl_model.specs.Actions.{Label}
 use Rattle.rl_names.specs.Names.{Names}
 use Rattle.rl_syntax.specs.Syntax.{Pieces, Syntax}
 
 pub told : {names : Names} {e : Syntax} {s t : State} {p : Place} → Lowered names e s t p → LowersExpression names e s t p
 told l = record { by = l; named = (expression_names l).named; size = expression_size l }
+
+pub told_spine : {names : Names} {below : Bool} {e : Syntax} {s t : State} {p : Place} → LoweredSpine names below e s t p
+    → LowersSpine names below e s t p
+told_spine l = record { by = l; named = (spine_names l).named; size = spine_size l }
+
+pub told_link : {names : Names} {alternate : Option BlockId} {e : Syntax} {s t : State} {front : Front} {p : Place}
+    → LoweredLink names alternate e s t front p → LowersLink names alternate e s t front p
+told_link l = record { by = l; named = (link_names l).named; size = link_size l }
+
+pub told_front : {names : Names} {alternate : BlockId} {called : Bool} {e : Syntax} {s t : State} {front : Front}
+    → LoweredFront names alternate called e s t front → LowersFront names alternate called e s t front
+told_front l = record { by = l; named = (front_names l).named; size = front_size l }
 
 pub told_all : {names : Names} {es : Pieces} {s t : State} {pieces : List Piece} → LoweredAll names es s t pieces
     → LowersAll names es s t pieces

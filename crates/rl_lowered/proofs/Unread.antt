@@ -1,6 +1,7 @@
 -- Lowering a part keeps that no run reads the note behind a construct whose terminal `build` may replace.
 use Rattle.std.proofs.Common.{◌+◌, Bool, true, false, List, Option, Some, None, refl, ◌∙◌, arith}
 use Rattle.rl_base.specs.declared.diagnostic.Diagnostic.{Diagnostic}
+use Rattle.rl_base.specs.declared.ids.BlockId.{BlockId}
 use Rattle.rl_base.specs.declared.row.Row.TheVariants as row
 use Rattle.rl_base.specs.declared.span.Span.{Span}
 use Rattle.rl_base.specs.Diagnostics.{diagnostic_at}
@@ -27,25 +28,28 @@ use Rattle.rl_hir.specs.declared.terminal.GotoVariant.TheVariants as gotos
 use Rattle.rl_hir.specs.declared.terminal.ReturnVariant.TheVariants as returns
 use Rattle.rl_hir.specs.declared.terminal.TerminalKind.TheVariants as kinds
 use Rattle.rl_hir.specs.Pieces.{Piece}
-use Rattle.rl_lowered.proofs.Blocks.{expression_blocks, head_blocks, statement_blocks}
+use Rattle.rl_lowered.proofs.Blocks.{all_blocks, blocks_noted_value, expression_blocks, front_blocks, head_blocks, statement_blocks}
 use Rattle.rl_lowered.proofs.Catches.{catch_declared, declares_caught, stores_caught}
 use Rattle.rl_lowered.proofs.UnreadMoves.{Unreads, own_note, unreads_assigned, unreads_constant, unreads_declaring, unreads_ended}
-use Rattle.rl_lowered.proofs.UnreadMoves.{unreads_for_opened, unreads_found, unreads_found_value, unreads_frame, unreads_last}
+use Rattle.rl_lowered.proofs.UnreadMoves.{unreads_for_opened, unreads_found, unreads_found_value, unreads_frame, unreads_last, unreads_link}
 use Rattle.rl_lowered.proofs.UnreadMoves.{unreads_member, unreads_next, unreads_noted, unreads_noted_value, unreads_pushed}
 use Rattle.rl_lowered.proofs.UnreadMoves.{unreads_refl, unreads_reloaded, unreads_same, unreads_scope_ended}
 use Rattle.rl_lowered.proofs.UnreadMoves.{unreads_stored, unreads_then, unreads_throwing, unreads_tried, unreads_typed, unreads_undefined}
 use Rattle.rl_lowered.proofs.UnreadMoves.{unreads_value}
-use Rattle.rl_lowered.specs.Forms.{load_of, store_of, typed}
+use Rattle.rl_lowered.specs.Forms.{Front, call_of, load_of, store_of, tested_front, typed}
 use Rattle.rl_lowered.specs.Lowered.{Lowered, LoweredBody, LoweredCaseTest, LoweredCases, LoweredDeclarators, LoweredHead, LoweredInit}
-use Rattle.rl_lowered.specs.Lowered.{LoweredLast, LoweredLoop, LoweredParts, LoweredStatement, LoweredStatements, LoweredTest}
+use Rattle.rl_lowered.specs.Lowered.{LoweredFront, LoweredLast, LoweredLink, LoweredLoop, LoweredParts, LoweredSpine, LoweredStatement}
+use Rattle.rl_lowered.specs.Lowered.{LoweredStatements, LoweredTest, private_met}
 use Rattle.rl_lowered.specs.Lowered.{assigned_to, catch_begun, catch_bound, caught, declaring, found_again, name_computed, part_span}
 use Rattle.rl_lowered.specs.Lowered.{promoted, throwing, value_span}
 use Rattle.rl_lowered.specs.Lowered as lowered
 use Rattle.rl_lowered.specs.Named.{found}
 use Rattle.rl_model.specs.Actions.{Label}
 use Rattle.rl_names.specs.Names.{Names}
+use Rattle.rl_optional_frames.specs.Frames.{link_at, link_objected}
 use Rattle.rl_promises.specs.Moved.{type_name}
 use Rattle.rl_promises.specs.Rows.{refusal, row_of_head}
+use Rattle.rl_runs.proofs.Moves.{extends_then, extends_value}
 use Rattle.rl_runs.specs.Moves.{branch, ends_by, last_hole, return_of, returned_from, stored_in, threw_from, without_scope}
 use Rattle.rl_runs.specs.ReadNotes.{KeepsUnread}
 use Rattle.rl_syntax.specs.Syntax.{Pieces, Syntax, span_of}
@@ -172,6 +176,41 @@ mutual
       (unreads_then s2 stored _ (unreads_stored s2 f.place p at.span)
       (unreads_then stored gone _ (unreads_last stored f.behind.id.0 gotos.Break at.span f.outer)
       (unreads_ended gone (ends_by (kinds.Sequence (record { 0 = f.block }) f.behind.id) (Some f.span)) f.behind refl refl))))
+  expression_unread (lowered.Chain at e s t p l) = spine_unread l
+
+  pub spine_unread : {names : Names} {below : Bool} {e : Syntax} {s t : State} {p : Place} → LoweredSpine names below e s t p → Unreads s t
+  spine_unread (lowered.Outermost e s t front p l) = link_unread l
+  spine_unread (lowered.Asserted at e s t p l) = spine_unread l
+  spine_unread (lowered.Broken at e s t p is l) =
+      unreads_then s (recorded s (refusal row.F44 at.span)) t (unreads_noted s (refusal row.F44 at.span)) (spine_unread l)
+
+  pub link_unread : {names : Names} {alternate : Option BlockId} {e : Syntax} {s t : State} {front : Front} {p : Place}
+      → LoweredLink names alternate e s t front p → Unreads s t
+  link_unread (lowered.LinkedProperty alternate at w optional object rest parts pieces o key s t u is l more) =
+      let opened : State = link_objected (link_at s at.span optional alternate) t o in
+      unreads_link alternate s t (with_value u (load_of o key) (Some at.span)) at.span optional o (temporary u (Some at.span))
+      (front_blocks l).extends (extends_then (all_blocks more).extends (extends_value u (load_of o key) (Some at.span)))
+      (front_unread l).keeps (unreads_then opened u _ (all_unread more) (unreads_value u (load_of o key) (Some at.span))).keeps
+  link_unread (lowered.LinkedPrivate alternate at optional object name o s t l) =
+      let opened : State = link_objected (link_at s at.span optional alternate) t o in
+      unreads_link alternate s t (with_value (private_met opened at.span) (values.Primitive primitives.Undefined) (Some at.span)) at.span
+      optional o (temporary (private_met opened at.span) (Some at.span)) (front_blocks l).extends
+      (blocks_noted_value opened (refusal row.F3 at.span) (values.Primitive primitives.Undefined) (Some at.span)).extends
+      (front_unread l).keeps (unreads_undefined opened (refusal row.F3 at.span) at.span).keeps
+  link_unread (lowered.LinkedCall alternate at optional part es pieces given front s t u l more gathers) =
+      let opened : State = link_objected (link_at s at.span optional alternate) t (tested_front front) in
+      unreads_link alternate s t (with_value u (call_of front given) (Some at.span)) at.span optional (tested_front front)
+      (temporary u (Some at.span)) (front_blocks l).extends
+      (extends_then (all_blocks more).extends (extends_value u (call_of front given) (Some at.span)))
+      (front_unread l).keeps (unreads_then opened u _ (all_unread more) (unreads_value u (call_of front given) (Some at.span))).keeps
+
+  pub front_unread : {names : Names} {alternate : BlockId} {is_called : Bool} {e : Syntax} {s t : State} {front : Front}
+      → LoweredFront names alternate is_called e s t front → Unreads s t
+  front_unread (lowered.FrontLink alternate is_called e s t front p l) = link_unread l
+  front_unread (lowered.FrontBroken alternate is_called at e s t p l) = spine_unread l
+  front_unread (lowered.FrontMethod alternate at w fields parts pieces object key s t is l) =
+      unreads_then s t _ (all_unread l) (unreads_value t (load_of object key) (Some at.span))
+  front_unread (lowered.FrontAlone alternate is_called e s t p is l) = expression_unread l
 
   pub all_unread : {names : Names} {of_object : Bool} {es : Pieces} {s t : State} {pieces : List Piece}
       → LoweredParts names of_object es s t pieces → Unreads s t

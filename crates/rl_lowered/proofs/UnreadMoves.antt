@@ -1,5 +1,5 @@
 -- The moves of the lowering keep that no run reads the note behind a construct whose terminal `build` may replace.
-use Rattle.std.proofs.Common.{◌≡◌, ℕ, ◌<◌, ◌≤◌, inl, inr, List, [], ◌∷◌, Option, Some, None, refl, ◌∙◌, subst, arith, ap, length}
+use Rattle.std.proofs.Common.{◌≡◌, ℕ, ◌+◌, Bool, ◌<◌, ◌≤◌, inl, inr, List, [], ◌∷◌, Option, Some, None, refl, ◌∙◌, subst, arith, ap, length}
 use Rattle.std.proofs.Common.{take}
 use Rattle.std.specs.Prelude.{◌++◌, ◌-◌, ◌⊎◌}
 use Rattle.rl_base.specs.declared.diagnostic.Diagnostic.{Diagnostic}
@@ -18,7 +18,7 @@ use Rattle.rl_builder.specs.Builder.{State, completed_by, innermost, new_block, 
 use Rattle.rl_builder.specs.declared.blocks.WipBlock.{WipBlock}
 use Rattle.rl_builder.specs.Temporaries.{temporary, unordered, with_value}
 use Rattle.rl_frames.specs.Frames.{ForParts, for_opened}
-use Rattle.rl_frames.specs.Parts.{try_begun, try_handler}
+use Rattle.rl_frames.specs.Parts.{chain_begun, chain_reserved, try_begun, try_handler}
 use Rattle.rl_hir.specs.Blocks.{Pair as BlockPair}
 use Rattle.rl_hir.specs.declared.function.BlockKind.{BlockKind}
 use Rattle.rl_hir.specs.declared.function.BlockKind.TheVariants as blocks
@@ -32,18 +32,24 @@ use Rattle.rl_hir.specs.declared.terminal.GotoVariant.{GotoVariant}
 use Rattle.rl_hir.specs.declared.terminal.GotoVariant.TheVariants as gotos
 use Rattle.rl_hir.specs.declared.terminal.Terminal.{Terminal}
 use Rattle.rl_hir.specs.declared.terminal.TerminalKind.{TerminalKind}
+use Rattle.rl_lowered.proofs.ChainFrames.{linked_state}
 use Rattle.rl_lowered.specs.Forms.{MemberKey, load_of, store_of, typed}
 use Rattle.rl_lowered.specs.Lowered.{assigned_to, declaring, member_assigned, member_computed, member_loaded, member_one, member_stored}
 use Rattle.rl_lowered.specs.Lowered.{member_updated, name_computed, name_reloaded, name_stored, throwing, throwing_under, variable_at}
 use Rattle.rl_lowered.specs.Named.{found}
 use Rattle.rl_names.specs.Names.{Names}
+use Rattle.rl_optional_frames.proofs.LinkStarts.{early_extends}
+use Rattle.rl_optional_frames.proofs.Notes.{early_unread, link_unread}
+use Rattle.rl_optional_frames.specs.Frames.{link_at, link_objected}
+use Rattle.rl_optional_frames.specs.Parts.{link_opened}
 use Rattle.rl_promises.specs.Rows.{refusal}
 use Rattle.rl_runs.proofs.Holes.{front_added}
-use Rattle.rl_runs.proofs.Moves.{extends_pushed}
+use Rattle.rl_runs.proofs.Moves.{extends_pushed, extends_value}
 use Rattle.rl_runs.proofs.Naming.{named_first, named_none}
 use Rattle.rl_runs.proofs.ReadNotes.{knows_then, marked_ended, unread_ended, unread_pushed, unread_then}
 use Rattle.rl_runs.proofs.Steps.{added_cases}
 use Rattle.rl_runs.specs.Blocks.{ByBreak, ByContinue, ByHandler, IsTarget}
+use Rattle.rl_runs.specs.Facts.{Extends}
 use Rattle.rl_runs.specs.Moves.{block_id, goto, last_hole, next_hole, stored_in, without_handler, without_scope}
 use Rattle.rl_runs.specs.ReadNotes.{HasId, IsHandler, KeepsUnread, KnowsReads, MarkedAt, ReadsSince, ReplacesSince, Unread, reads_of}
 use Rattle.rl_runs.specs.ReadNotes.{replaced_of}
@@ -439,3 +445,25 @@ module _ (s d s2 s3 : State) (part other : Span) (end : Terminal) (one : replace
     handlers = ap (λ (l : List BlockId). take (length l - 1) l) b.handlers ∙ front_added opened.handlers (block_id hd) ∙ to_open.handlers;
     keeps = record { replaces = tried_replaces; reads = tried_reads; unread = tried_unread };
   }
+
+-- A link of an optional chain, inside a chain or around it.
+pub unreads_link : (alternate : Option BlockId) (s s2 s4 : State) (span : Span) (optional : Bool) (object value : Place)
+    → Extends (link_opened alternate s span) s2 → Extends (link_objected (link_at s span optional alternate) s2 object) s4
+    → KeepsUnread (link_opened alternate s span) s2 → KeepsUnread (link_objected (link_at s span optional alternate) s2 object) s4
+    → Unreads s (linked_state alternate s span optional s4 value)
+unreads_link (Some alternate) s s2 s4 span optional object value go gk ko kk =
+    let stored = extends_value s4 (values.StoreLocal variables.Const (temporary s (Some span)) value) (Some span) in
+    let y : State = chain_reserved s span in record {
+      grows = omega (arith, go.blocks, gk.blocks, stored.blocks);
+      handlers = stored.handlers ∙ (gk.handlers ∙ go.handlers);
+      keeps = link_unread s y s2 s4 optional object value alternate.0 s.current.kind span refl (omega arith) (unreads_refl y).keeps go
+          gk ko kk;
+    }
+unreads_link None s s2 s4 span optional object value go gk ko kk =
+    let stored = extends_value s4 (values.StoreLocal variables.Const (temporary s (Some span)) value) (Some span) in
+    let early = early_extends s span in record {
+      grows = omega (arith, early.blocks, go.blocks, gk.blocks, stored.blocks);
+      handlers = stored.handlers ∙ (gk.handlers ∙ (go.handlers ∙ early.handlers));
+      keeps = link_unread s (chain_begun s span) s2 s4 optional object value (s.env.next_block + 1 + 1) s.current.kind span early.handlers
+          early.blocks (early_unread s span) go gk ko kk;
+    }

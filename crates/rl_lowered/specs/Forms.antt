@@ -87,6 +87,12 @@ abbrev pub is_number_key : Syntax → Bool
 is_number_key (Node at word.Num (Then (Said text) End)) = is_numeral text
 is_number_key _ = false
 
+-- True of a property by its name or its key, which lends its object to a call.
+abbrev pub is_property : Syntax → Bool
+is_property (Node at word.Member parts) = true
+is_property (Node at word.Index parts) = true
+is_property _ = false
+
 -- A property that is loaded, updated, deleted or called: its word and fields, the parts that are lowered, the pieces that these give, the
 -- place of the object, and the key.
 pub data IsMember : Word → (fields parts : Pieces) → List Piece → (object : Place) → MemberKey → Type 0 where
@@ -99,6 +105,41 @@ pub data IsMember : Word → (fields parts : Pieces) → List Piece → (object 
   Numbered : {object : Syntax} {there : At} {text : List ℕ} {p : Place} → is_numeral text ≡ true
       → IsMember word.Index (Then (Flag false) (Then object (Then (Node there word.Num (Then (Said text) End)) End))) (Then object End)
       (Gives p ∷ []) p (Fixed (keys.Number (number_of text)))
+
+-- The key of a link of a chain: the link's word, the parts behind its object, those of them that are lowered, the pieces that these give,
+-- and the key.
+pub data IsLinkKey : Word → (rest parts : Pieces) → List Piece → MemberKey → Type 0 where
+  LinkStatic : {key : List ℕ} → IsLinkKey word.Member (Then (Said key) End) End [] (Fixed (keys.String key))
+  LinkIndexed : {property : Syntax} {q : Place} → is_number_key property ≡ false
+      → IsLinkKey word.Index (Then property End) (Then property End) (Gives q ∷ []) (Computed q)
+  LinkNumbered : {there : At} {text : List ℕ} → is_numeral text ≡ true
+      → IsLinkKey word.Index (Then (Node there word.Num (Then (Said text) End)) End) End [] (Fixed (keys.Number (number_of text)))
+
+-- The object of a link of a chain, or its callee: a value, or a function behind the receiver of its call.
+pub data Front : Type 0 where
+  Alone : Place → Front
+  Lent : (receiver function : Place) → Front
+
+-- The place that the link tests.
+abbrev pub tested_front : Front → Place
+tested_front (Alone p) = p
+tested_front (Lent receiver function) = function
+
+-- The places.
+abbrev pub front_places : Front → List Place
+front_places (Alone p) = p ∷ []
+front_places (Lent receiver function) = receiver ∷ function ∷ []
+
+-- A link hands on its value to the link around it: as a function with its object as the receiver, if it lends that.
+abbrev pub handed_on : (lends : Bool) → Front → (value : Place) → Front
+handed_on true front p = Lent (tested_front front) p
+handed_on false front p = Alone p
+
+-- The value of a call behind its callee.
+abbrev pub call_of : Front → (arguments : List PlaceOrSpread) → InstructionValue
+call_of (Alone callee) arguments = values.CallExpression callee arguments
+call_of (Lent receiver function) arguments =
+    values.MethodCall (record { receiver = receiver; property = function; arguments = arguments })
 
 abbrev pub load_of : (object : Place) → MemberKey → InstructionValue
 load_of object (Fixed key) = values.PropertyLoad object key

@@ -1,5 +1,6 @@
 -- The lowering as a relation: a derivation says by which moves the builder came from one state to another for a part of the source.
-use Rattle.std.specs.Prelude.{◌≡◌, ℕ, ◌+◌, Bool, true, false, List, [], ◌∷◌, ◌++◌, length, Option, Some, None, Ok, codes, unwrap_or}
+use Rattle.std.specs.Prelude.{◌≡◌, ℕ, ◌+◌, Bool, true, false, List, [], ◌∷◌, ◌++◌, ◌&&◌, length, Option, Some, None, Ok, codes}
+use Rattle.std.specs.Prelude.{unwrap_or}
 use Rattle.std.specs.Fmt.{decimal}
 use Rattle.rl_base.specs.Diagnostics.{diagnostic_at}
 use Rattle.rl_base.specs.Operators.{assignment_text, logical_text, update_text}
@@ -55,22 +56,30 @@ use Rattle.rl_hir.specs.declared.terminal.Case.{Case}
 use Rattle.rl_hir.specs.declared.terminal.GotoVariant.TheVariants as gotos
 use Rattle.rl_hir.specs.declared.terminal.ReturnVariant.TheVariants as returns
 use Rattle.rl_lowered.specs.Forms.{IsAnnotation, IsCast, IsForm, IsLiteral, IsMember, IsPrivate, IsRefused, IsRefusing, IsWrapper}
-use Rattle.rl_lowered.specs.Forms.{MemberKey, applied_by, load_of, store_of, type_of, typed}
+use Rattle.rl_lowered.specs.Forms.{Alone, Front, IsLinkKey, call_of, handed_on, is_property, tested_front}
+use Rattle.rl_lowered.specs.Forms.{Lent, MemberKey, applied_by, load_of, store_of, type_of, typed}
 use Rattle.rl_lowered.specs.Named.{IsFound, found}
 use Rattle.rl_model.specs.Actions.{Label}
 use Rattle.rl_model.specs.Shapes.{is_absent, is_computed, key_text, said}
 use Rattle.rl_names.specs.Names.{Names}
 use Rattle.rl_names.specs.declared.names.Meaning.TheVariants.{Local, Outer}
+use Rattle.rl_optional_frames.specs.Frames.{link_after, link_at, link_ended, link_objected}
+use Rattle.rl_optional_frames.specs.Parts.{link_opened}
 use Rattle.rl_promises.specs.Jumps.{is_loop}
 use Rattle.rl_promises.specs.Moved.{may_move, type_name}
 use Rattle.rl_promises.specs.Outs.{is_known_key, is_lost_head}
 use Rattle.rl_promises.specs.Rows.{is_eval, refusal, row_of_head}
+use Rattle.rl_rules.specs.Chains.{has_optional}
 use Rattle.rl_runs.specs.Moves.{block_id, next_hole, return_of, returned_from, threw_from}
 use Rattle.rl_syntax.specs.declared.numbered.At.{At}
 use Rattle.rl_syntax.specs.declared.word.Word.{Word}
 use Rattle.rl_syntax.specs.declared.word.Word.TheVariants as word
 use Rattle.rl_syntax.specs.Syntax.{Syntax, Node, Listed, Said, Flag, Absent, Pieces, End, Then, span_of}
 use Rattle.rl_text.specs.Numeral.{is_numeral}
+
+-- The state behind the refusal of a private name (row F3).
+abbrev pub private_met : State → (at : Span) → State
+private_met s at = recorded s (refusal row.F3 at)
 
 -- The value of an update of a variable.
 abbrev pub update_of : (prefix : Bool) → UpdateOperator → (variable : Place) → InstructionValue
@@ -334,6 +343,74 @@ mutual
         → LoweredLast names (Then e es) (sequence_begun s at.span) s2 p
         → Lowered names (Node at word.Seq (Then (Listed (Then e es)) End)) s
         (sequence_ended (sequence_at s at.span) s2 p at.span) (sequence_place s at.span)
+    -- An optional chain.
+    Chain : (at : At) (e : Syntax) (s t : State) (p : Place) → LoweredSpine names false e s t p
+        → Lowered names (Node at word.Chain (Then e End)) s t p
+
+  -- The spine of a chain was lowered from its outermost link; `below` is true of one below a link of another chain, where a `!` is refused
+  -- (row F44).
+  pub data LoweredSpine (names : Names) : (below : Bool) → Syntax → (old new : State) → Place → Type 0 where
+    Outermost : {below : Bool} (e : Syntax) (s t : State) (front : Front) (p : Place) → LoweredLink names None e s t front p
+        → LoweredSpine names below e s t p
+    Asserted : (at : At) (e : Syntax) (s t : State) (p : Place) → LoweredSpine names false e s t p
+        → LoweredSpine names false (Node at word.Nonnull (Then e End)) s t p
+    Broken : (at : At) (e : Syntax) (s t : State) (p : Place) → has_optional e ≡ true
+        → LoweredSpine names true e (recorded s (refusal row.F44 at.span)) t p
+        → LoweredSpine names true (Node at word.Nonnull (Then e End)) s t p
+
+  -- A link of a chain was lowered behind its object or callee, `front`. The chain ends early in block `alternate`, which the outermost link
+  -- makes.
+  pub data LoweredLink (names : Names) : (alternate : Option BlockId) → Syntax → (old new : State) → (front : Front) → Place
+      → Type 0 where
+    -- A property.
+    LinkedProperty : (alternate : Option BlockId) (at : At) (w : Word) (optional : Bool) (object : Syntax) (rest parts : Pieces)
+        (pieces : List Piece) (o : Place) (key : MemberKey) (s t u : State)
+        → IsLinkKey w rest parts pieces key
+        → LoweredFront names (link_at s at.span optional alternate).alternate false object (link_opened alternate s at.span) t (Alone o)
+        → LoweredParts names false parts (link_objected (link_at s at.span optional alternate) t o) u pieces
+        → LoweredLink names alternate (Node at w (Then (Flag optional) (Then object rest))) s
+        (link_ended (link_after (link_at s at.span optional alternate)) (with_value u (load_of o key) (Some at.span))
+        (temporary u (Some at.span)))
+        (Alone o) (link_at s at.span optional alternate).place
+    -- A property of a private name (row F3).
+    LinkedPrivate : (alternate : Option BlockId) (at : At) (optional : Bool) (object : Syntax) (name : List ℕ) (o : Place) (s t : State)
+        → LoweredFront names (link_at s at.span optional alternate).alternate false object (link_opened alternate s at.span) t (Alone o)
+        → LoweredLink names alternate (Node at word.Privatemember (Then (Flag optional) (Then object (Then (Said name) End)))) s
+        (link_ended (link_after (link_at s at.span optional alternate))
+        (with_value (private_met (link_objected (link_at s at.span optional alternate) t o) at.span)
+        (values.Primitive primitives.Undefined) (Some at.span))
+        (temporary (private_met (link_objected (link_at s at.span optional alternate) t o) at.span) (Some at.span)))
+        (Alone o) (link_at s at.span optional alternate).place
+    -- A call.
+    LinkedCall : (alternate : Option BlockId) (at : At) (optional : Bool) (callee : Syntax) (es : Pieces) (pieces : List Piece)
+        (given : List PlaceOrSpread) (front : Front) (s t u : State)
+        → LoweredFront names (link_at s at.span optional alternate).alternate true callee (link_opened alternate s at.span) t front
+        → LoweredParts names false es (link_objected (link_at s at.span optional alternate) t (tested_front front)) u pieces
+        → gathered argument_pieces given ≡ pieces
+        → LoweredLink names alternate (Node at word.Call (Then (Flag optional) (Then callee (Then (Listed es) End)))) s
+        (link_ended (link_after (link_at s at.span optional alternate)) (with_value u (call_of front given) (Some at.span))
+        (temporary u (Some at.span)))
+        front (link_at s at.span optional alternate).place
+
+  -- The object of a link was lowered, or, where `called` is true, its callee, in a chain that ends early in block `alternate`.
+  pub data LoweredFront (names : Names) : (alternate : BlockId) → (called : Bool) → Syntax → (old new : State) → Front → Type 0 where
+    -- Another link of the chain.
+    FrontLink : (alternate : BlockId) (called : Bool) (e : Syntax) (s t : State) (front : Front) (p : Place)
+        → LoweredLink names (Some alternate) e s t front p
+        → LoweredFront names alternate called e s t (handed_on (called && is_property e) front p)
+    -- A `!` in the chain (row F44).
+    FrontBroken : (alternate : BlockId) (called : Bool) (at : At) (e : Syntax) (s t : State) (p : Place)
+        → LoweredSpine names true (Node at word.Nonnull (Then e End)) s t p
+        → LoweredFront names alternate called (Node at word.Nonnull (Then e End)) s t (Alone p)
+    -- A property in front of the chain that is called: it lends its object.
+    FrontMethod : (alternate : BlockId) (at : At) (w : Word) (fields parts : Pieces) (pieces : List Piece) (object : Place)
+        (key : MemberKey) (s t : State)
+        → IsMember w fields parts pieces object key → LoweredParts names false parts s t pieces
+        → LoweredFront names alternate true (Node at w fields) s (with_value t (load_of object key) (Some at.span))
+        (Lent object (temporary t (Some at.span)))
+    -- Any other expression in front of the chain.
+    FrontAlone : (alternate : BlockId) (called : Bool) (e : Syntax) (s t : State) (p : Place) → (called && is_property e) ≡ false
+        → Lowered names e s t p → LoweredFront names alternate called e s t (Alone p)
 
   -- Parts were lowered from left to right, and give these pieces to the instruction behind them: the properties of an object literal, or
   -- parts of any other node.

@@ -1,6 +1,7 @@
 -- Promises of the lowering of a part.
 use Rattle.std.specs.Prelude.{◌≡◌, ℕ, ◌+◌, ◌*◌, ◌<◌, ◌≤◌, ◌^◌, Bool, true, false, if◌then◌else◌, List, [], Option, Some, None, codes}
 use Rattle.std.specs.Prelude.{option_map}
+use Rattle.rl_base.specs.declared.ids.BlockId.{BlockId}
 use Rattle.rl_base.specs.declared.span.Span.{Span}
 use Rattle.rl_builder.specs.Builder.{State}
 use Rattle.rl_hir.specs.Pieces.{Piece}
@@ -11,6 +12,8 @@ use Rattle.rl_hir.specs.declared.instruction.Place.{Place}
 use Rattle.rl_hir.specs.declared.terminal.Case.{Case}
 use Rattle.rl_hir.specs.declared.terminal.ReturnVariant.TheVariants as returns
 use Rattle.rl_lowered.specs.Listing.{ListsSince}
+use Rattle.rl_lowered.specs.Forms.{Front}
+use Rattle.rl_lowered.specs.Lowered.{LoweredFront, LoweredLink, LoweredSpine}
 use Rattle.rl_lowered.specs.Lowered.{Lowered, LoweredAll, LoweredBody, LoweredCases, LoweredCaseTest, LoweredHead, LoweredInit, LoweredLast}
 use Rattle.rl_lowered.specs.Lowered.{LoweredLoop, LoweredProperties, LoweredStatement, LoweredStatements, LoweredTest}
 use Rattle.rl_lowered.specs.Named.{IsNamed, KeepsNames, Respans}
@@ -48,6 +51,25 @@ HasRoom s more = size_of s + more < 2 ^ 31
 -- An expression was lowered: its derivation, what is known of names behind it, and a bound on all that was made.
 pub record LowersExpression (names : Names) (e : Syntax) (old new : State) (place : Place) : Type 0 where
   pub by : Lowered names e old new place
+  pub named : IsNamed names old → IsNamed names new
+  pub size : size_of new ≤ size_of old + share (nodes e)
+
+-- As `LowersExpression`, for the spine of a chain, a link of one, and the object or callee of a link.
+
+pub record LowersSpine (names : Names) (below : Bool) (e : Syntax) (old new : State) (place : Place) : Type 0 where
+  pub by : LoweredSpine names below e old new place
+  pub named : IsNamed names old → IsNamed names new
+  pub size : size_of new ≤ size_of old + share (nodes e)
+
+pub record LowersLink (names : Names) (alternate : Option BlockId) (e : Syntax) (old new : State) (front : Front) (place : Place)
+    : Type 0 where
+  pub by : LoweredLink names alternate e old new front place
+  pub named : IsNamed names old → IsNamed names new
+  pub size : size_of new ≤ size_of old + share (nodes e)
+
+pub record LowersFront (names : Names) (alternate : BlockId) (called : Bool) (e : Syntax) (old new : State) (front : Front)
+    : Type 0 where
+  pub by : LoweredFront names alternate called e old new front
   pub named : IsNamed names old → IsNamed names new
   pub size : size_of new ≤ size_of old + share (nodes e)
 
