@@ -23,6 +23,7 @@ ghost use Rattle.rl_lowered.specs.Named.{IsNamed};
 ghost use Rattle.rl_lowered.specs.Promised.{HasRoom, share};
 ghost use Rattle.rl_lowered.specs.Sound.{AreWritableIdentifiers, AreWritablePairs, IsSmallTree};
 ghost use Rattle.rl_machine.specs.Closed.{IsClosed};
+ghost use Rattle.rl_promises.specs.Chains.{HasChains};
 ghost use Rattle.rl_promises.specs.Covered.{IsCoveredFunction};
 ghost use Rattle.rl_promises.specs.Fields.{AreGiven, ArePairs, directives_in, places_from, texts_in};
 ghost use Rattle.rl_machine.specs.Traces.{World};
@@ -416,10 +417,10 @@ fn mark_using(env: &mut Environment, body: &Numbered)
     }
 }
 
-/// Lowers a function (`lower`) that is covered, each node of it, and has a body. The stops are looked for before anything is lowered.
-/// The diagnostics of refused nodes are appended to the environment's; if there is none, the graph has the function's traces. A
-/// declaration by `using` marks the unit to be skipped. On `Stop::Diagnostic` a stop row applies to the function, and on
-/// `Stop::OutOfMemory` an allocation failed; of the environment nothing is promised then.
+/// Lowers a function (`lower`) that is covered, each node of it, has a body, and keeps the rule on chains. The stops are looked for
+/// before anything is lowered. The diagnostics of refused nodes are appended to the environment's; if there is none, the graph has the
+/// function's traces. A declaration by `using` marks the unit to be skipped. On `Stop::Diagnostic` a stop row applies to the function,
+/// and on `Stop::OutOfMemory` an allocation failed; of the environment nothing is promised then.
 pub fn lower(
     alloc: Global,
     function: FunctionNode<'_>,
@@ -428,6 +429,7 @@ pub fn lower(
 ) -> Result<HirFunction<GraphBlocks>, Stop>
     requires locals { HasLocals (seen names.now) (seen_function_node function) }
     requires covered { IsCoveredFunction (seen_function_node function) }
+    requires chained { HasChains (seen_function_node function) }
     requires body { body_in (seen_function_node function) ≢ Absent }
     requires fresh { env.old.pairs ≡ [] }
     requires spans { KnowsSpans names.now.resolver.now.semantic.now.bindings.symbols (seen_function_node function) }

@@ -37,7 +37,8 @@ use Rattle.rl_syntax.specs.declared.word.Word.{Word}
 use Rattle.rl_syntax.specs.declared.word.Word.TheVariants as word
 use Rattle.rl_syntax.specs.Syntax.{Syntax, Node, Listed, Said, Flag, Pieces, End, Then, span_of}
 use Rattle.rl_text.specs.Numeral.{is_numeral, number_of}
-use Rattle.rl_lower_expressions.specs.Groups.{has_parts, is_property}
+use Rattle.rl_lower_expressions.specs.Groups.{has_parts}
+use Rattle.rl_lowered.specs.Forms.{is_property}
 use Rattle.rl_lower_expressions.specs.Keys.{IsFraction, found_list, where_pieces}
 
 -- Room is left behind a part that made no more than was set apart for it.
@@ -258,25 +259,25 @@ pub call_told : (names : Names) (optional : Bool) {tree : Syntax} {at : At} {res
     → Node at word.Call (Then (Flag optional) rest) ≡ tree
     → IsLowerable names tree → Node at word.Call (Then (Flag false) rest) ≡ tree
 call_told names false is may = is
-call_told names true is may = absurd (true≢false (sym (subst (IsLowerable names) (sym is) may).0))
+call_told names true is may = absurd (true≢false (subst (IsLowerable names) (sym is) may).0)
 
 pub member_told : (names : Names) (optional : Bool) {tree : Syntax} {at : At} {rest : Pieces}
     → Node at word.Member (Then (Flag optional) rest) ≡ tree
     → IsLowerable names tree → Node at word.Member (Then (Flag false) rest) ≡ tree
 member_told names false is may = is
-member_told names true is may = absurd (true≢false (sym (subst (IsLowerable names) (sym is) may).0))
+member_told names true is may = absurd (true≢false (subst (IsLowerable names) (sym is) may).0)
 
 pub index_told : (names : Names) (optional : Bool) {tree : Syntax} {at : At} {rest : Pieces}
     → Node at word.Index (Then (Flag optional) rest) ≡ tree
     → IsLowerable names tree → Node at word.Index (Then (Flag false) rest) ≡ tree
 index_told names false is may = is
-index_told names true is may = absurd (true≢false (sym (subst (IsLowerable names) (sym is) may).0))
+index_told names true is may = absurd (true≢false (subst (IsLowerable names) (sym is) may).0)
 
 pub private_told : (names : Names) (optional : Bool) {tree : Syntax} {at : At} {rest : Pieces}
     → Node at word.Privatemember (Then (Flag optional) rest) ≡ tree
     → IsLowerable names tree → Node at word.Privatemember (Then (Flag false) rest) ≡ tree
 private_told names false is may = is
-private_told names true is may = absurd (true≢false (sym (subst (IsLowerable names) (sym is) may).0))
+private_told names true is may = absurd (true≢false (subst (IsLowerable names) (sym is) may).0)
 
 -- A callee that is no property is called as a function.
 pub plain_callee : (callee : Syntax) → is_property callee ≡ false → call_word callee ≡ codes "call"

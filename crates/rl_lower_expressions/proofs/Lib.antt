@@ -1,5 +1,7 @@
 pub mod AssignmentDerivations
 pub mod CallDerivations
+pub mod ChainDerivations
+pub mod ChainPlaces
 pub mod Derivations
 pub mod FrameDerivations
 pub mod Inside

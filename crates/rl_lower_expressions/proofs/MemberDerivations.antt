@@ -21,8 +21,10 @@ use Rattle.rl_hir.specs.declared.instruction.PlaceOrSpread.{PlaceOrSpread}
 use Rattle.rl_hir.specs.declared.instruction.PropertyLiteral.{PropertyLiteral}
 use Rattle.rl_hir.specs.declared.instruction.PropertyLiteral.TheVariants as keys
 use Rattle.rl_lower_expressions.specs.declared.member.LoweredMember.{LoweredMember}
+use Rattle.rl_lower_expressions.specs.declared.member.MemberProperty.{MemberProperty}
 use Rattle.rl_lower_expressions.specs.declared.member.MemberProperty.TheVariants as properties
-use Rattle.rl_lowered.specs.Forms.{Fixed, IsForm, IsInside, IsMember, IsPrivate, IsRefused, delete_of, is_number_key, load_of}
+use Rattle.rl_lowered.specs.Forms.{Fixed, IsForm, IsInside, IsLinkKey, IsMember, IsPrivate, IsRefused, MemberKey, delete_of}
+use Rattle.rl_lowered.specs.Forms.{is_number_key, load_of}
 use Rattle.rl_lowered.specs.Forms as forms
 use Rattle.rl_lowered.specs.Lowered.{Lowered, LoweredAll, member_result, member_stored}
 use Rattle.rl_lowered.specs.Lowered as lowered
@@ -42,6 +44,7 @@ use Rattle.rl_text.specs.Numeral.{number_of}
 use Rattle.rl_lower_expressions.proofs.ParsedNumbers.{parsed_none, parsed_some}
 use Rattle.rl_lower_expressions.proofs.Derivations.{asked_ok, derived, inner_ok, next, nothing, private_told}
 use Rattle.rl_lower_expressions.specs.Groups.{key_number}
+use Rattle.rl_lower_expressions.specs.Links.{LowersKey}
 use Rattle.rl_lower_expressions.specs.Members.{LowersMember, key_of}
 
 -- A value makes at most four things.
@@ -51,64 +54,75 @@ grown s t v span moved =
     let same : size_of t ≡ size_of (with_value s v span) = ap size_of moved in
     omega (arith, size, same)
 
--- The parts of a property.
+-- Keys.
 
-pub static_parts : {names : Names} {object : Syntax} {text : List ℕ} {s t : State} {p : Place} (copy : List ℕ) → copy ≡ text
-    → LowersExpression names object s t p
-    → LowersMember names word.Member (Then (Flag false) (Then object (Then (Said text) End))) s t
-    (record { object = p; property = properties.Literal (keys.String copy) })
-static_parts {names} {object} {text} {s} {t} {p} copy same l = record {
-  parts = Then object End;
-  pieces = Gives p ∷ [];
-  member =
-      subst (λ (k : List ℕ). IsMember word.Member (Then (Flag false) (Then object (Then (Said text) End))) (Then object End) (Gives p ∷ [])
-      p
-      (Fixed (keys.String k))) (sym same) forms.Static;
-  by = next l nothing;
-  named = l.named;
-  size = let few : size_of t ≤ size_of s + share (nodes object) = l.size in omega (arith, few);
+pub static_key : {names : Names} {text : List ℕ} {s : State} (copy : List ℕ) → copy ≡ text
+    → LowersKey names word.Member (Then (Said text) End) s s (properties.Literal (keys.String copy))
+static_key {names} {text} {s} copy same = record {
+  parts = End;
+  pieces = [];
+  key = subst (λ (k : List ℕ). IsLinkKey word.Member (Then (Said text) End) End [] (Fixed (keys.String k))) (sym same) forms.LinkStatic;
+  by = nothing;
+  named = λ n. n;
+  size = omega arith;
 }
 
 -- A key in brackets that is a numeral.
-numbered_member : {object : Syntax} {p : Place} (key : Syntax) (number whole : ℕ) → whole ≡ number → Some number ≡ key_number key
-    → IsMember word.Index (Then (Flag false) (Then object (Then key End))) (Then object End) (Gives p ∷ []) p (Fixed (keys.Number whole))
-numbered_member {object} {p} (Node at word.Num (Then (Said text) End)) number whole same found =
+numbered : (key : Syntax) (number whole : ℕ) → whole ≡ number → Some number ≡ key_number key
+    → IsLinkKey word.Index (Then key End) End [] (Fixed (keys.Number whole))
+numbered (Node at word.Num (Then (Said text) End)) number whole same found =
     let told = parsed_some text text number refl found in
-    subst (λ (k : ℕ). IsMember word.Index (Then (Flag false) (Then object (Then (Node at word.Num (Then (Said text) End)) End)))
-    (Then object End) (Gives p ∷ []) p (Fixed (keys.Number k))) (sym (same ∙ told.1)) (forms.Numbered told.0)
-numbered_member _ number whole same found = absurd (let never : Some number ≡ None = found in cc)
+    subst (λ (k : ℕ). IsLinkKey word.Index (Then (Node at word.Num (Then (Said text) End)) End) End [] (Fixed (keys.Number k)))
+    (sym (same ∙ told.1)) (forms.LinkNumbered told.0)
+numbered _ number whole same found = absurd (let never : Some number ≡ None = found in cc)
 
-pub numbered_parts : {names : Names} {object key : Syntax} {s t : State} {p : Place} (number whole : ℕ) → whole ≡ number
-    → Some number ≡ key_number key → LowersExpression names object s t p
-    → LowersMember names word.Index (Then (Flag false) (Then object (Then key End))) s t
-    (record { object = p; property = properties.Literal (keys.Number whole) })
-numbered_parts {names} {object} {key} {s} {t} {p} number whole same found l = record {
-  parts = Then object End;
-  pieces = Gives p ∷ [];
-  member = numbered_member key number whole same found;
-  by = next l nothing;
-  named = l.named;
-  size = let few : size_of t ≤ size_of s + share (nodes object) = l.size in omega (arith, few);
+pub numbered_key : {names : Names} {key : Syntax} {s : State} (number whole : ℕ) → whole ≡ number → Some number ≡ key_number key
+    → LowersKey names word.Index (Then key End) s s (properties.Literal (keys.Number whole))
+numbered_key {names} {key} {s} number whole same found = record {
+  parts = End;
+  pieces = [];
+  key = numbered key number whole same found;
+  by = nothing;
+  named = λ n. n;
+  size = omega arith;
 }
 
 -- A key in brackets that is no numeral.
-computed_key : (key : Syntax) → None ≡ key_number key → is_number_key key ≡ false
-computed_key (Node at word.Num (Then (Said text) End)) found = parsed_none text text refl found
-computed_key _ found = refl
+no_number : (key : Syntax) → None ≡ key_number key → is_number_key key ≡ false
+no_number (Node at word.Num (Then (Said text) End)) found = parsed_none text text refl found
+no_number _ found = refl
 
-pub computed_parts : {names : Names} {object key : Syntax} {s t u : State} {p q : Place} → None ≡ key_number key
-    → LowersExpression names object s t p → LowersExpression names key t u q
-    → LowersMember names word.Index (Then (Flag false) (Then object (Then key End))) s u
-    (record { object = p; property = properties.Computed q })
-computed_parts {names} {object} {key} {s} {t} {u} {p} {q} found l m = record {
-  parts = Then object (Then key End);
-  pieces = Gives p ∷ Gives q ∷ [];
-  member = forms.Indexed (computed_key key found);
-  by = next l (next m nothing);
-  named = λ n. m.named (l.named n);
+pub computed_key : {names : Names} {key : Syntax} {s t : State} {q : Place} → None ≡ key_number key → LowersExpression names key s t q
+    → LowersKey names word.Index (Then key End) s t (properties.Computed q)
+computed_key {names} {key} {s} {t} {q} found l = record {
+  parts = Then key End;
+  pieces = Gives q ∷ [];
+  key = forms.LinkIndexed (no_number key found);
+  by = next l nothing;
+  named = l.named;
+  size = let few : size_of t ≤ size_of s + share (nodes key) = l.size in omega (arith, few);
+}
+
+-- A property is its object and its key.
+
+keyed : {w : Word} {rest parts : Pieces} {pieces : List Piece} {key : MemberKey} {p : Place} (object : Syntax)
+    → IsLinkKey w rest parts pieces key → IsMember w (Then (Flag false) (Then object rest)) (Then object parts) (Gives p ∷ pieces) p key
+keyed object forms.LinkStatic = forms.Static
+keyed object (forms.LinkIndexed other) = forms.Indexed other
+keyed object (forms.LinkNumbered is) = forms.Numbered is
+
+pub member_parts : {names : Names} {object : Syntax} {w : Word} {rest : Pieces} {s t u : State} {p : Place} {key : MemberProperty}
+    → LowersExpression names object s t p → LowersKey names w rest t u key
+    → LowersMember names w (Then (Flag false) (Then object rest)) s u (record { object = p; property = key })
+member_parts {names} {object} {w} {rest} {s} {t} {u} {p} {key} l k = record {
+  parts = Then object k.parts;
+  pieces = Gives p ∷ k.pieces;
+  member = keyed object k.key;
+  by = next l k.by;
+  named = λ n. k.named (l.named n);
   size =
       let first : size_of t ≤ size_of s + share (nodes object) = l.size in
-      let second : size_of u ≤ size_of t + share (nodes key) = m.size in
+      let second : size_of u ≤ size_of t + share (nodes_of rest) = k.size in
       omega (arith, first, second);
 }
 

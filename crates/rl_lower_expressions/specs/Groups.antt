@@ -4,16 +4,23 @@ use Rattle.rl_syntax.specs.Syntax.{Syntax, Node, Said, Pieces, End, Then}
 use Rattle.rl_syntax.specs.declared.word.Word.TheVariants as word
 use Rattle.rl_text.specs.Numeral.{is_numeral, number_of}
 
--- True of a property by its name or its key.
-abbrev pub is_property : Syntax → Bool
-is_property (Node at word.Member parts) = true
-is_property (Node at word.Index parts) = true
-is_property _ = false
-
 -- True of an expression in parentheses.
 abbrev pub is_parenthesized : Syntax → Bool
 is_parenthesized (Node at word.Paren parts) = true
 is_parenthesized _ = false
+
+-- True of `a!`.
+abbrev pub is_assertion : Syntax → Bool
+is_assertion (Node at word.Nonnull parts) = true
+is_assertion _ = false
+
+-- True of what may be a link of a chain: a property, also of a private name, or a call.
+abbrev pub is_linked : Syntax → Bool
+is_linked (Node at word.Member parts) = true
+is_linked (Node at word.Index parts) = true
+is_linked (Node at word.Privatemember parts) = true
+is_linked (Node at word.Call parts) = true
+is_linked _ = false
 
 -- True of what is refused, before its parts are lowered or without them.
 abbrev pub is_refused : Syntax → Bool
@@ -45,7 +52,7 @@ is_access (Node at word.Index parts) = true
 is_access (Node at word.Privatemember parts) = true
 is_access e = is_composite e
 
--- True of operators, assignments, casts, `await`, conditional expressions and sequences, and of what `is_access` is true of.
+-- True of operators, assignments, casts, `await`, chains, conditional expressions and sequences, and of what `is_access` is true of.
 abbrev pub is_operation : Syntax → Bool
 is_operation (Node at word.Binary parts) = true
 is_operation (Node at word.Unary parts) = true
@@ -55,6 +62,7 @@ is_operation (Node at word.Await parts) = true
 is_operation (Node at word.Logical parts) = true
 is_operation (Node at word.Cond parts) = true
 is_operation (Node at word.Seq parts) = true
+is_operation (Node at word.Chain parts) = true
 is_operation (Node at word.As parts) = true
 is_operation (Node at word.Satisfies parts) = true
 is_operation (Node at word.Assert parts) = true

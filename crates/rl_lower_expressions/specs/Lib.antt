@@ -1,3 +1,4 @@
 pub mod Groups
 pub mod Keys
+pub mod Links
 pub mod Members

@@ -5,6 +5,7 @@ ghost use Rattle.rl_syntax.specs.Syntax.{Node, Listed, Said, Flag, End, Then, Pi
 ghost use Rattle.rl_builder.specs.Builder.{State, state_of};
 ghost use Rattle.rl_lowered.specs.Named.{IsNamed};
 ghost use Rattle.rl_lowered.specs.Promised.{HasRoom, LowersExpression, share};
+ghost use Rattle.rl_lower_expressions.specs.Links.{LowersKey};
 ghost use Rattle.rl_lower_expressions.specs.Members.{LowersMember};
 ghost use Rattle.rl_promises.specs.Lowerable.{AreLowerable, IsLowerable};
 ghost use Rattle.rl_names.specs.Seen.{seen};
@@ -56,8 +57,35 @@ pub fn lower_static<U: ReadsUnit>(
     })
 }
 
-/// Lowers the object and the key of a property in brackets (`lowerMemberExpression`). A numeral is no expression of its own, but a
-/// fixed key. On `Stop::OutOfMemory` an allocation failed; no other stop comes.
+/// Lowers a key in brackets. A numeral is no expression of its own, but a fixed key.
+#[cycle(expressions)]
+pub(crate) fn lower_key<U: ReadsUnit>(
+    alloc: Global,
+    builder: &mut GraphBuilder<'_, U>,
+    names: &FunctionNames<'_>,
+    key: ExpressionTree<'_>,
+) -> Result<MemberProperty, Stop>
+    requires names { IsNamed (seen names.now) (state_of U.tables builder.old) }
+    requires may { IsLowerable (seen names.now) (syntax key.tree.now) }
+    requires room { HasRoom (state_of U.tables builder.old) (share (nodes (syntax key.tree.now))) }
+    ensures same_reference { builder.new.env.ghost_name ≡ builder.old.env.ghost_name }
+    ensures lowered { IfOk result (λ lowered. LowersKey (seen names.now) Word.Index (Then (syntax key.entry.tree.now) End) (state_of U.tables builder.old) (state_of U.tables builder.new) lowered) }
+    ensures memory { IfErr result (λ e. e ≡ Stop.OutOfMemory) }
+{
+    match key_number(key) {
+        Some(number) => {
+            let key = PropertyLiteral::Number(WholeNumber::new(number));
+            Ok(MemberProperty::Literal(key))
+        }
+        None => {
+            let place = lower_expression(alloc, builder, names, key)?;
+            Ok(MemberProperty::Computed(place))
+        }
+    }
+}
+
+/// Lowers the object and the key of a property in brackets (`lowerMemberExpression`). On `Stop::OutOfMemory` an
+/// allocation failed; no other stop comes.
 #[cycle(expressions)]
 pub fn lower_computed<U: ReadsUnit>(
     alloc: Global,
@@ -74,22 +102,8 @@ pub fn lower_computed<U: ReadsUnit>(
     ensures memory { IfErr result (λ e. e ≡ Stop.OutOfMemory) }
 {
     let object = lower_expression(alloc, builder, names, object)?;
-    match key_number(property) {
-        Some(number) => {
-            let key = PropertyLiteral::Number(WholeNumber::new(number));
-            Ok(LoweredMember {
-                object,
-                property: MemberProperty::Literal(key),
-            })
-        }
-        None => {
-            let property = lower_expression(alloc, builder, names, property)?;
-            Ok(LoweredMember {
-                object,
-                property: MemberProperty::Computed(property),
-            })
-        }
-    }
+    let property = lower_key(alloc, builder, names, property)?;
+    Ok(LoweredMember { object, property })
 }
 
 /// Lowers a call of a method, whose object and key were lowered for the node `there`: the function is loaded before the arguments

@@ -12,6 +12,7 @@ ghost use Rattle.rl_ast.specs.ExpressionViews.{seen_expression};
 
 use crate::access::{lower_call, lower_computed, lower_static, lower_tagged, lower_template};
 use crate::assignment::lower_assignment;
+use crate::chain::lower_spine;
 use crate::graph_builder::GraphBuilder;
 use crate::member::load_value;
 use crate::name::{lower_identifier, lower_number};
@@ -280,7 +281,7 @@ fn lower_access<U: ReadsUnit>(
     }
 }
 
-/// As `lower_expression`, of operators, casts, `await`, conditional expressions and sequences, and of what `lower_access`
+/// As `lower_expression`, of operators, casts, `await`, chains, conditional expressions and sequences, and of what `lower_access`
 /// lowers.
 #[cycle(expressions)]
 fn lower_operation<U: ReadsUnit>(
@@ -349,6 +350,9 @@ fn lower_operation<U: ReadsUnit>(
         } => lower_conditional(alloc, builder, names, at, test, consequent, alternate),
         Expression::Sequence { at, expressions } => {
             lower_sequence(alloc, builder, names, at, expressions)
+        }
+        Expression::Chain { at: _, expression } => {
+            lower_spine(alloc, builder, names, false, expression)
         }
         Expression::As {
             at,

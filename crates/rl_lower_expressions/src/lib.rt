@@ -3,6 +3,7 @@
 
 pub mod access;
 mod assignment;
+mod chain;
 pub mod expression;
 pub mod graph_builder;
 pub mod member;

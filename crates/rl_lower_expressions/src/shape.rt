@@ -1,13 +1,15 @@
 //! Shapes of expressions that tell how they are lowered.
 
-ghost use Rattle.std.specs.Prelude.{◌≡◌, ◌≤◌, codes};
+ghost use Rattle.std.specs.Prelude.{◌≡◌, ◌≤◌, ◌&&◌, codes, map};
 ghost use Rattle.std.specs.Str.{bytes_eq};
-ghost use Rattle.rl_syntax.specs.Syntax.{nodes, syntax};
+ghost use Rattle.rl_syntax.specs.Syntax.{nodes, pieces_of, syntax};
 ghost use Rattle.rl_base.specs.Operators.{unary_text};
-ghost use Rattle.rl_lower_expressions.specs.Groups.{is_parenthesized, is_property};
-ghost use Rattle.rl_lowered.specs.Forms.{IsInside};
+ghost use Rattle.rl_lower_expressions.specs.Groups.{is_assertion, is_parenthesized};
+ghost use Rattle.rl_lowered.specs.Forms.{IsInside, is_property};
 ghost use Rattle.rl_model.specs.Applied.{deletes};
 ghost use Rattle.rl_model.specs.Shapes.{is_computed, is_link};
+ghost use Rattle.rl_rules.specs.Chains as chains;
+ghost use Rattle.rl_rules.specs.Pieces.{is_yes};
 
 use rl_ast::expression::{Expression, expression_view};
 use rl_base::operator::UnaryOperator;
@@ -118,5 +120,102 @@ pub(crate) fn without_parentheses(expression: ExpressionTree<'_>) -> ExpressionT
     match expression_view(expression) {
         Expression::Parenthesized { at: _, expression } => without_parentheses(expression),
         _ => unreachable!(),
+    }
+}
+
+/// True of `a!`.
+#[tactic(auto, using(rl_syntax::proofs::Layers::by_layer))]
+pub(crate) fn is_assertion(tree: &Numbered) -> bool
+    ensures { result ≡ is_assertion (syntax tree.now) }
+{
+    match tree {
+        Numbered::Node(_, word, _) => match word {
+            Word::Nonnull => true,
+            _ => false,
+        },
+        Numbered::List(_) => false,
+        Numbered::Text(_) => false,
+        Numbered::Number(_) => false,
+        Numbered::Flag(_) => false,
+        Numbered::Absent => false,
+    }
+}
+
+/// True of a callee that lends its object to the call.
+pub(crate) fn lends(called: bool, tree: &Numbered) -> bool
+    ensures { result ≡ (called && is_property (syntax tree.now)) }
+{
+    called && is_property(tree)
+}
+
+/// True of the flag `y`.
+#[tactic(auto, using(rl_syntax::proofs::Layers::by_layer))]
+fn is_yes(tree: &Numbered) -> bool
+    ensures { result ≡ is_yes (syntax tree.now) }
+{
+    match tree {
+        Numbered::Flag(flag) => *flag,
+        Numbered::Node(_, _, _) => false,
+        Numbered::List(_) => false,
+        Numbered::Text(_) => false,
+        Numbered::Number(_) => false,
+        Numbered::Absent => false,
+    }
+}
+
+/// True of a link of a chain, or `!` around one, that has an optional link on its own spine, which goes on in the object or callee of a
+/// link and in `!`.
+#[cycle(optional)]
+#[tactic(auto, using(rl_syntax::proofs::Layers::by_layer))]
+pub(crate) fn has_optional(tree: &Numbered) -> bool
+    ensures { result ≡ chains.has_optional (syntax tree.now) }
+{
+    match tree {
+        Numbered::Node(_, word, parts) => match word {
+            Word::Member => link_has_optional(parts.as_slice()),
+            Word::Index => link_has_optional(parts.as_slice()),
+            Word::Privatemember => link_has_optional(parts.as_slice()),
+            Word::Call => link_has_optional(parts.as_slice()),
+            Word::Nonnull => assertion_has_optional(parts.as_slice()),
+            _ => false,
+        },
+        Numbered::List(_) => false,
+        Numbered::Text(_) => false,
+        Numbered::Number(_) => false,
+        Numbered::Flag(_) => false,
+        Numbered::Absent => false,
+    }
+}
+
+/// As `has_optional`, for the parts of a link.
+#[cycle(optional)]
+fn link_has_optional(parts: &[Numbered]) -> bool
+    ensures { result ≡ chains.spine_has_optional (chains.role_of Word.Member) (pieces_of (map syntax parts.now)) }
+{
+    match parts {
+        [] => false,
+        [optional, parts @ ..] => is_yes(optional) || first_has_optional(parts),
+    }
+}
+
+/// As `has_optional`, for the parts of `!`.
+#[cycle(optional)]
+fn assertion_has_optional(parts: &[Numbered]) -> bool
+    ensures { result ≡ chains.spine_has_optional (chains.role_of Word.Nonnull) (pieces_of (map syntax parts.now)) }
+{
+    match parts {
+        [] => false,
+        [expression, _parts @ ..] => has_optional(expression),
+    }
+}
+
+/// As `has_optional`, for the first of some parts. False if there is none.
+#[cycle(optional)]
+fn first_has_optional(parts: &[Numbered]) -> bool
+    ensures { result ≡ chains.first_has_optional (pieces_of (map syntax parts.now)) }
+{
+    match parts {
+        [] => false,
+        [part, _parts @ ..] => has_optional(part),
     }
 }

@@ -86,10 +86,44 @@ abbrev pub decreases-access::lower_static : goal.decreases-access::lower_static
 decreases-access::lower_static g l = 16 * nodes (syntax l.object.tree.now) + 9
 
 abbrev pub decreases-access::lower_computed : goal.decreases-access::lower_computed
-decreases-access::lower_computed g l = 16 * (nodes (syntax l.object.tree.now) + nodes (syntax l.property.tree.now)) + 9
+decreases-access::lower_computed g l = 16 * (nodes (syntax l.object.tree.now) + nodes (syntax l.property.tree.now)) + 10
+
+abbrev pub decreases-access::lower_key : goal.decreases-access::lower_key
+decreases-access::lower_key g l = 16 * nodes (syntax l.key.tree.now) + 9
 
 abbrev pub decreases-access::lower_method : goal.decreases-access::lower_method
 decreases-access::lower_method g l = 16 * nodes_of (shown l.arguments.trees.now) + 11
+
+abbrev pub decreases-chain::lower_front : goal.decreases-chain::lower_front
+decreases-chain::lower_front g l = 16 * nodes (syntax l.expression.tree.now) + 12
+
+abbrev pub decreases-chain::lower_inner : goal.decreases-chain::lower_inner
+decreases-chain::lower_inner g l = 16 * nodes (syntax l.expression.tree.now) + 11
+
+abbrev pub decreases-chain::lower_lent : goal.decreases-chain::lower_lent
+decreases-chain::lower_lent g l = 16 * nodes (syntax l.callee.tree.now) + 9
+
+abbrev pub decreases-chain::lower_spine : goal.decreases-chain::lower_spine
+decreases-chain::lower_spine g l = 16 * nodes (syntax l.expression.tree.now) + 10
+
+abbrev pub decreases-chain::lower_link : goal.decreases-chain::lower_link
+decreases-chain::lower_link g l = 16 * nodes (syntax l.expression.tree.now) + 9
+
+abbrev pub decreases-chain::lower_static_link : goal.decreases-chain::lower_static_link
+decreases-chain::lower_static_link g l = 16 * nodes (seen_expression (expression.Member l.at l.optional l.object l.property)) + 8
+
+abbrev pub decreases-chain::lower_computed_link : goal.decreases-chain::lower_computed_link
+decreases-chain::lower_computed_link g l = 16 * nodes (seen_expression (expression.Index l.at l.optional l.object l.property)) + 8
+
+abbrev pub decreases-chain::lower_private_link : goal.decreases-chain::lower_private_link
+decreases-chain::lower_private_link g l =
+    16 * nodes (seen_expression (expression.PrivateMember l.at l.optional l.object l.property)) + 8
+
+abbrev pub decreases-chain::lower_called_link : goal.decreases-chain::lower_called_link
+decreases-chain::lower_called_link g l = 16 * nodes (seen_expression (expression.Call l.at l.optional l.callee l.arguments)) + 8
+
+abbrev pub decreases-chain::open_link : goal.decreases-chain::open_link
+decreases-chain::open_link g l = 16 * nodes (syntax l.expression.tree.now) + 13
 
 abbrev pub decreases-parts::lower_argument : goal.decreases-parts::lower_argument
 decreases-parts::lower_argument g l = 16 * nodes (syntax l.argument.tree.now) + 9

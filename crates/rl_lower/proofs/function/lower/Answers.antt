@@ -78,13 +78,13 @@ pub lower_graph-requires-clause-free : goal.lower_graph-requires-clause-free
 lower_graph-requires-clause-free c =
     subst (λ (l : List Parameter). All (λ p. is_reserved p.name ≡ false) l) (sym (c.as_slice-2.ensures ∙ c.in_ok-parameters.ensures))
     (function_free (seen c.args.names.now) _ _ (whole_form c.args.function _ c.requires.covered c.parts_of-parts.ensures.body)
-    (params_lowerable (seen c.args.names.now) (seen_function_node c.args.function) c.requires.covered c.requires.locals
+    (params_lowerable (seen c.args.names.now) (seen_function_node c.args.function) c.requires.covered c.requires.chained c.requires.locals
     c.in_ok-look_for_stops.ensures.goes_on) c.requires.locals.locals)
 
 pub lower_graph-requires-clause-may : goal.lower_graph-requires-clause-may
 lower_graph-requires-clause-may c =
     subst (IsLowerableBody (seen c.args.names.now)) (sym c.parts_of-parts.ensures.body)
-    (body_lowerable (seen c.args.names.now) (seen_function_node c.args.function) c.requires.covered c.requires.locals
+    (body_lowerable (seen c.args.names.now) (seen_function_node c.args.function) c.requires.covered c.requires.chained c.requires.locals
     c.in_ok-look_for_stops.ensures.goes_on)
 
 pub lower_graph-requires-clause-room : goal.lower_graph-requires-clause-room
