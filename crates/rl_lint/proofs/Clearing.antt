@@ -2,7 +2,7 @@
 use Rattle.std.proofs.Common.{◌≡◌, ◌<◌, arith, ℕ, suc, ◌+◌, Bool, true, false, true≢false, not, ◌&&◌, ◌||◌, if◌then◌else◌}
 use Rattle.std.proofs.Common.{nat_eq, nat_lt, nat_le, is_none, Option, Some, None, slice_get, List, [], ◌∷◌, ◌++◌, All}
 use Rattle.std.proofs.Common.{refl, sym, ap, ◌∙◌, eqb-true, eq-eqb, leb-true, le-leb, ltb-true, lt-ltb}
-use Rattle.std.proofs.lemmas.Bool.{and_parts, and_from, false_from_ne_true, or_from}
+use Rattle.std.proofs.lemmas.Bool.{and_parts, and_from, false_from_ne_true, or_from, or_parts}
 use Rattle.std.proofs.lemmas.List.Elements.{All-nil, All-cons, All-append, All-head, All-tail}
 use Rattle.std.specs.List.{list_any}
 use Rattle.rl_base.specs.declared.ids.NodeId.{NodeId}
@@ -11,6 +11,7 @@ use Rattle.rl_bindings.specs.declared.resolve.Declaration.{Declaration}
 use Rattle.rl_lint.specs.Clear.{are_clear_declarations, are_clear_from, FindsNone, is_clear_bind, is_clear_declaration, is_clear_name}
 use Rattle.rl_lint.specs.Clear.{is_clear_node, is_clear_use}
 use Rattle.rl_lint.specs.Findings.{finding}
+use Rattle.rl_lint.specs.Late.{has_late, has_late_among, has_late_from, is_late as is_late_place, is_late_bind}
 use Rattle.rl_lint.specs.Roles.{below, declaring, function_below, function_role, has_body, is_var, kept, listed, only_at, place_below}
 use Rattle.rl_lint.specs.Roles.{role_of, variables_role, item_place, top}
 use Rattle.rl_lint.specs.Rules.{declared, early, early_of, early_use, is_late, stands_before, taken, taken_by, taken_name, taken_of, used}
@@ -26,7 +27,8 @@ use Rattle.rl_lint.specs.declared.site.Site.{Site}
 use Rattle.rl_lint.specs.declared.site.Site.TheVariants as site
 use Rattle.rl_lint.specs.declared.site.UseSite.{UseSite}
 use Rattle.rl_lint_hints.specs.Hints.{declared_scope, function_around, function_at, function_inside, is_before, is_behind_last}
-use Rattle.rl_lint_hints.specs.Hints.{is_hinted, is_inside, is_known, is_up_to, named_scope, parent_scope}
+use Rattle.rl_lint_hints.specs.Hints.{is_closed, is_hinted, is_inside, is_known, is_marked, is_marked_around, is_up_to}
+use Rattle.rl_lint_hints.specs.Hints.{is_up_to_last, named_scope, parent_scope}
 use Rattle.rl_lint_hints.specs.declared.hints.Hints.{Hints}
 use Rattle.rl_lint_hints.specs.declared.hints.LastBind.{LastBind}
 use Rattle.rl_resolver.specs.Inside.{is_function_word}
@@ -63,6 +65,12 @@ inside_is f at word.Var ps = by_kind (is_var ps)
     by_kind false = refl
 inside_is f at _ ps = refl
 
+-- A node with a mark has one around it, so that the walk comes to it.
+looked_inside : (own around inside : Bool) → (not own || around) ≡ true → (around ≡ true → (own && inside) ≡ false) → own ≡ true
+    → inside ≡ false
+looked_inside true around inside closed looked is = looked closed
+looked_inside false around inside closed looked is = absurd (true≢false (sym is))
+
 -- True of a parent with an id that is not smaller.
 abbrev is_up_from : NodeId → (parent : Option NodeId) → Bool
 is_up_from statement parent = of_item false (λ (p : NodeId). nat_le statement.0 p.0) parent
@@ -95,7 +103,7 @@ module _ (nodes : List NodeEntry) (h : Hints) (b : Tables) where
   abbrev IsTold : Site → Type 0
   IsTold (site.Use u) = ((function_at h.functions u.at.id.0).0 ≡ u.function.0) × (is_clear_use h b u.at ≡ true)
   IsTold (site.Late d) = ((function_at h.functions d.bind.0).0 ≡ d.function.0) × (d.statement.0 < d.bind.0)
-      × (named_scope nodes d.bind.0 ≡ None)
+      × (named_scope nodes d.bind.0 ≡ None) × (is_marked h.marks d.bind.0 ≡ false)
   IsTold (site.Named f) = named_scope nodes f.bind.id.0 ≡ Some f.scope
 
   -- What a place says of the parent of a node there.
@@ -105,18 +113,35 @@ module _ (nodes : List NodeEntry) (h : Hints) (b : Tables) where
   Stands (place.Listed first) parent = Unit {0}
   Stands place.Elsewhere parent = Unit {0}
 
+  -- What the walk found inside a node, if it came there.
+  abbrev Looked : (parent : Option NodeId) → (found : Bool) → Type 0
+  Looked parent found = is_marked_around h.marks parent ≡ true → found ≡ false
+
+  looked_first : (parent : Option NodeId) (first rest : Bool) → Looked parent (first || rest) → Looked parent first
+  looked_first parent first rest looked is = (or_parts first rest (looked is)).0
+
+  looked_rest : (parent : Option NodeId) (first rest : Bool) → Looked parent (first || rest) → Looked parent rest
+  looked_rest parent first rest looked is = (or_parts first rest (looked is)).1
+
   -- A node by its parts.
   module _ (parent : Option NodeId) (at : At) (w : Word) (passed : IsPassed (record { word = w; parent = parent; at = at })) where
     abbrev entry : NodeEntry
     entry = record { word = w; parent = parent; at = at }
 
-    known_parts : (is_inside parent at.id.0 ≡ true)
-        × (nat_eq (function_at h.functions at.id.0).0 (function_inside h.functions entry).0 ≡ true)
-    known_parts = and_parts (is_inside parent at.id.0) (nat_eq (function_at h.functions at.id.0).0 (function_inside h.functions entry).0)
-        (and_parts (is_known h.functions entry) (not (is_reference w) || is_clear_use h b at) passed.clear).0
+    abbrev is_right : Bool
+    is_right = nat_eq (function_at h.functions at.id.0).0 (function_inside h.functions entry).0
+
+    known_parts : (is_inside parent at.id.0 ≡ true) × ((is_right && is_closed h.marks entry) ≡ true)
+    known_parts = and_parts (is_inside parent at.id.0) (is_right && is_closed h.marks entry)
+        (and_parts (is_known h entry) (not (is_reference w) || is_clear_use h b at) passed.clear).0
 
     function_known : (function_at h.functions at.id.0).0 ≡ (function_inside h.functions entry).0
-    function_known = eqb-true (function_at h.functions at.id.0).0 (function_inside h.functions entry).0 known_parts.1
+    function_known = eqb-true (function_at h.functions at.id.0).0 (function_inside h.functions entry).0
+        (and_parts is_right (is_closed h.marks entry) known_parts.1).0
+
+    looked_parts : (found : Bool) → Looked parent (is_marked h.marks at.id.0 && found) → Looked (Some at.id) found
+    looked_parts found = looked_inside (is_marked h.marks at.id.0) (is_marked_around h.marks parent) found
+        (and_parts is_right (is_closed h.marks entry) known_parts.1).1
 
     own_name : named_scope nodes at.id.0 ≡ parent_scope nodes parent
     own_name = ap (of_item None (λ (e : NodeEntry). parent_scope nodes e.parent)) passed.itself
@@ -194,17 +219,18 @@ module _ (nodes : List NodeEntry) (h : Hints) (b : Tables) where
   -- The site that a node itself is.
   bind_told : (p : Place) (a : Above) (parent : Option NodeId) (at : At)
       → IsPassed (record { word = word.Bind; parent = parent; at = at }) → (function_around h.functions parent).0 ≡ a.function.0
-      → Stands p parent → All IsTold (bind_site p a at)
-  bind_told (place.Late first statement) a parent at passed f s =
+      → Stands p parent → Looked (Some at.id) (is_late_place p) → All IsTold (bind_site p a at)
+  bind_told (place.Late first statement) a parent at passed f s looked =
       All-cons IsTold (site.Late (record { bind = at.id; first = first; statement = statement; function = a.function })) [] (
         function_known parent at word.Bind passed ∙ f,
         statement_inside statement parent at.id.0 s.1 (known_parts parent at word.Bind passed).0,
         own_name parent at word.Bind passed ∙ s.0,
+        false_from_ne_true (is_marked h.marks at.id.0) (λ is. true≢false (looked is)),
       ) (All-nil IsTold)
-  bind_told (place.Name scope) a parent at passed f s =
+  bind_told (place.Name scope) a parent at passed f s looked =
       All-cons IsTold (site.Named (record { bind = at; scope = scope })) [] (own_name parent at word.Bind passed ∙ s) (All-nil IsTold)
-  bind_told (place.Listed first) a parent at passed f s = All-nil IsTold
-  bind_told place.Elsewhere a parent at passed f s = All-nil IsTold
+  bind_told (place.Listed first) a parent at passed f s looked = All-nil IsTold
+  bind_told place.Elsewhere a parent at passed f s looked = All-nil IsTold
 
   use_told : (a : Above) (parent : Option NodeId) (at : At) → IsPassed (record { word = word.Id; parent = parent; at = at })
       → (function_around h.functions parent).0 ≡ a.function.0 → All IsTold (use_site a at)
@@ -214,72 +240,85 @@ module _ (nodes : List NodeEntry) (h : Hints) (b : Tables) where
       by_case true = All-nil IsTold
       by_case false = All-cons IsTold (site.Use (record { at = at; function = a.function })) [] (
         function_known parent at word.Id passed ∙ f,
-        (and_parts (is_known h.functions (record { word = word.Id; parent = parent; at = at })) (is_clear_use h b at) passed.clear).1,
+        (and_parts (is_known h (record { word = word.Id; parent = parent; at = at })) (is_clear_use h b at) passed.clear).1,
       )
           (All-nil IsTold)
 
   own_told : (a : Above) (parent : Option NodeId) (at : At) (w : Word) (ps : Pieces)
       → IsPassed (record { word = w; parent = parent; at = at }) → (function_around h.functions parent).0 ≡ a.function.0
-      → Stands a.place parent → All IsTold (site_of (role_of w ps) a at)
-  own_told a parent at word.Id ps passed f s = use_told a parent at passed f
-  own_told a parent at word.Bind ps passed f s = bind_told a.place a parent at passed f s
-  own_told a parent at word.Var ps passed f s = by_kind (is_var ps)
+      → Stands a.place parent → Looked (Some at.id) (is_late_bind (role_of w ps) a.place) → All IsTold (site_of (role_of w ps) a at)
+  own_told a parent at word.Id ps passed f s looked = use_told a parent at passed f
+  own_told a parent at word.Bind ps passed f s looked = bind_told a.place a parent at passed f s looked
+  own_told a parent at word.Var ps passed f s looked = by_kind (is_var ps)
     where
       by_kind : (of_var : Bool) → All IsTold (site_of (variables_role of_var) a at)
       by_kind true = All-nil IsTold
       by_kind false = All-nil IsTold
-  own_told a parent at word.Fundecl ps passed f s = by_body (has_body ps)
+  own_told a parent at word.Fundecl ps passed f s looked = by_body (has_body ps)
     where
       by_body : (with_body : Bool) → All IsTold (site_of (function_role with_body) a at)
       by_body true = All-nil IsTold
       by_body false = All-nil IsTold
-  own_told a parent at _ ps passed f s = All-nil IsTold
+  own_told a parent at _ ps passed f s looked = All-nil IsTold
 
   mutual
     told_in : (a : Above) (parent : Option NodeId) (t : Syntax) → All IsPassed (entries_under parent t)
         → (function_around h.functions parent).0 ≡ a.function.0
-        → Stands a.place parent → All IsTold (sites a t)
-    told_in a parent (Node at w ps) passed f s =
+        → Stands a.place parent → Looked parent (has_late h.marks a.place t) → All IsTold (sites a t)
+    told_in a parent (Node at w ps) passed f s looked =
         let here = All-head IsPassed (record { word = w; parent = parent; at = at }) (entries_among (Some at.id) ps) passed in
         let inside = All-tail IsPassed (record { word = w; parent = parent; at = at }) (entries_among (Some at.id) ps) passed in
-        All-append IsTold (site_of (role_of w ps) a at) (sites_from a at (role_of w ps) 0 ps) (own_told a parent at w ps here f s)
-        (told_from a parent at w ps 0 ps inside here f s)
-    told_in a parent (Listed items) passed f s =
-        told_among (listed a items) parent items passed f (list_stands a.place items parent s)
-    told_in a parent (Said text) passed f s = All-nil IsTold
-    told_in a parent (Count number) passed f s = All-nil IsTold
-    told_in a parent (Flag flag) passed f s = All-nil IsTold
-    told_in a parent Absent passed f s = All-nil IsTold
+        let own = is_late_bind (role_of w ps) a.place in
+        let deep = has_late_from h.marks a.place at (role_of w ps) 0 ps in
+        let found : Looked (Some at.id) (own || deep) = looked_parts parent at w here (own || deep) looked in
+        All-append IsTold (site_of (role_of w ps) a at) (sites_from a at (role_of w ps) 0 ps)
+        (own_told a parent at w ps here f s (looked_first (Some at.id) own deep found))
+        (told_from a parent at w ps 0 ps inside here f s (looked_rest (Some at.id) own deep found))
+    told_in a parent (Listed items) passed f s looked =
+        told_among (listed a items) parent items passed f (list_stands a.place items parent s) looked
+    told_in a parent (Said text) passed f s looked = All-nil IsTold
+    told_in a parent (Count number) passed f s looked = All-nil IsTold
+    told_in a parent (Flag flag) passed f s looked = All-nil IsTold
+    told_in a parent Absent passed f s looked = All-nil IsTold
 
     -- Parts of a node, the first of them at `index`; all of them are `all`.
     told_from : (a : Above) (parent : Option NodeId) (at : At) (w : Word) (all : Pieces) (index : ℕ) (ps : Pieces)
         → All IsPassed (entries_among (Some at.id) ps)
         → IsPassed (record { word = w; parent = parent; at = at }) → (function_around h.functions parent).0 ≡ a.function.0
-        → Stands a.place parent → All IsTold (sites_from a at (role_of w all) index ps)
-    told_from a parent at w all index End passed here f s = All-nil IsTold
-    told_from a parent at w all index (Then t ps) passed here f s =
+        → Stands a.place parent → Looked (Some at.id) (has_late_from h.marks a.place at (role_of w all) index ps)
+        → All IsTold (sites_from a at (role_of w all) index ps)
+    told_from a parent at w all index End passed here f s looked = All-nil IsTold
+    told_from a parent at w all index (Then t ps) passed here f s looked =
+        let first = has_late h.marks (place_below a.place at (role_of w all) index) t in
+        let rest = has_late_from h.marks a.place at (role_of w all) (index + 1) ps in
         All-append IsTold (sites (below a at (role_of w all) index) t) (sites_from a at (role_of w all) (index + 1) ps)
         (told_in (below a at (role_of w all) index) (Some at.id) t
         (left_all IsPassed (entries_under (Some at.id) t) (entries_among (Some at.id) ps) passed)
-        (next_function parent at w here a.function all f) (next_stands parent at w all a.place index here s))
+        (next_function parent at w here a.function all f) (next_stands parent at w all a.place index here s)
+        (looked_first (Some at.id) first rest looked))
         (told_from a parent at w all (index + 1) ps
-        (right_all IsPassed (entries_under (Some at.id) t) (entries_among (Some at.id) ps) passed) here f s)
+        (right_all IsPassed (entries_under (Some at.id) t) (entries_among (Some at.id) ps) passed) here f s
+        (looked_rest (Some at.id) first rest looked))
 
     told_among : (a : Above) (parent : Option NodeId) (ps : Pieces) → All IsPassed (entries_among parent ps)
         → (function_around h.functions parent).0 ≡ a.function.0
-        → Stands a.place parent → All IsTold (sites_among a ps)
-    told_among a parent End passed f s = All-nil IsTold
-    told_among a parent (Then t ps) passed f s =
+        → Stands a.place parent → Looked parent (has_late_among h.marks a.place ps) → All IsTold (sites_among a ps)
+    told_among a parent End passed f s looked = All-nil IsTold
+    told_among a parent (Then t ps) passed f s looked =
+        let first = has_late h.marks a.place t in let rest = has_late_among h.marks a.place ps in
         All-append IsTold (sites a t) (sites_among a ps)
-        (told_in a parent t (left_all IsPassed (entries_under parent t) (entries_among parent ps) passed) f s)
-        (told_among a parent ps (right_all IsPassed (entries_under parent t) (entries_among parent ps) passed) f s)
+        (told_in a parent t (left_all IsPassed (entries_under parent t) (entries_among parent ps) passed) f s
+        (looked_first parent first rest looked))
+        (told_among a parent ps (right_all IsPassed (entries_under parent t) (entries_among parent ps) passed) f s
+        (looked_rest parent first rest looked))
 
-  told_all : (tree : Syntax) → nodes ≡ entries tree → are_clear_from h b 0 nodes ≡ true → All IsTold (sites_in tree)
-  told_all tree is clear =
+  told_all : (tree : Syntax) → nodes ≡ entries tree → are_clear_from h b 0 nodes ≡ true → has_late h.marks place.Elsewhere tree ≡ false
+      → All IsTold (sites_in tree)
+  told_all tree is clear looked =
       told_in top None tree
       (all_passed 0 (entries tree)
       (λ k. let same : 0 + k ≡ k = omega arith in ap (λ l. slice_get l (0 + k)) is ∙ ap (slice_get (entries tree)) same)
-      (sym (ap (are_clear_from h b 0) is) ∙ clear)) refl tt
+      (sym (ap (are_clear_from h b 0) is) ∙ clear)) refl tt (λ around. looked)
 
   -- A declaration of a symbol, among declarations that are clear.
   declared_clear : (ds : List Declaration) (node symbol : ℕ) → are_clear_declarations nodes h b ds ≡ true
@@ -311,12 +350,16 @@ module _ (nodes : List NodeEntry) (h : Hints) (b : Tables) where
       → (function_at h.functions user).0 ≡ (function_at h.functions bind).0 → ⊥
   apart None user bind up behind lt same = true≢false (sym behind)
   apart (Some l) user bind up behind lt same =
-      let parts = and_parts (nat_le bind l.node.0) (nat_eq (function_at h.functions bind).0 l.function.0) up in
+      let unmarked = not (is_marked h.marks l.node.0) in
+      let parts = and_parts (nat_le bind l.node.0) (unmarked && nat_eq (function_at h.functions bind).0 l.function.0) up in
       let le = leb-true bind l.node.0 parts.0 in
-      let before : is_before h user l ≡ true = and_from (nat_lt user l.node.0) (nat_eq (function_at h.functions user).0 l.function.0)
+      let more = and_parts unmarked (nat_eq (function_at h.functions bind).0 l.function.0) parts.1 in
+      let before : is_before h user l ≡ true =
+      and_from (nat_lt user l.node.0) (unmarked && nat_eq (function_at h.functions user).0 l.function.0)
       (lt-ltb user l.node.0 (omega (arith, le, lt)))
+      (and_from unmarked (nat_eq (function_at h.functions user).0 l.function.0) more.0
       (eq-eqb (function_at h.functions user).0 l.function.0
-      (same ∙ eqb-true (function_at h.functions bind).0 l.function.0 parts.1)) in
+      (same ∙ eqb-true (function_at h.functions bind).0 l.function.0 more.1))) in
       true≢false (sym behind ∙ ap not before)
 
   module _ (clear : are_clear_declarations nodes h b b.declarations ≡ true) where
@@ -328,8 +371,10 @@ module _ (nodes : List NodeEntry) (h : Hints) (b : Tables) where
         let order = and_parts (nat_lt u.at.id.0 d.statement.0) (nat_eq d.function.0 u.function.0) stands.1 in
         let lt = ltb-true u.at.id.0 d.statement.0 order.0 in
         let bound = declared_clear b.declarations d.bind.0 symbol clear (number_is symbol (declared b.declarations d.bind.0) both.0) in
+        let hinted : is_hinted h d.bind.0 symbol ≡ true =
+        ap (of_item (is_hinted h d.bind.0 symbol) (is_clear_name b symbol)) (sym late.2) ∙ bound in
         apart (slice_get h.lasts symbol) u.at.id.0 d.bind.0
-        (ap (of_item (is_hinted h d.bind.0 symbol) (is_clear_name b symbol)) (sym late.2) ∙ bound) behind (omega (arith, lt, late.1))
+        (ap (λ (marked : Bool). marked || is_up_to_last h d.bind.0 symbol) (sym late.3) ∙ hinted) behind (omega (arith, lt, late.1))
         (user.0 ∙ sym (eqb-true d.function.0 u.function.0 order.1) ∙ sym late.0)
 
     none_late : (u : UseSite) (symbol : ℕ) (all : List Site) → is_behind_last h u.at.id.0 symbol ≡ true
@@ -403,9 +448,9 @@ module _ (nodes : List NodeEntry) (h : Hints) (b : Tables) where
 
 pub finds_none : (nodes : List NodeEntry) (h : Hints) (b : Tables) (tree : Syntax) → nodes ≡ entries tree
     → are_clear_declarations nodes h b b.declarations ≡ true
-    → are_clear_from h b 0 nodes ≡ true → FindsNone b tree
-finds_none nodes h b tree is declarations clear =
-    let told = told_all nodes h b tree is clear in
+    → are_clear_from h b 0 nodes ≡ true → has_late h.marks place.Elsewhere tree ≡ false → FindsNone b tree
+finds_none nodes h b tree is declarations clear looked =
+    let told = told_all nodes h b tree is clear looked in
     record {
       none_early = none_early nodes h b declarations (sites_in tree) (sites_in tree) told told;
       none_taken = none_taken nodes h b declarations (sites_in tree) told;

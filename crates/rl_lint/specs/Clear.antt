@@ -36,7 +36,7 @@ is_clear_use h b at = of_item true (is_behind_last h at.id.0) (used b.references
 
 -- True of a node that the hints know, and that is no use or one that L1 finds nothing at.
 abbrev pub is_clear_node : Hints → Tables → NodeEntry → Bool
-is_clear_node h b e = is_known h.functions e && (not (is_reference e.word) || is_clear_use h b e.at)
+is_clear_node h b e = is_known h e && (not (is_reference e.word) || is_clear_use h b e.at)
 
 -- True of nodes that are all clear and have the ids from `index` on.
 abbrev pub are_clear_from : Hints → Tables → (index : ℕ) → List NodeEntry → Bool

@@ -1,6 +1,7 @@
 pub mod Clear
 pub mod Findings
 pub mod Labels
+pub mod Late
 pub mod Lates
 pub mod Roles
 pub mod Rules

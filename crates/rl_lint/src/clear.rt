@@ -5,15 +5,17 @@ ghost use Rattle.rl_lint.specs.Clear as spec;
 ghost use Rattle.rl_lint.specs.Tables.{tables};
 ghost use Rattle.rl_syntax.specs.Syntax.{syntax};
 
+use crate::late::has_late;
 use crate::names::{name_text, symbol_at, used};
+use crate::role::Place;
 use crate::taken::taken_by;
 use rl_ast::unit::Unit;
 use rl_base::error::OutOfMemory;
 use rl_base::ids::{NodeId, ScopeId};
 use rl_bindings::bindings::Bindings;
 use rl_bindings::resolve::Declaration;
-use rl_lint_hints::checks::{is_behind_last, is_hinted, is_known};
-use rl_lint_hints::hints::{Hints, hints_of, named_scope};
+use rl_lint_hints::checks::{is_behind_last, is_hinted, is_known, is_marked};
+use rl_lint_hints::hints::{Hints, hints_of, marks_of, named_scope};
 use rl_syntax::nodes::NodeEntry;
 use rl_syntax::numbered::{At, is_reference};
 use std::alloc::Global;
@@ -85,8 +87,7 @@ fn is_clear_use(hints: &Hints, bindings: &Bindings, at: &At) -> bool
 fn is_clear_node(hints: &Hints, bindings: &Bindings, node: &NodeEntry) -> bool
     ensures { result ≡ spec.is_clear_node hints.now (tables bindings.now) node.now }
 {
-    is_known(hints.functions.as_slice(), node)
-        && (!is_reference(node.word) || is_clear_use(hints, bindings, &node.at))
+    is_known(hints, node) && (!is_reference(node.word) || is_clear_use(hints, bindings, &node.at))
 }
 
 /// True of nodes that are all clear, each with its index as its id.
@@ -104,15 +105,33 @@ fn are_clear_nodes(nodes: &[NodeEntry], hints: &Hints, bindings: &Bindings) -> b
     true
 }
 
-/// True of a unit in which L1 and L4 find nothing, as its tables tell. Where they do not, there may be findings, or none. On
-/// `OutOfMemory`, an allocation failed.
+/// True of a unit in which L1 and L4 find nothing, as its tables tell with these hints, and its tree where nodes have marks.
+fn is_clear_by(unit: &Unit, bindings: &Bindings, hints: &Hints) -> bool
+    ensures { result ≡ true → spec.FindsNone (tables bindings.now) (syntax unit.now.tree) }
+{
+    let nodes = unit.nodes.as_slice();
+    if are_clear_declarations(nodes, hints, bindings) {
+        if are_clear_nodes(nodes, hints, bindings) {
+            return !has_late(hints.marks.as_slice(), Place::Elsewhere, &unit.tree);
+        }
+    }
+    false
+}
+
+/// True of a unit in which L1 and L4 find nothing, as its tables tell. Where a name is used before its `var`, a walk over the tree to the
+/// declarations of this kind tells that they are not late. Where it is not true, there may be findings, or none. On `OutOfMemory`, an
+/// allocation failed.
 pub(crate) fn is_clear(alloc: Global, unit: &Unit, bindings: &Bindings) -> Result<bool, OutOfMemory>
     ensures { IfOk result (λ clear. clear ≡ true → spec.FindsNone (tables bindings.now) (syntax unit.now.tree)) }
 {
     let nodes = unit.nodes.as_slice();
-    let hints = hints_of(alloc, nodes, bindings)?;
-    if are_clear_declarations(nodes, &hints, bindings) {
-        return Ok(are_clear_nodes(nodes, &hints, bindings));
+    let mut hints = hints_of(alloc, nodes, bindings)?;
+    if is_clear_by(unit, bindings, &hints) {
+        return Ok(true);
+    }
+    hints.marks = marks_of(alloc, nodes, bindings)?;
+    if is_marked(hints.marks.as_slice(), NodeId(0)) {
+        return Ok(is_clear_by(unit, bindings, &hints));
     }
     Ok(false)
 }

@@ -6,6 +6,7 @@ mod clear;
 mod early;
 pub mod finding;
 mod labels;
+mod late;
 pub mod lint;
 mod names;
 mod role;

@@ -217,7 +217,7 @@ fn only_at(place: Place, wanted: usize, index: usize) -> Place
 }
 
 /// The place of the part at an index of a node.
-fn place_below(place: Place, at: &At, role: Role, index: usize) -> Place
+pub(crate) fn place_below(place: Place, at: &At, role: Role, index: usize) -> Place
     ensures { result ≡ spec.place_below place at.now role index }
 {
     match role {
@@ -260,20 +260,26 @@ fn first_id(items: &[Numbered]) -> NodeId
     }
 }
 
-/// The summary for the items of a list.
-pub(crate) fn listed(above: &Above, items: &[Numbered]) -> Above
-    ensures { result ≡ spec.listed above.now (pieces_of (map syntax items.now)) }
+/// The place of the items of a list.
+pub(crate) fn item_place(place: Place, items: &[Numbered]) -> Place
+    ensures { result ≡ spec.item_place place (pieces_of (map syntax items.now)) }
 {
-    let place = match above.place {
+    match place {
         Place::Late(first, statement) => Place::Late(first, statement),
         Place::Listed(_) => Place::Listed(first_id(items)),
         Place::Name(_) => Place::Listed(first_id(items)),
         Place::Elsewhere => Place::Listed(first_id(items)),
-    };
+    }
+}
+
+/// The summary for the items of a list.
+pub(crate) fn listed(above: &Above, items: &[Numbered]) -> Above
+    ensures { result ≡ spec.listed above.now (pieces_of (map syntax items.now)) }
+{
     Above {
         in_type: above.in_type,
         function: above.function,
-        place,
+        place: item_place(above.place, items),
     }
 }
 

@@ -1,5 +1,5 @@
 -- Hints for the linter, and the tests of them. Nothing is known of hints but what is tested.
-use Rattle.std.specs.Prelude.{ℕ, Bool, true, false, not, ◌&&◌, if◌then◌else◌, nat_eq, nat_le, nat_lt}
+use Rattle.std.specs.Prelude.{ℕ, Bool, true, false, not, ◌&&◌, ◌||◌, if◌then◌else◌, nat_eq, nat_le, nat_lt}
 use Rattle.std.specs.Prelude.{Option, Some, None, slice_get, List}
 use Rattle.rl_base.specs.declared.ids.NodeId.{NodeId}
 use Rattle.rl_base.specs.declared.ids.ScopeId.{ScopeId}
@@ -40,17 +40,27 @@ parent_scope nodes parent = of_item None (λ (p : NodeId). of_item None declared
 abbrev pub named_scope : List NodeEntry → (node : ℕ) → Option ScopeId
 named_scope nodes node = of_item None (λ (e : NodeEntry). parent_scope nodes e.parent) (slice_get nodes node)
 
--- True of a declaration that is not behind the last one of its symbol, nor in another function.
+-- True of a node with a mark.
+abbrev pub is_marked : (marks : List Bool) → (node : ℕ) → Bool
+is_marked marks node = of_item false (λ (marked : Bool). marked) (slice_get marks node)
+
+-- True of a declaration that is not behind the last one of its symbol, nor in another function, if that one has no mark.
 abbrev pub is_up_to : Hints → (node : ℕ) → LastBind → Bool
-is_up_to h node last = nat_le node last.node.0 && nat_eq (function_at h.functions node).0 last.function.0
+is_up_to h node last = nat_le node last.node.0
+    && (not (is_marked h.marks last.node.0) && nat_eq (function_at h.functions node).0 last.function.0)
 
--- True of a declaration of a symbol that the hints know.
+-- True of a declaration of a symbol that is not behind the last one that the hints know, if there is one.
+abbrev pub is_up_to_last : Hints → (node symbol : ℕ) → Bool
+is_up_to_last h node symbol = of_item true (is_up_to h node) (slice_get h.lasts symbol)
+
+-- True of a declaration of a symbol that has a mark, or that the hints know.
 abbrev pub is_hinted : Hints → (node symbol : ℕ) → Bool
-is_hinted h node symbol = of_item true (is_up_to h node) (slice_get h.lasts symbol)
+is_hinted h node symbol = is_marked h.marks node || is_up_to_last h node symbol
 
--- True of a use before the last declaration of its symbol, in the same function.
+-- True of a use before the last declaration of its symbol, in the same function, if that one has no mark.
 abbrev pub is_before : Hints → (node : ℕ) → LastBind → Bool
-is_before h node last = nat_lt node last.node.0 && nat_eq (function_at h.functions node).0 last.function.0
+is_before h node last = nat_lt node last.node.0
+    && (not (is_marked h.marks last.node.0) && nat_eq (function_at h.functions node).0 last.function.0)
 
 -- True of a use of a symbol that stands behind all declarations in its function, as far as the hints know them.
 abbrev pub is_behind_last : Hints → (node symbol : ℕ) → Bool
@@ -60,6 +70,15 @@ is_behind_last h node symbol = of_item false (λ (last : LastBind). not (is_befo
 abbrev pub is_inside : (parent : Option NodeId) → (node : ℕ) → Bool
 is_inside parent node = of_item true (λ (p : NodeId). nat_lt p.0 node) parent
 
--- True of a node for which the table has the right function.
-abbrev pub is_known : (functions : List NodeId) → NodeEntry → Bool
-is_known functions e = is_inside e.parent e.at.id.0 && nat_eq (function_at functions e.at.id.0).0 (function_inside functions e).0
+-- True if the node around a node has a mark, or there is none around it.
+abbrev pub is_marked_around : (marks : List Bool) → (parent : Option NodeId) → Bool
+is_marked_around marks parent = of_item true (λ (p : NodeId). is_marked marks p.0) parent
+
+-- True of a node that has no mark, or around which there is one too.
+abbrev pub is_closed : (marks : List Bool) → NodeEntry → Bool
+is_closed marks e = not (is_marked marks e.at.id.0) || is_marked_around marks e.parent
+
+-- True of a node for which the hints have the right function, and a mark only if one is around it.
+abbrev pub is_known : Hints → NodeEntry → Bool
+is_known h e = is_inside e.parent e.at.id.0
+    && (nat_eq (function_at h.functions e.at.id.0).0 (function_inside h.functions e).0 && is_closed h.marks e)

@@ -3,7 +3,7 @@
 ghost use Rattle.std.specs.Prelude.{◌≡◌};
 ghost use Rattle.rl_lint_hints.specs.Hints as spec;
 
-use crate::words::{is_declaration, is_function};
+use crate::words::{is_declaration, is_function, is_hoisted};
 use rl_base::error::OutOfMemory;
 use rl_base::ids::{NodeId, ScopeId};
 use rl_base::list::List;
@@ -28,6 +28,9 @@ pub struct Hints {
     pub functions: List<NodeId>,
     /// For each symbol its last declaration.
     pub lasts: List<LastBind>,
+    /// For each node true if it has a mark. A node with a mark is a declaration that is in force before it, or stands around one. Empty
+    /// where no node has one.
+    pub marks: List<bool>,
 }
 
 /// The innermost function around the parts of a node, by a table of these. The unit's node where the table has none.
@@ -149,7 +152,7 @@ fn lasts_of(
     Ok(List::from_vec(lasts))
 }
 
-/// Hints for a unit with these nodes. On `OutOfMemory`, an allocation failed.
+/// Hints for a unit with these nodes, of which none has a mark. On `OutOfMemory`, an allocation failed.
 pub fn hints_of(
     alloc: Global,
     nodes: &[NodeEntry],
@@ -157,5 +160,55 @@ pub fn hints_of(
 ) -> Result<Hints, OutOfMemory> {
     let functions = functions_of(alloc, nodes)?;
     let lasts = lasts_of(alloc, nodes, functions.as_slice(), bindings)?;
-    Ok(Hints { functions, lasts })
+    Ok(Hints {
+        functions,
+        lasts,
+        marks: List::new(alloc),
+    })
+}
+
+/// True of a symbol whose first declaration is in force before it.
+fn is_hoisted_symbol(bindings: &Bindings, symbol: Option<usize>) -> bool {
+    match symbol {
+        Some(symbol) => match bindings.symbols.as_slice().get(symbol) {
+            Some(first) => is_hoisted(first.kind),
+            None => false,
+        },
+        None => false,
+    }
+}
+
+/// Marks a node and those around it, up to the first that has a mark.
+fn mark(marks: &mut [bool], nodes: &[NodeEntry], node: NodeId) {
+    let mut next = node.0 as usize;
+    'around: while next < marks.len() && next < nodes.len() {
+        if marks[next] {
+            return;
+        }
+        marks[next] = true;
+        let Some(parent) = nodes[next].parent else {
+            return;
+        };
+        if next <= parent.0 as usize {
+            return;
+        }
+        next = parent.0 as usize;
+    }
+}
+
+/// The marks of a unit with these nodes: of the declarations that are in force before they stand, and of the nodes around these. On
+/// `OutOfMemory`, an allocation failed.
+pub fn marks_of(
+    alloc: Global,
+    nodes: &[NodeEntry],
+    bindings: &Bindings,
+) -> Result<List<bool>, OutOfMemory> {
+    let mut marks = Vec::new(alloc);
+    marks.resize(nodes.len(), false)?;
+    for declaration in bindings.declarations.as_slice() {
+        if is_hoisted_symbol(bindings, declaration.symbol) {
+            mark(&mut marks, nodes, declaration.node);
+        }
+    }
+    Ok(List::from_vec(marks))
 }

@@ -1,9 +1,10 @@
-//! The words of functions.
+//! The words of functions, and the kinds of declarations that are in force before they stand.
 
 ghost use Rattle.std.specs.Prelude.{◌≡◌};
 ghost use Rattle.rl_lint_hints.specs.Hints.{is_declaration_word};
 ghost use Rattle.rl_resolver.specs.Inside.{is_function_word};
 
+use rl_bindings::event::BindKind;
 use rl_syntax::word::Word;
 
 /// True of the words of functions.
@@ -24,6 +25,21 @@ pub fn is_declaration(word: Word) -> bool
 {
     match word {
         Word::Fundecl => true,
+        _ => false,
+    }
+}
+
+/// True of the kinds of declarations that are in force before they stand, the names of functions aside.
+pub(crate) fn is_hoisted(kind: BindKind) -> bool {
+    match kind {
+        BindKind::Var => true,
+        BindKind::ImportDefault => true,
+        BindKind::ImportNamespace => true,
+        BindKind::ImportNamed => true,
+        BindKind::TypeAlias => true,
+        BindKind::Interface => true,
+        BindKind::Enum => true,
+        BindKind::Namespace => true,
         _ => false,
     }
 }

@@ -1,0 +1,42 @@
+-- Late declarations among nodes with marks.
+use Rattle.std.specs.Prelude.{ℕ, ◌+◌, Bool, true, false, ◌&&◌, ◌||◌, List}
+use Rattle.rl_lint.specs.Roles.{item_place, place_below, role_of}
+use Rattle.rl_lint.specs.declared.role.Place.{Place}
+use Rattle.rl_lint.specs.declared.role.Place.TheVariants as place
+use Rattle.rl_lint.specs.declared.role.Role.{Role}
+use Rattle.rl_lint.specs.declared.role.Role.TheVariants as role
+use Rattle.rl_lint_hints.specs.Hints.{is_marked}
+use Rattle.rl_syntax.specs.Syntax.{Syntax, Node, Listed, Said, Count, Flag, Absent, Pieces, End, Then}
+use Rattle.rl_syntax.specs.declared.numbered.At.{At}
+
+-- True of the place of a pattern in a late declaration.
+abbrev pub is_late : Place → Bool
+is_late (place.Late first statement) = true
+is_late _ = false
+
+-- True of a `bind` node of a late declaration, by its place.
+abbrev pub is_late_bind : Role → Place → Bool
+is_late_bind role.Bind p = is_late p
+is_late_bind _ p = false
+
+abbrev mutual
+  -- True of a tree at a place in which a late declaration has a mark, as have all nodes around it in the tree.
+  pub has_late : (marks : List Bool) → Place → Syntax → Bool
+  has_late marks p (Node at w parts) = is_marked marks at.id.0
+      && (is_late_bind (role_of w parts) p || has_late_from marks p at (role_of w parts) 0 parts)
+  has_late marks p (Listed items) = has_late_among marks (item_place p items) items
+  has_late marks p (Said text) = false
+  has_late marks p (Count number) = false
+  has_late marks p (Flag flag) = false
+  has_late marks p Absent = false
+
+  -- As `has_late`, of one of the parts of a node of the role `r`, the first of them at `index`.
+  pub has_late_from : (marks : List Bool) → Place → At → (r : Role) → (index : ℕ) → Pieces → Bool
+  has_late_from marks p at r index End = false
+  has_late_from marks p at r index (Then piece pieces) = has_late marks (place_below p at r index) piece
+      || has_late_from marks p at r (index + 1) pieces
+
+  -- As `has_late`, of one of the trees in a row that have the same place.
+  pub has_late_among : (marks : List Bool) → Place → Pieces → Bool
+  has_late_among marks p End = false
+  has_late_among marks p (Then piece pieces) = has_late marks p piece || has_late_among marks p pieces
