@@ -27,7 +27,7 @@ use Rattle.rl_lint.specs.declared.site.Site.{Site}
 use Rattle.rl_lint.specs.declared.site.Site.TheVariants as site
 use Rattle.rl_lint.specs.declared.site.UseSite.{UseSite}
 use Rattle.rl_lint_hints.specs.Hints.{declared_scope, function_around, function_at, function_inside, is_before, is_behind_last}
-use Rattle.rl_lint_hints.specs.Hints.{is_closed, is_hinted, is_inside, is_known, is_marked, is_marked_around, is_up_to}
+use Rattle.rl_lint_hints.specs.Hints.{is_closed, is_hinted, is_inside, is_known, is_on_path, is_path_around, is_up_to}
 use Rattle.rl_lint_hints.specs.Hints.{is_up_to_last, named_scope, parent_scope}
 use Rattle.rl_lint_hints.specs.declared.hints.Hints.{Hints}
 use Rattle.rl_lint_hints.specs.declared.hints.LastBind.{LastBind}
@@ -65,7 +65,7 @@ inside_is f at word.Var ps = by_kind (is_var ps)
     by_kind false = refl
 inside_is f at _ ps = refl
 
--- A node with a mark has one around it, so that the walk comes to it.
+-- A node on a path is inside another on it, so that the walk comes to it.
 looked_inside : (own around inside : Bool) → (not own || around) ≡ true → (around ≡ true → (own && inside) ≡ false) → own ≡ true
     → inside ≡ false
 looked_inside true around inside closed looked is = looked closed
@@ -103,7 +103,7 @@ module _ (nodes : List NodeEntry) (h : Hints) (b : Tables) where
   abbrev IsTold : Site → Type 0
   IsTold (site.Use u) = ((function_at h.functions u.at.id.0).0 ≡ u.function.0) × (is_clear_use h b u.at ≡ true)
   IsTold (site.Late d) = ((function_at h.functions d.bind.0).0 ≡ d.function.0) × (d.statement.0 < d.bind.0)
-      × (named_scope nodes d.bind.0 ≡ None) × (is_marked h.marks d.bind.0 ≡ false)
+      × (named_scope nodes d.bind.0 ≡ None) × (is_on_path h.paths d.bind.0 ≡ false)
   IsTold (site.Named f) = named_scope nodes f.bind.id.0 ≡ Some f.scope
 
   -- What a place says of the parent of a node there.
@@ -115,7 +115,7 @@ module _ (nodes : List NodeEntry) (h : Hints) (b : Tables) where
 
   -- What the walk found inside a node, if it came there.
   abbrev Looked : (parent : Option NodeId) → (found : Bool) → Type 0
-  Looked parent found = is_marked_around h.marks parent ≡ true → found ≡ false
+  Looked parent found = is_path_around h.paths parent ≡ true → found ≡ false
 
   looked_first : (parent : Option NodeId) (first rest : Bool) → Looked parent (first || rest) → Looked parent first
   looked_first parent first rest looked is = (or_parts first rest (looked is)).0
@@ -131,17 +131,17 @@ module _ (nodes : List NodeEntry) (h : Hints) (b : Tables) where
     abbrev is_right : Bool
     is_right = nat_eq (function_at h.functions at.id.0).0 (function_inside h.functions entry).0
 
-    known_parts : (is_inside parent at.id.0 ≡ true) × ((is_right && is_closed h.marks entry) ≡ true)
-    known_parts = and_parts (is_inside parent at.id.0) (is_right && is_closed h.marks entry)
+    known_parts : (is_inside parent at.id.0 ≡ true) × ((is_right && is_closed h.paths entry) ≡ true)
+    known_parts = and_parts (is_inside parent at.id.0) (is_right && is_closed h.paths entry)
         (and_parts (is_known h entry) (not (is_reference w) || is_clear_use h b at) passed.clear).0
 
     function_known : (function_at h.functions at.id.0).0 ≡ (function_inside h.functions entry).0
     function_known = eqb-true (function_at h.functions at.id.0).0 (function_inside h.functions entry).0
-        (and_parts is_right (is_closed h.marks entry) known_parts.1).0
+        (and_parts is_right (is_closed h.paths entry) known_parts.1).0
 
-    looked_parts : (found : Bool) → Looked parent (is_marked h.marks at.id.0 && found) → Looked (Some at.id) found
-    looked_parts found = looked_inside (is_marked h.marks at.id.0) (is_marked_around h.marks parent) found
-        (and_parts is_right (is_closed h.marks entry) known_parts.1).1
+    looked_parts : (found : Bool) → Looked parent (is_on_path h.paths at.id.0 && found) → Looked (Some at.id) found
+    looked_parts found = looked_inside (is_on_path h.paths at.id.0) (is_path_around h.paths parent) found
+        (and_parts is_right (is_closed h.paths entry) known_parts.1).1
 
     own_name : named_scope nodes at.id.0 ≡ parent_scope nodes parent
     own_name = ap (of_item None (λ (e : NodeEntry). parent_scope nodes e.parent)) passed.itself
@@ -225,7 +225,7 @@ module _ (nodes : List NodeEntry) (h : Hints) (b : Tables) where
         function_known parent at word.Bind passed ∙ f,
         statement_inside statement parent at.id.0 s.1 (known_parts parent at word.Bind passed).0,
         own_name parent at word.Bind passed ∙ s.0,
-        false_from_ne_true (is_marked h.marks at.id.0) (λ is. true≢false (looked is)),
+        false_from_ne_true (is_on_path h.paths at.id.0) (λ is. true≢false (looked is)),
       ) (All-nil IsTold)
   bind_told (place.Name scope) a parent at passed f s looked =
       All-cons IsTold (site.Named (record { bind = at; scope = scope })) [] (own_name parent at word.Bind passed ∙ s) (All-nil IsTold)
@@ -264,12 +264,12 @@ module _ (nodes : List NodeEntry) (h : Hints) (b : Tables) where
   mutual
     told_in : (a : Above) (parent : Option NodeId) (t : Syntax) → All IsPassed (entries_under parent t)
         → (function_around h.functions parent).0 ≡ a.function.0
-        → Stands a.place parent → Looked parent (has_late h.marks a.place t) → All IsTold (sites a t)
+        → Stands a.place parent → Looked parent (has_late h.paths a.place t) → All IsTold (sites a t)
     told_in a parent (Node at w ps) passed f s looked =
         let here = All-head IsPassed (record { word = w; parent = parent; at = at }) (entries_among (Some at.id) ps) passed in
         let inside = All-tail IsPassed (record { word = w; parent = parent; at = at }) (entries_among (Some at.id) ps) passed in
         let own = is_late_bind (role_of w ps) a.place in
-        let deep = has_late_from h.marks a.place at (role_of w ps) 0 ps in
+        let deep = has_late_from h.paths a.place at (role_of w ps) 0 ps in
         let found : Looked (Some at.id) (own || deep) = looked_parts parent at w here (own || deep) looked in
         All-append IsTold (site_of (role_of w ps) a at) (sites_from a at (role_of w ps) 0 ps)
         (own_told a parent at w ps here f s (looked_first (Some at.id) own deep found))
@@ -285,12 +285,12 @@ module _ (nodes : List NodeEntry) (h : Hints) (b : Tables) where
     told_from : (a : Above) (parent : Option NodeId) (at : At) (w : Word) (all : Pieces) (index : ℕ) (ps : Pieces)
         → All IsPassed (entries_among (Some at.id) ps)
         → IsPassed (record { word = w; parent = parent; at = at }) → (function_around h.functions parent).0 ≡ a.function.0
-        → Stands a.place parent → Looked (Some at.id) (has_late_from h.marks a.place at (role_of w all) index ps)
+        → Stands a.place parent → Looked (Some at.id) (has_late_from h.paths a.place at (role_of w all) index ps)
         → All IsTold (sites_from a at (role_of w all) index ps)
     told_from a parent at w all index End passed here f s looked = All-nil IsTold
     told_from a parent at w all index (Then t ps) passed here f s looked =
-        let first = has_late h.marks (place_below a.place at (role_of w all) index) t in
-        let rest = has_late_from h.marks a.place at (role_of w all) (index + 1) ps in
+        let first = has_late h.paths (place_below a.place at (role_of w all) index) t in
+        let rest = has_late_from h.paths a.place at (role_of w all) (index + 1) ps in
         All-append IsTold (sites (below a at (role_of w all) index) t) (sites_from a at (role_of w all) (index + 1) ps)
         (told_in (below a at (role_of w all) index) (Some at.id) t
         (left_all IsPassed (entries_under (Some at.id) t) (entries_among (Some at.id) ps) passed)
@@ -302,17 +302,17 @@ module _ (nodes : List NodeEntry) (h : Hints) (b : Tables) where
 
     told_among : (a : Above) (parent : Option NodeId) (ps : Pieces) → All IsPassed (entries_among parent ps)
         → (function_around h.functions parent).0 ≡ a.function.0
-        → Stands a.place parent → Looked parent (has_late_among h.marks a.place ps) → All IsTold (sites_among a ps)
+        → Stands a.place parent → Looked parent (has_late_among h.paths a.place ps) → All IsTold (sites_among a ps)
     told_among a parent End passed f s looked = All-nil IsTold
     told_among a parent (Then t ps) passed f s looked =
-        let first = has_late h.marks a.place t in let rest = has_late_among h.marks a.place ps in
+        let first = has_late h.paths a.place t in let rest = has_late_among h.paths a.place ps in
         All-append IsTold (sites a t) (sites_among a ps)
         (told_in a parent t (left_all IsPassed (entries_under parent t) (entries_among parent ps) passed) f s
         (looked_first parent first rest looked))
         (told_among a parent ps (right_all IsPassed (entries_under parent t) (entries_among parent ps) passed) f s
         (looked_rest parent first rest looked))
 
-  told_all : (tree : Syntax) → nodes ≡ entries tree → are_clear_from h b 0 nodes ≡ true → has_late h.marks place.Elsewhere tree ≡ false
+  told_all : (tree : Syntax) → nodes ≡ entries tree → are_clear_from h b 0 nodes ≡ true → has_late h.paths place.Elsewhere tree ≡ false
       → All IsTold (sites_in tree)
   told_all tree is clear looked =
       told_in top None tree
@@ -350,14 +350,14 @@ module _ (nodes : List NodeEntry) (h : Hints) (b : Tables) where
       → (function_at h.functions user).0 ≡ (function_at h.functions bind).0 → ⊥
   apart None user bind up behind lt same = true≢false (sym behind)
   apart (Some l) user bind up behind lt same =
-      let unmarked = not (is_marked h.marks l.node.0) in
-      let parts = and_parts (nat_le bind l.node.0) (unmarked && nat_eq (function_at h.functions bind).0 l.function.0) up in
+      let aside = not (is_on_path h.paths l.node.0) in
+      let parts = and_parts (nat_le bind l.node.0) (aside && nat_eq (function_at h.functions bind).0 l.function.0) up in
       let le = leb-true bind l.node.0 parts.0 in
-      let more = and_parts unmarked (nat_eq (function_at h.functions bind).0 l.function.0) parts.1 in
+      let more = and_parts aside (nat_eq (function_at h.functions bind).0 l.function.0) parts.1 in
       let before : is_before h user l ≡ true =
-      and_from (nat_lt user l.node.0) (unmarked && nat_eq (function_at h.functions user).0 l.function.0)
+      and_from (nat_lt user l.node.0) (aside && nat_eq (function_at h.functions user).0 l.function.0)
       (lt-ltb user l.node.0 (omega (arith, le, lt)))
-      (and_from unmarked (nat_eq (function_at h.functions user).0 l.function.0) more.0
+      (and_from aside (nat_eq (function_at h.functions user).0 l.function.0) more.0
       (eq-eqb (function_at h.functions user).0 l.function.0
       (same ∙ eqb-true (function_at h.functions bind).0 l.function.0 more.1))) in
       true≢false (sym behind ∙ ap not before)
@@ -374,7 +374,7 @@ module _ (nodes : List NodeEntry) (h : Hints) (b : Tables) where
         let hinted : is_hinted h d.bind.0 symbol ≡ true =
         ap (of_item (is_hinted h d.bind.0 symbol) (is_clear_name b symbol)) (sym late.2) ∙ bound in
         apart (slice_get h.lasts symbol) u.at.id.0 d.bind.0
-        (ap (λ (marked : Bool). marked || is_up_to_last h d.bind.0 symbol) (sym late.3) ∙ hinted) behind (omega (arith, lt, late.1))
+        (ap (λ (on : Bool). on || is_up_to_last h d.bind.0 symbol) (sym late.3) ∙ hinted) behind (omega (arith, lt, late.1))
         (user.0 ∙ sym (eqb-true d.function.0 u.function.0 order.1) ∙ sym late.0)
 
     none_late : (u : UseSite) (symbol : ℕ) (all : List Site) → is_behind_last h u.at.id.0 symbol ≡ true
@@ -448,7 +448,7 @@ module _ (nodes : List NodeEntry) (h : Hints) (b : Tables) where
 
 pub finds_none : (nodes : List NodeEntry) (h : Hints) (b : Tables) (tree : Syntax) → nodes ≡ entries tree
     → are_clear_declarations nodes h b b.declarations ≡ true
-    → are_clear_from h b 0 nodes ≡ true → has_late h.marks place.Elsewhere tree ≡ false → FindsNone b tree
+    → are_clear_from h b 0 nodes ≡ true → has_late h.paths place.Elsewhere tree ≡ false → FindsNone b tree
 finds_none nodes h b tree is declarations clear looked =
     let told = told_all nodes h b tree is clear looked in
     record {

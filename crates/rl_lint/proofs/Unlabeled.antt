@@ -6,23 +6,33 @@ use Rattle.std.proofs.lemmas.List.Folds.{list_any-append}
 use Rattle.std.specs.List.{list_any}
 use Rattle.rl_base.specs.declared.ids.NodeId.{NodeId}
 use Rattle.rl_lint.specs.Clear.{FindsNone}
-use Rattle.rl_lint.specs.Labels.{labels_one}
 use Rattle.rl_lint.specs.Rules.{findings, is_labeled, shadowing, taken, unused, unused_among, unused_at, unused_label}
 use Rattle.rl_lint.specs.Sites.{sites_in}
 use Rattle.rl_lint.specs.Tables.{Tables}
 use Rattle.rl_lint.specs.declared.finding.Finding.{Finding}
+use Rattle.rl_lint_hints.specs.Hints.{any_labeled, is_labeled_word}
 use Rattle.rl_semantic.specs.Imports.{first_text}
 use Rattle.rl_semantic.specs.Items.{of_item}
 use Rattle.rl_syntax.specs.Nodes.{entries, entries_among, entries_under}
 use Rattle.rl_syntax.specs.Syntax.{Syntax, Node, Listed, Said, Count, Flag, Absent, Pieces, End, Then}
 use Rattle.rl_syntax.specs.declared.nodes.NodeEntry.{NodeEntry}
+use Rattle.rl_syntax.specs.declared.word.Word.{Word}
+use Rattle.rl_syntax.specs.declared.word.Word.TheVariants as word
+
+abbrev labels_one : NodeEntry → Bool
+labels_one e = is_labeled_word e.word
+
+unlabeled_word : (w : Word) → is_labeled_word w ≡ false → is_labeled w ≡ false
+unlabeled_word word.Labeled none = none
+unlabeled_word _ none = refl
 
 mutual
   none_unused : (parent : Option NodeId) (t : Syntax) → list_any labels_one (entries_under parent t) ≡ false → unused t ≡ []
   none_unused parent (Node at w ps) none =
-      let parts = or_parts (is_labeled w) (list_any labels_one (entries_among (Some at.id) ps)) none in
+      let parts = or_parts (is_labeled_word w) (list_any labels_one (entries_among (Some at.id) ps)) none in
       ap (λ l. l ++ unused_at at w ps) (none_among (Some at.id) ps parts.1)
-      ∙ ap (λ (c : Bool). if c then of_item [] (λ label. unused_label at label ps) (first_text ps) else []) parts.0
+      ∙ ap (λ (c : Bool). if c then of_item [] (λ label. unused_label at label ps) (first_text ps) else [])
+      (unlabeled_word w parts.0)
   none_unused parent (Listed ps) none = none_among parent ps none
   none_unused parent (Said text) none = refl
   none_unused parent (Count number) none = refl
@@ -37,10 +47,10 @@ mutual
       ap (λ l. l ++ unused_among ps) (none_unused parent t parts.0) ∙ none_among parent ps parts.1
 
 -- L3 finds nothing without labelled statements.
-pub unlabeled : (out : List Finding) (nodes : List NodeEntry) (tree : Syntax) → nodes ≡ entries tree → list_any labels_one nodes ≡ false
-    → out ≡ out ++ unused tree
-unlabeled out nodes tree is none =
-    sym (append-nil out) ∙ ap (λ l. out ++ l) (sym (none_unused None tree (ap (list_any labels_one) (sym is) ∙ none)))
+pub unlabeled : (out : List Finding) (nodes : List NodeEntry) (tree : Syntax) (labeled : Bool) → nodes ≡ entries tree
+    → labeled ≡ any_labeled nodes → labeled ≡ false → out ≡ out ++ unused tree
+unlabeled out nodes tree labeled is told none =
+    sym (append-nil out) ∙ ap (λ l. out ++ l) (sym (none_unused None tree (ap any_labeled (sym is) ∙ sym told ∙ none)))
 
 pub ruleset by_table = (unlabeled)
 

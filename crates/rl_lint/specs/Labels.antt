@@ -4,17 +4,12 @@ use Rattle.std.specs.BTreeMap.{BTreeMap, get_by_text}
 use Rattle.std.specs.declared.alloc.Global.{Global}
 use Rattle.std.specs.declared.string.String.{String}
 use Rattle.std.specs.Str.{bytes_eq}
-use Rattle.rl_lint.specs.Rules.{is_labeled, refers, refers_among, refers_at}
+use Rattle.rl_lint.specs.Rules.{refers, refers_among, refers_at}
 use Rattle.rl_lint.specs.declared.finding.Finding.{Finding}
 use Rattle.rl_semantic.specs.Imports.{first_text}
 use Rattle.rl_semantic.specs.Items.{of_item}
 use Rattle.rl_syntax.specs.Syntax.{Syntax, Pieces}
-use Rattle.rl_syntax.specs.declared.nodes.NodeEntry.{NodeEntry}
 use Rattle.rl_syntax.specs.declared.word.Word.{Word}
-
--- True of the node of a labelled statement.
-abbrev pub labels_one : NodeEntry → Bool
-labels_one e = is_labeled e.word
 
 -- True of a label that the map says was seen.
 abbrev pub has : BTreeMap (String Global) Bool → (label : List ℕ) → Bool

@@ -1,4 +1,5 @@
-//! Units in which L1 and L4 find nothing, as their tables tell: most units, and no walk over their trees is needed.
+//! Units in which L1 and L4 find nothing, as their tables tell: most units, and no walk over their trees is needed. Where a name is used
+//! before its `var`, a walk comes to the declarations of such kinds alone.
 
 ghost use Rattle.std.specs.Prelude.{◌≡◌, true, IfOk};
 ghost use Rattle.rl_lint.specs.Clear as spec;
@@ -14,8 +15,8 @@ use rl_base::error::OutOfMemory;
 use rl_base::ids::{NodeId, ScopeId};
 use rl_bindings::bindings::Bindings;
 use rl_bindings::resolve::Declaration;
-use rl_lint_hints::checks::{is_behind_last, is_hinted, is_known, is_marked};
-use rl_lint_hints::hints::{Hints, hints_of, marks_of, named_scope};
+use rl_lint_hints::checks::{is_behind_last, is_hinted, is_known, is_on_path};
+use rl_lint_hints::hints::{Hints, named_scope, paths_of};
 use rl_syntax::nodes::NodeEntry;
 use rl_syntax::numbered::{At, is_reference};
 use std::alloc::Global;
@@ -105,33 +106,36 @@ fn are_clear_nodes(nodes: &[NodeEntry], hints: &Hints, bindings: &Bindings) -> b
     true
 }
 
-/// True of a unit in which L1 and L4 find nothing, as its tables tell with these hints, and its tree where nodes have marks.
+/// True of a unit in which L1 and L4 find nothing, as its tables tell with these hints, and its tree where nodes are on paths.
 fn is_clear_by(unit: &Unit, bindings: &Bindings, hints: &Hints) -> bool
     ensures { result ≡ true → spec.FindsNone (tables bindings.now) (syntax unit.now.tree) }
 {
     let nodes = unit.nodes.as_slice();
     if are_clear_declarations(nodes, hints, bindings) {
         if are_clear_nodes(nodes, hints, bindings) {
-            return !has_late(hints.marks.as_slice(), Place::Elsewhere, &unit.tree);
+            return !has_late(hints.paths.as_slice(), Place::Elsewhere, &unit.tree);
         }
     }
     false
 }
 
-/// True of a unit in which L1 and L4 find nothing, as its tables tell. Where a name is used before its `var`, a walk over the tree to the
-/// declarations of this kind tells that they are not late. Where it is not true, there may be findings, or none. On `OutOfMemory`, an
-/// allocation failed.
-pub(crate) fn is_clear(alloc: Global, unit: &Unit, bindings: &Bindings) -> Result<bool, OutOfMemory>
+/// True of a unit in which L1 and L4 find nothing, as its tables tell with hints that were made for it. Where a name is used before its
+/// `var`, declarations of such kinds get paths, and a walk along these tells that they are not late. False where there may be findings, or
+/// none. On `OutOfMemory`, an allocation failed.
+pub(crate) fn is_clear(
+    alloc: Global,
+    unit: &Unit,
+    bindings: &Bindings,
+    hints: &mut Hints,
+) -> Result<bool, OutOfMemory>
     ensures { IfOk result (λ clear. clear ≡ true → spec.FindsNone (tables bindings.now) (syntax unit.now.tree)) }
 {
-    let nodes = unit.nodes.as_slice();
-    let mut hints = hints_of(alloc, nodes, bindings)?;
-    if is_clear_by(unit, bindings, &hints) {
+    if is_clear_by(unit, bindings, hints) {
         return Ok(true);
     }
-    hints.marks = marks_of(alloc, nodes, bindings)?;
-    if is_marked(hints.marks.as_slice(), NodeId(0)) {
-        return Ok(is_clear_by(unit, bindings, &hints));
+    hints.paths = paths_of(alloc, unit.nodes.as_slice(), bindings)?;
+    if is_on_path(hints.paths.as_slice(), NodeId(0)) {
+        return Ok(is_clear_by(unit, bindings, hints));
     }
     Ok(false)
 }

@@ -1,12 +1,12 @@
 //! L3: labels that nothing refers to.
 
 ghost use Rattle.std.specs.Prelude.{◌≡◌, ◌++◌, ◌∷◌, [], ℕ, List, None, if◌then◌else◌, map, OnOk};
-ghost use Rattle.std.specs.List.{list_any};
 ghost use Rattle.std.specs.Str.{bytes_eq};
 ghost use Rattle.rl_lint.specs.Findings.{finding};
-ghost use Rattle.rl_lint.specs.Labels.{has, labels_one, told_jump, told_labeled, told_node, told_parts, told_tree, Walked};
+ghost use Rattle.rl_lint.specs.Labels.{has, told_jump, told_labeled, told_node, told_parts, told_tree, Walked};
 ghost use Rattle.rl_lint.specs.Rules as spec;
 ghost use Rattle.rl_lint.specs.declared.finding.LintRule.TheVariants as rule;
+ghost use Rattle.rl_lint_hints.specs.Hints.{any_labeled};
 ghost use Rattle.rl_syntax.specs.Syntax.{pieces_of, syntax};
 
 use crate::finding::{Finding, LintRule, push_finding};
@@ -15,7 +15,6 @@ use rl_ast::unit::Unit;
 use rl_base::error::OutOfMemory;
 use rl_base::text::Text;
 use rl_lint_hints::words::is_function;
-use rl_syntax::nodes::NodeEntry;
 use rl_syntax::numbered::{At, Numbered};
 use rl_syntax::word::Word;
 use std::alloc::Global;
@@ -226,18 +225,6 @@ fn walk_among(
     Ok(())
 }
 
-/// True if there is a labelled statement among nodes.
-fn has_labels(nodes: &[NodeEntry]) -> bool
-    ensures { result ≡ list_any labels_one nodes.now }
-{
-    'nodes: for node in nodes {
-        if is_labeled(node.word) {
-            return true;
-        }
-    }
-    false
-}
-
 /// Appends the findings of L3 in a unit. A unit without labelled statements has none, and no walk over its tree is needed. On
 /// `OutOfMemory`, an allocation failed.
 #[tactic(auto, using(crate::proofs::Unlabeled::by_table))]
@@ -245,10 +232,12 @@ pub(crate) fn push_unused_labels(
     alloc: Global,
     found: &mut Vec<Finding>,
     unit: &Unit,
+    labeled: bool,
 ) -> Result<(), OutOfMemory>
+    requires { labeled ≡ any_labeled unit.now.nodes }
     ensures { OnOk result (found.new.items ≡ found.old.items ++ spec.unused (syntax unit.now.tree)) }
 {
-    if !has_labels(unit.nodes.as_slice()) {
+    if !labeled {
         return Ok(());
     }
     let mut seen = BTreeMap::new(alloc);

@@ -1,11 +1,11 @@
-//! The walk that looks for late declarations among nodes with marks.
+//! The walk that looks for late declarations at the ends of paths.
 
-ghost use Rattle.std.specs.Prelude.{◌≡◌, ◌||◌, map};
+ghost use Rattle.std.specs.Prelude.{◌≡◌, map};
 ghost use Rattle.rl_lint.specs.Late as spec;
 ghost use Rattle.rl_syntax.specs.Syntax.{pieces_of, syntax};
 
 use crate::role::{Place, Role, item_place, place_below, role_of};
-use rl_lint_hints::checks::is_marked;
+use rl_lint_hints::checks::is_on_path;
 use rl_syntax::numbered::{At, Numbered};
 
 /// True of the place of a pattern in a late declaration.
@@ -30,22 +30,22 @@ fn is_late_bind(role: Role, place: Place) -> bool
     }
 }
 
-/// True of a tree at a place in which a late declaration has a mark, as have all nodes around it in the tree.
+/// True of a tree at a place in which a late declaration is on a path, as are all nodes around it in the tree.
 #[cycle(looking)]
 #[tactic(auto, using(rl_syntax::proofs::Layers::by_layer))]
-pub(crate) fn has_late(marks: &[bool], place: Place, tree: &Numbered) -> bool
-    ensures { result ≡ spec.has_late marks.now place (syntax tree.now) }
+pub(crate) fn has_late(paths: &[bool], place: Place, tree: &Numbered) -> bool
+    ensures { result ≡ spec.has_late paths.now place (syntax tree.now) }
 {
     match tree {
         Numbered::Node(at, word, parts) => {
-            if !is_marked(marks, at.id) {
+            if !is_on_path(paths, at.id) {
                 return false;
             }
             let role = role_of(*word, parts.as_slice());
-            is_late_bind(role, place) || has_late_from(marks, place, at, role, parts.as_slice())
+            is_late_bind(role, place) || has_late_from(paths, place, at, role, parts.as_slice())
         }
         Numbered::List(items) => {
-            has_late_among(marks, item_place(place, items.as_slice()), items.as_slice())
+            has_late_among(paths, item_place(place, items.as_slice()), items.as_slice())
         }
         Numbered::Text(_) => false,
         Numbered::Number(_) => false,
@@ -56,11 +56,11 @@ pub(crate) fn has_late(marks: &[bool], place: Place, tree: &Numbered) -> bool
 
 /// As `has_late`, of one of the parts of a node.
 #[cycle(looking)]
-fn has_late_from(marks: &[bool], place: Place, at: &At, role: Role, parts: &[Numbered]) -> bool
-    ensures { result ≡ spec.has_late_from marks.now place at.now role 0 (pieces_of (map syntax parts.now)) }
+fn has_late_from(paths: &[bool], place: Place, at: &At, role: Role, parts: &[Numbered]) -> bool
+    ensures { result ≡ spec.has_late_from paths.now place at.now role 0 (pieces_of (map syntax parts.now)) }
 {
     'parts: for (index, part) in parts.iter().enumerate() {
-        if has_late(marks, place_below(place, at, role, index), part) {
+        if has_late(paths, place_below(place, at, role, index), part) {
             return true;
         }
     }
@@ -69,11 +69,11 @@ fn has_late_from(marks: &[bool], place: Place, at: &At, role: Role, parts: &[Num
 
 /// As `has_late`, of one of the trees in a row that have the same place.
 #[cycle(looking)]
-fn has_late_among(marks: &[bool], place: Place, trees: &[Numbered]) -> bool
-    ensures { result ≡ spec.has_late_among marks.now place (pieces_of (map syntax trees.now)) }
+fn has_late_among(paths: &[bool], place: Place, trees: &[Numbered]) -> bool
+    ensures { result ≡ spec.has_late_among paths.now place (pieces_of (map syntax trees.now)) }
 {
     'trees: for tree in trees {
-        if has_late(marks, place, tree) {
+        if has_late(paths, place, tree) {
             return true;
         }
     }

@@ -17,6 +17,7 @@ use crate::walk::sites_of;
 use rl_ast::unit::Unit;
 use rl_base::error::OutOfMemory;
 use rl_bindings::bindings::Bindings;
+use rl_lint_hints::hints::hints_of;
 use rl_semantic::semantic::Semantic;
 use std::alloc::Global;
 
@@ -26,16 +27,18 @@ fn find_all(alloc: Global, unit: &Unit, bindings: &Bindings) -> Result<Vec<Findi
     ensures { IfOk result (λ found. found.items ≡ findings (tables bindings.now) (syntax unit.now.tree)) }
 {
     let mut found = Vec::new(alloc);
-    if is_clear(alloc, unit, bindings)? {
+    let mut hints = hints_of(alloc, unit.nodes.as_slice(), bindings)?;
+    let labeled = hints.labeled;
+    if is_clear(alloc, unit, bindings, &mut hints)? {
         push_all_shadowing(alloc, &mut found, bindings)?;
-        push_unused_labels(alloc, &mut found, unit)?;
+        push_unused_labels(alloc, &mut found, unit, labeled)?;
         return Ok(found);
     }
     let sites = sites_of(alloc, &unit.tree)?;
     let names = UnitNames::new(bindings);
     push_all_early(alloc, &mut found, &names, sites.as_slice())?;
     push_all_shadowing(alloc, &mut found, bindings)?;
-    push_unused_labels(alloc, &mut found, unit)?;
+    push_unused_labels(alloc, &mut found, unit, labeled)?;
     push_all_taken(alloc, &mut found, &names, sites.as_slice())?;
     Ok(found)
 }

@@ -1,6 +1,7 @@
--- Hints for the linter, and the tests of them. Nothing is known of hints but what is tested.
+-- Hints for the linter, and the tests of them. Nothing is known of hints but what is tested. That there are labels is no hint.
 use Rattle.std.specs.Prelude.{ℕ, Bool, true, false, not, ◌&&◌, ◌||◌, if◌then◌else◌, nat_eq, nat_le, nat_lt}
 use Rattle.std.specs.Prelude.{Option, Some, None, slice_get, List}
+use Rattle.std.specs.List.{list_any}
 use Rattle.rl_base.specs.declared.ids.NodeId.{NodeId}
 use Rattle.rl_base.specs.declared.ids.ScopeId.{ScopeId}
 use Rattle.rl_lint_hints.specs.declared.hints.Hints.{Hints}
@@ -23,6 +24,15 @@ function_around functions parent = of_item (record { 0 = 0 }) (λ (p : NodeId). 
 abbrev pub function_inside : (functions : List NodeId) → NodeEntry → NodeId
 function_inside functions e = if is_function_word e.word then e.at.id else function_around functions e.parent
 
+-- True of the word of labelled statements.
+abbrev pub is_labeled_word : Word → Bool
+is_labeled_word word.Labeled = true
+is_labeled_word _ = false
+
+-- True of nodes of which one is a labelled statement.
+abbrev pub any_labeled : List NodeEntry → Bool
+any_labeled nodes = list_any (λ (e : NodeEntry). is_labeled_word e.word) nodes
+
 -- True of the word of function declarations.
 abbrev pub is_declaration_word : Word → Bool
 is_declaration_word word.Fundecl = true
@@ -40,27 +50,27 @@ parent_scope nodes parent = of_item None (λ (p : NodeId). of_item None declared
 abbrev pub named_scope : List NodeEntry → (node : ℕ) → Option ScopeId
 named_scope nodes node = of_item None (λ (e : NodeEntry). parent_scope nodes e.parent) (slice_get nodes node)
 
--- True of a node with a mark.
-abbrev pub is_marked : (marks : List Bool) → (node : ℕ) → Bool
-is_marked marks node = of_item false (λ (marked : Bool). marked) (slice_get marks node)
+-- True of a node on a path.
+abbrev pub is_on_path : (paths : List Bool) → (node : ℕ) → Bool
+is_on_path paths node = of_item false (λ (on : Bool). on) (slice_get paths node)
 
--- True of a declaration that is not behind the last one of its symbol, nor in another function, if that one has no mark.
+-- True of a declaration that is not behind the last one of its symbol, nor in another function, if that one is on no path.
 abbrev pub is_up_to : Hints → (node : ℕ) → LastBind → Bool
 is_up_to h node last = nat_le node last.node.0
-    && (not (is_marked h.marks last.node.0) && nat_eq (function_at h.functions node).0 last.function.0)
+    && (not (is_on_path h.paths last.node.0) && nat_eq (function_at h.functions node).0 last.function.0)
 
 -- True of a declaration of a symbol that is not behind the last one that the hints know, if there is one.
 abbrev pub is_up_to_last : Hints → (node symbol : ℕ) → Bool
 is_up_to_last h node symbol = of_item true (is_up_to h node) (slice_get h.lasts symbol)
 
--- True of a declaration of a symbol that has a mark, or that the hints know.
+-- True of a declaration of a symbol that is on a path, or that the hints know.
 abbrev pub is_hinted : Hints → (node symbol : ℕ) → Bool
-is_hinted h node symbol = is_marked h.marks node || is_up_to_last h node symbol
+is_hinted h node symbol = is_on_path h.paths node || is_up_to_last h node symbol
 
--- True of a use before the last declaration of its symbol, in the same function, if that one has no mark.
+-- True of a use before the last declaration of its symbol, in the same function, if that one is on no path.
 abbrev pub is_before : Hints → (node : ℕ) → LastBind → Bool
 is_before h node last = nat_lt node last.node.0
-    && (not (is_marked h.marks last.node.0) && nat_eq (function_at h.functions node).0 last.function.0)
+    && (not (is_on_path h.paths last.node.0) && nat_eq (function_at h.functions node).0 last.function.0)
 
 -- True of a use of a symbol that stands behind all declarations in its function, as far as the hints know them.
 abbrev pub is_behind_last : Hints → (node symbol : ℕ) → Bool
@@ -70,15 +80,15 @@ is_behind_last h node symbol = of_item false (λ (last : LastBind). not (is_befo
 abbrev pub is_inside : (parent : Option NodeId) → (node : ℕ) → Bool
 is_inside parent node = of_item true (λ (p : NodeId). nat_lt p.0 node) parent
 
--- True if the node around a node has a mark, or there is none around it.
-abbrev pub is_marked_around : (marks : List Bool) → (parent : Option NodeId) → Bool
-is_marked_around marks parent = of_item true (λ (p : NodeId). is_marked marks p.0) parent
+-- True if the node around a node is on a path, or there is none around it.
+abbrev pub is_path_around : (paths : List Bool) → (parent : Option NodeId) → Bool
+is_path_around paths parent = of_item true (λ (p : NodeId). is_on_path paths p.0) parent
 
--- True of a node that has no mark, or around which there is one too.
-abbrev pub is_closed : (marks : List Bool) → NodeEntry → Bool
-is_closed marks e = not (is_marked marks e.at.id.0) || is_marked_around marks e.parent
+-- True of a node that is on no path, or to which the path comes from the node around it.
+abbrev pub is_closed : (paths : List Bool) → NodeEntry → Bool
+is_closed paths e = not (is_on_path paths e.at.id.0) || is_path_around paths e.parent
 
--- True of a node for which the hints have the right function, and a mark only if one is around it.
+-- True of a node for which the hints have the right function, and which is on no path, or on one from the node around it.
 abbrev pub is_known : Hints → NodeEntry → Bool
 is_known h e = is_inside e.parent e.at.id.0
-    && (nat_eq (function_at h.functions e.at.id.0).0 (function_inside h.functions e).0 && is_closed h.marks e)
+    && (nat_eq (function_at h.functions e.at.id.0).0 (function_inside h.functions e).0 && is_closed h.paths e)

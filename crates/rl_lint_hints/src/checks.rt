@@ -7,22 +7,22 @@ use crate::hints::{Hints, LastBind, function_at, function_inside};
 use rl_base::ids::NodeId;
 use rl_syntax::nodes::NodeEntry;
 
-/// True of a node with a mark.
-pub fn is_marked(marks: &[bool], node: NodeId) -> bool
-    ensures { result ≡ spec.is_marked marks.now node.0 }
+/// True of a node on a path.
+pub fn is_on_path(paths: &[bool], node: NodeId) -> bool
+    ensures { result ≡ spec.is_on_path paths.now node.0 }
 {
-    match marks.get(node.0 as usize) {
-        Some(marked) => *marked,
+    match paths.get(node.0 as usize) {
+        Some(on) => *on,
         None => false,
     }
 }
 
-/// True of a declaration that is not behind the last one of its symbol, nor in another function, if that one has no mark.
+/// True of a declaration that is not behind the last one of its symbol, nor in another function, if that one is on no path.
 fn is_up_to(hints: &Hints, node: NodeId, last: &LastBind) -> bool
     ensures { result ≡ spec.is_up_to hints.now node.0 last.now }
 {
     node.0 <= last.node.0
-        && !is_marked(hints.marks.as_slice(), last.node)
+        && !is_on_path(hints.paths.as_slice(), last.node)
         && function_at(hints.functions.as_slice(), node).0 == last.function.0
 }
 
@@ -36,19 +36,19 @@ fn is_up_to_last(hints: &Hints, node: NodeId, symbol: usize) -> bool
     }
 }
 
-/// True of a declaration of a symbol that has a mark, or that the hints know.
+/// True of a declaration of a symbol that is on a path, or that the hints know.
 pub fn is_hinted(hints: &Hints, node: NodeId, symbol: usize) -> bool
     ensures { result ≡ spec.is_hinted hints.now node.0 symbol }
 {
-    is_marked(hints.marks.as_slice(), node) || is_up_to_last(hints, node, symbol)
+    is_on_path(hints.paths.as_slice(), node) || is_up_to_last(hints, node, symbol)
 }
 
-/// True of a use before the last declaration of its symbol, in the same function, if that one has no mark.
+/// True of a use before the last declaration of its symbol, in the same function, if that one is on no path.
 fn is_before(hints: &Hints, node: NodeId, last: &LastBind) -> bool
     ensures { result ≡ spec.is_before hints.now node.0 last.now }
 {
     node.0 < last.node.0
-        && !is_marked(hints.marks.as_slice(), last.node)
+        && !is_on_path(hints.paths.as_slice(), last.node)
         && function_at(hints.functions.as_slice(), node).0 == last.function.0
 }
 
@@ -72,29 +72,29 @@ fn is_inside(parent: Option<NodeId>, node: NodeId) -> bool
     }
 }
 
-/// True if the node around a node has a mark, or there is none around it.
-fn is_marked_around(marks: &[bool], parent: Option<NodeId>) -> bool
-    ensures { result ≡ spec.is_marked_around marks.now parent }
+/// True if the node around a node is on a path, or there is none around it.
+fn is_path_around(paths: &[bool], parent: Option<NodeId>) -> bool
+    ensures { result ≡ spec.is_path_around paths.now parent }
 {
     match parent {
-        Some(parent) => is_marked(marks, parent),
+        Some(parent) => is_on_path(paths, parent),
         None => true,
     }
 }
 
-/// True of a node that has no mark, or around which there is one too.
-fn is_closed(marks: &[bool], node: &NodeEntry) -> bool
-    ensures { result ≡ spec.is_closed marks.now node.now }
+/// True of a node that is on no path, or to which the path comes from the node around it.
+fn is_closed(paths: &[bool], node: &NodeEntry) -> bool
+    ensures { result ≡ spec.is_closed paths.now node.now }
 {
-    !is_marked(marks, node.at.id) || is_marked_around(marks, node.parent)
+    !is_on_path(paths, node.at.id) || is_path_around(paths, node.parent)
 }
 
-/// True of a node for which the hints have the right function, and a mark only if one is around it.
+/// True of a node for which the hints have the right function, and which is on no path, or on one from the node around it.
 pub fn is_known(hints: &Hints, node: &NodeEntry) -> bool
     ensures { result ≡ spec.is_known hints.now node.now }
 {
     let functions = hints.functions.as_slice();
     is_inside(node.parent, node.at.id)
         && function_at(functions, node.at.id).0 == function_inside(functions, node).0
-        && is_closed(hints.marks.as_slice(), node)
+        && is_closed(hints.paths.as_slice(), node)
 }

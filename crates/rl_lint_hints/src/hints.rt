@@ -1,9 +1,9 @@
 //! The tables of hints, and how they are made.
 
-ghost use Rattle.std.specs.Prelude.{◌≡◌};
+ghost use Rattle.std.specs.Prelude.{◌≡◌, IfOk};
 ghost use Rattle.rl_lint_hints.specs.Hints as spec;
 
-use crate::words::{is_declaration, is_function, is_hoisted};
+use crate::words::{is_declaration, is_function, is_hoisted, is_labeled};
 use rl_base::error::OutOfMemory;
 use rl_base::ids::{NodeId, ScopeId};
 use rl_base::list::List;
@@ -28,9 +28,11 @@ pub struct Hints {
     pub functions: List<NodeId>,
     /// For each symbol its last declaration.
     pub lasts: List<LastBind>,
-    /// For each node true if it has a mark. A node with a mark is a declaration that is in force before it, or stands around one. Empty
-    /// where no node has one.
-    pub marks: List<bool>,
+    /// For each node true if it is on a path: it is a declaration that is in force before it stands, or it is around one. Empty where no
+    /// node is.
+    pub paths: List<bool>,
+    /// True if a node is a labelled statement. This is no hint: `hints_of` says it of its nodes.
+    pub labeled: bool,
 }
 
 /// The innermost function around the parts of a node, by a table of these. The unit's node where the table has none.
@@ -98,14 +100,19 @@ pub fn named_scope(nodes: &[NodeEntry], node: NodeId) -> Option<ScopeId>
     }
 }
 
-/// The innermost functions around the parts of nodes. On `OutOfMemory`, an allocation failed.
-fn functions_of(alloc: Global, nodes: &[NodeEntry]) -> Result<List<NodeId>, OutOfMemory> {
+/// The innermost functions around the parts of nodes, and true if one of these is a labelled statement: a walk over the nodes tells both.
+/// On `OutOfMemory`, an allocation failed.
+fn functions_of(alloc: Global, nodes: &[NodeEntry]) -> Result<(List<NodeId>, bool), OutOfMemory>
+    ensures { IfOk result (λ found. found.1 ≡ spec.any_labeled nodes.now) }
+{
     let mut functions = List::with_capacity(alloc, nodes.len())?;
-    for node in nodes {
+    let mut labeled = false;
+    'nodes: for node in nodes {
         let function = function_inside(functions.as_slice(), node);
         functions.push(function)?;
+        labeled = labeled || is_labeled(node.word);
     }
-    Ok(functions)
+    Ok((functions, labeled))
 }
 
 /// Makes a declaration the last one of its symbol, if none with a larger id is.
@@ -152,22 +159,25 @@ fn lasts_of(
     Ok(List::from_vec(lasts))
 }
 
-/// Hints for a unit with these nodes, of which none has a mark. On `OutOfMemory`, an allocation failed.
+/// Hints for a unit with these nodes, of which none is on a path. On `OutOfMemory`, an allocation failed.
 pub fn hints_of(
     alloc: Global,
     nodes: &[NodeEntry],
     bindings: &Bindings,
-) -> Result<Hints, OutOfMemory> {
-    let functions = functions_of(alloc, nodes)?;
+) -> Result<Hints, OutOfMemory>
+    ensures { IfOk result (λ hints. hints.labeled ≡ spec.any_labeled nodes.now) }
+{
+    let (functions, labeled) = functions_of(alloc, nodes)?;
     let lasts = lasts_of(alloc, nodes, functions.as_slice(), bindings)?;
     Ok(Hints {
         functions,
         lasts,
-        marks: List::new(alloc),
+        paths: List::new(alloc),
+        labeled,
     })
 }
 
-/// True of a symbol whose first declaration is in force before it.
+/// True of a symbol whose first declaration is in force before it stands.
 fn is_hoisted_symbol(bindings: &Bindings, symbol: Option<usize>) -> bool {
     match symbol {
         Some(symbol) => match bindings.symbols.as_slice().get(symbol) {
@@ -178,14 +188,14 @@ fn is_hoisted_symbol(bindings: &Bindings, symbol: Option<usize>) -> bool {
     }
 }
 
-/// Marks a node and those around it, up to the first that has a mark.
-fn mark(marks: &mut [bool], nodes: &[NodeEntry], node: NodeId) {
+/// Puts a node and those around it on a path, up to the first that is on one.
+fn put_path(paths: &mut [bool], nodes: &[NodeEntry], node: NodeId) {
     let mut next = node.0 as usize;
-    'around: while next < marks.len() && next < nodes.len() {
-        if marks[next] {
+    'around: while next < paths.len() && next < nodes.len() {
+        if paths[next] {
             return;
         }
-        marks[next] = true;
+        paths[next] = true;
         let Some(parent) = nodes[next].parent else {
             return;
         };
@@ -196,19 +206,19 @@ fn mark(marks: &mut [bool], nodes: &[NodeEntry], node: NodeId) {
     }
 }
 
-/// The marks of a unit with these nodes: of the declarations that are in force before they stand, and of the nodes around these. On
-/// `OutOfMemory`, an allocation failed.
-pub fn marks_of(
+/// The nodes on the paths to the declarations that are in force before they stand: for each node true if it is such a declaration, or is
+/// around one. On `OutOfMemory`, an allocation failed.
+pub fn paths_of(
     alloc: Global,
     nodes: &[NodeEntry],
     bindings: &Bindings,
 ) -> Result<List<bool>, OutOfMemory> {
-    let mut marks = Vec::new(alloc);
-    marks.resize(nodes.len(), false)?;
+    let mut paths = Vec::new(alloc);
+    paths.resize(nodes.len(), false)?;
     for declaration in bindings.declarations.as_slice() {
         if is_hoisted_symbol(bindings, declaration.symbol) {
-            mark(&mut marks, nodes, declaration.node);
+            put_path(&mut paths, nodes, declaration.node);
         }
     }
-    Ok(List::from_vec(marks))
+    Ok(List::from_vec(paths))
 }

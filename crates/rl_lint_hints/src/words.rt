@@ -1,7 +1,7 @@
-//! The words of functions, and the kinds of declarations that are in force before they stand.
+//! The words of functions and labelled statements, and the kinds of declarations that are in force before they stand.
 
 ghost use Rattle.std.specs.Prelude.{◌≡◌};
-ghost use Rattle.rl_lint_hints.specs.Hints.{is_declaration_word};
+ghost use Rattle.rl_lint_hints.specs.Hints.{is_declaration_word, is_labeled_word};
 ghost use Rattle.rl_resolver.specs.Inside.{is_function_word};
 
 use rl_bindings::event::BindKind;
@@ -25,6 +25,16 @@ pub fn is_declaration(word: Word) -> bool
 {
     match word {
         Word::Fundecl => true,
+        _ => false,
+    }
+}
+
+/// True of the word of labelled statements.
+pub fn is_labeled(word: Word) -> bool
+    ensures { result ≡ is_labeled_word word }
+{
+    match word {
+        Word::Labeled => true,
         _ => false,
     }
 }

@@ -13,5 +13,5 @@ returns-then-are_clear_nodes c =
     λ clear. finds_none c.as_slice-nodes.result.now c.args.hints.now (tables c.args.bindings.now) tree
     (c.as_slice-nodes.ensures ∙ c.args.unit.now.listed) (sym c.are_clear_declarations.ensures ∙ c.if-are_clear_declarations.true)
     (sym c.are_clear_nodes.ensures ∙ c.if-are_clear_nodes.true)
-    (ap (λ (marks : List Bool). has_late marks place.Elsewhere tree) (sym c.as_slice.ensures) ∙ sym c.has_late.ensures
+    (ap (λ (paths : List Bool). has_late paths place.Elsewhere tree) (sym c.as_slice.ensures) ∙ sym c.has_late.ensures
     ∙ not-true c.has_late.result clear)

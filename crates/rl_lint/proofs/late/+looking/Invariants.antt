@@ -15,14 +15,14 @@ decreases-has_late_among l = 2 * size_of (pieces_of (map syntax l.trees.now))
 
 abbrev pub invariant-has_late_from-parts : goal.invariant-has_late_from-parts
 invariant-has_late_from-parts l = record {
-  looked : has_late_from l.marks l.place l.at l.role l.index (pieces_of (map syntax (drop l.index l.parts)))
-      ≡ has_late_from l.marks l.place l.at l.role 0 (pieces_of (map syntax l.parts));
+  looked : has_late_from l.paths l.place l.at l.role l.index (pieces_of (map syntax (drop l.index l.parts)))
+      ≡ has_late_from l.paths l.place l.at l.role 0 (pieces_of (map syntax l.parts));
   fewer : size_of (pieces_of (map syntax (drop l.index l.parts))) ≤ size_of (pieces_of (map syntax l.parts));
 }
 
 abbrev pub invariant-has_late_among-trees : goal.invariant-has_late_among-trees
 invariant-has_late_among-trees l = record {
-  looked : has_late_among l.marks l.place (pieces_of (map syntax (drop l.tree-index l.trees)))
-      ≡ has_late_among l.marks l.place (pieces_of (map syntax l.trees));
+  looked : has_late_among l.paths l.place (pieces_of (map syntax (drop l.tree-index l.trees)))
+      ≡ has_late_among l.paths l.place (pieces_of (map syntax l.trees));
   fewer : size_of (pieces_of (map syntax (drop l.tree-index l.trees))) ≤ size_of (pieces_of (map syntax l.trees));
 }

@@ -1,4 +1,4 @@
-use Rattle.rl_lint_hints.proofs.hints.mark.Given as goal
+use Rattle.rl_lint_hints.proofs.hints.put_path.Given as goal
 
 abbrev pub decreases-around : goal.decreases-around
 decreases-around l = l.next
