@@ -3,11 +3,12 @@
 ghost use Rattle.std.specs.Prelude.{◌≡◌, IfOk};
 ghost use Rattle.rl_lint_hints.specs.Hints as spec;
 
-use crate::words::{is_declaration, is_function, is_hoisted, is_labeled};
+use crate::words::{is_declaration, is_function, is_hoisted, is_labeled, is_lexical};
 use rl_base::error::OutOfMemory;
 use rl_base::ids::{NodeId, ScopeId};
 use rl_base::list::List;
 use rl_bindings::bindings::Bindings;
+use rl_bindings::event::BindKind;
 use rl_bindings::resolve::Declaration;
 use rl_syntax::nodes::NodeEntry;
 use std::alloc::Global;
@@ -124,16 +125,33 @@ fn put_last(lasts: &mut [LastBind], symbol: usize, last: LastBind) {
     }
 }
 
+/// The kind of the first declaration of a symbol. `None` of a number that is no symbol's.
+fn kind_of(bindings: &Bindings, symbol: usize) -> Option<BindKind> {
+    match bindings.symbols.as_slice().get(symbol) {
+        Some(first) => Some(first.kind),
+        None => None,
+    }
+}
+
+/// True of a declaration of a symbol that is the name of a function declaration. The nodes are not asked of symbols of most kinds.
+fn is_function_name(nodes: &[NodeEntry], bindings: &Bindings, node: NodeId, symbol: usize) -> bool {
+    match kind_of(bindings, symbol) {
+        Some(kind) => !is_lexical(kind) && named_scope(nodes, node).is_some(),
+        None => false,
+    }
+}
+
 /// Makes a declaration the last one of its symbol, unless it is the name of a function declaration.
 fn put_declaration(
     lasts: &mut [LastBind],
     nodes: &[NodeEntry],
     functions: &[NodeId],
+    bindings: &Bindings,
     declaration: &Declaration,
 ) {
     let node = declaration.node;
     if let Some(symbol) = declaration.symbol {
-        if named_scope(nodes, node).is_none() {
+        if !is_function_name(nodes, bindings, node, symbol) {
             let function = function_at(functions, node);
             put_last(lasts, symbol, LastBind { node, function });
         }
@@ -154,7 +172,7 @@ fn lasts_of(
     let mut lasts = Vec::new(alloc);
     lasts.resize(bindings.symbols.as_slice().len(), none)?;
     for declaration in bindings.declarations.as_slice() {
-        put_declaration(&mut lasts, nodes, functions, declaration);
+        put_declaration(&mut lasts, nodes, functions, bindings, declaration);
     }
     Ok(List::from_vec(lasts))
 }
@@ -180,8 +198,8 @@ pub fn hints_of(
 /// True of a symbol whose first declaration is in force before it stands.
 fn is_hoisted_symbol(bindings: &Bindings, symbol: Option<usize>) -> bool {
     match symbol {
-        Some(symbol) => match bindings.symbols.as_slice().get(symbol) {
-            Some(first) => is_hoisted(first.kind),
+        Some(symbol) => match kind_of(bindings, symbol) {
+            Some(kind) => is_hoisted(kind),
             None => false,
         },
         None => false,

@@ -39,6 +39,16 @@ pub fn is_labeled(word: Word) -> bool
     }
 }
 
+/// True of the kinds of declarations of `let` and `const` and of classes, beside which no function declaration has their name.
+pub(crate) fn is_lexical(kind: BindKind) -> bool {
+    match kind {
+        BindKind::Let => true,
+        BindKind::Const => true,
+        BindKind::ClassDeclaration => true,
+        _ => false,
+    }
+}
+
 /// True of the kinds of declarations that are in force before they stand, the names of functions aside.
 pub(crate) fn is_hoisted(kind: BindKind) -> bool {
     match kind {
