@@ -3,7 +3,7 @@
 
 Units of about 1,000, 16,000 and 65,000 nodes of each shape: names that are looked up through many scopes, many names, one name
 that many scopes declare, one name that is used many times, functions that use a name which is declared behind them, and one name
-that is used many times before its `var`, so that the linter walks over the tree."""
+that is used many times before its `var`, so that the linter walks to that in the tree."""
 import sys
 
 NODES = (1000, 16000, 65000)
