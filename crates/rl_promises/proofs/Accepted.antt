@@ -32,7 +32,7 @@ are_accepted names End none = tt
 are_accepted names (Then piece pieces) none =
     let both = nil_parts (refusals names piece) (refusals_in names pieces) none in (both.0, are_accepted names pieces both.1)
 
--- The same of a link or a chain: its object, callee or expression may stand on the spine.
+-- A link or a chain without refusals has none in its parts: its object, callee or expression may stand on the spine.
 pub link_accepted : (names : Names) (place : Spine) (object : Syntax) (rest : Pieces)
     → refusals_by names place object ++ refusals_in names rest ≡ [] → (refusals_by names place object ≡ []) × AreAccepted names rest
 link_accepted names place object rest none =

@@ -4,12 +4,16 @@ use Rattle.std.proofs.Common.{refl, sym, ap, ◌∙◌}
 use Rattle.std.specs.Str.{bytes_eq}
 use Rattle.rl_base.specs.declared.diagnostic.Diagnostic.{Diagnostic}
 use Rattle.rl_base.specs.declared.ids.SymbolId.{SymbolId}
+use Rattle.rl_base.specs.declared.row.Row.TheVariants as row
 use Rattle.rl_base.specs.declared.span.Span.{Span}
 use Rattle.rl_machine.specs.Traces.{truthy}
 use Rattle.rl_machine.specs.declared.trace.Value.{Value}
 use Rattle.rl_machine.specs.declared.trace.Value.TheVariants as value
-use Rattle.rl_promises.proofs.Accepted.{AreAccepted, are_accepted, index_accepted, link_accepted, member_accepted, nil_parts}
-use Rattle.rl_promises.proofs.Accepted.{none_else, none_then}
+use Rattle.rl_promises.proofs.Accepted.{AreAccepted, are_accepted, index_accepted, link_accepted, member_accepted, nil_parts, none_else}
+use Rattle.rl_promises.proofs.Accepted.{none_then}
+use Rattle.rl_promises.proofs.AlikeCalls.{as_called, as_tagged, call_by, head_of, tagged_by}
+use Rattle.rl_promises.proofs.AcceptedPatterns.{default_none, none_kept, none_plain, plain_rest, plain_unlost, round_none, unlost}
+use Rattle.rl_promises.proofs.CoveredForms.{none_fits}
 use Rattle.rl_promises.proofs.FormedParts.{AreAssignable}
 use Rattle.rl_promises.proofs.KeptVariables as kept
 use Rattle.rl_promises.proofs.KeptVariables.{Keeps, eval_keeps}
@@ -19,14 +23,15 @@ use Rattle.rl_promises.proofs.SteadyTargets.{index_steady, member_steady, swappe
 use Rattle.rl_promises.proofs.SteadyTests.{IsSteady, steady}
 use Rattle.rl_promises.specs.Chains.{Off, Spine, Top, below_link}
 use Rattle.rl_promises.specs.Outs.{is_known_key, is_lost_delete}
-use Rattle.rl_promises.specs.Rows.{refusals, refusals_below, refusals_by, refusals_in, said_of_assertion, said_of_assigned, said_of_updated}
-use Rattle.rl_model.specs.Actions.{Action, ◌>>=◌, ◌>>◌, ask, chained, give, no_meaning, test}
+use Rattle.rl_promises.specs.Patterns.{is_forced, is_lost_item, is_pattern, loses_item}
+use Rattle.rl_promises.specs.Rows.{refusal, refusals, refusals_below, refusals_by, refusals_in, refusals_to, refusals_to_round, said_ahead}
+use Rattle.rl_promises.specs.Rows.{said_of_assertion, said_of_assigned, said_of_rest, said_of_updated}
+use Rattle.rl_model.specs.Actions.{Action, ◌>>=◌, ◌>>◌, ask, chained, done, give, no_meaning, test}
 use Rattle.rl_model.specs.Events as events
-use Rattle.rl_model.specs.Expressions.{assign_to, assignment, assignment_in, call_kind, callee, called, compound, delete_property, eval}
-use Rattle.rl_model.specs.Expressions.{eval_last}
-use Rattle.rl_model.specs.Expressions.{key_in, needs_right, one_value, place, property_key, read, unless_nullish, update_name}
-use Rattle.rl_model.specs.Expressions.{update_property}
-use Rattle.rl_model.specs.Expressions.{values, values_of, write, write_property}
+use Rattle.rl_model.specs.Expressions.{assign_items, assign_to, assignment, assignment_in, callee, compound, delete_property, eval}
+use Rattle.rl_model.specs.Expressions.{eval_last, first_piece, key_in, later_pieces, needs_right, one_value, or_default, place}
+use Rattle.rl_model.specs.Expressions.{property_key, read, take_apart, unless_nullish, update_name, update_property, values, values_of}
+use Rattle.rl_model.specs.Expressions.{write, write_property}
 use Rattle.rl_model.specs.Orderly.{is_steady, is_steady_target}
 use Rattle.rl_model.specs.Scene.{Scene}
 use Rattle.rl_model.specs.Shapes as shapes
@@ -37,28 +42,15 @@ use Rattle.rl_syntax.specs.Syntax.{Syntax, Node, Listed, Said, Count, Flag, Abse
 use Rattle.rl_syntax.specs.declared.numbered.At.{At}
 use Rattle.rl_syntax.specs.declared.word.Word.TheVariants as word
 
--- A callee that lends its object in both runs, or in none, lends it if it is a property.
-same_link : (lends link : Bool) → (link ≡ true → lends ≡ true) → lends && not link ≡ false → lends ≡ link
-same_link true true whole same = refl
-same_link true false whole same = absurd (true≢false same)
-same_link false true whole same = whole refl
-same_link false false whole same = refl
-
-link_lends : (e : Syntax) → is_link e ≡ true → lends e ≡ true
-link_lends (Node at word.Member parts) link = refl
-link_lends (Node at word.Index parts) link = refl
-link_lends (Node at word.Privatemember parts) link = refl
-link_lends _ link = absurd (true≢false (sym link))
-
--- A scene as the port runs it: names and world are the same.
-abbrev pub as_ported : Scene → (stored : ℕ → Option SymbolId) → (early : Bool → ℕ → Bool) → Scene
-as_ported t stored early = record t { stored = stored; ported = true; takes_early = early }
+-- A scene as the port runs it: names and world are the same, and each name in a binding pattern takes its piece early.
+abbrev pub as_ported : Scene → (stored : ℕ → Option SymbolId) → Scene
+as_ported t stored = record t { stored = stored; ported = true; takes_early = λ everywhere bind. true }
 
 -- A name takes a value alike.
-pub write_alike : (t : Scene) (stored : ℕ → Option SymbolId) (early : Bool → ℕ → Bool) (meaning : Meaning) (name : List ℕ) (v : Value)
-    → write (as_ported t stored early) meaning name v ≡ write t meaning name v
-write_alike t stored early (Local symbol) name v = refl
-write_alike t stored early (Outer binding) name v = refl
+pub write_alike : (t : Scene) (stored : ℕ → Option SymbolId) (meaning : Meaning) (name : List ℕ) (v : Value)
+    → write (as_ported t stored) meaning name v ≡ write t meaning name v
+write_alike t stored (Local symbol) name v = refl
+write_alike t stored (Outer binding) name v = refl
 
 -- An assignment by its operator: `=`, a logical one, which is refused, or another.
 by_operator : (plain logical value target : Bool) (said more : List Diagnostic) (refused : Diagnostic) (a b c d : Action Value)
@@ -70,10 +62,10 @@ by_operator false true value target said more refused a b c d either none plainl
 by_operator false false value target said more refused a b c d either none plainly computed = computed none
 
 -- `s` runs as the port does, `t` as the function is written.
-module _ (t : Scene) (stored : ℕ → Option SymbolId) (early : Bool → ℕ → Bool) (assigned : List ℕ)
+module _ (t : Scene) (stored : ℕ → Option SymbolId) (assigned : List ℕ)
     (closed : (symbol : ℕ) → t.world.opens symbol ≡ false) (written : t.ported ≡ false) where
   abbrev s : Scene
-  s = as_ported t stored early
+  s = as_ported t stored
 
   abbrev LendsAlike : Syntax → Type 0
   LendsAlike = orderly.LendsAlike t.names assigned
@@ -84,56 +76,10 @@ module _ (t : Scene) (stored : ℕ → Option SymbolId) (early : Bool → ℕ �
   abbrev LendsFirst : Pieces → Type 0
   LendsFirst = orderly.LendsFirst t.names assigned
 
-  -- The values of a callee or a tag: behind the object that it lends, if it does.
-  abbrev head_of : Scene → (lends : Bool) → Syntax → Action (List Value)
-  head_of scene lends part = if lends then callee scene part else one_value (eval scene part)
-
-  -- A call by the values of its callee.
-  abbrev call_by : Scene → (optional : Bool) (head arguments : Action (List Value)) (shapes_of : List (List ℕ)) → Action Value
-  call_by scene optional head arguments shapes_of = do
-    vs ← head
-    unless_nullish scene optional (called vs)
-    ws ← arguments
-    ask scene (events.event (call_kind vs) shapes_of (vs ++ ws))
-
-  as_called : (scene : Scene) (optional : Bool) (called_part : Syntax) (arguments : Pieces) (at : At)
-      → lends called_part && not (is_link called_part) ≡ false
-      → eval scene (Node at word.Call (Then (Flag optional) (Then called_part (Then (Listed arguments) End))))
-      ≡ call_by scene optional (head_of scene (is_link called_part) called_part) (values scene arguments) (shapes.shapes arguments)
-  as_called scene optional called_part arguments at none =
-      ap (λ (lends : Bool). call_by scene optional (head_of scene lends called_part) (values scene arguments) (shapes.shapes arguments))
-      (by_order scene.ported)
-    where
-      by_order : (ported : Bool) → (if ported then is_link called_part else lends called_part) ≡ is_link called_part
-      by_order true = refl
-      by_order false = same_link (lends called_part) (is_link called_part) (link_lends called_part) none
-
   head_alike : (e : Syntax) (link : Bool) → is_link e ≡ link → (is_link e ≡ true → callee s e ≡ callee t e) → eval s e ≡ eval t e
       → head_of s link e ≡ head_of t link e
   head_alike e true is lent same = lent is
   head_alike e false is lent same = ap one_value same
-
-  -- A tagged template by the values of its tag. One that is not raw has no meaning.
-  abbrev tagged_by : Scene → (raw : Bool) (head arguments : Action (List Value)) (shapes_of : List (List ℕ)) → Action Value
-  tagged_by scene raw head arguments shapes_of =
-      if raw then (do
-        vs ← head
-        ws ← arguments
-        ask scene (events.event (codes "tagged") (codes "place" ∷ shapes_of) (vs ++ ws)))
-      else no_meaning
-
-  as_tagged : (scene : Scene) (tag : Syntax) (quasis expressions : Pieces) (at there : At) → lends tag ≡ false
-      → eval scene (Node at word.Tagged (Then tag
-      (Then (Node there word.Template (Then (Listed quasis) (Then (Listed expressions) End))) End)))
-      ≡ tagged_by scene (shapes.are_raw quasis) (one_value (eval scene tag)) (values scene expressions)
-      (shapes.quasis quasis ++ shapes.shapes expressions)
-  as_tagged scene tag quasis expressions at there none =
-      ap (λ (lends : Bool). tagged_by scene (shapes.are_raw quasis) (head_of scene lends tag) (values scene expressions)
-      (shapes.quasis quasis ++ shapes.shapes expressions)) (by_order scene.ported)
-    where
-      by_order : (ported : Bool) → not ported && lends tag ≡ false
-      by_order true = refl
-      by_order false = none
 
   null_alike : (at : At) (parts : Pieces) → eval s (Node at word.Null parts) ≡ eval t (Node at word.Null parts)
   null_alike at End = refl
@@ -242,6 +188,12 @@ module _ (t : Scene) (stored : ℕ → Option SymbolId) (early : Bool → ℕ �
     v ← ask scene (events.binary operator old w)
     write_property scene p.0 p.1 v
 
+  pub id_takes : (at : At) (parts : Pieces) (v : Value) → assign_to s (Node at word.Id parts) v ≡ assign_to t (Node at word.Id parts) v
+  id_takes at (Then (Said name) End) v = λ i. (do
+    write_alike t stored (t.names.meaning at.reference.0 name) name v i
+    done)
+  id_takes at _ v = refl
+
   mutual
     -- An expression on the spine of a chain, or off it.
     pub eval_by : (spine : Spine) (e : Syntax) → LendsAlike e → refusals_by t.names spine e ≡ [] → eval s e ≡ eval t e
@@ -286,6 +238,16 @@ module _ (t : Scene) (stored : ℕ → Option SymbolId) (early : Bool → ℕ �
     eval_by spine (Node at word.Importcall parts) covered none = refl
     eval_by spine (Node at word.Privatemember parts) covered none = refl
     eval_by spine (Node at word.Prop parts) covered none = refl
+    eval_by spine (Node at word.Default parts) covered none = refl
+    eval_by spine (Node at word.Rest parts) covered none = refl
+    eval_by spine (Node at word.Arraypat parts) covered none = refl
+    eval_by spine (Node at word.Objectpat parts) covered none = refl
+    eval_by spine (Node at word.Defaultpat parts) covered none = refl
+    eval_by spine (Node at word.Keyedpat parts) covered none = refl
+    eval_by spine (Node at word.Arraytarget parts) covered none = refl
+    eval_by spine (Node at word.Objecttarget parts) covered none = refl
+    eval_by spine (Node at word.Short parts) covered none = refl
+    eval_by spine (Node at word.Keyed parts) covered none = refl
     eval_by spine (Node at word.Null parts) covered none = null_alike at parts
     eval_by spine (Node at word.Bool parts) covered none = bool_alike at parts
     eval_by spine (Node at word.Num parts) covered none = num_alike at parts
@@ -386,7 +348,8 @@ module _ (t : Scene) (stored : ℕ → Option SymbolId) (early : Bool → ℕ �
     object_alike at _ covered accepted = refl
 
     tagged_alike : (spine : Spine) (at : At) (parts : Pieces) → lends_at word.Tagged parts ≡ false → LendAlike parts
-        → refusals_by t.names spine (Node at word.Tagged parts) ≡ [] → eval s (Node at word.Tagged parts) ≡ eval t (Node at word.Tagged parts)
+        → refusals_by t.names spine (Node at word.Tagged parts) ≡ []
+        → eval s (Node at word.Tagged parts) ≡ eval t (Node at word.Tagged parts)
     tagged_alike spine at (Then tag (Then (Node there word.Template parts) rest)) alone covered none =
         template_tagged spine at tag there parts rest alone (eval_by Off tag covered.0) covered.1.0.2 none
     tagged_alike spine at _ alone covered none = refl
@@ -475,54 +438,145 @@ module _ (t : Scene) (stored : ℕ → Option SymbolId) (early : Bool → ℕ �
     -- Assignments.
 
     assign_alike : (spine : Spine) (at : At) (parts : Pieces) → IsOrderlyAt t.names assigned at word.Assign parts → LendAlike parts
-        → refusals_by t.names spine (Node at word.Assign parts) ≡ [] → eval s (Node at word.Assign parts) ≡ eval t (Node at word.Assign parts)
+        → refusals_by t.names spine (Node at word.Assign parts) ≡ []
+        → eval s (Node at word.Assign parts) ≡ eval t (Node at word.Assign parts)
     assign_alike spine at (Then (Said operator) (Then target (Then right End))) facts covered none =
         let ahead : List Diagnostic = refusals t.names right in
-        let taken : List Diagnostic = said_of_assigned t.names at.span target (refusals_below t.names target) in
+        let taken : List Diagnostic =
+        if is_pattern target then refusals_to t.names target
+        else said_of_assigned t.names at.span target (refusals_below t.names target) in
         let stored_to : List Diagnostic = said_of_updated t.names target in
         by_operator (bytes_eq operator (codes "=")) (shapes.is_logical operator) (is_steady t.names assigned right)
-        (is_steady_target t.names assigned target) (ahead ++ taken) (refusals t.names target ++ ahead ++ stored_to) _
+        (is_steady_target t.names assigned target) (ahead ++ taken)
+        (if is_pattern target then refusal row.F24 at.span ∷ [] else refusals t.names target ++ ahead ++ stored_to) _
         (plain_by s target (eval s right)) (plain_by t target (eval t right))
         (compound_by s (shapes.operator_in operator) target (eval s right))
         (compound_by t (shapes.operator_in operator) target (eval t right)) facts.orderly none
         (λ either told.
         let both = nil_parts ahead taken told in
         plain_alike at.span target right facts.formed either covered.1.0 covered.1.1.0 both.0 both.1
-        (eval_by Off right covered.1.1.0 both.0))
+        (eval_by Off right covered.1.1.0 both.0) (λ kept taken v. take_alike target v covered.1.0 kept taken))
         (λ told.
-        let both = nil_parts (refusals t.names target) ahead (nil_parts (refusals t.names target ++ ahead) stored_to told).0 in
+        let computed = none_else (is_pattern target) (refusal row.F24 at.span) (refusals t.names target ++ ahead ++ stored_to) told in
+        let both = nil_parts (refusals t.names target) ahead (nil_parts (refusals t.names target ++ ahead) stored_to computed).0 in
         compound_alike (shapes.operator_in operator) target right covered.1.0 both.0 (eval_by Off right covered.1.1.0 both.1))
     assign_alike spine at _ facts covered none = refl
 
     plain_alike : (at : Span) (target right : Syntax) → AreAssignable target right
         → is_steady t.names assigned right || is_steady_target t.names assigned target ≡ true → LendsAlike target → LendsAlike right
-        → refusals t.names right ≡ [] → said_of_assigned t.names at target (refusals_below t.names target) ≡ []
-        → eval s right ≡ eval t right → plain_by s target (eval s right) ≡ plain_by t target (eval t right)
-    plain_alike at (Node there word.Id (Then (Said name) End)) right formed either covered given none told same = λ i. (do
+        → refusals t.names right ≡ []
+        → (if is_pattern target then refusals_to t.names target
+        else said_of_assigned t.names at target (refusals_below t.names target)) ≡ []
+        → eval s right ≡ eval t right
+        → (is_lost_item target ≡ false → refusals_to t.names target ≡ [] → (v : Value) → assign_to s target v ≡ assign_to t target v)
+        → plain_by s target (eval s right) ≡ plain_by t target (eval t right)
+    plain_alike at (Node there word.Id (Then (Said name) End)) right formed either covered given none told same takes = λ i. (do
       v ← same i
-      write_alike t stored early (t.names.meaning there.reference.0 name) name v i)
-    plain_alike at (Node there word.Member parts) right formed either covered given none told same =
+      write_alike t stored (t.names.meaning there.reference.0 name) name v i)
+    plain_alike at (Node there word.Member parts) right formed either covered given none told same takes =
         property_alike (is_steady t.names assigned right) (is_steady_target t.names assigned (Node there word.Member parts)) either
         (place s (Node there word.Member parts)) (place t (Node there word.Member parts)) (eval s right) (eval t right)
         (member_placed there parts covered.2 (are_accepted t.names parts told)) same
         (kept.member_placed t assigned closed there parts covered.2) (eval_keeps t assigned closed right given)
         (λ is. steady t assigned closed right is formed.1 none) (λ is. member_steady t assigned closed there parts formed.0 is told)
-    plain_alike at (Node there word.Index parts) right formed either covered given none told same =
+    plain_alike at (Node there word.Index parts) right formed either covered given none told same takes =
         property_alike (is_steady t.names assigned right) (is_steady_target t.names assigned (Node there word.Index parts)) either
         (place s (Node there word.Index parts)) (place t (Node there word.Index parts)) (eval s right) (eval t right)
         (index_placed there parts covered.2 (are_accepted t.names parts told)) same
         (kept.index_placed t assigned closed there parts covered.2) (eval_keeps t assigned closed right given)
         (λ is. steady t assigned closed right is formed.1 none) (λ is. index_steady t assigned closed there parts formed.0 is told)
-    plain_alike at (Node there word.Privatemember parts) right formed either covered given none told same = refl
-    plain_alike at (Node there word.Arraytarget parts) right formed either covered given none told same =
-        absurd (true≢false (sym covered.0))
-    plain_alike at (Node there word.Objecttarget parts) right formed either covered given none told same =
-        absurd (true≢false (sym covered.0))
-    plain_alike at (Node there word.Default parts) right formed either covered given none told same = absurd (true≢false (sym covered.0))
-    plain_alike at (Node there word.Short parts) right formed either covered given none told same = absurd (true≢false (sym covered.0))
-    plain_alike at (Node there word.Keyed parts) right formed either covered given none told same = absurd (true≢false (sym covered.0))
-    plain_alike at (Node there word.Rest parts) right formed either covered given none told same = absurd (true≢false (sym covered.0))
-    plain_alike at target right formed either covered given none told same = λ i. plain_by t target (same i)
+    plain_alike at (Node there word.Privatemember parts) right formed either covered given none told same takes = refl
+    plain_alike at (Node there word.Arraytarget parts) right formed either covered given none told same takes = λ i. (do
+      v ← same i
+      takes refl told v i
+      give v)
+    plain_alike at (Node there word.Objecttarget parts) right formed either covered given none told same takes = λ i. (do
+      v ← same i
+      takes refl told v i
+      give v)
+    plain_alike at (Node there word.Default parts) right formed either covered given none told same takes =
+        absurd (none_fits parts formed.0)
+    plain_alike at (Node there word.Short parts) right formed either covered given none told same takes =
+        absurd (none_fits parts formed.0)
+    plain_alike at (Node there word.Keyed parts) right formed either covered given none told same takes =
+        absurd (none_fits parts formed.0)
+    plain_alike at (Node there word.Rest parts) right formed either covered given none told same takes =
+        absurd (none_fits parts formed.0)
+    plain_alike at target right formed either covered given none told same takes = λ i. plain_by t target (same i)
+
+    -- A target takes a value, or a piece of one.
+    pub take_alike : (target : Syntax) (v : Value) → LendsAlike target → is_lost_item target ≡ false → refusals_to t.names target ≡ []
+        → assign_to s target v ≡ assign_to t target v
+    take_alike (Node at word.Id parts) v covered kept none = id_takes at parts v
+    take_alike (Node at word.Member parts) v covered kept none = member_takes at parts v covered.2 (are_accepted t.names parts none)
+    take_alike (Node at word.Index parts) v covered kept none = index_takes at parts v covered.2 (are_accepted t.names parts none)
+    take_alike (Node at word.Default (Then target (Then default End))) v covered kept none =
+        let told = default_none t.names default (refusals_to t.names target) none in λ i. (do
+          w ← or_default t v (eval_by Off default covered.2.1.0 told.0 i)
+          take_alike target w covered.2.0 (unlost target covered.1.formed) told.1 i)
+    take_alike (Node at word.Short (Then name (Then Absent End))) v covered kept none =
+        take_alike name v covered.2.0 (unlost name covered.1.formed) (default_none t.names Absent (refusals_to t.names name) none).1
+    take_alike (Node at word.Short (Then name (Then default End))) v covered kept none =
+        let told = default_none t.names default (refusals_to t.names name) none in λ i. (do
+          w ← or_default t v (eval_by Off default covered.2.1.0 told.0 i)
+          take_alike name w covered.2.0 (unlost name covered.1.formed) told.1 i)
+    take_alike (Node at word.Keyed (Then computed (Then key (Then target End)))) v covered kept none =
+        take_alike target v covered.2.1.1.0 (unlost target covered.1.formed) (none_kept (loses_item computed key) _ kept none)
+    take_alike (Node at word.Rest (Then target End)) v covered kept none =
+        take_alike target v covered.2.0 (unlost target covered.1.formed) none
+    take_alike (Node at word.Arraytarget (Then (Listed items) (Then rest End))) v covered kept none =
+        let ahead : List Diagnostic = said_ahead t.names items rest in
+        let forced : Bool = is_forced t.names items rest in
+        let first : List Diagnostic = refusals_to_round t.names forced true items in
+        let second : List Diagnostic = refusals_to_round t.names forced false items in
+        let last = nil_parts (ahead ++ first ++ second) (refusals_to t.names rest) none in
+        let both = nil_parts (ahead ++ first) second last.0 in λ i. (do
+          pieces ← take_apart t (codes "array" ∷ shapes.piece_shapes items ++ shapes.rest_shape rest) v
+          left ← take_items forced items pieces covered.2.0 (nil_parts ahead first both.0).1 both.1 i
+          take_alike rest (first_piece left) covered.2.1.0 (unlost rest covered.1.formed) last.1 i)
+    take_alike (Node at word.Objecttarget (Then (Listed properties) (Then rest End))) v covered kept none =
+        let ahead : List Diagnostic = said_ahead t.names properties rest in
+        let forced : Bool = is_forced t.names properties rest in
+        let first : List Diagnostic = refusals_to_round t.names forced true properties in
+        let second : List Diagnostic = refusals_to_round t.names forced false properties in
+        let last = nil_parts (ahead ++ first ++ said_of_rest rest ++ second) _ none in
+        let both = nil_parts (ahead ++ first ++ said_of_rest rest) second last.0 in
+        let third = nil_parts (ahead ++ first) (said_of_rest rest) both.0 in
+        let plain = plain_rest rest third.1 in
+        let own = none_plain (shapes.is_plain_rest rest) _ plain last.1 in λ i.
+        if shapes.have_keys properties && shapes.is_plain_rest rest then (do
+          pieces ← take_apart t (codes "object" ∷ shapes.piece_shapes properties ++ shapes.rest_shape rest) v
+          left ← take_items forced properties pieces covered.2.0 (nil_parts ahead first third.0).1 both.1 i
+          take_alike rest (first_piece left) covered.2.1.0 (plain_unlost rest plain) own i)
+        else no_meaning
+    take_alike _ v covered kept none = refl
+
+    take_items : (forced : Bool) (items : Pieces) (pieces : List Value) → LendAlike items → refusals_to_round t.names forced true items ≡ []
+        → refusals_to_round t.names forced false items ≡ [] → assign_items s items pieces ≡ assign_items t items pieces
+    take_items forced End pieces covered first second = refl
+    take_items forced (Then item items) pieces covered first second =
+        let told = round_none t.names forced item items first second in λ i.
+        if shapes.is_hole item then take_items forced items pieces covered.1 told.first told.second i
+        else (do
+          take_alike item (first_piece pieces) covered.0 told.kept told.item i
+          take_items forced items (later_pieces pieces) covered.1 told.first told.second i)
+
+    pub member_takes : (at : At) (parts : Pieces) (v : Value) → LendAlike parts → AreAccepted t.names parts
+        → assign_to s (Node at word.Member parts) v ≡ assign_to t (Node at word.Member parts) v
+    member_takes at (Then optional (Then object (Then (Said name) End))) v covered accepted = λ i. (do
+      o ← eval_by Off object covered.1.0 accepted.1.0 i
+      write_property t o (events.fixed_key (value.Text name)) v
+      done)
+    member_takes at _ v covered accepted = refl
+
+    pub index_takes : (at : At) (parts : Pieces) (v : Value) → LendAlike parts → AreAccepted t.names parts
+        → assign_to s (Node at word.Index parts) v ≡ assign_to t (Node at word.Index parts) v
+    index_takes at (Then optional (Then object (Then property End))) v covered accepted = λ i. (do
+      o ← eval_by Off object covered.1.0 accepted.1.0 i
+      key ← key_in property (eval_by Off property covered.1.1.0 accepted.1.1.0 i)
+      write_property t o key v
+      done)
+    index_takes at _ v covered accepted = refl
 
     compound_alike : (operator : List ℕ) (target right : Syntax) → LendsAlike target → refusals t.names target ≡ []
         → eval s right ≡ eval t right → compound_by s operator target (eval s right) ≡ compound_by t operator target (eval t right)
@@ -530,7 +584,7 @@ module _ (t : Scene) (stored : ℕ → Option SymbolId) (early : Bool → ℕ �
       old ← read_alike (t.names.meaning there.reference.0 name) i
       w ← same i
       v ← ask t (events.binary operator old w)
-      write_alike t stored early (t.names.meaning there.reference.0 name) name v i)
+      write_alike t stored (t.names.meaning there.reference.0 name) name v i)
     compound_alike operator (Node there word.Member parts) right covered none same = λ i.
         computed_by t operator (member_placed there parts covered.2 (member_accepted t.names there parts none) i) (same i)
     compound_alike operator (Node there word.Index parts) right covered none same = λ i.

@@ -159,7 +159,8 @@ pub forof_stop : (n : Names) (around : List Around) (own : Label) (at : At) (ps 
     → r ≡ option_or (stop_in n (InLoop own ∷ around) None c) (option_or (first_stop n b) (stop_at_head n a))
     → r ≡ stop_in n around own (Node at word.Forof ps)
 forof_stop n around own at ps is_await a b c r is plain e =
-    e ∙ ap (λ q. stop_in n around own (Node at word.Forof q)) (sym (is ∙ ap (λ (f : Bool). Then (Flag f) (Then a (Then b (Then c End)))) plain))
+    e ∙ ap (λ q. stop_in n around own (Node at word.Forof q))
+    (sym (is ∙ ap (λ (f : Bool). Then (Flag f) (Then a (Then b (Then c End)))) plain))
 
 pub forof_await : (n : Names) (around : List Around) (own : Label) (at : At) (ps : Pieces) (is_await : Bool) (a b c : Syntax)
     → ps ≡ Then (Flag is_await) (Then a (Then b (Then c End))) → is_await ≡ true → None ≡ stop_in n around own (Node at word.Forof ps)

@@ -7,6 +7,7 @@ use Rattle.rl_model.specs.Actions.{Label}
 use Rattle.rl_names.specs.Names.{Names}
 use Rattle.rl_promises.specs.Jumps.{Around, InSwitch}
 use Rattle.rl_promises.specs.PartForms.{case_in, catch_in, tree_and_list}
+use Rattle.rl_promises.specs.Patterns.{stop_of_caught}
 use Rattle.rl_promises.specs.Stops.{first_stop, stop_among, stop_in, stop_in_case, stop_in_cases}
 use Rattle.rl_syntax.specs.Shapes.{is_three}
 use Rattle.rl_syntax.specs.Sizes.{size, size_of}
@@ -97,7 +98,8 @@ catch_is _ param body is = absurd (cc)
 
 pub try_stop : (n : Names) (around : List Around) (own : Label) (at : At) (ps : Pieces) (block handler finalizer param body : Syntax)
     (r : Option Diagnostic) → ps ≡ Then block (Then handler (Then finalizer End)) → Some (param, body) ≡ catch_in handler
-    → r ≡ option_or (first_stop n param) (option_or (stop_in n around None body) (stop_in n around None block))
+    → r ≡ option_or (stop_of_caught param)
+    (option_or (first_stop n param) (option_or (stop_in n around None body) (stop_in n around None block)))
     → r ≡ stop_in n around own (Node at word.Try ps)
 try_stop n around own at ps block handler finalizer param body r is caught e =
     e ∙ ap (λ q. stop_in n around own (Node at word.Try q))

@@ -55,7 +55,14 @@ orderly = refl
 chained : HasChains (marked covered_chain)
 chained = record {
   params = (tt, (tt, tt));
-  body = (refl, (tt, (tt, (tt, tt), (tt, tt)), (((refl, (tt, ((refl, (tt, ((tt, tt), (tt, tt)))), (tt, tt)))), ((refl, (tt, (tt, tt), ((tt, tt), tt))), tt)), tt)));
+  body = (
+    refl,
+    (
+      tt,
+      (tt, (tt, tt), (tt, tt)),
+      (((refl, (tt, ((refl, (tt, ((tt, tt), (tt, tt)))), (tt, tt)))), ((refl, (tt, (tt, tt), ((tt, tt), tt))), tt)), tt),
+    ),
+  );
 }
 
 -- A callee that is a chain, in parentheses, is not orderly: `(f?.a)()`.
@@ -89,7 +96,7 @@ asserted_below : refusals_at (chain 11 (member 12 false (asserted 13 (asserted 1
     ≡ refusal row.F44 (span 13) ∷ refusal row.F44 (span 14) ∷ refusal row.F18 (span 16) ∷ []
 asserted_below = refl
 
--- The same of a callee, in front of its arguments and those behind it: `f?.(this)!(super)`.
+-- A callee below `!` is refused so too, in front of its arguments and those behind it: `f?.(this)!(super)`.
 asserted_callee : refusals_at (chain 11 (call 12 false (asserted 13 (call 14 true (name 15 (codes "f")) (this 16 ∷ []))) (super 17 ∷ [])))
     ≡ refusal row.F44 (span 13) ∷ refusal row.F18 (span 16) ∷ refusal row.F17 (span 17) ∷ []
 asserted_callee = refl
@@ -113,14 +120,15 @@ calls = arrow [] (chain 11 (call 12 true (member 13 false (call 14 false (name 1
 abbrev call_of : (start : ℕ) → Held
 call_of start = record { word = codes "call"; span = span start }
 
-live : live_in_body (body_in calls) ≡ record { word = codes "methodcall"; span = span 12 } ∷ call_of 14 ∷ call_of 16 ∷ []
+live : live_in_body (names_of (unit_of calls)) (body_in calls)
+    ≡ record { word = codes "methodcall"; span = span 12 } ∷ call_of 14 ∷ call_of 16 ∷ []
 live = refl
 
 abbrev key : (start : ℕ) → Counted
 key start = record { node = 0; kinds = codes "call" ∷ codes "methodcall" ∷ []; span = span start }
 
-tallied_link : tallied (key 12) (body_in calls) ≡ 1
+tallied_link : tallied (names_of (unit_of calls)) (key 12) (body_in calls) ≡ 1
 tallied_link = refl
 
-tallied_argument : tallied (key 16) (body_in calls) ≡ 1
+tallied_argument : tallied (names_of (unit_of calls)) (key 16) (body_in calls) ≡ 1
 tallied_argument = refl

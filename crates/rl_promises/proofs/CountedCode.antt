@@ -1,6 +1,6 @@
 -- The counted nodes of covered code: calls of functions and of methods, constructions and awaits, each counted by itself.
 use Rattle.std.proofs.Common.{◌≡◌, ℕ, Bool, true, false, true≢false, if◌then◌else◌, Some, List, [], ◌∷◌, ◌++◌, codes, refl, sym, ap, ◌∙◌}
-use Rattle.std.proofs.Common.{subst, arith, append_assoc}
+use Rattle.std.proofs.Common.{subst, append_assoc}
 use Rattle.std.specs.List.{AllByRecursion}
 use Rattle.rl_grammar.specs.Grammar.{each, every, fits}
 use Rattle.rl_grammar.specs.declared.kind.Field.TheVariants as field
@@ -9,11 +9,9 @@ use Rattle.rl_grammar.proofs.Viewing.{four_fit, rest_fit, six_fit, two_fit}
 use Rattle.rl_ast.specs.FunctionTrees.{is_function as fits_function}
 use Rattle.rl_model.specs.Code.{code, code_among, first_code, flat}
 use Rattle.rl_model.specs.Counted.{Counted, counted_at}
-use Rattle.rl_names.specs.Functions.{body_in, params_in}
-use Rattle.rl_promises.proofs.CoveredForms.{ParamNode, params_form, params_of}
-use Rattle.rl_promises.proofs.Unheld.{type_no_code, type_unheld, unheld_untallied}
-use Rattle.rl_promises.specs.Covered.{IsCovered, IsCoveredFunction, covers}
-use Rattle.rl_promises.specs.Tallies.{IsHeldKind, call_word, held_span, held_word, is_among, tallied, tallied_among}
+use Rattle.rl_names.specs.Functions.{body_in}
+use Rattle.rl_promises.specs.Covered.{covers}
+use Rattle.rl_promises.specs.Tallies.{IsHeldKind, call_word, held_span, held_word, is_among}
 use Rattle.rl_promises.specs.Tallies.IsHeldKind.{Calls, Constructions, Awaits, Stores}
 use Rattle.rl_syntax.specs.Syntax.{Syntax, Node, Listed, Said, Pieces, End, Then}
 use Rattle.rl_syntax.specs.declared.numbered.At.{At}
@@ -138,57 +136,15 @@ given_texts : (body : Syntax) → fits (field.One kind.FunctionBody) body ≡ tr
 given_texts (Node at word.Body (Then directives (Then (Listed statements) End))) fit = listed_texts directives statements fit
 given_texts _ fit = tt
 
--- Parameters hold no counted node.
-pub record CountsNone (params : Syntax) : Type 0 where
-  pub code : (methods : List ℕ) → flat (counted_at methods) (code params) ≡ []
-  pub tally : (key : Counted) → tallied key params ≡ 0
-
-params_none : (methods : List ℕ) (ps : List ParamNode) → flat (counted_at methods) (code_among (params_of ps) ++ []) ≡ []
-params_none methods [] = refl
-params_none methods (p ∷ ps) =
-    ap (λ (l : List Syntax). flat (counted_at methods) ((((l ++ []) ++ []) ++ code_among (params_of ps)) ++ []))
-    (type_no_code p.type p.typed)
-    ∙ params_none methods ps
-
-params_untallied : (key : Counted) (ps : List ParamNode) → tallied_among key (params_of ps) ≡ 0
-params_untallied key [] = refl
-params_untallied key (p ∷ ps) =
-    let type : tallied key p.type ≡ 0 = unheld_untallied key p.type (type_unheld p.type p.typed) in
-    let rest : tallied_among key (params_of ps) ≡ 0 = params_untallied key ps in
-    omega (arith, type, rest)
-
-params_counted : (params : Syntax) → fits (field.One kind.FormalParameters) params ≡ true → IsCovered params → CountsNone params
-params_counted params fit covered =
-    let form = params_form params fit covered in
-    record {
-      code = λ methods. ap (λ (s : Syntax). flat (counted_at methods) (code s)) form.2 ∙ params_none methods form.1;
-      tally = λ key.
-          let none : tallied_among key (params_of form.1) ≡ 0 = params_untallied key form.1 in
-          ap (tallied key) form.2 ∙ omega (arith, none);
-    }
-
--- The parts of a function: its parameters count no node, and its directives are texts.
-pub record IsParted (f : Syntax) : Type 0 where
-  pub params : CountsNone (params_in f)
-  pub texts : HasTexts (body_in f)
-
-pub parted : (f : Syntax) → IsCoveredFunction f → fits_function f ≡ true → IsParted f
-parted (Node at word.Arrow (Then marked (Then is_async (Then params (Then body End))))) covered fit =
-    let fits_all = four_fit _ marked is_async params body refl (field.One kind.Flag) (field.One kind.Flag)
-    (field.One kind.FormalParameters) (field.One kind.ArrowBody) fit in
-    record { params = params_counted params fits_all.2 covered.1.1.0; texts = arrow_texts body fits_all.3 }
-parted (Node at word.Fundecl (Then marked (Then is_async (Then generator (Then name (Then params (Then body End))))))) covered fit =
-    let fits_all = six_fit _ marked is_async generator name params body refl (field.One kind.Flag) (field.One kind.Flag)
-    (field.One kind.Flag) (field.Maybe kind.BindingIdentifier) (field.One kind.FormalParameters) (field.Maybe kind.FunctionBody) fit in
-    record { params = params_counted params fits_all.4 covered.1.1.1.1.0; texts = body_texts body fits_all.5 }
-parted (Node at word.Funexpr (Then marked (Then is_async (Then generator (Then name (Then params (Then body End))))))) covered fit =
-    let fits_all = six_fit _ marked is_async generator name params body refl (field.One kind.Flag) (field.One kind.Flag)
-    (field.One kind.Flag) (field.Maybe kind.BindingIdentifier) (field.One kind.FormalParameters) (field.One kind.FunctionBody) fit in
-    record { params = params_counted params fits_all.4 covered.1.1.1.1.0; texts = given_texts body fits_all.5 }
-parted (Node at word.Arrow _) covered fit =
-    record { params = record { code = λ methods. refl; tally = λ key. refl }; texts = tt }
-parted (Node at word.Fundecl _) covered fit =
-    record { params = record { code = λ methods. refl; tally = λ key. refl }; texts = tt }
-parted (Node at word.Funexpr _) covered fit =
-    record { params = record { code = λ methods. refl; tally = λ key. refl }; texts = tt }
-parted _ covered fit = absurd covered
+-- The directives of a function's body are texts.
+pub function_texts : (f : Syntax) → fits_function f ≡ true → HasTexts (body_in f)
+function_texts (Node at word.Arrow (Then marked (Then is_async (Then params (Then body End))))) fit =
+    arrow_texts body (four_fit _ marked is_async params body refl (field.One kind.Flag) (field.One kind.Flag)
+    (field.One kind.FormalParameters) (field.One kind.ArrowBody) fit).3
+function_texts (Node at word.Fundecl (Then marked (Then is_async (Then generator (Then name (Then params (Then body End))))))) fit =
+    body_texts body (six_fit _ marked is_async generator name params body refl (field.One kind.Flag) (field.One kind.Flag)
+    (field.One kind.Flag) (field.Maybe kind.BindingIdentifier) (field.One kind.FormalParameters) (field.Maybe kind.FunctionBody) fit).5
+function_texts (Node at word.Funexpr (Then marked (Then is_async (Then generator (Then name (Then params (Then body End))))))) fit =
+    given_texts body (six_fit _ marked is_async generator name params body refl (field.One kind.Flag) (field.One kind.Flag)
+    (field.One kind.Flag) (field.Maybe kind.BindingIdentifier) (field.One kind.FormalParameters) (field.One kind.FunctionBody) fit).5
+function_texts _ fit = tt

@@ -1,16 +1,18 @@
--- The names of covered trees: each `bind` node stands in parameters, in a declarator or in a `catch`.
+-- The names of covered trees: each `bind` node stands in parameters, in a declarator or in a `catch`, in patterns there too.
 use Rattle.std.proofs.Common.{◌≡◌, Bool, true, false, true≢false, ◌&&◌, Option, Some, None, List, [], ◌∷◌, refl, sym}
 use Rattle.std.proofs.lemmas.Bool.{and_parts}
 use Rattle.rl_syntax.specs.Syntax.{Syntax, Node, Listed, Said, Count, Flag, Absent, Pieces, End, Then}
 use Rattle.rl_syntax.specs.declared.word.Word.{Word}
 use Rattle.rl_syntax.specs.declared.word.Word.TheVariants as word
 use Rattle.rl_grammar.specs.Grammar.{fits, each, every}
-use Rattle.rl_grammar.specs.Rules.{rule, argument_rule, array_element_rule, arrow_body_rule, assignment_target_rule}
-use Rattle.rl_grammar.specs.Rules.{binding_identifier_rule, binding_pattern_rule, binding_rest_element_rule, block_statement_rule}
-use Rattle.rl_grammar.specs.Rules.{catch_clause_rule, expression_rule, for_head_rule, for_init_rule, formal_parameter_rule}
-use Rattle.rl_grammar.specs.Rules.{formal_parameters_rule, function_body_rule, identifier_reference_rule, object_property_rule}
-use Rattle.rl_grammar.specs.Rules.{property_key_rule, statement_rule, switch_case_rule, template_element_rule, template_literal_rule}
-use Rattle.rl_grammar.specs.Rules.{type_annotation_rule, variable_declarator_rule}
+use Rattle.rl_grammar.specs.Rules.{rule, argument_rule, array_element_rule, arrow_body_rule, assignment_target_element_rule}
+use Rattle.rl_grammar.specs.Rules.{assignment_target_maybe_default_rule, assignment_target_property_rule, assignment_target_rest_rule}
+use Rattle.rl_grammar.specs.Rules.{assignment_target_rule, binding_identifier_rule, binding_pattern_element_rule}
+use Rattle.rl_grammar.specs.Rules.{binding_pattern_maybe_default_rule, binding_pattern_rule, binding_property_rule}
+use Rattle.rl_grammar.specs.Rules.{binding_rest_element_rule, block_statement_rule, catch_clause_rule, expression_rule, for_head_rule}
+use Rattle.rl_grammar.specs.Rules.{for_init_rule, formal_parameter_rule, formal_parameters_rule, function_body_rule}
+use Rattle.rl_grammar.specs.Rules.{identifier_reference_rule, object_property_rule, property_key_rule, statement_rule, switch_case_rule}
+use Rattle.rl_grammar.specs.Rules.{template_element_rule, template_literal_rule, type_annotation_rule, variable_declarator_rule}
 use Rattle.rl_grammar.specs.declared.kind.Field.{Field}
 use Rattle.rl_grammar.specs.declared.kind.Field.TheVariants as field
 use Rattle.rl_grammar.specs.declared.kind.Kind.{Kind}
@@ -20,12 +22,17 @@ use Rattle.rl_promises.specs.Covered.{AreCovered, IsCovered, covers}
 use Rattle.rl_promises.proofs.CoveredForms.{none_fits}
 use Rattle.rl_promises.proofs.VariableTrees.{HasVariables, HaveVariables, is_named, may_stand}
 
--- True of the kinds of the trees in a covered function; those of declarators, parameters and their names stand in declarations alone.
+-- True of the kinds of the trees in a covered function; those of declarators, parameters, patterns and their names stand in declarations
+-- alone.
 abbrev pub is_inner : (named : Bool) → Kind → Bool
 is_inner named kind.VariableDeclarator = named
 is_inner named kind.FormalParameter = named
 is_inner named kind.BindingPattern = named
 is_inner named kind.BindingIdentifier = named
+is_inner named kind.BindingRestElement = named
+is_inner named kind.BindingPatternMaybeDefault = named
+is_inner named kind.BindingPatternElement = named
+is_inner named kind.BindingProperty = named
 is_inner named kind.Statement = true
 is_inner named kind.Expression = true
 is_inner named kind.ForInit = true
@@ -37,13 +44,16 @@ is_inner named kind.Argument = true
 is_inner named kind.ArrowBody = true
 is_inner named kind.FunctionBody = true
 is_inner named kind.FormalParameters = true
-is_inner named kind.BindingRestElement = true
 is_inner named kind.ArrayElement = true
 is_inner named kind.ObjectProperty = true
 is_inner named kind.PropertyKey = true
 is_inner named kind.TemplateLiteral = true
 is_inner named kind.TemplateElement = true
 is_inner named kind.AssignmentTarget = true
+is_inner named kind.AssignmentTargetMaybeDefault = true
+is_inner named kind.AssignmentTargetElement = true
+is_inner named kind.AssignmentTargetProperty = true
+is_inner named kind.AssignmentTargetRest = true
 is_inner named kind.TypeAnnotation = true
 is_inner named kind.IdentifierReference = true
 is_inner named kind.Text = true
@@ -108,9 +118,28 @@ module _ (named : Bool) where
   target_inner : (w : Word) (ps : Pieces) → covers w ps ≡ true → each (assignment_target_rule w) ps ≡ true
       → IsInner named w (assignment_target_rule w)
   target_inner word.Bind ps covered h = absurd (none_fits ps h)
-  target_inner word.Arraytarget ps covered h = never covered
-  target_inner word.Objecttarget ps covered h = never covered
   target_inner _ ps covered h = record { stands = refl; fields = refl }
+
+  default_target_inner : (w : Word) (ps : Pieces) → covers w ps ≡ true → each (assignment_target_maybe_default_rule w) ps ≡ true
+      → IsInner named w (assignment_target_maybe_default_rule w)
+  default_target_inner word.Default ps covered h = record { stands = refl; fields = refl }
+  default_target_inner w ps covered h = target_inner w ps covered h
+
+  target_element_inner : (w : Word) (ps : Pieces) → covers w ps ≡ true → each (assignment_target_element_rule w) ps ≡ true
+      → IsInner named w (assignment_target_element_rule w)
+  target_element_inner word.Hole ps covered h = record { stands = refl; fields = refl }
+  target_element_inner w ps covered h = default_target_inner w ps covered h
+
+  target_property_inner : (w : Word) (ps : Pieces) → each (assignment_target_property_rule w) ps ≡ true
+      → IsInner named w (assignment_target_property_rule w)
+  target_property_inner word.Short ps h = record { stands = refl; fields = refl }
+  target_property_inner word.Keyed ps h = record { stands = refl; fields = refl }
+  target_property_inner _ ps h = absurd (none_fits ps h)
+
+  target_rest_inner : (w : Word) (ps : Pieces) → each (assignment_target_rest_rule w) ps ≡ true
+      → IsInner named w (assignment_target_rest_rule w)
+  target_rest_inner word.Rest ps h = record { stands = refl; fields = refl }
+  target_rest_inner _ ps h = absurd (none_fits ps h)
 
   head_inner : (w : Word) (ps : Pieces) → covers w ps ≡ true → each (for_head_rule w) ps ≡ true → IsInner named w (for_head_rule w)
   head_inner word.Var ps covered h = record { stands = refl; fields = refl }
@@ -180,11 +209,6 @@ module _ (named : Bool) where
   reference_inner word.Id ps h = record { stands = refl; fields = refl }
   reference_inner _ ps h = absurd (none_fits ps h)
 
-  rest_inner : (w : Word) (ps : Pieces) → covers w ps ≡ true → each (binding_rest_element_rule w) ps ≡ true
-      → IsInner named w (binding_rest_element_rule w)
-  rest_inner word.Rest ps covered h = never covered
-  rest_inner _ ps covered h = absurd (none_fits ps h)
-
 -- The kinds of declarations.
 
 declarator_inner : (w : Word) (ps : Pieces) → each (variable_declarator_rule w) ps ≡ true → IsInner true w (variable_declarator_rule w)
@@ -195,12 +219,28 @@ param_inner : (w : Word) (ps : Pieces) → each (formal_parameter_rule w) ps ≡
 param_inner word.Param ps h = record { stands = refl; fields = refl }
 param_inner _ ps h = absurd (none_fits ps h)
 
-pattern_inner : (w : Word) (ps : Pieces) → covers w ps ≡ true → each (binding_pattern_rule w) ps ≡ true
-    → IsInner true w (binding_pattern_rule w)
-pattern_inner word.Bind ps covered h = record { stands = refl; fields = refl }
-pattern_inner word.Arraypat ps covered h = never covered
-pattern_inner word.Objectpat ps covered h = never covered
-pattern_inner _ ps covered h = absurd (none_fits ps h)
+pattern_inner : (w : Word) (ps : Pieces) → each (binding_pattern_rule w) ps ≡ true → IsInner true w (binding_pattern_rule w)
+pattern_inner word.Bind ps h = record { stands = refl; fields = refl }
+pattern_inner word.Arraypat ps h = record { stands = refl; fields = refl }
+pattern_inner word.Objectpat ps h = record { stands = refl; fields = refl }
+pattern_inner _ ps h = absurd (none_fits ps h)
+
+default_inner : (w : Word) (ps : Pieces) → each (binding_pattern_maybe_default_rule w) ps ≡ true
+    → IsInner true w (binding_pattern_maybe_default_rule w)
+default_inner word.Defaultpat ps h = record { stands = refl; fields = refl }
+default_inner w ps h = pattern_inner w ps h
+
+item_inner : (w : Word) (ps : Pieces) → each (binding_pattern_element_rule w) ps ≡ true → IsInner true w (binding_pattern_element_rule w)
+item_inner word.Hole ps h = record { stands = refl; fields = refl }
+item_inner w ps h = default_inner w ps h
+
+binding_inner : (w : Word) (ps : Pieces) → each (binding_property_rule w) ps ≡ true → IsInner true w (binding_property_rule w)
+binding_inner word.Keyedpat ps h = record { stands = refl; fields = refl }
+binding_inner _ ps h = absurd (none_fits ps h)
+
+rest_inner : (w : Word) (ps : Pieces) → each (binding_rest_element_rule w) ps ≡ true → IsInner true w (binding_rest_element_rule w)
+rest_inner word.Rest ps h = record { stands = refl; fields = refl }
+rest_inner _ ps h = absurd (none_fits ps h)
 
 name_inner : (w : Word) (ps : Pieces) → each (binding_identifier_rule w) ps ≡ true → IsInner true w (binding_identifier_rule w)
 name_inner word.Bind ps h = record { stands = refl; fields = refl }
@@ -212,10 +252,18 @@ node_inner true kind.VariableDeclarator w ps inner covered h = declarator_inner 
 node_inner false kind.VariableDeclarator w ps inner covered h = never inner
 node_inner true kind.FormalParameter w ps inner covered h = param_inner w ps h
 node_inner false kind.FormalParameter w ps inner covered h = never inner
-node_inner true kind.BindingPattern w ps inner covered h = pattern_inner w ps covered h
+node_inner true kind.BindingPattern w ps inner covered h = pattern_inner w ps h
 node_inner false kind.BindingPattern w ps inner covered h = never inner
 node_inner true kind.BindingIdentifier w ps inner covered h = name_inner w ps h
 node_inner false kind.BindingIdentifier w ps inner covered h = never inner
+node_inner true kind.BindingRestElement w ps inner covered h = rest_inner w ps h
+node_inner false kind.BindingRestElement w ps inner covered h = never inner
+node_inner true kind.BindingPatternMaybeDefault w ps inner covered h = default_inner w ps h
+node_inner false kind.BindingPatternMaybeDefault w ps inner covered h = never inner
+node_inner true kind.BindingPatternElement w ps inner covered h = item_inner w ps h
+node_inner false kind.BindingPatternElement w ps inner covered h = never inner
+node_inner true kind.BindingProperty w ps inner covered h = binding_inner w ps h
+node_inner false kind.BindingProperty w ps inner covered h = never inner
 node_inner named kind.Statement w ps inner covered h = statement_inner named w ps covered h
 node_inner named kind.Expression w ps inner covered h = expression_inner named w ps covered h
 node_inner named kind.ForInit w ps inner covered h = init_inner named w ps covered h
@@ -227,13 +275,16 @@ node_inner named kind.Argument w ps inner covered h = argument_inner named w ps 
 node_inner named kind.ArrowBody w ps inner covered h = arrow_body_inner named w ps covered h
 node_inner named kind.FunctionBody w ps inner covered h = body_inner named w ps h
 node_inner named kind.FormalParameters w ps inner covered h = params_inner named w ps h
-node_inner named kind.BindingRestElement w ps inner covered h = rest_inner named w ps covered h
 node_inner named kind.ArrayElement w ps inner covered h = element_inner named w ps covered h
 node_inner named kind.ObjectProperty w ps inner covered h = property_inner named w ps covered h
 node_inner named kind.PropertyKey w ps inner covered h = key_inner named w ps covered h
 node_inner named kind.TemplateLiteral w ps inner covered h = literal_inner named w ps h
 node_inner named kind.TemplateElement w ps inner covered h = quasi_inner named w ps h
 node_inner named kind.AssignmentTarget w ps inner covered h = target_inner named w ps covered h
+node_inner named kind.AssignmentTargetMaybeDefault w ps inner covered h = default_target_inner named w ps covered h
+node_inner named kind.AssignmentTargetElement w ps inner covered h = target_element_inner named w ps covered h
+node_inner named kind.AssignmentTargetProperty w ps inner covered h = target_property_inner named w ps h
+node_inner named kind.AssignmentTargetRest w ps inner covered h = target_rest_inner named w ps h
 node_inner named kind.TypeAnnotation w ps inner covered h = type_inner named w ps h
 node_inner named kind.IdentifierReference w ps inner covered h = reference_inner named w ps h
 node_inner named kind.Text w ps inner covered h = absurd (none_fits ps h)

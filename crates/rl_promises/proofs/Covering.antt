@@ -8,7 +8,8 @@ use Rattle.rl_syntax.specs.declared.numbered.At.{At}
 use Rattle.rl_syntax.specs.declared.word.Word.{Word}
 use Rattle.rl_syntax.specs.declared.word.Word.TheVariants as word
 
-pub covered_on : (at : At) (w : Word) (parts : Pieces) → covers w parts ≡ true → first (uncovered (Node at w parts)) ≡ first (uncovered_among parts)
+pub covered_on : (at : At) (w : Word) (parts : Pieces) → covers w parts ≡ true
+    → first (uncovered (Node at w parts)) ≡ first (uncovered_among parts)
 covered_on at w parts covered = rw covered refl
 
 pub uncovered_here : (at : At) (w : Word) (parts : Pieces) → covers w parts ≡ false → first (uncovered (Node at w parts)) ≡ Some at.id.0
@@ -57,7 +58,8 @@ mutual
       let both = none_in (uncovered p) (uncovered_among ps) none in
       (all_covered p both.0, all_covered_among ps both.1)
 
-marked_covered : (at : At) (w : Word) (parts : Pieces) → first (uncovered_in (Node at w parts)) ≡ None → IsMarked (Node at w parts) → IsCoveredFunction (Node at w parts)
+marked_covered : (at : At) (w : Word) (parts : Pieces) → first (uncovered_in (Node at w parts)) ≡ None → IsMarked (Node at w parts)
+    → IsCoveredFunction (Node at w parts)
 marked_covered at word.Arrow parts none m = all_covered_among parts (first_none (uncovered_among parts) none)
 marked_covered at word.Fundecl parts none m = all_covered_among parts (first_none (uncovered_among parts) none)
 marked_covered at word.Funexpr parts none m = all_covered_among parts (first_none (uncovered_among parts) none)

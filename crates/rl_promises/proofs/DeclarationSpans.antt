@@ -1,10 +1,11 @@
 -- Declarations in a function of a unit have the spans of its nodes.
 use Rattle.std.proofs.Common.{◌≡◌, ◌⊎◌, inl, inr, ℕ, zero, suc, ◌+◌, ◌<◌, ◌≤◌, Bool, true, false, true≢false, ◌||◌}
-use Rattle.std.proofs.Common.{if◌then◌else◌, nat_eq, eqb-true}
+use Rattle.std.proofs.Common.{All, if◌then◌else◌, nat_eq, eqb-true}
 use Rattle.std.proofs.Common.{Option, Some, None, List, [], ◌++◌, slice_get, refl, sym, ap, ◌∙◌, subst, arith}
 use Rattle.std.proofs.lemmas.List.Folds.{list_any-append}
 use Rattle.rl_ast.proofs.MarkedFunctions.{Inside, InsideOf, first_found}
 use Rattle.rl_ast.specs.Marked.{first, marked_functions}
+use Rattle.rl_ast.specs.Units.{IsOfGrammar}
 use Rattle.rl_base.specs.declared.span.Span.{Span}
 use Rattle.rl_bindings.specs.Events.{top}
 use Rattle.rl_bindings.specs.Names.{names_in}
@@ -16,7 +17,7 @@ use Rattle.rl_bindings.specs.declared.names.Name.{Name}
 use Rattle.rl_bindings.specs.declared.role.Above.{Above}
 use Rattle.rl_bindings.specs.declared.role.Role.{Role}
 use Rattle.rl_bindings.specs.declared.role.Role.TheVariants as role
-use Rattle.rl_context.specs.Index.{declares as is_sited, is_declaration, span_among}
+use Rattle.rl_context.specs.Index.{declaration_span, declares as is_sited, is_declaration, span_among}
 use Rattle.rl_context.specs.Roles as context
 use Rattle.rl_context.specs.Sites.{is_class, site_of, sites, sites_among, sites_from, sites_in, wrapped_site}
 use Rattle.rl_context.specs.declared.role.Above.{Above as SiteAbove}
@@ -29,10 +30,15 @@ use Rattle.rl_context.specs.declared.site.Wrapper.{Wrapper}
 use Rattle.rl_names.proofs.Declarations.{declared_by_nodes, declares, declares_among, own}
 use Rattle.rl_names.proofs.Items.{Has, has_cases}
 use Rattle.rl_names.proofs.SymbolNumbers.{symbol_declared}
+use Rattle.rl_names.specs.Functions.{parameters_of}
+use Rattle.rl_names.specs.Names.{Names, function_names}
+use Rattle.rl_promises.proofs.LocalVariables.{has_sited}
+use Rattle.rl_promises.specs.Covered.{IsCoveredFunction}
 use Rattle.rl_promises.specs.Spans.{IsSpanAmong, IsSpanOf, KnowsSpans}
 use Rattle.rl_resolver.specs.Kinds.{has_identifier}
 use Rattle.rl_resolver.specs.Lookups.{identified}
 use Rattle.rl_semantic.specs.Items.{of_item}
+use Rattle.rl_semantic.specs.Rules.{least_broken}
 use Rattle.rl_syntax.specs.Syntax.{Syntax, Node, Listed, Said, Count, Flag, Absent, Pieces, End, Then, IsPlaced, ArePlaced}
 use Rattle.rl_syntax.specs.Syntax.{behind, inside, next_byte, nodes, nodes_of, outset}
 use Rattle.rl_syntax.specs.declared.numbered.At.{At}
@@ -265,9 +271,12 @@ module _ (names : List Name) (b : Bound) where
         ]
 
 -- In a unit, the declarations that stand in a function have the spans of its nodes.
-pub knows_spans : (u f : Syntax) → IsPlaced outset u → Inside f u → KnowsSpans (symbols_in u) f
-knows_spans u f placed there = record {
+pub knows_spans : (u f : Syntax) → IsPlaced outset u → Inside f u → (names : Names)
+    → All (λ p. declaration_span (sites_in f) (symbols_in u) p.symbol.0 ≡ Some p.declaration) (parameters_of names f)
+    → KnowsSpans names (symbols_in u) f
+knows_spans u f placed there names params = record {
   spanned = λ symbol span is. by_bound symbol span (slice_get (symbols_in u) symbol) refl is;
+  params = params;
 }
   where
     declared : (b : Bound) → Has (bounds (events_in u)) b → is_sited b.node.0 (sites_in f) ≡ true → IsSpanOf f b.span
@@ -296,5 +305,7 @@ knows_spans u f placed there = record {
         by_kind span b (has_identifier b.kind) (symbol_declared (bounds (events_in u)) symbol b at) is
 
 -- In a unit, the declarations that stand in its marked function have the spans of the function's nodes.
-pub marked_spans : (u f : Syntax) → IsPlaced outset u → first (marked_functions u) ≡ Some f → KnowsSpans (symbols_in u) f
-marked_spans u f placed found = knows_spans u f placed (first_found u f found).0
+pub marked_spans : (u f : Syntax) → IsOfGrammar u → IsPlaced outset u → nodes u ≤ 65536 → least_broken u ≡ None
+    → first (marked_functions u) ≡ Some f → IsCoveredFunction f → KnowsSpans (function_names u f) (symbols_in u) f
+marked_spans u f grammar placed few kept found covered =
+    knows_spans u f placed (first_found u f found).0 (function_names u f) (has_sited u f grammar placed few kept found covered)

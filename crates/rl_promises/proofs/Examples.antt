@@ -7,13 +7,13 @@ use Rattle.rl_hir.specs.Pairs.{pair}
 use Rattle.rl_hir.specs.declared.function.Identifier.{Identifier}
 use Rattle.rl_hir.specs.declared.function.Pair.{Pair}
 use Rattle.rl_model.proofs.ExampleUnits.{span}
-use Rattle.rl_promises.specs.Fields.{HasFieldsOf, HaveSymbolsOf, IsGiven, IsNamedPair, name_at}
+use Rattle.rl_promises.specs.Fields.{HasFieldsOf, HasParams, HaveSymbolsOf, IsGiven, IsNamedPair, NoParam, PlainParam, name_at}
 use Rattle.rl_model.specs.Counted.{Counted, counted_in}
 use Rattle.rl_promises.specs.Held.{listed, times}
 use Rattle.rl_promises.specs.Size.{function_size}
 use Rattle.rl_model.specs.Marked.{marked}
 use Rattle.rl_model.specs.Units.{names_of}
-use Rattle.rl_names.specs.declared.parameters.Parameter.{Parameter}
+use Rattle.rl_names.specs.Functions.{params_in}
 use Rattle.rl_model.proofs.Examples.{graph, unit}
 
 -- The call is held by the table and by the block.
@@ -33,8 +33,8 @@ in_block = refl
 size : function_size graph ≡ 4
 size = refl
 
-fields : HasFieldsOf (names_of unit) (marked unit) graph
-fields = record { span = refl; name = refl; fn_type = refl; is_async = refl; generator = refl; directives = refl; params = refl; context = refl }
+fields : HasFieldsOf (marked unit) graph
+fields = record { span = refl; name = refl; fn_type = refl; is_async = refl; generator = refl; directives = refl; context = refl }
 
 -- The parameter is symbol 0 and identifier 0.
 abbrev identifiers : List Identifier
@@ -43,11 +43,11 @@ identifiers = named_identifier (codes "x") (span 6) 0 ∷ record { name = None; 
 abbrev pairs : List Pair
 pairs = pair 0 0 ∷ []
 
-abbrev parameter : Parameter
-parameter = record { symbol = record { 0 = 0 }; name = codes "x"; declaration = span 6 }
+is_given : IsGiven identifiers pairs (record { 0 = 0 }) (codes "x") (span 6) 0
+is_given = record { paired = refl; type_id = 0; known = refl }
 
-is_given : IsGiven identifiers pairs 0 0 parameter
-is_given = record { paired = refl; known = refl }
+has_params : HasParams (names_of unit) (λ symbol before. before) identifiers pairs (params_in (marked unit)) graph.params
+has_params = PlainParam _ _ _ _ _ _ _ _ _ refl refl is_given NoParam
 
 is_named : IsNamedPair (names_of unit) identifiers (pair 0 0)
 is_named = record { at = span 6; declared = refl; index = 0; named = refl }

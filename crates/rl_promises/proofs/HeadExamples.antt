@@ -8,11 +8,11 @@ use Rattle.rl_base.specs.declared.span.Span.{Span}
 use Rattle.rl_model.proofs.ExampleUnits.{called, function, name, node, span, unit_of}
 use Rattle.rl_model.specs.Marked.{marked}
 use Rattle.rl_model.specs.Units.{names_of}
-use Rattle.rl_names.specs.Functions.{body_in}
+use Rattle.rl_names.specs.Functions.{body_in, parameters_of}
 use Rattle.rl_names.specs.declared.parameters.Parameter.{Parameter}
 use Rattle.rl_promises.specs.Covered.{pending}
 use Rattle.rl_promises.specs.Live.{Held, live_in_body}
-use Rattle.rl_promises.specs.Rebound.{respanned}
+use Rattle.rl_promises.specs.Rebound.{span_behind_body}
 use Rattle.rl_promises.specs.Rows.{refusal, refusals_of}
 use Rattle.rl_promises.specs.Stops.{has_using, stop_of}
 use Rattle.rl_syntax.specs.Syntax.{Syntax, Listed, Said, Flag, Absent, pieces_of}
@@ -66,7 +66,8 @@ items_take : stops (items 11 false (declared 12 (codes "let") (codes "a")) (name
 items_take = refl
 
 -- The body comes first, then the right side, then the head: a reserved name in the head stops the lowering last.
-body_first : stops (keys 11 (declared 12 (codes "let") (codes "enum")) (name 15 (codes "p")) (node 16 word.Break (Said (codes "a") ∷ [])) ∷ [])
+body_first : stops (
+    keys 11 (declared 12 (codes "let") (codes "enum")) (name 15 (codes "p")) (node 16 word.Break (Said (codes "a") ∷ [])) ∷ [])
     ≡ Some (diagnostic_at row.S6 [] (span 16))
 body_first = refl
 
@@ -88,7 +89,8 @@ order = refl
 abbrev constant : (start : ℕ) → (name : List ℕ) → Syntax
 constant start text =
     node start word.Var (Said (codes "const")
-    ∷ Listed (pieces_of (node (start + 1) word.Declarator (node (start + 2) word.Bind (Said text ∷ Absent ∷ []) ∷ name (start + 3) (codes "p") ∷ []) ∷ []))
+    ∷ Listed (pieces_of (node (start + 1) word.Declarator
+    (node (start + 2) word.Bind (Said text ∷ Absent ∷ []) ∷ name (start + 3) (codes "p") ∷ []) ∷ []))
     ∷ [])
 
 constant_assigned : refused (constant 11 (codes "c") ∷ items 15 false (name 16 (codes "c")) (name 17 (codes "p")) (use_of 18) ∷ [])
@@ -99,7 +101,8 @@ fbt_assigned : refused (constant 11 (codes "fbt") ∷ items 15 false (name 16 (c
     ≡ refusal row.F40 (span 13) ∷ refusal row.F40 (span 13) ∷ diagnostic_at row.F6 (codes "fbt") (span 16) ∷ []
 fbt_assigned = refl
 
-fbt_declared : refused (keys 11 (declared 12 (codes "const") (codes "fbt")) (name 15 (codes "p")) nothing ∷ []) ≡ refusal row.F40 (span 14) ∷ []
+fbt_declared : refused (keys 11 (declared 12 (codes "const") (codes "fbt")) (name 15 (codes "p")) nothing ∷ [])
+    ≡ refusal row.F40 (span 14) ∷ []
 fbt_declared = refl
 
 -- `var` is no row in a head.
@@ -123,16 +126,17 @@ wrapped_head = refl
 using_head : has_using (keys 11 (declared 12 (codes "using") (codes "a")) (name 15 (codes "p")) nothing) ≡ true
 using_head = refl
 
--- Heads with patterns are not covered yet, nor is a loop that declares no variable: the loop has the id 8, and its head 9.
+-- Heads with patterns are covered. A loop that declares no variable is not: the loop has the id 8.
 covered : pending (of (keys 11 (declared 12 (codes "var") (codes "a")) (name 15 (codes "p"))
     (items 16 false (property 17 word.Member (name 18 (codes "p"))) (name 19 (codes "p")) nothing) ∷ [])) ≡ None
 covered = refl
 
-pattern_waits : pending (of (keys 11 (node 12 word.Arraytarget (Listed (pieces_of []) ∷ Absent ∷ [])) (name 13 (codes "p")) nothing ∷ []))
-    ≡ Some 9
-pattern_waits = refl
+pattern_head : pending (of (keys 11 (node 12 word.Arraytarget (Listed (pieces_of []) ∷ Absent ∷ [])) (name 13 (codes "p")) nothing ∷ []))
+    ≡ None
+pattern_head = refl
 
-none_declared : pending (of (keys 11 (node 12 word.Var (Said (codes "let") ∷ Listed (pieces_of []) ∷ [])) (name 13 (codes "p")) nothing ∷ []))
+none_declared : pending (of (
+    keys 11 (node 12 word.Var (Said (codes "let") ∷ Listed (pieces_of []) ∷ [])) (name 13 (codes "p")) nothing ∷ []))
     ≡ Some 8
 none_declared = refl
 
@@ -151,9 +155,10 @@ abbrev dead_end : (start : ℕ) → Syntax
 dead_end start = node start word.Block (Listed (pieces_of (node (start + 1) word.Return (Absent ∷ []) ∷ calls_at (start + 2) ∷ [])) ∷ [])
 
 abbrev live : List Syntax → List Held
-live statements = live_in_body (body_in (function [] statements))
+live statements = live_in_body (names_of (of statements)) (body_in (function [] statements))
 
-keys_live : live (keys 11 (property 12 word.Member (call_at 13)) (call_at 15) (dead_end 17) ∷ calls_at 22 ∷ []) ≡ held 13 ∷ held 15 ∷ held 22 ∷ []
+keys_live : live (keys 11 (property 12 word.Member (call_at 13)) (call_at 15) (dead_end 17) ∷ calls_at 22 ∷ [])
+    ≡ held 13 ∷ held 15 ∷ held 22 ∷ []
 keys_live = refl
 
 items_live : live (items 11 false (property 12 word.Member (call_at 13)) (call_at 15) (dead_end 17) ∷ calls_at 22 ∷ [])
@@ -162,10 +167,14 @@ items_live = refl
 
 -- `(p) => { for (var p in p) for (var p in p) ; }`: the head of the outer loop is lowered last.
 abbrev spans : List Syntax → List Span
-spans statements = map (λ (p : Parameter). p.declaration) (respanned (names_of (of statements)) (marked (of statements)))
+spans statements =
+    map (λ (p : Parameter). span_behind_body (names_of (of statements)) p.symbol.0 (body_in (marked (of statements))) p.declaration)
+    (parameters_of (names_of (of statements)) (marked (of statements)))
 
 abbrev twice : Syntax
-twice = keys 11 (declared 12 (codes "var") (codes "p")) (name 15 (codes "p")) (keys 16 (declared 17 (codes "var") (codes "p")) (name 20 (codes "p")) nothing)
+twice =
+    keys 11 (declared 12 (codes "var") (codes "p")) (name 15 (codes "p"))
+    (keys 16 (declared 17 (codes "var") (codes "p")) (name 20 (codes "p")) nothing)
 
 outer_last : spans (twice ∷ []) ≡ span 14 ∷ []
 outer_last = refl

@@ -23,20 +23,26 @@ use Rattle.rl_promises.proofs.VariableTrees.{HasInner, InnerScope}
 abbrev AreFrom : (low count : ℕ) → List NodeEntry → Type 0
 AreFrom low count es = AllByRecursion (λ e. (low ≤ e.at.id.0) × (e.at.id.0 < low + count)) es
 
-from_wider : (low count lower more : ℕ) (es : List NodeEntry) → lower ≤ low → low + count ≤ lower + more → AreFrom low count es → AreFrom lower more es
+from_wider : (low count lower more : ℕ) (es : List NodeEntry) → lower ≤ low → low + count ≤ lower + more → AreFrom low count es
+    → AreFrom lower more es
 from_wider low count lower more [] down up all = tt
-from_wider low count lower more (e ∷ es) down up all = ((let first = all.0.0 in omega (arith, down, first), let last = all.0.1 in omega (arith, up, last)), from_wider low count lower more es down up all.1)
+from_wider low count lower more (e ∷ es) down up all = (
+  (let first = all.0.0 in omega (arith, down, first), let last = all.0.1 in omega (arith, up, last)),
+  from_wider low count lower more es down up all.1,
+)
 
 from-append : (low count : ℕ) (es fs : List NodeEntry) → AreFrom low count es → AreFrom low count fs → AreFrom low count (es ++ fs)
 from-append low count es fs first second = each-append (λ e. (low ≤ e.at.id.0) × (e.at.id.0 < low + count)) es fs first second
 
 mutual
   -- The nodes of a placed tree have ids in its range.
-  in_range : (parent : Option NodeId) (t : Syntax) (from : Position) → IsPlaced from t → AreFrom from.node (nodes t) (entries_under parent t)
+  in_range : (parent : Option NodeId) (t : Syntax) (from : Position) → IsPlaced from t
+      → AreFrom from.node (nodes t) (entries_under parent t)
   in_range parent (Node at w ps) from placed =
       let is = placed.0.number in (
         (omega (arith, is), omega (arith, is)),
-        from_wider (from.node + 1) (nodes_of ps) from.node (nodes (Node at w ps)) (entries_among (Some at.id) ps) (omega arith) (omega arith) (in_range_among (Some at.id) ps (inside from w) placed.1),
+        from_wider (from.node + 1) (nodes_of ps) from.node (nodes (Node at w ps)) (entries_among (Some at.id) ps) (omega arith)
+            (omega arith) (in_range_among (Some at.id) ps (inside from w) placed.1),
       )
   in_range parent (Listed ps) from placed = in_range_among parent ps from placed
   in_range parent (Said text) from placed = tt
@@ -44,12 +50,15 @@ mutual
   in_range parent (Flag flag) from placed = tt
   in_range parent Absent from placed = tt
 
-  in_range_among : (parent : Option NodeId) (ps : Pieces) (from : Position) → ArePlaced from ps → AreFrom from.node (nodes_of ps) (entries_among parent ps)
+  in_range_among : (parent : Option NodeId) (ps : Pieces) (from : Position) → ArePlaced from ps
+      → AreFrom from.node (nodes_of ps) (entries_among parent ps)
   in_range_among parent End from placed = tt
   in_range_among parent (Then p ps) from placed =
       from-append from.node (nodes_of (Then p ps)) (entries_under parent p) (entries_among parent ps)
-      (from_wider from.node (nodes p) from.node (nodes_of (Then p ps)) (entries_under parent p) (omega arith) (omega arith) (in_range parent p (next_byte from) placed.0))
-      (from_wider (from.node + nodes p) (nodes_of ps) from.node (nodes_of (Then p ps)) (entries_among parent ps) (omega arith) (omega arith) (in_range_among parent ps (behind (next_byte from) p) placed.1))
+      (from_wider from.node (nodes p) from.node (nodes_of (Then p ps)) (entries_under parent p) (omega arith) (omega arith)
+      (in_range parent p (next_byte from) placed.0))
+      (from_wider (from.node + nodes p) (nodes_of ps) from.node (nodes_of (Then p ps)) (entries_among parent ps) (omega arith)
+      (omega arith) (in_range_among parent ps (behind (next_byte from) p) placed.1))
 
 -- The ids of a function in a range of ids.
 record Ranged (at : At) (low count : ℕ) : Type 0 where
@@ -77,36 +86,46 @@ module _ (at : At) (w : Word) (ps : Pieces) where
     after : (e : NodeEntry) → at.end.0 ≤ e.at.id.0 → P e
     itself : (parent : Option NodeId) → AllByRecursion P (entries_under parent (Node at w ps))
 
-  each_before : (P : NodeEntry → Type 0) (low count : ℕ) (es : List NodeEntry) → Given P → low + count ≤ at.id.0 → AreFrom low count es → AllByRecursion P es
+  each_before : (P : NodeEntry → Type 0) (low count : ℕ) (es : List NodeEntry) → Given P → low + count ≤ at.id.0 → AreFrom low count es
+      → AllByRecursion P es
   each_before P low count [] given less all = tt
-  each_before P low count (e ∷ es) given less all = (given.before e (let last = all.0.1 in omega (arith, less, last)), each_before P low count es given less all.1)
+  each_before P low count (e ∷ es) given less all =
+      (given.before e (let last = all.0.1 in omega (arith, less, last)), each_before P low count es given less all.1)
 
-  each_after : (P : NodeEntry → Type 0) (low count : ℕ) (es : List NodeEntry) → Given P → at.end.0 ≤ low → AreFrom low count es → AllByRecursion P es
+  each_after : (P : NodeEntry → Type 0) (low count : ℕ) (es : List NodeEntry) → Given P → at.end.0 ≤ low → AreFrom low count es
+      → AllByRecursion P es
   each_after P low count [] given more all = tt
-  each_after P low count (e ∷ es) given more all = (given.after e (let first = all.0.0 in omega (arith, more, first)), each_after P low count es given more all.1)
+  each_after P low count (e ∷ es) given more all =
+      (given.after e (let first = all.0.0 in omega (arith, more, first)), each_after P low count es given more all.1)
 
   mutual
     -- Such a property is one of all entries of a tree around the function.
-    around : (P : NodeEntry → Type 0) (parent : Option NodeId) (t : Syntax) (from : Position) → IsPlaced from t → Inside (Node at w ps) t → Given P → AllByRecursion P (entries_under parent t)
-    around P parent (Node bt v qs) from placed (inl same) given = subst (λ s. AllByRecursion P (entries_under parent s)) same (given.itself parent)
+    around : (P : NodeEntry → Type 0) (parent : Option NodeId) (t : Syntax) (from : Position) → IsPlaced from t → Inside (Node at w ps) t
+        → Given P → AllByRecursion P (entries_under parent t)
+    around P parent (Node bt v qs) from placed (inl same) given =
+        subst (λ s. AllByRecursion P (entries_under parent s)) same (given.itself parent)
     around P parent (Node bt v qs) from placed (inr more) given =
         let r = ranged_parts qs (inside from v) placed.1 more in
         let number = placed.0.number in
-        let first = r.first in
-        (given.before (record { word = v; parent = parent; at = bt }) (omega (arith, number, first)), around_among P (Some bt.id) qs (inside from v) placed.1 more given)
+        let first = r.first in (
+          given.before (record { word = v; parent = parent; at = bt }) (omega (arith, number, first)),
+          around_among P (Some bt.id) qs (inside from v) placed.1 more given,
+        )
     around P parent (Listed qs) from placed more given = around_among P parent qs from placed more given
     around P parent (Said text) from placed more given = absurd more
     around P parent (Count number) from placed more given = absurd more
     around P parent (Flag flag) from placed more given = absurd more
     around P parent Absent from placed more given = absurd more
 
-    around_among : (P : NodeEntry → Type 0) (parent : Option NodeId) (qs : Pieces) (from : Position) → ArePlaced from qs → InsideOf (Node at w ps) qs → Given P → AllByRecursion P (entries_among parent qs)
+    around_among : (P : NodeEntry → Type 0) (parent : Option NodeId) (qs : Pieces) (from : Position) → ArePlaced from qs
+        → InsideOf (Node at w ps) qs → Given P → AllByRecursion P (entries_among parent qs)
     around_among P parent End from placed more given = absurd more
     around_among P parent (Then q qs) from placed (inl here) given =
         let r = ranged_tree q (next_byte from) placed.0 here in
         each-append P (entries_under parent q) (entries_among parent qs)
         (around P parent q (next_byte from) placed.0 here given)
-        (each_after P (from.node + nodes q) (nodes_of qs) (entries_among parent qs) given r.last (in_range_among parent qs (behind (next_byte from) q) placed.1))
+        (each_after P (from.node + nodes q) (nodes_of qs) (entries_among parent qs) given r.last
+        (in_range_among parent qs (behind (next_byte from) q) placed.1))
     around_among P parent (Then q qs) from placed (inr there) given =
         let r = ranged_parts qs (behind (next_byte from) q) placed.1 there in
         each-append P (entries_under parent q) (entries_among parent qs)
@@ -122,7 +141,10 @@ abbrev MakesOwn : At → Pieces → NodeEntry → Type 0
 MakesOwn at ps e = makes_scope e.word ≡ true → is_inside at e.at.id ≡ true → IsOwnOrInner at ps e.at.scope.0
 
 inside_range : (at : At) (node : NodeId) → is_inside at node ≡ true → (at.id.0 ≤ node.0) × (node.0 < at.end.0)
-inside_range at node is = (leb-true at.id.0 node.0 (both_left (nat_le at.id.0 node.0) (nat_lt node.0 at.end.0) is), ltb-true node.0 at.end.0 (both_right (nat_le at.id.0 node.0) (nat_lt node.0 at.end.0) is))
+inside_range at node is = (
+  leb-true at.id.0 node.0 (both_left (nat_le at.id.0 node.0) (nat_lt node.0 at.end.0) is),
+  ltb-true node.0 at.end.0 (both_right (nat_le at.id.0 node.0) (nat_lt node.0 at.end.0) is),
+)
 
 given_own : (at : At) (w : Word) (ps : Pieces)
     → ((parent : Option NodeId) → AllByRecursion (HasInner ps) (entries_among parent ps)) → Given at w ps (MakesOwn at ps)

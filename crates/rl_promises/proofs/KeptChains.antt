@@ -47,6 +47,15 @@ later_index i le = by_test (nat_eq i 1) refl
     by_test false is = refl
     by_test true is = let one : i ≡ 1 = eqb-true i 1 is in absurd (omega (arith, le, one))
 
+-- A link on the spine of a chain: the spine goes on in its object or callee alone.
+linked : (w : Word) (optional object : Syntax) (rest : Pieces) → (passing false optional ≡ true → IsChainedAt Off optional)
+    → (passing true object ≡ true → IsChainedAt Below object) → (passing_parts true w 2 rest ≡ true → AreChained rest)
+    → passing false optional && (passing true object && passing_parts true w 2 rest) ≡ true
+    → IsChainedAt Off optional × IsChainedAt Below object × AreChained rest
+linked w optional object rest flag spine later kept =
+    let three = three_true (passing false optional) (passing true object) (passing_parts true w 2 rest) kept in
+    (flag three.0, spine three.1, later three.2)
+
 mutual
   -- A tree that keeps the rule has its links where they may be.
   pub chained_at : (place : Spine) (t : Syntax) → passing (on_spine place) t ≡ true → IsChainedAt place t
@@ -75,81 +84,32 @@ mutual
       let both = and_parts (not (first_is is_yes parts)) (passing_parts false word.Call 0 parts) kept in
       (not_true (first_is is_yes parts) both.0, parts_chained false word.Call 0 parts (λ i le. refl) both.1)
   chained_at Off (Node at w parts) kept = parts_chained false w 0 parts (λ i le. refl) kept
-  chained_at Top (Node at word.Member (Then optional (Then object rest))) kept =
-      let three = three_true (passing false optional) (passing true object) (passing_parts true word.Member 2 rest) kept in (
-        chained_at Off optional three.0,
-        chained_at Below object three.1,
-        parts_chained true word.Member 2 rest later_index three.2,
-      )
-  chained_at Top (Node at word.Member (Then optional End)) kept = tt
-  chained_at Top (Node at word.Member End) kept = tt
-  chained_at Top (Node at word.Index (Then optional (Then object rest))) kept =
-      let three = three_true (passing false optional) (passing true object) (passing_parts true word.Index 2 rest) kept in (
-        chained_at Off optional three.0,
-        chained_at Below object three.1,
-        parts_chained true word.Index 2 rest later_index three.2,
-      )
-  chained_at Top (Node at word.Index (Then optional End)) kept = tt
-  chained_at Top (Node at word.Index End) kept = tt
-  chained_at Top (Node at word.Privatemember (Then optional (Then object rest))) kept =
-      let three = three_true (passing false optional) (passing true object) (passing_parts true word.Privatemember 2 rest) kept in (
-        chained_at Off optional three.0,
-        chained_at Below object three.1,
-        parts_chained true word.Privatemember 2 rest later_index three.2,
-      )
-  chained_at Top (Node at word.Privatemember (Then optional End)) kept = tt
-  chained_at Top (Node at word.Privatemember End) kept = tt
-  chained_at Top (Node at word.Call (Then optional (Then object rest))) kept =
-      let three = three_true (passing false optional) (passing true object) (passing_parts true word.Call 2 rest) kept in (
-        chained_at Off optional three.0,
-        chained_at Below object three.1,
-        parts_chained true word.Call 2 rest later_index three.2,
-      )
-  chained_at Top (Node at word.Call (Then optional End)) kept = tt
-  chained_at Top (Node at word.Call End) kept = tt
-  chained_at Top (Node at word.Nonnull (Then expression rest)) kept =
-      chained_at Top expression (and_parts (passing true expression) (passing_parts true word.Nonnull 1 rest) kept).0
-  chained_at Top (Node at word.Nonnull End) kept = tt
-  chained_at Top (Node at w parts) kept = parts_chained true w 0 parts (λ i le. refl) kept
-  chained_at Below (Node at word.Member (Then optional (Then object rest))) kept =
-      let three = three_true (passing false optional) (passing true object) (passing_parts true word.Member 2 rest) kept in (
-        chained_at Off optional three.0,
-        chained_at Below object three.1,
-        parts_chained true word.Member 2 rest later_index three.2,
-      )
-  chained_at Below (Node at word.Member (Then optional End)) kept = tt
-  chained_at Below (Node at word.Member End) kept = tt
-  chained_at Below (Node at word.Index (Then optional (Then object rest))) kept =
-      let three = three_true (passing false optional) (passing true object) (passing_parts true word.Index 2 rest) kept in (
-        chained_at Off optional three.0,
-        chained_at Below object three.1,
-        parts_chained true word.Index 2 rest later_index three.2,
-      )
-  chained_at Below (Node at word.Index (Then optional End)) kept = tt
-  chained_at Below (Node at word.Index End) kept = tt
-  chained_at Below (Node at word.Privatemember (Then optional (Then object rest))) kept =
-      let three = three_true (passing false optional) (passing true object) (passing_parts true word.Privatemember 2 rest) kept in (
-        chained_at Off optional three.0,
-        chained_at Below object three.1,
-        parts_chained true word.Privatemember 2 rest later_index three.2,
-      )
-  chained_at Below (Node at word.Privatemember (Then optional End)) kept = tt
-  chained_at Below (Node at word.Privatemember End) kept = tt
-  chained_at Below (Node at word.Call (Then optional (Then object rest))) kept =
-      let three = three_true (passing false optional) (passing true object) (passing_parts true word.Call 2 rest) kept in (
-        chained_at Off optional three.0,
-        chained_at Below object three.1,
-        parts_chained true word.Call 2 rest later_index three.2,
-      )
-  chained_at Below (Node at word.Call (Then optional End)) kept = tt
-  chained_at Below (Node at word.Call End) kept = tt
-  chained_at Below (Node at word.Nonnull (Then expression rest)) kept =
-      chained_at Below expression (and_parts (passing true expression) (passing_parts true word.Nonnull 1 rest) kept).0
-  chained_at Below (Node at word.Nonnull End) kept = tt
-  chained_at Below (Node at w parts) kept = parts_chained true w 0 parts (λ i le. refl) kept
+  chained_at place (Node at word.Member (Then optional (Then object rest))) kept =
+      linked word.Member optional object rest (chained_at Off optional) (chained_at Below object)
+      (parts_chained true word.Member 2 rest later_index) kept
+  chained_at place (Node at word.Member (Then optional End)) kept = tt
+  chained_at place (Node at word.Member End) kept = tt
+  chained_at place (Node at word.Index (Then optional (Then object rest))) kept =
+      linked word.Index optional object rest (chained_at Off optional) (chained_at Below object)
+      (parts_chained true word.Index 2 rest later_index) kept
+  chained_at place (Node at word.Index (Then optional End)) kept = tt
+  chained_at place (Node at word.Index End) kept = tt
+  chained_at place (Node at word.Privatemember (Then optional (Then object rest))) kept =
+      linked word.Privatemember optional object rest (chained_at Off optional) (chained_at Below object)
+      (parts_chained true word.Privatemember 2 rest later_index) kept
+  chained_at place (Node at word.Privatemember (Then optional End)) kept = tt
+  chained_at place (Node at word.Privatemember End) kept = tt
+  chained_at place (Node at word.Call (Then optional (Then object rest))) kept =
+      linked word.Call optional object rest (chained_at Off optional) (chained_at Below object)
+      (parts_chained true word.Call 2 rest later_index) kept
+  chained_at place (Node at word.Call (Then optional End)) kept = tt
+  chained_at place (Node at word.Call End) kept = tt
+  chained_at place (Node at word.Nonnull (Then expression rest)) kept =
+      chained_at place expression (and_parts (passing true expression) (passing_parts true word.Nonnull 1 rest) kept).0
+  chained_at place (Node at word.Nonnull End) kept = tt
+  chained_at place (Node at w parts) kept = parts_chained true w 0 parts (λ i le. refl) kept
   chained_at Off (Listed parts) kept = items_chained parts kept
-  chained_at Top (Listed parts) kept = tt
-  chained_at Below (Listed parts) kept = tt
+  chained_at place (Listed parts) kept = tt
   chained_at place (Said text) kept = tt
   chained_at place (Count number) kept = tt
   chained_at place (Flag flag) kept = tt

@@ -23,7 +23,8 @@ ascends_then : (xs ys : List ℕ) (low between high : ℕ) → Ascends low xs be
 ascends_then [] ys low between high r s = ascends_from ys low between high r s
 ascends_then (x ∷ xs) ys low between high r s = (r.0, ascends_then xs ys (x + 1) between high r.1 s)
 
-node_ascends : (b : Bool) (id : ℕ) (more : List ℕ) (low high : ℕ) → id ≡ low → Ascends (low + 1) more high → Ascends low ((if b then [] else id ∷ []) ++ more) high
+node_ascends : (b : Bool) (id : ℕ) (more : List ℕ) (low high : ℕ) → id ≡ low → Ascends (low + 1) more high
+    → Ascends low ((if b then [] else id ∷ []) ++ more) high
 node_ascends true id more low high here r = ascends_from more low (low + 1) high (omega arith) r
 node_ascends false id more low high here r = (omega (arith, here), ascends_from more (id + 1) (low + 1) high (omega (arith, here)) r)
 
@@ -34,18 +35,22 @@ mutual
   uncovered_ascend : (t : Syntax) (from : Position) → IsPlaced from t → Ascends from.node (uncovered t) (from.node + nodes t)
   uncovered_ascend (Node at w parts) from placed =
       node_ascends (covers w parts) at.id.0 (uncovered_among parts) from.node (from.node + (nodes_of parts + 1)) placed.0.number
-      (ascends_to (uncovered_among parts) (from.node + 1) (from.node + 1 + nodes_of parts) (from.node + (nodes_of parts + 1)) (omega arith) (uncovered_among_ascend parts (inside from w) placed.1))
+      (ascends_to (uncovered_among parts) (from.node + 1) (from.node + 1 + nodes_of parts) (from.node + (nodes_of parts + 1))
+      (omega arith) (uncovered_among_ascend parts (inside from w) placed.1))
   uncovered_ascend (Listed parts) from placed = uncovered_among_ascend parts from placed
   uncovered_ascend (Said text) from placed = omega arith
   uncovered_ascend (Count number) from placed = omega arith
   uncovered_ascend (Flag flag) from placed = omega arith
   uncovered_ascend Absent from placed = omega arith
 
-  uncovered_among_ascend : (ps : Pieces) (from : Position) → ArePlaced from ps → Ascends from.node (uncovered_among ps) (from.node + nodes_of ps)
+  uncovered_among_ascend : (ps : Pieces) (from : Position) → ArePlaced from ps
+      → Ascends from.node (uncovered_among ps) (from.node + nodes_of ps)
   uncovered_among_ascend End from placed = omega arith
   uncovered_among_ascend (Then p ps) from placed =
-      ascends_then (uncovered p) (uncovered_among ps) from.node (from.node + nodes p) (from.node + (nodes p + nodes_of ps)) (uncovered_ascend p (next_byte from) placed.0)
-      (ascends_to (uncovered_among ps) (from.node + nodes p) (from.node + nodes p + nodes_of ps) (from.node + (nodes p + nodes_of ps)) (omega arith) (uncovered_among_ascend ps (behind (next_byte from) p) placed.1))
+      ascends_then (uncovered p) (uncovered_among ps) from.node (from.node + nodes p) (from.node + (nodes p + nodes_of ps))
+      (uncovered_ascend p (next_byte from) placed.0)
+      (ascends_to (uncovered_among ps) (from.node + nodes p) (from.node + nodes p + nodes_of ps) (from.node + (nodes p + nodes_of ps))
+      (omega arith) (uncovered_among_ascend ps (behind (next_byte from) p) placed.1))
 
 all_from : (xs : List ℕ) (low high : ℕ) → Ascends low xs high → All (λ x. low ≤ x) xs
 all_from [] low high r = λ k d within. absurd (omega (arith, within))
@@ -75,6 +80,7 @@ in_ascend (Node at word.Funexpr parts) from placed = parts_ascend word.Funexpr p
 in_ascend f from placed = uncovered_ascend f from placed
 
 -- The node that a function waits for is the least that is not covered.
-pub least_of : (f : Syntax) (o : Option NodeId) → option_map (λ (n : NodeId). n.0) o ≡ first (uncovered_in f) → (from : Position) → IsPlaced from f → IfSome o (λ n. All (λ id. n.0 ≤ id) (uncovered_in f))
+pub least_of : (f : Syntax) (o : Option NodeId) → option_map (λ (n : NodeId). n.0) o ≡ first (uncovered_in f) → (from : Position)
+    → IsPlaced from f → IfSome o (λ n. All (λ id. n.0 ≤ id) (uncovered_in f))
 least_of f None is from placed = tt
 least_of f (Some n) is from placed = first_least (uncovered_in f) from.node (from.node + nodes f) n.0 (in_ascend f from placed) (sym is)

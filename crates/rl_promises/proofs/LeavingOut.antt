@@ -21,7 +21,8 @@ wrapped_node at word.Assert parts = refl
 wrapped_node at word.Nonnull parts = refl
 wrapped_node at _ parts = refl
 
-pub wrapped_form : (at : At) (w : Word) (parts : List Numbered) (r : Bool) → r ≡ wraps w → r ≡ is_wrapped (syntax (numbered.Node at w parts))
+pub wrapped_form : (at : At) (w : Word) (parts : List Numbered) (r : Bool) → r ≡ wraps w
+    → r ≡ is_wrapped (syntax (numbered.Node at w parts))
 wrapped_form at w parts r e = e ∙ wrapped_node at w (pieces_of (map syntax parts)) ∙ ap is_wrapped (sym (syntax_node at w parts))
 
 lost_node : (at : At) (w : Word) (parts : Pieces) → loses_head w ≡ is_lost_head (Node at w parts)
@@ -55,7 +56,8 @@ bracketed_node at _ parts = refl
 
 pub bracketed_form : (at : At) (w : Word) (parts : List Numbered) (r : Bool) → r ≡ fits_brackets w
     → r ≡ is_known_key true (syntax (numbered.Node at w parts))
-bracketed_form at w parts r e = e ∙ bracketed_node at w (pieces_of (map syntax parts)) ∙ ap (is_known_key true) (sym (syntax_node at w parts))
+bracketed_form at w parts r e =
+    e ∙ bracketed_node at w (pieces_of (map syntax parts)) ∙ ap (is_known_key true) (sym (syntax_node at w parts))
 
 pub ruleset keys = (key_form, bracketed_form)
 

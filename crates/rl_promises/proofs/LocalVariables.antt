@@ -1,6 +1,6 @@
 -- The local variables of a covered function of a unit: its parameters, each with a symbol and a name of its own, and the variables that
 -- its body declares.
-use Rattle.std.proofs.Common.{◌≡◌, ◌≤◌, ◌<◌, ◌+◌, ◌^◌, Bool, true, false, true≢false, ◌&&◌, ◌||◌, if◌then◌else◌, ℕ, inl, inr, Option, Some, None, [], ◌++◌, length, slice_get, All, refl, sym, ap, subst, ◌∙◌, arith}
+use Rattle.std.proofs.Common.{◌≡◌, ◌≤◌, ◌<◌, ◌+◌, ◌^◌, Bool, true, false, true≢false, ◌&&◌, ◌||◌, if◌then◌else◌, ℕ, inl, inr, Option, Some, None, [], ◌++◌, length, slice_get, append_assoc, All, refl, sym, ap, subst, ◌∙◌, arith}
 use Rattle.std.proofs.lemmas.Bool.{or_parts}
 use Rattle.std.proofs.lemmas.List.Elements.{All-from_recursion}
 use Rattle.std.proofs.lemmas.Option.{slice_get_within}
@@ -23,12 +23,18 @@ use Rattle.rl_bindings.specs.declared.event.BindKind.TheVariants as kind
 use Rattle.rl_bindings.specs.declared.event.Bound.{Bound}
 use Rattle.rl_names.proofs.Declarations.{Ascends, ascending, ascends_few, declared_by_nodes, declares}
 use Rattle.rl_names.proofs.FunctionScopes.{Found, IsOther, Splits, found, scope_inside_parts}
-use Rattle.rl_names.proofs.Items.{Has, each_has}
+use Rattle.rl_names.proofs.Items.{Has, each_has, each_weaker, has_cases, has_left}
 use Rattle.rl_names.proofs.MarkedScopes.{scope_above}
 use Rattle.rl_names.proofs.Marks.{keeps_named}
 use Rattle.rl_names.proofs.NameTexts.{IsKnown, texts_inside, texts_known}
-use Rattle.rl_names.proofs.ParameterNames.{IsTold, all_apart, all_named, all_spanned, are_declared, clashes_last, params_form}
-use Rattle.rl_names.proofs.PlainParameters.{param_bounds}
+use Rattle.rl_context.specs.Index.{declaration_span, span_among}
+use Rattle.rl_context.specs.Sites.{sites_in}
+use Rattle.rl_promises.proofs.ParameterDeclarations.{IsFirst, row_first}
+use Rattle.rl_promises.proofs.ParameterSites.{row_sited}
+use Rattle.rl_names.proofs.PlainParameters.{param_above}
+use Rattle.rl_names.specs.Functions.{parameters_of}
+use Rattle.rl_names.specs.declared.parameters.Parameter.{Parameter}
+use Rattle.rl_names.proofs.ParameterNames.{IsParam, IsTold, clashes_last}
 use Rattle.rl_names.proofs.SymbolNumbers.{HasSymbol, few_symbols, symbol_declared}
 use Rattle.rl_names.proofs.UnitSymbols.{has_split, meaning_local, not_repeated, split_has, told, unit_names}
 use Rattle.rl_names.proofs.UnitTexts.{unit_texts}
@@ -39,7 +45,10 @@ use Rattle.rl_promises.specs.Locals.{DeclaresVariable, HasLocals, IsSmallSpan, I
 use Rattle.rl_promises.proofs.FirstDeclarations.{Leads, first_leads, first_value, has_lead, leads_further}
 use Rattle.rl_promises.proofs.FunctionParts.{FunctionParts, function_parts}
 use Rattle.rl_promises.proofs.InnerScopes.{scope_in_function}
+use Rattle.rl_promises.proofs.ParameterDeclarations.{all_bounds, all_declared, row_apart, row_bounds, row_named, row_params, row_spanned}
+use Rattle.rl_promises.proofs.ReferenceRanges.{scope_counts}
 use Rattle.rl_promises.proofs.SmallNames.{HasSmallSpan, small_spans, symbol_utf8}
+use Rattle.rl_promises.proofs.ToldApart.{told_apart}
 use Rattle.rl_promises.proofs.VariableTrees.{DeclareVariables, InnerScope, IsValue, inside_through, only_values}
 use Rattle.rl_resolver.specs.Imported.{import_data}
 use Rattle.rl_resolver.specs.Kinds.{has_identifier}
@@ -165,17 +174,22 @@ module _ (u : Syntax) (placed : IsPlaced outset u) (kept : least_broken u ≡ No
         (sym (declared_by_nodes (names_in u) u top)) place.splits)
 
     -- Before the parameters the scope of the function holds own names alone.
-    params_lead : Leads p.at.scope.0 (bounds (events_in u)) (param_bounds (names_in u) p.at p.items)
+    params_lead : Leads p.at.scope.0 (bounds (events_in u)) (all_bounds (names_in u) p.at p.items p.rest)
     params_lead =
         leads_further p.at.scope.0 (bounds (events_in u)) (declares (names_in u) place.over f)
-        (param_bounds (names_in u) p.at p.items) function_splits
-        (p.leads (names_in u) place.over place.other)
+        (all_bounds (names_in u) p.at p.items p.rest) function_splits (p.leads (names_in u) place.over place.other)
 
-    -- The names tell of each parameter's declaration which symbol it declares.
-    params_told : (b : Bound) → Has (param_bounds (names_in u) p.at p.items) b
+    -- The names tell of each declaration in the parameters which symbol it declares.
+    params_told : (b : Bound) → Has (all_bounds (names_in u) p.at p.items p.rest) b
         → IsTold (names_in u) (symbols_in u) (unit_names u p.at) p.at b
     params_told b has =
-        told u p.at placed few b (has_lead p.at.scope.0 (bounds (events_in u)) (param_bounds (names_in u) p.at p.items) b params_lead has)
+        told u p.at placed few b
+        (has_lead p.at.scope.0 (bounds (events_in u)) (all_bounds (names_in u) p.at p.items p.rest) b params_lead has)
+
+    items_told : (b : Bound) → Has (row_bounds (names_in u) p.at p.items) b
+        → IsTold (names_in u) (symbols_in u) (unit_names u p.at) p.at b
+    items_told b has =
+        params_told b (has_left (row_bounds (names_in u) p.at p.items) (row_bounds (names_in u) p.at p.rest) b has)
 
     params_known : AllByRecursion (IsKnown (names_in u)) (texts_of p.items)
     params_known =
@@ -183,29 +197,57 @@ module _ (u : Syntax) (placed : IsPlaced outset u) (kept : least_broken u ≡ No
         (subst (λ t. AllByRecursion (IsKnown (names_in u)) (texts t)) (sym p.is)
         (texts_inside (IsKnown (names_in u)) u (Node p.at p.w p.parts) there (texts_known u)))
 
-    params_unrepeated : clashes is_repeat params_lead.before (param_bounds (names_in u) p.at p.items ++ params_lead.after) ≡ false
+    params_unrepeated : clashes is_repeat params_lead.before (all_bounds (names_in u) p.at p.items p.rest ++ params_lead.after) ≡ false
     params_unrepeated =
-        clashes_last is_repeat [] params_lead.before (param_bounds (names_in u) p.at p.items ++ params_lead.after)
+        clashes_last is_repeat [] params_lead.before (all_bounds (names_in u) p.at p.items p.rest ++ params_lead.after)
         (subst (λ l. clashes is_repeat [] l ≡ false) params_lead.is no_repeat)
+
+    -- Each of the declarations is one of a parameter.
+    params_are : (b : Bound) → Has (all_bounds (names_in u) p.at p.items p.rest) b
+        → IsParam (names_in u) (symbols_in u) (unit_names u p.at) p.at b
+    params_are b has =
+        elim (has_cases (row_bounds (names_in u) p.at p.items) (row_bounds (names_in u) p.at p.rest) b has) [
+          | inl early ↦ row_params (names_in u) (symbols_in u) (unit_names u p.at) p.at p.items p.calm b early
+          | inr late ↦ row_params (names_in u) (symbols_in u) (unit_names u p.at) p.at p.rest p.calm_rest b late
+        ]
 
     params_apart : AreApart (parameters_among (unit_names u p.at) p.items)
     params_apart =
-        all_apart (names_in u) (symbols_in u) (unit_names u p.at) p.at p.items params_lead.before params_lead.after p.plain params_told
-        params_known params_unrepeated
+        let items = row_bounds (names_in u) p.at p.items in
+        let rest = row_bounds (names_in u) p.at p.rest in
+        row_apart (names_in u) (symbols_in u) (unit_names u p.at) p.at p.items params_lead.before (rest ++ params_lead.after)
+        (λ b has. params_are b (has_left items rest b has)) items_told params_known
+        (subst (λ l. clashes is_repeat params_lead.before l ≡ false) (append_assoc items rest params_lead.after) params_unrepeated)
 
     -- The symbol of a parameter is known by a parameter.
-    params_first : (b : Bound) → Has (param_bounds (names_in u) p.at p.items) b → (s : HasSymbol (symbols_in u) b)
-        → Has (param_bounds (names_in u) p.at p.items) s.first
+    params_first : (b : Bound) → Has (all_bounds (names_in u) p.at p.items p.rest) b → (s : HasSymbol (symbols_in u) b)
+        → Has (all_bounds (names_in u) p.at p.items p.rest) s.first
     params_first b has s =
-        let form = params_form (names_in u) (symbols_in u) (unit_names u p.at) p.at p.items p.plain b has in
-        first_leads p.at.scope.0 (bounds (events_in u)) (param_bounds (names_in u) p.at p.items) b params_lead has
+        let form = params_are b has in
+        first_leads p.at.scope.0 (bounds (events_in u)) (all_bounds (names_in u) p.at p.items p.rest) b params_lead has
         (ap (λ x. x.0) form.scope_is) (ap is_own form.kind_is) s
 
     params_spanned : AllByRecursion (λ q. span_of_symbol u q.symbol.0 ≡ Some q.declaration) (parameters_among (unit_names u p.at) p.items)
     params_spanned =
-        all_spanned (names_in u) (symbols_in u) (unit_names u p.at) p.at p.items params_lead.before params_lead.after
-        (λ n. refl) p.plain params_told params_known
-        params_unrepeated params_first
+        let items = row_bounds (names_in u) p.at p.items in
+        let rest = row_bounds (names_in u) p.at p.rest in
+        row_spanned (names_in u) (symbols_in u) (unit_names u p.at) p.at p.items (items ++ rest) params_lead.before params_lead.after
+        (λ n. refl) (λ b has. has_left items rest b has) params_are items_told params_known params_unrepeated params_first
+
+    -- The index of the function has the declaration of each parameter.
+    pub params_sited : AllByRecursion (λ q. declaration_span (sites_in f) (symbols_in u) q.symbol.0 ≡ Some q.declaration)
+        (parameters_among (unit_names u p.at) p.items)
+    params_sited =
+        let items = row_bounds (names_in u) p.at p.items in
+        let rest = row_bounds (names_in u) p.at p.rest in
+        each_weaker (IsFirst (names_in u) (symbols_in u) (unit_names u p.at) p.at items)
+        (λ q. declaration_span (sites_in f) (symbols_in u) q.symbol.0 ≡ Some q.declaration) (parameters_among (unit_names u p.at) p.items)
+        (λ q i. ap (λ (o : Option Bound). of_item None (span_among (sites_in f)) o) i.is
+        ∙ ap (λ (b : Bool). if b then Some i.bound.span else None)
+        (row_sited (names_in u) i.bound f p.pat p.items p.rest p.params p.calm (param_above p.at) i.has)
+        ∙ ap (λ (s : Span). Some s) (sym i.span_is))
+        (row_first (names_in u) (symbols_in u) (unit_names u p.at) p.at p.items (items ++ rest) params_lead.before params_lead.after
+        (λ b has. has_left items rest b has) params_are items_told params_known params_unrepeated params_first)
 
     -- None of the function's declarations is of a type.
     function_values : AllByRecursion IsValue (declares (names_in u) place.over f)
@@ -216,15 +258,16 @@ module _ (u : Syntax) (placed : IsPlaced outset u) (kept : least_broken u ≡ No
         value_declares p.at b (has_split p.at.scope.0 (bounds (events_in u)) (declares (names_in u) place.over f) b function_splits has)
         (each_has IsValue (declares (names_in u) place.over f) b function_values has)
 
-    -- An inner scope of the function is another than that of the program.
-    inner_above : (k : ℕ) (i : InnerScope k p.parts) → 0 < k
+    -- An inner scope of the function stands behind the function's.
+    inner_above : (k : ℕ) (i : InnerScope k p.parts) → p.at.scope.0 < k
     inner_above k i =
         let stands = inside_placed u (Node p.at p.w p.parts) outset placed there in
         let among = scope_inside_parts i.at i.w i.parts i.maker p.parts (inside stands.from p.w) stands.placed.1 i.inside in
         let own = stands.placed.0.scope in
         let low = among.above in
         let number = i.number in
-        omega (arith, above, own, low, number)
+        let one = scope_counts p.w p.maker in
+        omega (arith, own, low, number, one)
 
     -- No type is declared in an inner scope.
     inner_value : (k : ℕ) (i : InnerScope k p.parts) (b : Bound) → Has (bounds (events_in u)) b → b.scope.0 ≡ k → is_type b.kind ≡ false
@@ -281,17 +324,18 @@ module _ (u : Syntax) (placed : IsPlaced outset u) (kept : least_broken u ≡ No
         let declared = p.declared names (names_in u) place.over function_declares in
         record {
           declared = subst (λ t. DeclaresAll names t) (sym p.params)
-              (are_declared (names_in u) (symbols_in u) names p.at p.items p.plain params_told);
+              (all_declared (names_in u) (symbols_in u) names p.at p.items items_told);
           apart = subst (λ t. AreApart (parameters_in names t)) (sym p.params) params_apart;
           locals = record {
             named =
                 subst (λ t. All (λ q. symbol_name (names_in u) (symbols_in u) q.symbol.0 ≡ q.name) (parameters_in names t)) (sym p.params)
                 (All-from_recursion (λ q. symbol_name (names_in u) (symbols_in u) q.symbol.0 ≡ q.name) parameters
-                (all_named (names_in u) (symbols_in u) names p.at p.items (λ s. refl) p.plain params_told params_known));
+                (row_named (names_in u) (symbols_in u) names p.at p.items (λ s. refl) items_told params_known));
             spanned = subst (λ t. All (λ q. span_of_symbol u q.symbol.0 ≡ Some q.declaration) (parameters_in names t)) (sym p.params)
                 (All-from_recursion (λ q. span_of_symbol u q.symbol.0 ≡ Some q.declaration) parameters params_spanned);
           };
           params = declared.0;
+          told = told_apart u f placed p there above inner_above (λ b has. (params_told b has, params_are b has));
           body = declared.1;
           knows = record {
             outer = unit_texts u (Node p.at p.w p.parts) writable;
@@ -315,3 +359,20 @@ has_locals u f grammar placed writable short few kept is covered =
     subst (λ a. HasLocals (unit_names u a) f) (sym (ap at_of p.is))
     (function_locals u placed kept few f p within
     (scope_above p.at p.w p.parts marked p.maker u outset grammar placed within) writable short)
+
+-- In a unit that breaks no rule, the index of its marked function has the declarations of its parameters, if it is covered.
+pub has_sited : (u f : Syntax) → IsOfGrammar u → IsPlaced outset u → nodes u ≤ 65536
+    → least_broken u ≡ None → first (marked_functions u) ≡ Some f → IsCoveredFunction f
+    → All (λ q. declaration_span (sites_in f) (symbols_in u) q.symbol.0 ≡ Some q.declaration) (parameters_of (function_names u f) f)
+has_sited u f grammar placed few kept is covered =
+    let there = first_found u f is in
+    let p = function_parts f (marked_fits u f is grammar) covered in
+    let within : Inside (Node p.at p.w p.parts) u = subst (λ t. Inside t u) p.is there.0 in
+    let marked : is_marked p.w p.parts ≡ true = marked_again f p.at p.w p.parts p.is there.1 in
+    let Sited : Parameter → Type 0 = λ q. declaration_span (sites_in f) (symbols_in u) q.symbol.0 ≡ Some q.declaration in
+    subst (λ a. All (λ q. declaration_span (sites_in f) (symbols_in u) q.symbol.0 ≡ Some q.declaration) (parameters_of (unit_names u a) f))
+    (sym (ap at_of p.is))
+    (subst (λ t. All (λ q. declaration_span (sites_in f) (symbols_in u) q.symbol.0 ≡ Some q.declaration) (parameters_in (unit_names u p.at) t))
+    (sym p.params)
+    (All-from_recursion Sited (parameters_among (unit_names u p.at) p.items)
+    (params_sited u placed kept few f p within (scope_above p.at p.w p.parts marked p.maker u outset grammar placed within))))

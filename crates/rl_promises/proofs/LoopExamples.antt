@@ -147,7 +147,7 @@ abbrev calls_at : (start : ℕ) → Syntax
 calls_at start = node start word.Expr (call_at start ∷ [])
 
 abbrev live : List Syntax → List Held
-live statements = live_in_body (body_in (function [] statements))
+live statements = live_in_body (names_of (of statements)) (body_in (function [] statements))
 
 abbrev held : (start : ℕ) → Held
 held start = record { word = codes "call"; span = span start }

@@ -11,7 +11,7 @@ use Rattle.rl_base.specs.declared.span.Span.{Span}
 use Rattle.rl_model.specs.Actions.{Label}
 use Rattle.rl_context.specs.Sites.{sites_in}
 use Rattle.rl_context.specs.Wrapped as wrapped
-use Rattle.rl_model.specs.Shapes.{are_raw, is_logical}
+use Rattle.rl_model.specs.Shapes.{are_raw, is_absent, is_logical, is_plain_rest}
 use Rattle.rl_names.specs.Functions.{body_in, params_in}
 use Rattle.rl_names.specs.Names.{Names, local_of}
 use Rattle.rl_promises.proofs.LoopHeads.{plain_in_front}
@@ -22,12 +22,15 @@ use Rattle.rl_promises.proofs.CoveredWorlds.{body_covered, params_covered}
 use Rattle.rl_promises.proofs.Unwrapped.{AreUnwrapped, IsUnwrapped, body_unwrapped, params_unwrapped}
 use Rattle.rl_promises.specs.Jumps.{Around, InLoop, InSwitch, own_label, within_label}
 use Rattle.rl_promises.specs.Locals.{DeclareIn, DeclaresIn, DeclaresVariable, HasLocals}
-use Rattle.rl_promises.specs.Lowerable.{AreLowerable, AreLowerableCases, AreLowerableIn, DeclaresFree, IsFree, IsLowerable, IsLowerableAt}
-use Rattle.rl_promises.specs.Lowerable.{IsLowerableBody, IsLowerableCase, IsLowerableHead, IsLowerableIn, Where}
+use Rattle.rl_promises.specs.Lowerable.{AreFreeAhead, AreLowerable, AreLowerableCases, AreLowerableIn, AreLowerableTo, DeclaresFree, IsFree}
+use Rattle.rl_promises.specs.Lowerable.{IsFreeAhead, IsLowerable, IsLowerableAt, IsLowerableBody, IsLowerableCase, IsLowerableHead}
+use Rattle.rl_promises.specs.Lowerable.{IsLowerableIn, IsLowerableTo, Where}
 use Rattle.rl_promises.specs.Outs.{is_known_key, is_lost_delete, is_lost_head, is_wrapped}
-use Rattle.rl_promises.specs.Stops.{first_among, first_stop, stop_among, stop_at_head, stop_in, stop_in_body, stop_in_case, stop_in_cases}
-use Rattle.rl_promises.specs.Stops.{stop_of, stop_of_local}
-use Rattle.rl_syntax.specs.Syntax.{Syntax, Node, Listed, Said, Count, Flag, Absent, Pieces, End, Then}
+use Rattle.rl_promises.specs.Patterns.{is_ahead, is_lost_item, is_pattern, local_at, stop_of_caught, target_under}
+use Rattle.rl_promises.specs.Stops.{first_among, first_in_round, first_stop, stop_ahead, stop_among, stop_at_head, stop_in, stop_in_body}
+use Rattle.rl_promises.specs.Stops.{stop_in_case, stop_in_cases, stop_of, stop_of_local, stop_to, stop_to_all}
+use Rattle.rl_semantic.specs.Items.{of_item}
+use Rattle.rl_syntax.specs.Syntax.{Syntax, Node, Listed, Said, Count, Flag, Absent, Pieces, End, Then, span_of}
 use Rattle.rl_syntax.specs.declared.numbered.At.{At}
 use Rattle.rl_syntax.specs.declared.word.Word.{Word}
 use Rattle.rl_syntax.specs.declared.word.Word.TheVariants as word
@@ -63,18 +66,94 @@ where_test : (test : Bool) (stop : Option Diagnostic) (A : Type 0) → (if test 
 where_test true stop A none holds = holds none
 where_test false stop A none holds = tt
 
+not_held : (test : Bool) → not test ≡ true → test ≡ false
+not_held true is = sym is
+not_held false is = refl
+
 where_not : (test : Bool) (stop : Option Diagnostic) (A : Type 0) → (if test then None else stop) ≡ None → (stop ≡ None → A)
     → Where (not test) A
 where_not true stop A none holds = tt
 where_not false stop A none holds = holds none
 
--- The target and the value of an assignment, by its operator: `=`, a logical one, or another.
-where_assigned : (plain logical : Bool) (target right : Option Diagnostic) (A : Type 0)
-    → (if plain then option_or right target else if logical then None else option_or target right) ≡ None
-    → (target ≡ None → right ≡ None → A) → Where (not logical) A
-where_assigned plain true target right A none holds = tt
-where_assigned true false target right A none holds = let both = none_both right target none in holds both.1 both.0
-where_assigned false false target right A none holds = let both = none_both target right none in holds both.0 both.1
+-- The target and the value of an assignment, by its operator, which is `=`, a logical one, or another, and by whether the target is a
+-- pattern.
+where_assigned : (plain logical apart : Bool) (target right to : Option Diagnostic) (A B : Type 0)
+    → (if plain then option_or right (if apart then to else target)
+    else if logical then None else if apart then None else option_or target right) ≡ None
+    → (target ≡ None → right ≡ None → A) → (to ≡ None → right ≡ None → B)
+    → Where (not apart) (Where (not logical) A) × Where apart (Where plain B)
+where_assigned true logical true target right to A B none holds takes =
+    let both = none_both right to none in (tt, takes both.1 both.0)
+where_assigned true true false target right to A B none holds takes = (tt, tt)
+where_assigned true false false target right to A B none holds takes =
+    let both = none_both right target none in (holds both.1 both.0, tt)
+where_assigned false logical true target right to A B none holds takes = (tt, tt)
+where_assigned false true false target right to A B none holds takes = (tt, tt)
+where_assigned false false false target right to A B none holds takes =
+    let both = none_both target right none in (holds both.0 both.1, tt)
+
+-- Of a pattern's items that have no stop in either round, none has one.
+
+both_rounds : (test : Bool) (stop ahead behind among : Option Diagnostic) → (ahead ≡ None → behind ≡ None → among ≡ None)
+    → option_or (if test then stop else None) ahead ≡ None → option_or (if not test then stop else None) behind ≡ None
+    → option_or stop among ≡ None
+both_rounds true stop ahead behind among later one two =
+    let first = none_both stop ahead one in ap (λ o. option_or o among) first.0 ∙ later first.1 two
+both_rounds false stop ahead behind among later one two =
+    let second = none_both stop behind two in ap (λ o. option_or o among) second.0 ∙ later one second.1
+
+no_rounds : (names : Names) (items : Pieces) → first_in_round names true items ≡ None → first_in_round names false items ≡ None
+    → first_among names items ≡ None
+no_rounds names End ahead behind = refl
+no_rounds names (Then item items) ahead behind =
+    both_rounds (is_ahead item) (first_stop names item) (first_in_round names true items) (first_in_round names false items)
+    (first_among names items) (no_rounds names items) ahead behind
+
+-- A tree that is lowered before others or behind them has no stop, if neither time it has one.
+either_time : (test : Bool) (stop : Option Diagnostic) → (if test then stop else None) ≡ None → (if test then None else stop) ≡ None
+    → stop ≡ None
+either_time true stop ahead behind = ahead
+either_time false stop ahead behind = behind
+
+-- The parts of an array pattern, and of an object pattern, without a stop.
+
+array_parts : (names : Names) (listed : Pieces) (last : Syntax)
+    → option_or (first_in_round names true listed)
+    (option_or (if is_ahead last then first_stop names last else None)
+    (option_or (first_in_round names false listed) (if is_ahead last then None else first_stop names last))) ≡ None
+    → (first_among names listed ≡ None) × (first_stop names last ≡ None)
+array_parts names listed last none =
+    let late : Option Diagnostic = if is_ahead last then None else first_stop names last in
+    let early : Option Diagnostic = if is_ahead last then first_stop names last else None in
+    let first = none_both (first_in_round names true listed) (option_or early (option_or (first_in_round names false listed) late)) none in
+    let second = none_both early (option_or (first_in_round names false listed) late) first.1 in
+    let third = none_both (first_in_round names false listed) late second.1 in
+    (no_rounds names listed first.0 third.0, either_time (is_ahead last) (first_stop names last) second.0 third.1)
+
+object_parts : (names : Names) (listed : Pieces) (last : Syntax)
+    → option_or (first_in_round names true listed)
+    (option_or (if is_plain_rest last then first_stop names last else None) (first_in_round names false listed)) ≡ None
+    → (first_among names listed ≡ None) × ((if is_plain_rest last then first_stop names last else None) ≡ None)
+object_parts names listed last none =
+    let early : Option Diagnostic = if is_plain_rest last then first_stop names last else None in
+    let first = none_both (first_in_round names true listed) (option_or early (first_in_round names false listed)) none in
+    let second = none_both early (first_in_round names false listed) first.1 in (no_rounds names listed first.0 second.1, second.0)
+
+-- The names of a target that are looked at first are not reserved, where there is no stop at them.
+
+free_ahead : (names : Names) (local : Option SymbolId) (label : Span) (behind : Option Diagnostic) (A : Type 0)
+    → of_item None (λ (symbol : SymbolId). option_or (stop_of_local names (Some symbol) label) behind) local ≡ None
+    → (behind ≡ None → A) → IsFreeAhead names local A
+free_ahead names None label behind A none holds = tt
+free_ahead names (Some symbol) label behind A none holds =
+    let both = none_both (stop_of_local names (Some symbol) label) behind none in
+    (not_found (is_reserved (names.name symbol.0)) (diagnostic_at row.S1 (names.name symbol.0) label) both.0, holds both.1)
+
+all_free_ahead : (names : Names) (items : Pieces) → stop_ahead names items ≡ None → AreFreeAhead names items
+all_free_ahead names End none = tt
+all_free_ahead names (Then item items) none =
+    free_ahead names (local_at names (target_under item)) (span_of (target_under item)) (stop_ahead names items) (AreFreeAhead names items)
+    none (all_free_ahead names items)
 
 -- True of chains, their links, and `!`: the nodes that are on a spine, or have one.
 abbrev is_spine : Word → Bool
@@ -99,7 +178,7 @@ chained_parts Off at w parts other chained = chained
 chained_parts Top at w parts other chained = chained
 chained_parts Below at w parts other chained = chained
 
--- A conditional or logical expression and a declarator are lowerable anywhere, if their parts are.
+-- Nodes whose parts are lowered in another order are lowerable anywhere, if their parts are.
 
 conditional_at : (names : Names) (place : Spine) (at : At) (parts : Pieces) → AreLowerable names parts
     → IsLowerableAt names place (Node at word.Cond parts)
@@ -118,6 +197,24 @@ declarator_at : (names : Names) (place : Spine) (at : At) (parts : Pieces) → A
 declarator_at names Off at parts are = (refl, are)
 declarator_at names Top at parts are = (refl, are)
 declarator_at names Below at parts are = (refl, are)
+
+param_at : (names : Names) (place : Spine) (at : At) (parts : Pieces) → AreLowerable names parts
+    → IsLowerableAt names place (Node at word.Param parts)
+param_at names Off at parts are = (refl, are)
+param_at names Top at parts are = (refl, are)
+param_at names Below at parts are = (refl, are)
+
+defaultpat_at : (names : Names) (place : Spine) (at : At) (parts : Pieces) → AreLowerable names parts
+    → IsLowerableAt names place (Node at word.Defaultpat parts)
+defaultpat_at names Off at parts are = (refl, are)
+defaultpat_at names Top at parts are = (refl, are)
+defaultpat_at names Below at parts are = (refl, are)
+
+arraypat_at : (names : Names) (place : Spine) (at : At) (parts : Pieces) → AreLowerable names parts
+    → IsLowerableAt names place (Node at word.Arraypat parts)
+arraypat_at names Off at parts are = (refl, are)
+arraypat_at names Top at parts are = (refl, are)
+arraypat_at names Below at parts are = (refl, are)
 
 -- The parts of a link on the spine: its flag, its object or callee below it, and those behind.
 abbrev AreLinked : Names → (optional object : Syntax) → (rest : Pieces) → Type 0
@@ -178,6 +275,42 @@ mutual
         lowerable_at names Off pattern covered.1.0 unwrapped.1.0 inside.0 declares.0 both.1,
         (lowerable_at names Off init covered.1.1.0 unwrapped.1.1.0 inside.1.0 declares.1.0 both.0, tt),
       )
+  lowerable_at names place (Node at word.Param (Then pattern (Then default End))) covered unwrapped chained declares none =
+      let parts : Pieces = Then pattern (Then default End) in
+      let inside = chained_parts place at word.Param parts refl chained in
+      let both = none_both (first_stop names default) (first_stop names pattern) none in
+      param_at names place at parts (
+        lowerable_at names Off pattern covered.1.0 unwrapped.1.0 inside.0 declares.0 both.1,
+        (lowerable_at names Off default covered.1.1.0 unwrapped.1.1.0 inside.1.0 declares.1.0 both.0, tt),
+      )
+  lowerable_at names place (Node at word.Defaultpat (Then pattern (Then default End))) covered unwrapped chained declares none =
+      let parts : Pieces = Then pattern (Then default End) in
+      let inside = chained_parts place at word.Defaultpat parts refl chained in
+      let both = none_both (first_stop names default) (first_stop names pattern) none in
+      defaultpat_at names place at parts (
+        lowerable_at names Off pattern covered.1.0 unwrapped.1.0 inside.0 declares.0 both.1,
+        (lowerable_at names Off default covered.1.1.0 unwrapped.1.1.0 inside.1.0 declares.1.0 both.0, tt),
+      )
+  lowerable_at names place (Node at word.Keyedpat (Then computed (Then key (Then pattern End)))) covered unwrapped chained declares none =
+      let parts : Pieces = Then computed (Then key (Then pattern End)) in
+      let inside = chained_parts place at word.Keyedpat parts refl chained in
+      where_not (is_lost_item (Node at word.Keyedpat parts)) (first_stop names pattern) (IsLowerable names pattern) none
+      (λ n. lowerable_at names Off pattern covered.1.1.1.0 unwrapped.1.1.1.0 inside.1.1.0 declares.1.1.0 n)
+  lowerable_at names place (Node at word.Arraypat (Then (Listed items) (Then rest End))) covered unwrapped chained declares none =
+      let parts : Pieces = Then (Listed items) (Then rest End) in
+      let inside = chained_parts place at word.Arraypat parts refl chained in
+      let both = array_parts names items rest none in
+      arraypat_at names place at parts (
+        all_lowerable names items covered.1.0 unwrapped.1.0 inside.0 declares.0 both.0,
+        (lowerable_at names Off rest covered.1.1.0 unwrapped.1.1.0 inside.1.0 declares.1.0 both.1, tt),
+      )
+  lowerable_at names place (Node at word.Objectpat (Then (Listed properties) (Then rest End))) covered unwrapped chained declares none =
+      let inside = chained_parts place at word.Objectpat (Then (Listed properties) (Then rest End)) refl chained in
+      let both = object_parts names properties rest none in (
+        all_lowerable names properties covered.1.0 unwrapped.1.0 inside.0 declares.0 both.0,
+        where_test (is_plain_rest rest) (first_stop names rest) (IsLowerable names rest) both.1
+            (λ n. lowerable_at names Off rest covered.1.1.0 unwrapped.1.1.0 inside.1.0 declares.1.0 n),
+      )
   lowerable_at names place (Node at word.Type parts) covered unwrapped chained declares none = tt
   lowerable_at names place (Node at word.Instantiate (Then expression types)) covered unwrapped chained declares none =
       let inside = chained_parts place at word.Instantiate (Then expression types) refl chained in
@@ -189,19 +322,25 @@ mutual
       (λ n. lowerable_at names Off argument covered.1.1.0 unwrapped.1.1.0 inside.1.0 declares.1.0 n)
   lowerable_at names place (Node at word.Update (Then operator (Then prefix (Then target End)))) covered unwrapped chained declares none =
       let inside = chained_parts place at word.Update (Then operator (Then prefix (Then target End))) refl chained in
-      where_not (is_wrapped target) (first_stop names target) (IsLowerable names target) none
-      (λ n. lowerable_at names Off target covered.1.1.1.0 unwrapped.1.1.1.0 inside.1.1.0 declares.1.1.0 n)
+      let plain : is_pattern target ≡ false = not_held (is_pattern target) covered.0 in (
+        plain,
+        where_not (is_wrapped target) (first_stop names target) (IsLowerable names target) none
+            (λ n. lowerable_at names Off target covered.1.1.1.0 unwrapped.1.1.1.0 inside.1.1.0 declares.1.1.0 n),
+      )
   lowerable_at names place (Node at word.Assign (Then (Said operator) (Then target (Then right End)))) covered unwrapped chained declares
       none =
-      let inside = chained_parts place at word.Assign (Then (Said operator) (Then target (Then right End))) refl chained in (
-        unwrapped.0,
-        where_assigned (bytes_eq operator (codes "=")) (is_logical operator) (first_stop names target) (first_stop names right)
-            (IsLowerable names target × IsLowerable names right) none
-            (λ t r. (
-              lowerable_at names Off target covered.1.1.0 unwrapped.1.1.0 inside.1.0 declares.1.0 t,
-              lowerable_at names Off right covered.1.1.1.0 unwrapped.1.1.1.0 inside.1.1.0 declares.1.1.0 r,
-            )),
-      )
+      let inside = chained_parts place at word.Assign (Then (Said operator) (Then target (Then right End))) refl chained in
+      let parts = where_assigned (bytes_eq operator (codes "=")) (is_logical operator) (is_pattern target) (first_stop names target)
+      (first_stop names right) (stop_to names target) (IsLowerable names target × IsLowerable names right)
+      (IsLowerableTo names target × IsLowerable names right) none
+      (λ t r. (
+        lowerable_at names Off target covered.1.1.0 unwrapped.1.1.0 inside.1.0 declares.1.0 t,
+        lowerable_at names Off right covered.1.1.1.0 unwrapped.1.1.1.0 inside.1.1.0 declares.1.1.0 r,
+      ))
+      (λ t r. (
+        lowerable_to names target covered.1.1.0 unwrapped.1.1.0 inside.1.0 declares.1.0 t,
+        lowerable_at names Off right covered.1.1.1.0 unwrapped.1.1.1.0 inside.1.1.0 declares.1.1.0 r,
+      )) in (unwrapped.0, parts.0, parts.1)
   lowerable_at names place
       (Node at word.Tagged (Then tag (Then (Node there word.Template (Then (Listed quasis) (Then (Listed expressions) End))) End)))
       covered unwrapped chained declares none =
@@ -306,32 +445,112 @@ mutual
         all_lowerable names ps covered.1 unwrapped.1 chained.1 declares.1 both.1,
       )
 
+  -- As `lowerable_at`, for a target that takes a piece of a value, in a pattern.
+  pub lowerable_to : (names : Names) (t : Syntax) → IsCovered t → IsUnwrapped t → IsChained t → DeclaresIn names t
+      → stop_to names t ≡ None → IsLowerableTo names t
+  lowerable_to names (Node at word.Id (Then (Said name) End)) covered unwrapped chained declares none =
+      free_local names (local_of (names.meaning at.reference.0 name)) at.span none
+  lowerable_to names (Node at word.Member parts) covered unwrapped chained declares none =
+      (chained.0, all_lowerable names parts covered.1 unwrapped.1 chained.1 declares none)
+  lowerable_to names (Node at word.Index parts) covered unwrapped chained declares none =
+      (chained.0, all_lowerable names parts covered.1 unwrapped.1 chained.1 declares none)
+  lowerable_to names (Node at word.Default (Then target (Then default End))) covered unwrapped chained declares none =
+      let both = none_both (first_stop names default) (stop_to names target) none in (
+        lowerable_at names Off default covered.1.1.0 unwrapped.1.1.0 chained.1.0 declares.1.0 both.0,
+        lowerable_to names target covered.1.0 unwrapped.1.0 chained.0 declares.0 both.1,
+      )
+  lowerable_to names (Node at word.Short (Then target (Then default End))) covered unwrapped chained declares none =
+      let both = none_both (first_stop names default) (stop_to names target) none in (
+        lowerable_at names Off default covered.1.1.0 unwrapped.1.1.0 chained.1.0 declares.1.0 both.0,
+        lowerable_to names target covered.1.0 unwrapped.1.0 chained.0 declares.0 both.1,
+      )
+  lowerable_to names (Node at word.Keyed (Then computed (Then key (Then target End)))) covered unwrapped chained declares none =
+      where_not (is_lost_item (Node at word.Keyed (Then computed (Then key (Then target End))))) (stop_to names target)
+      (IsLowerableTo names target) none
+      (λ n. lowerable_to names target covered.1.1.1.0 unwrapped.1.1.1.0 chained.1.1.0 declares.1.1.0 n)
+  lowerable_to names (Node at word.Rest (Then target End)) covered unwrapped chained declares none =
+      lowerable_to names target covered.1.0 unwrapped.1.0 chained.0 declares.0 none
+  lowerable_to names (Node at word.Arraytarget (Then (Listed items) (Then rest End))) covered unwrapped chained declares none =
+      let front : Option Diagnostic = if is_absent rest then stop_ahead names items else None in
+      let first = none_both front (option_or (stop_to_all names items) (stop_to names rest)) none in
+      let others = none_both (stop_to_all names items) (stop_to names rest) first.1 in (
+        where_test (is_absent rest) (stop_ahead names items) (AreFreeAhead names items) first.0 (all_free_ahead names items),
+        all_lowerable_to names items covered.1.0 unwrapped.1.0 chained.0 declares.0 others.0,
+        lowerable_to names rest covered.1.1.0 unwrapped.1.1.0 chained.1.0 declares.1.0 others.1,
+      )
+  lowerable_to names (Node at word.Objecttarget (Then (Listed properties) (Then rest End))) covered unwrapped chained declares none =
+      let front : Option Diagnostic = if is_absent rest then stop_ahead names properties else None in
+      let last : Option Diagnostic = if is_plain_rest rest then stop_to names rest else None in
+      let first = none_both front (option_or (stop_to_all names properties) last) none in
+      let others = none_both (stop_to_all names properties) last first.1 in (
+        where_test (is_absent rest) (stop_ahead names properties) (AreFreeAhead names properties) first.0
+            (all_free_ahead names properties),
+        all_lowerable_to names properties covered.1.0 unwrapped.1.0 chained.0 declares.0 others.0,
+        where_test (is_plain_rest rest) (stop_to names rest) (IsLowerableTo names rest) others.1
+            (λ n. lowerable_to names rest covered.1.1.0 unwrapped.1.1.0 chained.1.0 declares.1.0 n),
+      )
+  lowerable_to names _ covered unwrapped chained declares none = tt
+
+  -- As `lowerable_to`, for items in a row.
+  pub all_lowerable_to : (names : Names) (ps : Pieces) → AreCovered ps → AreUnwrapped ps → AreChained ps → DeclareIn names ps
+      → stop_to_all names ps ≡ None → AreLowerableTo names ps
+  all_lowerable_to names End covered unwrapped chained declares none = tt
+  all_lowerable_to names (Then p ps) covered unwrapped chained declares none =
+      let both = none_both (stop_to names p) (stop_to_all names ps) none in (
+        lowerable_to names p covered.0 unwrapped.0 chained.0 declares.0 both.0,
+        all_lowerable_to names ps covered.1 unwrapped.1 chained.1 declares.1 both.1,
+      )
+
 -- As `lowerable_at`, for a tree off the spine.
 pub lowerable : (names : Names) (t : Syntax) → IsCovered t → IsUnwrapped t → IsChained t → DeclaresIn names t → first_stop names t ≡ None
     → IsLowerable names t
 lowerable names t covered unwrapped chained declares none = lowerable_at names Off t covered unwrapped chained declares none
 
+-- A target that takes a value apart is not lost in the head of a loop.
+kept_apart : (head : Syntax) → is_pattern head ≡ true → is_lost_head head ≡ false
+kept_apart (Node at word.Arraytarget parts) apart = refl
+kept_apart (Node at word.Objecttarget parts) apart = refl
+kept_apart _ apart = absurd (cc)
+
+-- The head of a loop, by whether it is lost, and whether it is a pattern.
+
+where_plain : (lost apart : Bool) (stop to : Option Diagnostic) (A : Type 0)
+    → (if lost then None else if apart then to else stop) ≡ None → (stop ≡ None → A) → Where (not apart) (Where (not lost) A)
+where_plain lost true stop to A none holds = tt
+where_plain true false stop to A none holds = tt
+where_plain false false stop to A none holds = holds none
+
+where_taken : (lost apart : Bool) (stop to : Option Diagnostic) (A : Type 0) → (apart ≡ true → lost ≡ false)
+    → (if lost then None else if apart then to else stop) ≡ None → (to ≡ None → A) → Where apart A
+where_taken lost false stop to A kept none holds = tt
+where_taken false true stop to A kept none holds = holds none
+where_taken true true stop to A kept none holds = absurd (true≢false (kept refl))
+
 -- As `lowerable`, for the head of a `for`-`in` or `for`-`of` loop.
-head_lowerable : (names : Names) (head : Syntax) → is_plain_head head ≡ true → IsCovered head → IsUnwrapped head → IsChained head → DeclaresIn names head
-    → stop_at_head names head ≡ None → IsLowerableHead names head
+head_lowerable : (names : Names) (head : Syntax) → is_plain_head head ≡ true → IsCovered head → IsUnwrapped head → IsChained head
+    → DeclaresIn names head → stop_at_head names head ≡ None → IsLowerableHead names head
 head_lowerable names head plain covered unwrapped chained declares none = record {
   plain = plain;
   lowerable =
-      where_not (is_lost_head head) (first_stop names head) (IsLowerable names head) none
+      where_plain (is_lost_head head) (is_pattern head) (first_stop names head) (stop_to names head) (IsLowerable names head) none
       (λ n. lowerable names head covered unwrapped chained declares n);
+  taken =
+      where_taken (is_lost_head head) (is_pattern head) (first_stop names head) (stop_to names head) (IsLowerableTo names head)
+      (kept_apart head) none (λ n. lowerable_to names head covered unwrapped chained declares n);
 }
 
 mutual
   -- As `lowerable`, for a statement inside others, with the label that is its own.
-  pub lowerable_in : (names : Names) (around : List Around) (own : Label) (s : Syntax) → IsCovered s → IsUnwrapped s → IsChained s → DeclaresIn names s
-      → stop_in names around own s ≡ None → IsLowerableIn names around own s
+  pub lowerable_in : (names : Names) (around : List Around) (own : Label) (s : Syntax) → IsCovered s → IsUnwrapped s → IsChained s
+      → DeclaresIn names s → stop_in names around own s ≡ None → IsLowerableIn names around own s
   lowerable_in names around own (Node at word.Break (Then Absent End)) covered unwrapped chained declares none = none
   lowerable_in names around own (Node at word.Break (Then (Said label) End)) covered unwrapped chained declares none = none
   lowerable_in names around own (Node at word.Continue (Then Absent End)) covered unwrapped chained declares none = none
   lowerable_in names around own (Node at word.Continue (Then (Said label) End)) covered unwrapped chained declares none = none
   lowerable_in names around own (Node at word.Block (Then (Listed statements) End)) covered unwrapped chained declares none =
       all_lowerable_in names around statements covered.1.0 unwrapped.1.0 chained.0 declares.0 none
-  lowerable_in names around own (Node at word.If (Then condition (Then consequent (Then alternate End)))) covered unwrapped chained declares none =
+  lowerable_in names around own (Node at word.If (Then condition (Then consequent (Then alternate End)))) covered unwrapped chained declares
+      none =
       let first = none_both (stop_in names around None consequent)
       (option_or (stop_in names around None alternate) (first_stop names condition)) none in
       let others = none_both (stop_in names around None alternate) (first_stop names condition) first.1 in (
@@ -349,8 +568,8 @@ mutual
         lowerable_in names (InLoop own ∷ around) None body covered.1.0 unwrapped.1.0 chained.0 declares.0 both.0,
         lowerable names condition covered.1.1.0 unwrapped.1.1.0 chained.1.0 declares.1.0 both.1,
       )
-  lowerable_in names around own (Node at word.For (Then init (Then condition (Then update (Then body End))))) covered unwrapped chained declares
-      none =
+  lowerable_in names around own (Node at word.For (Then init (Then condition (Then update (Then body End))))) covered unwrapped chained
+      declares none =
       let within : Option Diagnostic = option_or (stop_in names (InLoop own ∷ around) None body) (first_stop names condition) in
       let first = none_both (first_stop names init) (option_or (first_stop names update) within) none in
       let second = none_both (first_stop names update) within first.1 in
@@ -366,8 +585,8 @@ mutual
       let others = none_both (first_stop names right) (stop_at_head names head) first.1 in (
         lowerable_in names inside None body covered.1.1.1.0 unwrapped.1.1.1.0 chained.1.1.0 declares.1.1.0 first.0,
         lowerable names right covered.1.1.0 unwrapped.1.1.0 chained.1.0 declares.1.0 others.0,
-        head_lowerable names head (plain_in_front head (Then right (Then body End)) covered.0) covered.1.0 unwrapped.1.0 chained.0 declares.0
-            others.1,
+        head_lowerable names head (plain_in_front head (Then right (Then body End)) covered.0) covered.1.0 unwrapped.1.0 chained.0
+            declares.0 others.1,
       )
   lowerable_in names around own (Node at word.Forof (Then (Flag is_await) (Then head (Then right (Then body End))))) covered unwrapped
       chained declares none =
@@ -381,7 +600,8 @@ mutual
         lowerable names right covered.1.1.1.0 unwrapped.1.1.1.0 chained.1.1.0 declares.1.1.0 others.0,
         head_lowerable names head covered.0 covered.1.1.0 unwrapped.1.1.0 chained.1.0 declares.1.0 others.1,
       ))
-  lowerable_in names around own (Node at word.Switch (Then discriminant (Then (Listed cases) End))) covered unwrapped chained declares none =
+  lowerable_in names around own (Node at word.Switch (Then discriminant (Then (Listed cases) End))) covered unwrapped chained declares
+      none =
       let both = none_both (stop_in_cases names (InSwitch own ∷ around) cases) (first_stop names discriminant) none in (
         cases_lowerable names (InSwitch own ∷ around) cases covered.1.1.0 unwrapped.1.1.0 chained.1.0 declares.1.0 both.0,
         lowerable names discriminant covered.1.0 unwrapped.1.0 chained.0 declares.0 both.1,
@@ -389,8 +609,11 @@ mutual
   lowerable_in names around own
       (Node at word.Try (Then block (Then (Node there word.Catch (Then param (Then body End))) (Then finalizer End)))) covered unwrapped
       chained declares none =
-      let first = none_both (first_stop names param) (option_or (stop_in names around None body) (stop_in names around None block)) none in
+      let within : Option Diagnostic = option_or (stop_in names around None body) (stop_in names around None block) in
+      let caught = none_both (stop_of_caught param) (option_or (first_stop names param) within) none in
+      let first = none_both (first_stop names param) within caught.1 in
       let others = none_both (stop_in names around None body) (stop_in names around None block) first.1 in (
+        caught.0,
         lowerable names param covered.1.1.0.1.0 unwrapped.1.1.0.1.0 chained.1.0.0 declares.1.0.0 first.0,
         lowerable_in names around None body covered.1.1.0.1.1.0 unwrapped.1.1.0.1.1.0 chained.1.0.1.0 declares.1.0.1.0 others.0,
         lowerable_in names around None block covered.1.0 unwrapped.1.0 chained.0 declares.0 others.1,
@@ -398,12 +621,13 @@ mutual
   lowerable_in names around own (Node at word.Try parts) covered unwrapped chained declares none = tt
   lowerable_in names around own (Node at word.With parts) covered unwrapped chained declares none = tt
   lowerable_in names around own (Node at word.Labeled (Then (Said label) (Then body End))) covered unwrapped chained declares none =
-      lowerable_in names (within_label label body around) (own_label label body) body covered.1.1.0 unwrapped.1.1.0 chained.1.0 declares.1.0 none
+      lowerable_in names (within_label label body around) (own_label label body) body covered.1.1.0 unwrapped.1.1.0 chained.1.0
+      declares.1.0 none
   lowerable_in names around own s covered unwrapped chained declares none = lowerable names s covered unwrapped chained declares none
 
   -- As `lowerable_in`, for statements in a row.
-  pub all_lowerable_in : (names : Names) (around : List Around) (ss : Pieces) → AreCovered ss → AreUnwrapped ss → AreChained ss → DeclareIn names ss
-      → stop_among names around ss ≡ None → AreLowerableIn names around ss
+  pub all_lowerable_in : (names : Names) (around : List Around) (ss : Pieces) → AreCovered ss → AreUnwrapped ss → AreChained ss
+      → DeclareIn names ss → stop_among names around ss ≡ None → AreLowerableIn names around ss
   all_lowerable_in names around End covered unwrapped chained declares none = tt
   all_lowerable_in names around (Then s ss) covered unwrapped chained declares none =
       let both = none_both (stop_in names around None s) (stop_among names around ss) none in (
@@ -412,8 +636,8 @@ mutual
       )
 
   -- As `lowerable_in`, for a case of a `switch`.
-  case_lowerable : (names : Names) (around : List Around) (case : Syntax) → IsCovered case → IsUnwrapped case → IsChained case → DeclaresIn names case
-      → stop_in_case names around case ≡ None → IsLowerableCase names around case
+  case_lowerable : (names : Names) (around : List Around) (case : Syntax) → IsCovered case → IsUnwrapped case → IsChained case
+      → DeclaresIn names case → stop_in_case names around case ≡ None → IsLowerableCase names around case
   case_lowerable names around (Node at word.Case (Then condition (Then (Listed statements) End))) covered unwrapped chained declares none =
       let both = none_both (stop_among names around statements) (first_stop names condition) none in (
         all_lowerable_in names around statements covered.1.1.0 unwrapped.1.1.0 chained.1.0 declares.1.0 both.0,
@@ -422,8 +646,8 @@ mutual
   case_lowerable names around _ covered unwrapped chained declares none = tt
 
   -- As `case_lowerable`, for cases in a row.
-  cases_lowerable : (names : Names) (around : List Around) (cases : Pieces) → AreCovered cases → AreUnwrapped cases → AreChained cases → DeclareIn names cases
-      → stop_in_cases names around cases ≡ None → AreLowerableCases names around cases
+  cases_lowerable : (names : Names) (around : List Around) (cases : Pieces) → AreCovered cases → AreUnwrapped cases → AreChained cases
+      → DeclareIn names cases → stop_in_cases names around cases ≡ None → AreLowerableCases names around cases
   cases_lowerable names around End covered unwrapped chained declares none = tt
   cases_lowerable names around (Then case cases) covered unwrapped chained declares none =
       let both = none_both (stop_in_cases names around cases) (stop_in_case names around case) none in (

@@ -12,7 +12,7 @@ use Rattle.rl_model.specs.Units.{names_of}
 use Rattle.rl_names.proofs.Items.{each_left, each_right}
 use Rattle.rl_names.specs.Functions.{body_in, params_in}
 use Rattle.rl_names.specs.Names.{Names}
-use Rattle.rl_promises.proofs.CoveredWorlds.{body_covered}
+use Rattle.rl_promises.proofs.CoveredWorlds.{body_covered, params_covered}
 use Rattle.rl_promises.proofs.FormedParts.{AreFormed, HasFormedParts, IsFormed}
 use Rattle.rl_promises.specs.Covered.{AreCovered, IsCovered, IsCoveredFunction, covers}
 use Rattle.rl_syntax.specs.Syntax.{Syntax, Node, Listed, Said, Count, Flag, Absent, Pieces, End, Then}
@@ -27,7 +27,7 @@ lends_at word.Tagged (Then tag parts) = lends tag
 lends_at _ parts = false
 
 -- The facts that are asked of the parts of a node: none of a type, and of an instantiation that on its first part alone.
-abbrev Within : Word → (first all : Type 0) → Type 0
+abbrev pub Within : Word → (first all : Type 0) → Type 0
 Within word.Type first all = Unit {0}
 Within word.Instantiate first all = first
 Within _ first all = all
@@ -40,27 +40,38 @@ pub record IsOrderlyAt (names : Names) (assigned : List ℕ) (at : At) (w : Word
   pub assigns : (symbol : ℕ) → contains (assigned_at names (Node at w parts)) symbol ≡ true → contains assigned symbol ≡ true
   pub formed : HasFormedParts w parts
 
-module _ (names : Names) (assigned : List ℕ) where
+module _ (Facts : At → Word → Pieces → Type 0) where
   abbrev mutual
     -- Every node of the tree that is code is covered, and has these facts.
-    pub LendsAlike : Syntax → Type 0
-    LendsAlike (Node at w parts) =
-        (covers w parts ≡ true) × IsOrderlyAt names assigned at w parts × Within w (LendsFirst parts) (LendAlike parts)
-    LendsAlike (Listed parts) = LendAlike parts
-    LendsAlike (Said text) = Unit {0}
-    LendsAlike (Count number) = Unit {0}
-    LendsAlike (Flag flag) = Unit {0}
-    LendsAlike Absent = Unit {0}
+    pub Each : Syntax → Type 0
+    Each (Node at w parts) = (covers w parts ≡ true) × Facts at w parts × Within w (EachFirst parts) (EachAmong parts)
+    Each (Listed parts) = EachAmong parts
+    Each (Said text) = Unit {0}
+    Each (Count number) = Unit {0}
+    Each (Flag flag) = Unit {0}
+    Each Absent = Unit {0}
 
-    -- As `LendsAlike`, for parts in a row.
-    pub LendAlike : Pieces → Type 0
-    LendAlike End = Unit {0}
-    LendAlike (Then piece pieces) = LendsAlike piece × LendAlike pieces
+    -- As `Each`, for parts in a row.
+    pub EachAmong : Pieces → Type 0
+    EachAmong End = Unit {0}
+    EachAmong (Then piece pieces) = Each piece × EachAmong pieces
 
-    -- As `LendsAlike`, for the first of some parts.
-    pub LendsFirst : Pieces → Type 0
-    LendsFirst End = Unit {0}
-    LendsFirst (Then piece pieces) = LendsAlike piece
+    -- As `Each`, for the first of some parts.
+    pub EachFirst : Pieces → Type 0
+    EachFirst End = Unit {0}
+    EachFirst (Then piece pieces) = Each piece
+
+-- Every node of the tree that is code is covered, and orderly.
+abbrev pub LendsAlike : Names → (assigned : List ℕ) → Syntax → Type 0
+LendsAlike names assigned = Each (IsOrderlyAt names assigned)
+
+-- As `LendsAlike`, for parts in a row.
+abbrev pub LendAlike : Names → (assigned : List ℕ) → Pieces → Type 0
+LendAlike names assigned = EachAmong (IsOrderlyAt names assigned)
+
+-- As `LendsAlike`, for the first of some parts.
+abbrev pub LendsFirst : Names → (assigned : List ℕ) → Pieces → Type 0
+LendsFirst names assigned = EachFirst (IsOrderlyAt names assigned)
 
 -- A callee that is no property or chain inside parentheses and types lends no object.
 lends_none : (e : Syntax) → is_link_inside e ≡ false → lends e ≡ false
@@ -98,7 +109,7 @@ tag_lends : (names : Names) (assigned : List ℕ) (at : At) (parts : Pieces)
 tag_lends names assigned at (Then tag parts) orderly = lends_none tag (not_true (is_link_inside tag) orderly)
 tag_lends names assigned at End orderly = refl
 
-both_true : (a b : Bool) → a && b ≡ true → (a ≡ true) × (b ≡ true)
+pub both_true : (a b : Bool) → a && b ≡ true → (a ≡ true) × (b ≡ true)
 both_true true b h = (refl, h)
 both_true false b h = absurd (true≢false (sym h))
 
@@ -116,14 +127,21 @@ AreAssigning names assigned nodes =
     AllByRecursion (λ (node : Syntax).
     (symbol : ℕ) → contains (assigned_at names node) symbol ≡ true → contains assigned symbol ≡ true) nodes
 
-contains_left : (xs ys : List ℕ) (symbol : ℕ) → contains xs symbol ≡ true → contains (xs ++ ys) symbol ≡ true
+pub contains_left : (xs ys : List ℕ) (symbol : ℕ) → contains xs symbol ≡ true → contains (xs ++ ys) symbol ≡ true
 contains_left [] ys symbol there = absurd (true≢false (sym there))
 contains_left (x ∷ xs) ys symbol there =
     or_either (nat_eq symbol x) (contains xs symbol) (contains (xs ++ ys) symbol) (contains_left xs ys symbol) there
 
-contains_right : (xs ys : List ℕ) (symbol : ℕ) → contains ys symbol ≡ true → contains (xs ++ ys) symbol ≡ true
+pub contains_right : (xs ys : List ℕ) (symbol : ℕ) → contains ys symbol ≡ true → contains (xs ++ ys) symbol ≡ true
 contains_right [] ys symbol there = there
 contains_right (x ∷ xs) ys symbol there = or_second (nat_eq symbol x) (contains (xs ++ ys) symbol) (contains_right xs ys symbol there)
+
+-- A list that begins alike, and goes on with all that the other one has.
+pub in_front : (xs ys zs : List ℕ) (symbol : ℕ) → (contains ys symbol ≡ true → contains zs symbol ≡ true)
+    → contains (xs ++ ys) symbol ≡ true → contains (xs ++ zs) symbol ≡ true
+in_front [] ys zs symbol more there = more there
+in_front (x ∷ xs) ys zs symbol more there =
+    or_either (nat_eq symbol x) (contains (xs ++ ys) symbol) (contains (xs ++ zs) symbol) (in_front xs ys zs symbol more) there
 
 assigning : (names : Names) (assigned : List ℕ) (nodes : List Syntax)
     → ((symbol : ℕ) → contains (flat (assigned_at names) nodes) symbol ≡ true → contains assigned symbol ≡ true)
@@ -218,17 +236,21 @@ module _ (names : Names) (assigned : List ℕ) where
 abbrev pub assigned_of : (u : Syntax) → List ℕ
 assigned_of u = flat (assigned_in (names_of u)) (lowered_functions (marked u))
 
--- The body of the marked function lends one receiver to each call and tag, as it is written and as it is ported, if it is covered and
--- orderly.
-pub body_lends : (u : Syntax) → IsCoveredFunction (marked u) → IsFormed (body_in (marked u)) → is_orderly u None ≡ true
-    → LendsAlike (names_of u) (assigned_of u) (body_in (marked u))
-body_lends u covered formed orderly =
+-- Parameters and body of the marked function lend one receiver to each call and tag, as it is written and as it is ported, if the function
+-- is covered and orderly.
+pub function_lends : (u : Syntax) → IsCoveredFunction (marked u) → IsFormed (params_in (marked u)) → IsFormed (body_in (marked u))
+    → is_orderly u None ≡ true
+    → LendsAlike (names_of u) (assigned_of u) (params_in (marked u)) × LendsAlike (names_of u) (assigned_of u) (body_in (marked u))
+function_lends u covered formed also orderly =
     let names : Names = names_of u in
     let assigned : List ℕ = assigned_of u in
     let nodes : list_all (is_orderly_node names assigned) (code_of (marked u)) ≡ true = (both_true _ _ (both_true _ _ orderly).0).0 in
     let parted = list_all-append (is_orderly_node names assigned) (code (params_in (marked u))) (code (body_in (marked u))) in
     let both = both_true _ _ (sym parted ∙ nodes) in
     let assigns = assigning names assigned (code_of (marked u))
-    (contains_left (assigned_in names (marked u)) (flat (assigned_in names) (inner_functions (marked u)))) in
-    lends_in names assigned (body_in (marked u)) (body_covered (marked u) covered) both.1
-    (each_right _ (code (params_in (marked u))) (code (body_in (marked u))) assigns) formed
+    (contains_left (assigned_in names (marked u)) (flat (assigned_in names) (inner_functions (marked u)))) in (
+      lends_in names assigned (params_in (marked u)) (params_covered (marked u) covered) both.0
+          (each_left _ (code (params_in (marked u))) (code (body_in (marked u))) assigns) formed,
+      lends_in names assigned (body_in (marked u)) (body_covered (marked u) covered) both.1
+          (each_right _ (code (params_in (marked u))) (code (body_in (marked u))) assigns) also,
+    )

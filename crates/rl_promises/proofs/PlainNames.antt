@@ -1,5 +1,5 @@
--- The names of covered functions and of their parameters: types hold no declaration and no scope, and parameters are names.
-use Rattle.std.proofs.Common.{◌≡◌, true, zero, List, [], ◌∷◌, refl, sym, subst}
+-- The names of covered functions: types hold no declaration and no scope.
+use Rattle.std.proofs.Common.{◌≡◌, true, zero, List, ◌∷◌, refl, sym, subst}
 use Rattle.std.specs.List.{AllByRecursion}
 use Rattle.rl_bindings.specs.Events.{bound_of}
 use Rattle.rl_bindings.specs.Roles.{below, outside, scope_of}
@@ -12,9 +12,8 @@ use Rattle.rl_grammar.specs.declared.kind.Kind.TheVariants as kind
 use Rattle.rl_grammar.proofs.Viewing.{arity_one, arity_two, first_fits, one_fits, rest_fit, two_fit}
 use Rattle.rl_names.proofs.Declarations.{declares}
 use Rattle.rl_names.proofs.PlainTrees.{plain_none_among}
-use Rattle.rl_names.specs.Plain.{ArePlain, ArePlainParameters, HasPlainParameters, IsPlain}
-use Rattle.rl_promises.specs.Covered.{IsCovered}
-use Rattle.rl_promises.proofs.CoveredForms.{NameForm, ParamNode, name_form, none_fits, params_form, params_of, text_form, two_form}
+use Rattle.rl_names.specs.Plain.{ArePlain, IsPlain}
+use Rattle.rl_promises.proofs.CoveredForms.{NameForm, name_form, none_fits, text_form, two_form}
 use Rattle.rl_promises.proofs.CoveredNames.{never}
 use Rattle.rl_syntax.specs.Shapes.{is_one}
 use Rattle.rl_syntax.specs.Syntax.{Syntax, Node, Listed, Said, Absent, Pieces, End, Then}
@@ -82,15 +81,3 @@ name_declares Absent h names a = tt
 name_declares (Node bind word.Bind ps) h names a = bind_declares names a bind ps (name_form bind ps h)
 name_declares (Node bind _ ps) h names a = absurd (none_fits ps h)
 name_declares _ h names a = never h
-
--- Parameters.
-
-parameters_plain : (params : List ParamNode) → ArePlainParameters (params_of params)
-parameters_plain [] = tt
-parameters_plain (p ∷ params) = (((type_plain p.type p.typed, tt), (tt, tt)), parameters_plain params)
-
--- The parameters of a covered function are names.
-pub params_plain : (t : Syntax) → fits (field.One kind.FormalParameters) t ≡ true → IsCovered t → HasPlainParameters t
-params_plain t h covered =
-    let form = params_form t h covered in
-    subst HasPlainParameters (sym form.2) (parameters_plain form.1, (tt, tt))

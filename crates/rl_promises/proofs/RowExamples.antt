@@ -6,7 +6,7 @@ use Rattle.rl_base.specs.declared.diagnostic.Diagnostic.{Diagnostic}
 use Rattle.rl_base.specs.declared.row.Row.TheVariants as row
 use Rattle.rl_model.proofs.ExampleUnits.{arrow, body, called, function, name, node, params, span, unit, unit_of}
 use Rattle.rl_promises.specs.Covered.{pending}
-use Rattle.rl_promises.specs.Fields.{directives_in, places_from}
+use Rattle.rl_promises.specs.Fields.{directives_in}
 use Rattle.rl_promises.specs.Live.{Held, held_in, live_in_body}
 use Rattle.rl_promises.specs.Tallies.{tallied}
 use Rattle.rl_model.specs.Counted.{Counted}
@@ -15,8 +15,7 @@ use Rattle.rl_promises.specs.Stops.{has_using, stop_of}
 use Rattle.rl_model.specs.Marked.{marked}
 use Rattle.rl_model.specs.Source.{is_orderly}
 use Rattle.rl_model.specs.Units.{names_of}
-use Rattle.rl_hir.specs.declared.function.Param.TheVariants as hir
-use Rattle.rl_names.specs.Functions.{async_in, body_in, generator_in, name_in, parameters_of}
+use Rattle.rl_names.specs.Functions.{async_in, body_in, generator_in, name_in}
 use Rattle.rl_syntax.specs.Syntax.{Syntax, Listed, Said, Flag, Absent, End, pieces_of}
 use Rattle.rl_syntax.specs.declared.word.Word.{Word}
 use Rattle.rl_syntax.specs.declared.word.Word.TheVariants as word
@@ -30,10 +29,12 @@ abbrev stop_in : Syntax → Option Diagnostic
 stop_in u = stop_of (names_of u) (marked u)
 
 -- Stops: S2 comes before S1, which names the first; a unit that goes on meets neither.
-this_first : stop_in (unit_of (function (codes "class" ∷ codes "this" ∷ []) [])) ≡ Some (record { row = row.S2; word = codes "this"; labels = span 6 ∷ [] })
+this_first : stop_in (unit_of (function (codes "class" ∷ codes "this" ∷ []) []))
+    ≡ Some (record { row = row.S2; word = codes "this"; labels = span 6 ∷ [] })
 this_first = refl
 
-reserved_first : stop_in (unit_of (function (codes "a" ∷ codes "enum" ∷ codes "class" ∷ []) [])) ≡ Some (record { row = row.S1; word = codes "enum"; labels = span 6 ∷ [] })
+reserved_first : stop_in (unit_of (function (codes "a" ∷ codes "enum" ∷ codes "class" ∷ []) []))
+    ≡ Some (record { row = row.S1; word = codes "enum"; labels = span 6 ∷ [] })
 reserved_first = refl
 
 -- A variable of the body stops the lowering too, but not in what a row leaves out: the argument of a `yield`.
@@ -50,14 +51,17 @@ goes_on : stop_in (unit_of (function (codes "eval" ∷ codes "fbt" ∷ []) [])) 
 goes_on = refl
 
 -- Each read of the global `eval` is refused, and none of a parameter `eval`.
-global_eval : refusals_in (unit_of (function (codes "x" ∷ []) (node 11 word.Expr (name 12 (codes "eval") ∷ []) ∷ node 13 word.Return (name 14 (codes "eval") ∷ []) ∷ []))) ≡ refusal row.F2 (span 12) ∷ refusal row.F2 (span 14) ∷ []
+global_eval : refusals_in (unit_of (function (codes "x" ∷ []) (
+    node 11 word.Expr (name 12 (codes "eval") ∷ []) ∷ node 13 word.Return (name 14 (codes "eval") ∷ []) ∷ [])))
+    ≡ refusal row.F2 (span 12) ∷ refusal row.F2 (span 14) ∷ []
 global_eval = refl
 
 local_eval : refusals_in (unit_of (function (codes "eval" ∷ []) (node 11 word.Return (name 12 (codes "eval") ∷ []) ∷ []))) ≡ []
 local_eval = refl
 
 -- A parameter `fbt` is refused where it stands and at each read, always with its own span; the global `fbt` is not.
-local_fbt : refusals_in (unit_of (function (codes "fbt" ∷ []) (node 11 word.Return (name 12 (codes "fbt") ∷ []) ∷ []))) ≡ refusal row.F40 (span 6) ∷ refusal row.F40 (span 6) ∷ []
+local_fbt : refusals_in (unit_of (function (codes "fbt" ∷ []) (node 11 word.Return (name 12 (codes "fbt") ∷ []) ∷ [])))
+    ≡ refusal row.F40 (span 6) ∷ refusal row.F40 (span 6) ∷ []
 local_fbt = refl
 
 global_fbt : refusals_in (unit_of (arrow [] (name 11 (codes "fbt")))) ≡ []
@@ -65,7 +69,8 @@ global_fbt = refl
 
 -- A number that is no numeral is refused, also behind a return, where it never runs. The order is that of the nodes.
 no_numerals : refusals_in (unit_of (function [] (
-    node 11 word.Return (node 12 word.Binary (Said (codes "+") ∷ node 13 word.Num (Said (codes "1.5") ∷ []) ∷ node 14 word.Num (Said (codes "2") ∷ []) ∷ []) ∷ [])
+    node 11 word.Return (node 12 word.Binary (
+    Said (codes "+") ∷ node 13 word.Num (Said (codes "1.5") ∷ []) ∷ node 14 word.Num (Said (codes "2") ∷ []) ∷ []) ∷ [])
     ∷ node 15 word.Expr (node 16 word.Paren (node 17 word.Num (Said (codes "1e3") ∷ []) ∷ []) ∷ []) ∷ [])))
     ≡ refusal row.F43 (span 13) ∷ refusal row.F43 (span 17) ∷ []
 unfolding digits
@@ -82,7 +87,8 @@ number start = node start word.Num (Said (codes "1.5") ∷ [])
 branches_first : refusals_in (wrong
     (node 11 word.If (number 12 ∷ node 13 word.Expr (number 14 ∷ []) ∷ node 15 word.Expr (number 16 ∷ []) ∷ []))
     (node 17 word.Expr (node 18 word.Cond (number 19 ∷ number 20 ∷ number 21 ∷ []) ∷ []))
-    (node 22 word.Expr (node 23 word.Logical (Said (codes "&&") ∷ number 24 ∷ node 25 word.Index (Flag false ∷ number 26 ∷ number 27 ∷ []) ∷ []) ∷ [])))
+    (node 22 word.Expr (node 23 word.Logical (
+    Said (codes "&&") ∷ number 24 ∷ node 25 word.Index (Flag false ∷ number 26 ∷ number 27 ∷ []) ∷ []) ∷ [])))
     ≡ refusal row.F43 (span 14) ∷ refusal row.F43 (span 16) ∷ refusal row.F43 (span 12)
     ∷ refusal row.F43 (span 20) ∷ refusal row.F43 (span 21) ∷ refusal row.F43 (span 19)
     ∷ refusal row.F43 (span 26) ∷ refusal row.F43 (span 27) ∷ refusal row.F43 (span 24) ∷ []
@@ -90,7 +96,9 @@ unfolding digits
 branches_first = refl
 
 -- Other literals are not refused.
-literals : refusals_in (unit_of (arrow [] (called 11 (node 12 word.Null []) (node 13 word.Bool (Flag false ∷ []) ∷ node 14 word.Str (Said (codes "eval") ∷ []) ∷ [])))) ≡ []
+literals : refusals_in (unit_of (arrow [] (called 11 (node 12 word.Null []) (
+    node 13 word.Bool (Flag false ∷ []) ∷ node 14 word.Str (Said (codes "eval") ∷ []) ∷ []))))
+    ≡ []
 literals = refl
 
 -- The refusals of a function that returns an expression.
@@ -292,8 +300,10 @@ unskipped = refl
 -- `(p) => { "use strict"; f(p, (null), true, 1 + "a"); return; }`: each covered node once.
 abbrev covered_body : Syntax
 covered_body = body (codes "use strict" ∷ []) (
-    node 11 word.Expr (called 12 (name 13 (codes "f")) (name 14 (codes "p") ∷ node 15 word.Paren (node 16 word.Null [] ∷ []) ∷ node 17 word.Bool (Flag true ∷ [])
-    ∷ node 18 word.Binary (Said (codes "+") ∷ node 19 word.Num (Said (codes "1") ∷ []) ∷ node 20 word.Str (Said (codes "a") ∷ []) ∷ []) ∷ []) ∷ [])
+    node 11 word.Expr (called 12 (name 13 (codes "f")) (
+    name 14 (codes "p") ∷ node 15 word.Paren (node 16 word.Null [] ∷ []) ∷ node 17 word.Bool (Flag true ∷ [])
+    ∷ node 18 word.Binary (
+    Said (codes "+") ∷ node 19 word.Num (Said (codes "1") ∷ []) ∷ node 20 word.Str (Said (codes "a") ∷ []) ∷ []) ∷ []) ∷ [])
     ∷ node 21 word.Return (Absent ∷ []) ∷ [])
 
 covered : pending (unit_of (arrow (codes "p" ∷ []) covered_body)) ≡ None
@@ -395,8 +405,8 @@ callee_covered = refl
 callee_not_orderly : is_orderly parenthesized None ≡ false
 callee_not_orderly = refl
 
--- Nodes outside the marked function are free. Inside it a class is not covered, nor is a function, nor a pattern, nor a sequence without
--- expressions; the least id is given.
+-- Nodes outside the marked function are free. Inside it a class is not covered, nor is a function, nor a sequence without expressions; a
+-- pattern is. The least id is given.
 abbrev class_at : (start : ℕ) → Syntax
 class_at start = node start word.Classdecl (Absent ∷ Absent ∷ Listed End ∷ [])
 
@@ -407,31 +417,42 @@ inside : pending (unit_of (function [] (class_at 11 ∷ class_at 12 ∷ []))) �
 inside = refl
 
 pattern : pending (unit_of (function [] (node 11 word.Var (Said (codes "let") ∷ Listed (pieces_of (
-    node 12 word.Declarator (node 13 word.Arraypat (Listed End ∷ Absent ∷ []) ∷ node 14 word.Null [] ∷ []) ∷ [])) ∷ []) ∷ []))) ≡ Some 8
+    node 12 word.Declarator (node 13 word.Arraypat (Listed End ∷ Absent ∷ []) ∷ node 14 word.Null [] ∷ []) ∷ [])) ∷ []) ∷ []))) ≡ None
 pattern = refl
 
-unmarked : pending (unit_of (function [] (node 11 word.Expr (node 12 word.Arrow (Flag false ∷ Flag false ∷ node 13 word.Params (Listed End ∷ Absent ∷ []) ∷ node 14 word.Null [] ∷ []) ∷ []) ∷ []))) ≡ Some 7
+unmarked : pending (unit_of (function [] (node 11 word.Expr (node 12 word.Arrow (
+    Flag false ∷ Flag false ∷ node 13 word.Params (Listed End ∷ Absent ∷ []) ∷ node 14 word.Null [] ∷ []) ∷ []) ∷ [])))
+    ≡ Some 7
 unmarked = refl
 
 no_expressions : pending (unit_of (arrow [] (node 11 word.Seq (Listed End ∷ [])))) ≡ Some 5
 no_expressions = refl
 
--- A parameter with a default, and a rest parameter, are not covered; one with a type is.
+-- A parameter with a default, a rest parameter and one with a type are covered.
 abbrev with_params : (params : Syntax) → Syntax
 with_params params = unit_of (node 3 word.Arrow (Flag true ∷ Flag false ∷ params ∷ node 10 word.Null [] ∷ []))
 
-default_parameter : pending (with_params (node 4 word.Params (Listed (pieces_of (node 5 word.Param (node 6 word.Bind (Said (codes "p") ∷ Absent ∷ []) ∷ node 7 word.Null [] ∷ []) ∷ [])) ∷ Absent ∷ []))) ≡ Some 5
+default_parameter : pending (with_params (node 4 word.Params (Listed (pieces_of (
+    node 5 word.Param (node 6 word.Bind (Said (codes "p") ∷ Absent ∷ []) ∷ node 7 word.Null [] ∷ []) ∷ [])) ∷ Absent ∷ [])))
+    ≡ None
 default_parameter = refl
 
-typed_parameter : pending (with_params (node 4 word.Params (Listed (pieces_of (node 5 word.Param (node 6 word.Bind (Said (codes "p") ∷ node 7 word.Type (Said (codes "other") ∷ Listed End ∷ []) ∷ []) ∷ Absent ∷ []) ∷ [])) ∷ Absent ∷ []))) ≡ None
+typed_parameter : pending (with_params (node 4 word.Params (Listed (pieces_of (
+    node 5 word.Param (node 6 word.Bind (Said (codes "p") ∷ node 7 word.Type (Said (codes "other") ∷ Listed End ∷ []) ∷ []) ∷ Absent ∷ [])
+    ∷ [])) ∷ Absent ∷ [])))
+    ≡ None
 typed_parameter = refl
 
-rest_parameter : pending (with_params (node 4 word.Params (Listed End ∷ node 5 word.Rest (node 6 word.Bind (Said (codes "p") ∷ Absent ∷ []) ∷ []) ∷ []))) ≡ Some 5
+rest_parameter : pending (with_params (node 4 word.Params (
+    Listed End ∷ node 5 word.Rest (node 6 word.Bind (Said (codes "p") ∷ Absent ∷ []) ∷ []) ∷ [])))
+    ≡ None
 rest_parameter = refl
 
 -- A marked declaration is covered, and so is a marked function expression.
 abbrev with_form : Word → Syntax
-with_form form = node 3 form (Flag true ∷ Flag true ∷ Flag true ∷ node 4 word.Bind (Said (codes "f") ∷ Absent ∷ []) ∷ params (codes "p" ∷ []) ∷ body (codes "use client" ∷ codes "a" ∷ []) (node 11 word.Return (name 12 (codes "f") ∷ []) ∷ []) ∷ [])
+with_form form = node 3 form (
+    Flag true ∷ Flag true ∷ Flag true ∷ node 4 word.Bind (Said (codes "f") ∷ Absent ∷ []) ∷ params (codes "p" ∷ [])
+    ∷ body (codes "use client" ∷ codes "a" ∷ []) (node 11 word.Return (name 12 (codes "f") ∷ []) ∷ []) ∷ [])
 
 declaration : pending (unit (with_form word.Fundecl ∷ [])) ≡ None
 declaration = refl
@@ -455,9 +476,6 @@ declared_generator = refl
 declared_directives : directives_in (body_in declared) ≡ codes "use client" ∷ codes "a" ∷ []
 declared_directives = refl
 
-declared_params : places_from 3 (parameters_of (names_of (unit (with_form word.Fundecl ∷ []))) declared) ≡ hir.Place (record { identifier = record { 0 = 3 }; span = Some (span 6) }) ∷ []
-declared_params = refl
-
 arrow_name : name_in (arrow [] (node 11 word.Null [])) ≡ None
 arrow_name = refl
 
@@ -477,20 +495,20 @@ three_calls = function [] (
 abbrev call_of : (start : ℕ) → Held
 call_of start = record { word = codes "call"; span = span start }
 
-held : held_in (body_in three_calls) ≡ call_of 12 ∷ call_of 14 ∷ call_of 18 ∷ []
+held : held_in (names_of (unit_of three_calls)) (body_in three_calls) ≡ call_of 12 ∷ call_of 14 ∷ call_of 18 ∷ []
 held = refl
 
-live : live_in_body (body_in three_calls) ≡ call_of 12 ∷ call_of 14 ∷ []
+live : live_in_body (names_of (unit_of three_calls)) (body_in three_calls) ≡ call_of 12 ∷ call_of 14 ∷ []
 live = refl
 
 -- Each of them is the counted node of its span once.
 abbrev key : (start : ℕ) → Counted
 key start = record { node = 0; kinds = codes "call" ∷ codes "methodcall" ∷ []; span = span start }
 
-tallied_once : tallied (key 14) (body_in three_calls) ≡ 1
+tallied_once : tallied (names_of (unit_of three_calls)) (key 14) (body_in three_calls) ≡ 1
 tallied_once = refl
 
-tallied_never : tallied (key 11) (body_in three_calls) ≡ 0
+tallied_never : tallied (names_of (unit_of three_calls)) (key 11) (body_in three_calls) ≡ 0
 tallied_never = refl
 
 -- `() => a.b(c[d]())`: calls of methods.
@@ -498,11 +516,11 @@ abbrev methods : Syntax
 methods = arrow [] (called 11 (property_of 12 (name 13 (codes "a")))
     (called 14 (node 15 word.Index (Flag false ∷ name 16 (codes "c") ∷ name 17 (codes "d") ∷ [])) [] ∷ []))
 
-methods_held : held_in (body_in methods)
+methods_held : held_in (names_of (unit_of methods)) (body_in methods)
     ≡ record { word = codes "methodcall"; span = span 11 } ∷ record { word = codes "methodcall"; span = span 14 } ∷ []
 methods_held = refl
 
-method_tallied : tallied (key 14) (body_in methods) ≡ 1
+method_tallied : tallied (names_of (unit_of methods)) (key 14) (body_in methods) ≡ 1
 method_tallied = refl
 
 -- `() => new (await f()) + g()`: of each kind, in a body that is an expression.
@@ -512,7 +530,7 @@ each_kind = arrow [] (node 11 word.Binary (
     ∷ node 12 word.New (node 13 word.Paren (node 14 word.Await (called 15 (name 16 (codes "f")) [] ∷ []) ∷ []) ∷ Listed End ∷ [])
     ∷ called 17 (name 18 (codes "g")) [] ∷ []))
 
-live_of_each_kind : live_in_body (body_in each_kind)
+live_of_each_kind : live_in_body (names_of (unit_of each_kind)) (body_in each_kind)
     ≡ record { word = codes "new"; span = span 12 } ∷ record { word = codes "await"; span = span 14 } ∷ call_of 15 ∷ call_of 17 ∷ []
 live_of_each_kind = refl
 
@@ -525,7 +543,7 @@ returning other = function [] (
     ∷ other ∷ [])
     ∷ node 30 word.Expr (called 31 (name 32 (codes "g")) [] ∷ []) ∷ [])
 
-live_behind : live_in_body (body_in (returning Absent)) ≡ call_of 12 ∷ call_of 15 ∷ call_of 31 ∷ []
+live_behind : live_in_body (names_of (unit_of (returning Absent))) (body_in (returning Absent)) ≡ call_of 12 ∷ call_of 15 ∷ call_of 31 ∷ []
 live_behind = refl
 
 abbrev last : Syntax
@@ -533,5 +551,5 @@ last = node 20 word.Block (Listed (pieces_of (
     node 21 word.Return (called 22 (name 23 (codes "h")) [] ∷ [])
     ∷ node 24 word.Expr (called 25 (name 26 (codes "g")) [] ∷ []) ∷ [])) ∷ [])
 
-dead_behind : live_in_body (body_in (returning last)) ≡ call_of 12 ∷ call_of 15 ∷ call_of 22 ∷ []
+dead_behind : live_in_body (names_of (unit_of (returning last))) (body_in (returning last)) ≡ call_of 12 ∷ call_of 15 ∷ call_of 22 ∷ []
 dead_behind = refl

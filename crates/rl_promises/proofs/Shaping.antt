@@ -1,6 +1,6 @@
 -- Parts that do not have the form wanted.
 use Rattle.std.proofs.Common.{◌≡◌, false, Some, None, ap, refl, sym}
-use Rattle.rl_promises.specs.PartForms.{is_flag_and_three, is_flag_and_trees, is_text_ahead, is_text_alone, is_text_and_tree, jump_label, list_alone, second_list, tree_and_list, two_lists, two_trees}
+use Rattle.rl_promises.specs.PartForms.{is_flag_and_three, is_flag_and_trees, is_text_ahead, is_text_alone, is_text_and_tree, jump_label, list_alone, list_and_tree, second_list, tree_and_list, two_lists, two_trees}
 use Rattle.rl_syntax.specs.Shapes.{is_flag, is_four, is_list, is_one, is_text, is_three, is_two}
 use Rattle.rl_syntax.specs.Syntax.{Syntax, Listed, Said, Flag, Pieces, End, Then}
 
@@ -95,3 +95,13 @@ pub two_are_trees : (ps : Pieces) (a b : Syntax) → ps ≡ Then a (Then b End) 
 two_are_trees ps a b is = ap two_trees (sym is)
 
 pub ruleset caught = (not_two_trees, two_are_trees)
+
+pub not_list_and_tree : (ps : Pieces) → is_two ps ≡ false → None ≡ list_and_tree ps
+not_list_and_tree (Then (Listed items) (Then tree End)) none = absurd (cc)
+not_list_and_tree _ none = refl
+
+pub no_list_in_front : (ps : Pieces) (a b : Syntax) → ps ≡ Then a (Then b End) → is_list a ≡ false → None ≡ list_and_tree ps
+no_list_in_front (Then (Listed items) (Then tree End)) a b is none = absurd (cc)
+no_list_in_front _ a b is none = refl
+
+pub ruleset in_front = (not_list_and_tree, no_list_in_front)

@@ -10,7 +10,8 @@ use Rattle.rl_model.specs.Shapes.{are_raw, is_logical}
 use Rattle.rl_names.specs.Names.{Names, local_of}
 use Rattle.rl_promises.specs.Outs.{is_known_key, is_lost_delete, is_wrapped}
 use Rattle.rl_promises.specs.PartForms.{is_flag_and_trees, is_text_ahead, is_text_alone, is_text_and_tree, template_lists, two_lists}
-use Rattle.rl_promises.specs.Stops.{first_among, first_stop, stop_of_local}
+use Rattle.rl_promises.specs.Patterns.{is_pattern}
+use Rattle.rl_promises.specs.Stops.{first_among, first_stop, stop_at, stop_of_local}
 use Rattle.rl_syntax.specs.Shapes.{is_three, is_two}
 use Rattle.rl_syntax.specs.Sizes.{size, size_of}
 use Rattle.rl_syntax.specs.Syntax.{Syntax, Node, Listed, Said, Flag, Pieces, End, Then}
@@ -126,16 +127,16 @@ pub ruleset unaries =
 assign_is : (n : Names) (at : At) (ps rest : Pieces) (operator : List ℕ) (a b : Syntax) (plain : Bool) → ps ≡ Then (Said operator) rest
     → rest ≡ Then a (Then b End) → bytes_eq operator (codes "=") ≡ plain
     → first_stop n (Node at word.Assign ps)
-    ≡ (if plain then option_or (first_stop n b) (first_stop n a)
-    else if is_logical operator then None else option_or (first_stop n a) (first_stop n b))
+    ≡ (if plain then option_or (first_stop n b) (stop_at n a)
+    else if is_logical operator then None else if is_pattern a then None else option_or (first_stop n a) (first_stop n b))
 assign_is n at ps rest operator a b plain is both told =
     ap (λ q. first_stop n (Node at word.Assign q)) (is ∙ ap (Then (Said operator)) both)
-    ∙ ap (λ (t : Bool). if t then option_or (first_stop n b) (first_stop n a)
-    else if is_logical operator then None else option_or (first_stop n a) (first_stop n b)) told
+    ∙ ap (λ (t : Bool). if t then option_or (first_stop n b) (stop_at n a)
+    else if is_logical operator then None else if is_pattern a then None else option_or (first_stop n a) (first_stop n b)) told
 
 pub assign_plain : (n : Names) (at : At) (ps rest : Pieces) (operator : List ℕ) (a b : Syntax) (r : Option Diagnostic)
     → ps ≡ Then (Said operator) rest → rest ≡ Then a (Then b End) → bytes_eq operator (codes "=") ≡ true
-    → r ≡ option_or (first_stop n b) (first_stop n a) → r ≡ first_stop n (Node at word.Assign ps)
+    → r ≡ option_or (first_stop n b) (stop_at n a) → r ≡ first_stop n (Node at word.Assign ps)
 assign_plain n at ps rest operator a b r is both told e = e ∙ sym (assign_is n at ps rest operator a b true is both told)
 
 pub assign_logical : (n : Names) (at : At) (ps rest : Pieces) (operator : List ℕ) (a b : Syntax)
@@ -143,14 +144,28 @@ pub assign_logical : (n : Names) (at : At) (ps rest : Pieces) (operator : List �
     → None ≡ first_stop n (Node at word.Assign ps)
 assign_logical n at ps rest operator a b is both told logical =
     sym (assign_is n at ps rest operator a b false is both told
-    ∙ ap (λ (t : Bool). if t then None else option_or (first_stop n a) (first_stop n b)) logical)
+    ∙ ap (λ (t : Bool). if t then None else if is_pattern a then None else option_or (first_stop n a) (first_stop n b)) logical)
+
+assign_applied : (n : Names) (at : At) (ps rest : Pieces) (operator : List ℕ) (a b : Syntax)
+    → ps ≡ Then (Said operator) rest → rest ≡ Then a (Then b End) → bytes_eq operator (codes "=") ≡ false → is_logical operator ≡ false
+    → first_stop n (Node at word.Assign ps) ≡ (if is_pattern a then None else option_or (first_stop n a) (first_stop n b))
+assign_applied n at ps rest operator a b is both told logical =
+    assign_is n at ps rest operator a b false is both told
+    ∙ ap (λ (t : Bool). if t then None else if is_pattern a then None else option_or (first_stop n a) (first_stop n b)) logical
+
+pub assign_pattern : (n : Names) (at : At) (ps rest : Pieces) (operator : List ℕ) (a b : Syntax)
+    → ps ≡ Then (Said operator) rest → rest ≡ Then a (Then b End) → bytes_eq operator (codes "=") ≡ false → is_logical operator ≡ false
+    → is_pattern a ≡ true → None ≡ first_stop n (Node at word.Assign ps)
+assign_pattern n at ps rest operator a b is both told logical apart =
+    sym (assign_applied n at ps rest operator a b is both told logical
+    ∙ ap (λ (t : Bool). if t then None else option_or (first_stop n a) (first_stop n b)) apart)
 
 pub assign_compound : (n : Names) (at : At) (ps rest : Pieces) (operator : List ℕ) (a b : Syntax) (r : Option Diagnostic)
     → ps ≡ Then (Said operator) rest → rest ≡ Then a (Then b End) → bytes_eq operator (codes "=") ≡ false → is_logical operator ≡ false
-    → r ≡ option_or (first_stop n a) (first_stop n b) → r ≡ first_stop n (Node at word.Assign ps)
-assign_compound n at ps rest operator a b r is both told logical e =
-    e ∙ sym (assign_is n at ps rest operator a b false is both told
-    ∙ ap (λ (t : Bool). if t then None else option_or (first_stop n a) (first_stop n b)) logical)
+    → is_pattern a ≡ false → r ≡ option_or (first_stop n a) (first_stop n b) → r ≡ first_stop n (Node at word.Assign ps)
+assign_compound n at ps rest operator a b r is both told logical apart e =
+    e ∙ sym (assign_applied n at ps rest operator a b is both told logical
+    ∙ ap (λ (t : Bool). if t then None else option_or (first_stop n a) (first_stop n b)) apart)
 
 pub assign_other : (n : Names) (at : At) (ps rest : Pieces) (operator : List ℕ) (r : Option Diagnostic) → ps ≡ Then (Said operator) rest
     → is_two rest ≡ false → r ≡ first_among n ps → r ≡ first_stop n (Node at word.Assign ps)
@@ -163,7 +178,7 @@ pub assign_parts : (n : Names) (at : At) (ps : Pieces) (r : Option Diagnostic) �
 assign_parts n at (Then (Said operator) (Then a (Then b End))) r other e = absurd (cc)
 assign_parts n at _ r other e = e
 
-pub ruleset assignments = (assign_plain, assign_logical, assign_compound, assign_other, assign_parts)
+pub ruleset assignments = (assign_plain, assign_logical, assign_pattern, assign_compound, assign_other, assign_parts)
 
 -- A template by its lists.
 template_is : (t : Syntax) (quasis expressions : Pieces) → Some (quasis, expressions) ≡ template_lists t

@@ -139,7 +139,7 @@ abbrev held : (start : ℕ) → Held
 held start = record { word = codes "call"; span = span start }
 
 abbrev live : List Syntax → List Held
-live statements = live_in_body (body_in (function [] statements))
+live statements = live_in_body (names_of (unit_of (function [] statements))) (body_in (function [] statements))
 
 -- All cases are live, but for what is behind a jump in one. Where no case falls out of the `switch`, and one is the default, what stands
 -- behind it is dead.

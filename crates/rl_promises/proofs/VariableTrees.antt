@@ -1,4 +1,5 @@
--- Trees that declare variables alone: each name that is declared is that of a parameter, of a declarator or of a `catch`.
+-- Trees that declare variables alone: each name that is declared is that of a parameter, of a declarator or of a `catch`, or stands in
+-- a pattern there.
 use Rattle.std.proofs.Common.{◌≡◌, ℕ, zero, suc, Bool, true, false, true≢false, if◌then◌else◌, Option, Some, List, [], ◌∷◌, codes, inl, inr, refl, sym, subst}
 use Rattle.std.specs.List.{AllByRecursion}
 use Rattle.std.specs.Str.{bytes_eq}
@@ -31,13 +32,18 @@ abbrev pub may_stand : (named : Bool) → Word → Bool
 may_stand named word.Bind = named
 may_stand named _ = true
 
--- True of the parts of parameters, of declarators and of `catch` clauses.
+-- True of the parts of parameters, of declarators and of `catch` clauses, and of patterns there.
 abbrev pub is_named : (named : Bool) → Word → Bool
 is_named named word.Var = true
 is_named named word.Params = true
 is_named named word.Catch = true
 is_named named word.Declarator = named
 is_named named word.Param = named
+is_named named word.Rest = named
+is_named named word.Arraypat = named
+is_named named word.Objectpat = named
+is_named named word.Keyedpat = named
+is_named named word.Defaultpat = named
 is_named named _ = false
 
 abbrev mutual
@@ -79,6 +85,11 @@ below_value named word.Params a at ps given is = refl
 below_value named word.Catch a at ps given is = refl
 below_value named word.Declarator a at ps given is = given is
 below_value named word.Param a at ps given is = given is
+below_value named word.Rest a at ps given is = given is
+below_value named word.Arraypat a at ps given is = given is
+below_value named word.Objectpat a at ps given is = given is
+below_value named word.Keyedpat a at ps given is = given is
+below_value named word.Defaultpat a at ps given is = given is
 below_value named _ a at ps given is = absurd (true≢false (sym is))
 
 none_ahead : (named : Bool) (w : Word) → is_named named w ≡ true → parts_ahead w ≡ 0
@@ -191,12 +202,17 @@ inner_list k qs ps i =
 inner_later : (p : Syntax) (ps : Pieces) (es : List NodeEntry) → AllByRecursion (HasInner ps) es → AllByRecursion (HasInner (Then p ps)) es
 inner_later p ps es all = each_weaker (HasInner ps) (HasInner (Then p ps)) es (λ e h maker. inner_behind e.at.scope.0 p ps (h maker)) all
 
--- A node that makes a scope is no part of a declarator.
+-- A node that makes a scope is no part of a declarator, nor of a pattern.
 maker_apart : (named : Bool) (at : At) (w : Word) (ps : Pieces) → makes_scope w ≡ true → HasVariables named (Node at w ps)
     → HasVariables false (Node at w ps)
 maker_apart named at word.Bind ps maker v = absurd (true≢false (sym maker))
 maker_apart named at word.Declarator ps maker v = absurd (true≢false (sym maker))
 maker_apart named at word.Param ps maker v = absurd (true≢false (sym maker))
+maker_apart named at word.Rest ps maker v = absurd (true≢false (sym maker))
+maker_apart named at word.Arraypat ps maker v = absurd (true≢false (sym maker))
+maker_apart named at word.Objectpat ps maker v = absurd (true≢false (sym maker))
+maker_apart named at word.Keyedpat ps maker v = absurd (true≢false (sym maker))
+maker_apart named at word.Defaultpat ps maker v = absurd (true≢false (sym maker))
 maker_apart named at _ ps maker v = v
 
 mutual

@@ -6,14 +6,14 @@ use Rattle.rl_rules.specs.Pieces.{first_is, is_yes}
 use Rattle.rl_syntax.specs.Syntax.{Syntax, Node, Listed, Said, Count, Flag, Absent, Pieces, End, Then}
 use Rattle.rl_syntax.specs.declared.word.Word.TheVariants as word
 
--- Where an expression stands: off the spine of a chain, at its top, or below a link on it. The spine goes on in the object or callee of a
+-- The place of an expression: off the spine of a chain, at its top, or below a link on it. The spine goes on in the object or callee of a
 -- link, and in `!`. A list never stands on it.
 pub data Spine : Type 0 where
   Off : Spine
   Top : Spine
   Below : Spine
 
--- Where the object or callee of a link stands.
+-- The place of the object or callee of a link.
 abbrev pub below_link : Spine → Spine
 below_link Off = Off
 below_link Top = Below

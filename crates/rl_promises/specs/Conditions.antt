@@ -1,13 +1,19 @@
 -- The conditions under which the lowering covers a node of a word that tools/grammar.txt marks so, by the node's parts.
-use Rattle.std.specs.Prelude.{Bool, true, false, Option, Some}
+use Rattle.std.specs.Prelude.{Bool, true, false, not, Option, Some}
+use Rattle.rl_promises.specs.Patterns.{is_pattern}
 use Rattle.rl_syntax.specs.Syntax.{Syntax, Node, Listed, Flag, Absent, Pieces, End, Then}
 use Rattle.rl_syntax.specs.declared.word.Word.{Word}
 use Rattle.rl_syntax.specs.declared.word.Word.TheVariants as word
 
--- True of the parts of a parameter without a default.
+-- True of the parts of a declarator without an initializer.
 abbrev pub no_default : Pieces → Bool
 no_default (Then pattern (Then Absent End)) = true
 no_default _ = false
+
+-- True of the parts of an update whose target is no pattern. By rule B9 no update has a pattern.
+abbrev pub no_pattern : Pieces → Bool
+no_pattern (Then operator (Then prefix (Then target End))) = not (is_pattern target)
+no_pattern _ = false
 
 -- True of the parts of a sequence that holds an expression.
 abbrev pub not_empty : Pieces → Bool

@@ -1,6 +1,6 @@
 -- The nodes that the lowering covers, by their words. Written by tools/syntax.py from tools/grammar.txt.
 use Rattle.std.specs.Prelude.{Bool, true, false}
-use Rattle.rl_promises.specs.Conditions.{no_default, not_empty, plain_head}
+use Rattle.rl_promises.specs.Conditions.{no_pattern, not_empty, plain_head}
 use Rattle.rl_syntax.specs.Syntax.{Pieces}
 use Rattle.rl_syntax.specs.declared.word.Word.{Word}
 use Rattle.rl_syntax.specs.declared.word.Word.TheVariants as word
@@ -29,13 +29,19 @@ covers word.Case parts = true
 covers word.Catch parts = true
 covers word.Var parts = true
 covers word.Declarator parts = true
+covers word.Default parts = true
 covers word.Params parts = true
-covers word.Param parts = no_default parts
+covers word.Param parts = true
+covers word.Rest parts = true
 covers word.Body parts = true
 covers word.Bind parts = true
 covers word.Type parts = true
 covers word.Id parts = true
+covers word.Arraypat parts = true
+covers word.Objectpat parts = true
+covers word.Defaultpat parts = true
 covers word.Hole parts = true
+covers word.Keyedpat parts = true
 covers word.Name parts = true
 covers word.Private parts = true
 covers word.Null parts = true
@@ -48,7 +54,7 @@ covers word.Tagged parts = true
 covers word.Array parts = true
 covers word.Object parts = true
 covers word.Unary parts = true
-covers word.Update parts = true
+covers word.Update parts = no_pattern parts
 covers word.Binary parts = true
 covers word.Privatein parts = true
 covers word.Logical parts = true
@@ -78,4 +84,8 @@ covers word.Template parts = true
 covers word.Quasi parts = true
 covers word.Spread parts = true
 covers word.Prop parts = true
+covers word.Arraytarget parts = true
+covers word.Objecttarget parts = true
+covers word.Short parts = true
+covers word.Keyed parts = true
 covers _ parts = false

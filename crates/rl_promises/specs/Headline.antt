@@ -46,7 +46,7 @@ pub record IsGraph (scene : Scene) (function : Syntax) (l : Lowered) (others : L
   pub same_runs : SameRuns scene function (world_in l f others) f l.pairs
   pub never_stuck : NeverStuck (world_in l f others) f l.pairs
   pub held : HoldsOnce function f
-  pub fields : HasFieldsOf scene.names function f
+  pub fields : HasFieldsOf function f
   pub numbered : IsNumbered f.instructions f.body.blocks
   pub well_formed : IsWellFormed (length l.identifiers) f
 

@@ -13,10 +13,13 @@ pub mod Lowerable
 pub mod Moved
 pub mod Outs
 pub mod PartForms
+pub mod PatternForms
+pub mod Patterns
 pub mod Rebound
 pub mod Rows
 pub mod SeenStops
 pub mod Size
 pub mod Spans
+pub mod StopForms
 pub mod Stops
 pub mod Tallies

@@ -1,5 +1,5 @@
 -- The local variables of a covered function: its parameters, the variables that its body declares, and its own name.
-use Rattle.std.specs.Prelude.{◌≡◌, ℕ, ◌<◌, ◌≤◌, ◌^◌, Some, List, All}
+use Rattle.std.specs.Prelude.{◌≡◌, ◌⊎◌, ℕ, ◌<◌, ◌≤◌, ◌^◌, Some, List, All}
 use Rattle.std.specs.Str.{IsUtf8}
 use Rattle.rl_base.specs.declared.ids.SymbolId.{SymbolId}
 use Rattle.rl_base.specs.declared.span.Span.{Span}
@@ -45,6 +45,28 @@ abbrev mutual
   DeclareIn names End = Unit {0}
   DeclareIn names (Then piece pieces) = DeclaresIn names piece × DeclareIn names pieces
 
+abbrev mutual
+  -- The tree uses or declares the symbol. Types do neither.
+  pub Mentions : Names → SymbolId → Syntax → Type 0
+  Mentions names symbol (Node at word.Type parts) = ⊥
+  Mentions names symbol (Node at word.Bind parts) = names.declared at.id.0 ≡ Some symbol
+  Mentions names symbol (Node at word.Id (Then (Said name) End)) = names.meaning at.reference.0 name ≡ Local symbol
+  Mentions names symbol (Node at w parts) = MentionsAmong names symbol parts
+  Mentions names symbol (Listed parts) = MentionsAmong names symbol parts
+  Mentions names symbol (Said text) = ⊥
+  Mentions names symbol (Count number) = ⊥
+  Mentions names symbol (Flag flag) = ⊥
+  Mentions names symbol Absent = ⊥
+
+  -- As `Mentions`, for parts in a row.
+  pub MentionsAmong : Names → SymbolId → Pieces → Type 0
+  MentionsAmong names symbol End = ⊥
+  MentionsAmong names symbol (Then piece pieces) = Mentions names symbol piece ⊎ MentionsAmong names symbol pieces
+
+-- The symbols that a tree uses or declares have names of their own.
+pub record AreToldApart (names : Names) (tree : Syntax) : Type 0 where
+  pub told : (s t : SymbolId) → Mentions names s tree → Mentions names t tree → names.name s.0 ≡ names.name t.0 → s.0 ≡ t.0
+
 -- Texts of names are UTF-8, spans of declarations are small, and each local variable that is used is one of the function.
 pub record KnowsNames (names : Names) : Type 0 where
   pub outer : HasTexts names
@@ -57,12 +79,13 @@ pub record AreLocals (names : Names) (parameters : List Parameter) : Type 0 wher
   pub named : All (λ p. names.name p.symbol.0 ≡ p.name) parameters
   pub spanned : All (λ p. names.declaration p.symbol.0 ≡ Some p.declaration) parameters
 
--- Each parameter of the function that is a name declares a symbol, no two have one symbol or one name, and the declarations in its body
--- are of variables.
+-- Each parameter of the function that is a name declares a symbol, no two have one symbol or one name, and the declarations in its
+-- parameters and its body are of variables. The names that its parameters use and declare stand for one symbol each.
 pub record HasLocals (names : Names) (f : Syntax) : Type 0 where
   pub declared : DeclaresAll names (params_in f)
   pub apart : AreApart (parameters_of names f)
   pub locals : AreLocals names (parameters_of names f)
   pub params : DeclaresIn names (params_in f)
+  pub told : AreToldApart names (params_in f)
   pub body : DeclaresIn names (body_in f)
   pub knows : KnowsNames names

@@ -1,9 +1,10 @@
 -- Trees that the lowering goes through without a stop.
-use Rattle.std.specs.Prelude.{◌≡◌, Bool, true, false, not, Option, Some, None, List, [], ◌∷◌}
+use Rattle.std.specs.Prelude.{◌≡◌, Bool, true, false, not, Option, Some, None, List, [], ◌∷◌, codes}
+use Rattle.std.specs.Str.{bytes_eq}
 use Rattle.rl_base.specs.Reserved.{is_reserved}
 use Rattle.rl_base.specs.declared.ids.SymbolId.{SymbolId}
 use Rattle.rl_model.specs.Actions.{Label}
-use Rattle.rl_model.specs.Shapes.{are_raw, is_logical}
+use Rattle.rl_model.specs.Shapes.{are_raw, is_absent, is_logical, is_plain_rest}
 use Rattle.rl_names.specs.Names.{Names, local_of}
 use Rattle.rl_promises.specs.Chains.{Off, Spine, Top, below_link}
 use Rattle.rl_promises.specs.Conditions.{is_plain_head}
@@ -11,6 +12,7 @@ use Rattle.rl_promises.specs.CoveredWords.{covers}
 use Rattle.rl_promises.specs.Jumps.{Around, InLoop, InSwitch, own_label, stop_of_break, stop_of_continue, within_label}
 use Rattle.rl_promises.specs.Locals.{IsVariable}
 use Rattle.rl_promises.specs.Outs.{is_known_key, is_lost_delete, is_lost_head, is_wrapped}
+use Rattle.rl_promises.specs.Patterns.{is_lost_item, is_pattern, local_at, stop_of_caught, target_under}
 use Rattle.rl_rules.specs.Chains.{has_optional}
 use Rattle.rl_rules.specs.Pieces.{first_is, is_yes}
 use Rattle.rl_syntax.specs.Syntax.{Syntax, Node, Listed, Said, Count, Flag, Absent, Pieces, End, Then}
@@ -26,12 +28,23 @@ abbrev pub IsFree : Names → Option SymbolId → Type 0
 IsFree names None = Unit {0}
 IsFree names (Some symbol) = is_reserved (names.name symbol.0) ≡ false
 
+-- As `IsFree`, with what is asked of the names behind that of a local variable.
+abbrev pub IsFreeAhead : Names → Option SymbolId → (behind : Type 0) → Type 0
+IsFreeAhead names None behind = Unit {0}
+IsFreeAhead names (Some symbol) behind = (is_reserved (names.name symbol.0) ≡ false) × behind
+
 -- A declaration is that of a variable, whose name is not reserved.
 pub record DeclaresFree (names : Names) (declared : Option SymbolId) : Type 0 where
   pub symbol : SymbolId
   pub is : declared ≡ Some symbol
   pub variable : IsVariable names symbol
   pub free : is_reserved (names.name symbol.0) ≡ false
+
+-- The names of a target that are looked at before anything of it is lowered are not reserved: those in front of the first item that is no
+-- local variable.
+abbrev pub AreFreeAhead : Names → Pieces → Type 0
+AreFreeAhead names End = Unit {0}
+AreFreeAhead names (Then item items) = IsFreeAhead names (local_at names (target_under item)) (AreFreeAhead names items)
 
 abbrev mutual
   -- Each node of the tree that is lowered is covered, stops nothing, and is optional only where it stands on the spine of a chain.
@@ -44,10 +57,15 @@ abbrev mutual
   IsLowerableAt names place (Node at word.Unary (Then (Said operator) (Then argument End))) =
       Where (not (is_lost_delete operator argument)) (IsLowerableAt names Off argument)
   IsLowerableAt names place (Node at word.Update (Then operator (Then prefix (Then target End)))) =
-      Where (not (is_wrapped target)) (IsLowerableAt names Off target)
+      (is_pattern target ≡ false) × Where (not (is_wrapped target)) (IsLowerableAt names Off target)
   IsLowerableAt names place (Node at word.Assign (Then (Said operator) (Then target (Then right End)))) =
       (is_wrapped target ≡ false)
-      × Where (not (is_logical operator)) (IsLowerableAt names Off target × IsLowerableAt names Off right)
+      × Where (not (is_pattern target)) (Where (not (is_logical operator)) (IsLowerableAt names Off target × IsLowerableAt names Off right))
+      × Where (is_pattern target) (Where (bytes_eq operator (codes "=")) (IsLowerableTo names target × IsLowerableAt names Off right))
+  IsLowerableAt names place (Node at word.Keyedpat (Then computed (Then key (Then pattern End)))) =
+      Where (not (is_lost_item (Node at word.Keyedpat (Then computed (Then key (Then pattern End)))))) (IsLowerableAt names Off pattern)
+  IsLowerableAt names place (Node at word.Objectpat (Then (Listed properties) (Then rest End))) =
+      AreLowerable names properties × Where (is_plain_rest rest) (IsLowerableAt names Off rest)
   IsLowerableAt names place
       (Node at word.Tagged (Then tag (Then (Node there word.Template (Then (Listed quasis) (Then (Listed expressions) End))) End))) =
       Where (are_raw quasis) (IsLowerableAt names Off tag × AreLowerable names expressions)
@@ -86,6 +104,31 @@ abbrev mutual
   AreLowerable names End = Unit {0}
   AreLowerable names (Then piece pieces) = IsLowerableAt names Off piece × AreLowerable names pieces
 
+  -- As `IsLowerableAt`, for a target that takes a piece of a value, in a pattern. A private property and a target under a wrapper are not
+  -- lowered.
+  pub IsLowerableTo : Names → Syntax → Type 0
+  IsLowerableTo names (Node at word.Id (Then (Said name) End)) = IsFree names (local_of (names.meaning at.reference.0 name))
+  IsLowerableTo names (Node at word.Member parts) = (first_is is_yes parts ≡ false) × AreLowerable names parts
+  IsLowerableTo names (Node at word.Index parts) = (first_is is_yes parts ≡ false) × AreLowerable names parts
+  IsLowerableTo names (Node at word.Default (Then target (Then default End))) =
+      IsLowerableAt names Off default × IsLowerableTo names target
+  IsLowerableTo names (Node at word.Short (Then target (Then default End))) =
+      IsLowerableAt names Off default × IsLowerableTo names target
+  IsLowerableTo names (Node at word.Keyed (Then computed (Then key (Then target End)))) =
+      Where (not (is_lost_item (Node at word.Keyed (Then computed (Then key (Then target End)))))) (IsLowerableTo names target)
+  IsLowerableTo names (Node at word.Rest (Then target End)) = IsLowerableTo names target
+  IsLowerableTo names (Node at word.Arraytarget (Then (Listed items) (Then rest End))) =
+      Where (is_absent rest) (AreFreeAhead names items) × AreLowerableTo names items × IsLowerableTo names rest
+  IsLowerableTo names (Node at word.Objecttarget (Then (Listed properties) (Then rest End))) =
+      Where (is_absent rest) (AreFreeAhead names properties) × AreLowerableTo names properties
+      × Where (is_plain_rest rest) (IsLowerableTo names rest)
+  IsLowerableTo names _ = Unit {0}
+
+  -- As `IsLowerableTo`, for items in a row.
+  pub AreLowerableTo : Names → Pieces → Type 0
+  AreLowerableTo names End = Unit {0}
+  AreLowerableTo names (Then item items) = IsLowerableTo names item × AreLowerableTo names items
+
 -- As `IsLowerableAt`, for a tree that stands off the spine.
 abbrev pub IsLowerable : Names → Syntax → Type 0
 IsLowerable names tree = IsLowerableAt names Off tree
@@ -94,7 +137,8 @@ IsLowerable names tree = IsLowerableAt names Off tree
 -- the values.
 pub record IsLowerableHead (names : Names) (head : Syntax) : Type 0 where
   pub plain : is_plain_head head ≡ true
-  pub lowerable : Where (not (is_lost_head head)) (IsLowerable names head)
+  pub lowerable : Where (not (is_pattern head)) (Where (not (is_lost_head head)) (IsLowerable names head))
+  pub taken : Where (is_pattern head) (IsLowerableTo names head)
 
 abbrev mutual
   -- As `IsLowerable`, for a statement inside others, with the label that is its own: each jump in it has a target.
@@ -120,7 +164,8 @@ abbrev mutual
       AreLowerableCases names (InSwitch own ∷ around) cases × IsLowerable names discriminant
   IsLowerableIn names around own
       (Node at word.Try (Then block (Then (Node there word.Catch (Then param (Then body End))) (Then finalizer End)))) =
-      IsLowerable names param × IsLowerableIn names around None body × IsLowerableIn names around None block
+      (stop_of_caught param ≡ None) × IsLowerable names param
+      × IsLowerableIn names around None body × IsLowerableIn names around None block
   IsLowerableIn names around own (Node at word.Try parts) = Unit {0}
   IsLowerableIn names around own (Node at word.With parts) = Unit {0}
   IsLowerableIn names around own (Node at word.Labeled (Then (Said label) (Then body End))) =

@@ -165,3 +165,8 @@ quasi_in _ = None
 abbrev pub declares_using : Word → Pieces → Bool
 declares_using word.Var (Then (Said kind) declarators) = is_using kind
 declares_using _ parts = false
+
+-- The list and the tree that are the parts.
+abbrev pub list_and_tree : Pieces → Option (Pieces × Syntax)
+list_and_tree (Then (Listed items) (Then tree End)) = Some (items, tree)
+list_and_tree _ = None

@@ -1,24 +1,50 @@
 -- The spans of identifiers of variables: the head of a loop that declares by `var` gives the variable's identifier the span of its name
 -- there, also where the variable is declared already.
-use Rattle.std.specs.Prelude.{ℕ, nat_eq, Bool, false, if◌then◌else◌, Option, List, map}
+use Rattle.std.specs.Prelude.{ℕ, nat_eq, Bool, true, false, if◌then◌else◌, Option}
 use Rattle.std.specs.Option.{option_map_or}
 use Rattle.rl_base.specs.declared.ids.SymbolId.{SymbolId}
 use Rattle.rl_base.specs.declared.span.Span.{Span}
-use Rattle.rl_names.specs.Functions.{body_in, parameters_of}
+use Rattle.rl_model.specs.Patterns.{is_turn}
+use Rattle.rl_model.specs.Shapes.{is_plain_rest}
 use Rattle.rl_names.specs.Names.{Names}
-use Rattle.rl_names.specs.declared.parameters.Parameter.{Parameter}
+use Rattle.rl_promises.specs.Patterns.{is_ahead, is_lost_item}
 use Rattle.rl_syntax.specs.Syntax.{Syntax, Node, Listed, Said, Flag, Pieces, End, Then}
 use Rattle.rl_syntax.specs.declared.word.Word.TheVariants as word
 
 abbrev pub is_symbol : (symbol : ℕ) → Option SymbolId → Bool
 is_symbol symbol declared = option_map_or (λ s. nat_eq s.0 symbol) declared false
 
+abbrev mutual
+  -- The span of the variable's identifier behind a binding pattern in the head of a loop, which is `before` in front of it: names come
+  -- first, and then the other items.
+  pub span_in : Names → (symbol : ℕ) → (pattern : Syntax) → (before : Span) → Span
+  span_in names symbol (Node at word.Bind parts) before = if is_symbol symbol (names.declared at.id.0) then at.span else before
+  span_in names symbol (Node at word.Defaultpat (Then pattern default)) before = span_in names symbol pattern before
+  span_in names symbol (Node at word.Keyedpat (Then computed (Then key (Then pattern End)))) before =
+      if is_lost_item (Node at word.Keyedpat (Then computed (Then key (Then pattern End)))) then before
+      else span_in names symbol pattern before
+  span_in names symbol (Node at word.Rest (Then pattern End)) before = span_in names symbol pattern before
+  span_in names symbol (Node at word.Arraypat (Then (Listed items) (Then rest End))) before =
+      let ahead : Span = span_in_round names symbol true items before in
+      let named : Span = (if is_ahead rest then span_in names symbol rest ahead else ahead) in
+      let behind : Span = span_in_round names symbol false items named in
+      if is_ahead rest then behind else span_in names symbol rest behind
+  span_in names symbol (Node at word.Objectpat (Then (Listed properties) (Then rest End))) before =
+      let ahead : Span = span_in_round names symbol true properties before in
+      span_in_round names symbol false properties (if is_plain_rest rest then span_in names symbol rest ahead else ahead)
+  span_in names symbol pattern before = before
+
+  -- As `span_in`, for the items that are met ahead of the others, or for these.
+  pub span_in_round : Names → (symbol : ℕ) → (ahead : Bool) → (items : Pieces) → (before : Span) → Span
+  span_in_round names symbol ahead End before = before
+  span_in_round names symbol ahead (Then item items) before =
+      span_in_round names symbol ahead items (if is_turn ahead (is_ahead item) then span_in names symbol item before else before)
+
 -- The span of the variable's identifier behind the head of a loop, which is `before` in front of it.
 abbrev pub span_at_head : Names → (symbol : ℕ) → (head : Syntax) → (before : Span) → Span
 span_at_head names symbol
-    (Node at word.Var (Then kind (Then (Listed (Then (Node there word.Declarator (Then (Node here word.Bind parts) rest)) End)) End)))
-    before =
-    if is_symbol symbol (names.declared here.id.0) then here.span else before
+    (Node at word.Var (Then kind (Then (Listed (Then (Node there word.Declarator (Then pattern rest)) End)) End))) before =
+    span_in names symbol pattern before
 span_at_head names symbol head before = before
 
 abbrev mutual
@@ -60,9 +86,3 @@ abbrev pub span_behind_body : Names → (symbol : ℕ) → (body : Syntax) → (
 span_behind_body names symbol (Node at word.Body (Then directives (Then (Listed statements) End))) before =
     span_behind_all names symbol statements before
 span_behind_body names symbol body before = before
-
--- The parameters of a function, each with the span that its identifier has in the end.
-abbrev pub respanned : Names → (function : Syntax) → List Parameter
-respanned names function =
-    map (λ (p : Parameter). record p { declaration = span_behind_body names p.symbol.0 (body_in function) p.declaration })
-    (parameters_of names function)

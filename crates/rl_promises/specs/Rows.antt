@@ -1,5 +1,5 @@
 -- The rows of refusals by node: the nodes of a tree that are refused, and their diagnostics.
-use Rattle.std.specs.Prelude.{◌≡◌, ℕ, Bool, true, false, if◌then◌else◌, None, unwrap_or, List, [], ◌∷◌, ◌++◌, codes}
+use Rattle.std.specs.Prelude.{◌≡◌, ℕ, Bool, true, false, not, if◌then◌else◌, None, unwrap_or, List, [], ◌∷◌, ◌++◌, codes}
 use Rattle.std.specs.Str.{bytes_eq}
 use Rattle.rl_base.specs.Diagnostics.{diagnostic_at}
 use Rattle.rl_base.specs.declared.diagnostic.Diagnostic.{Diagnostic}
@@ -18,10 +18,12 @@ use Rattle.rl_names.specs.Names.{Names}
 use Rattle.rl_promises.specs.Chains.{Below, Off, Spine, Top, below_link}
 use Rattle.rl_promises.specs.Moved.{said_of_moved}
 use Rattle.rl_promises.specs.Outs.{is_known_key, is_lost_delete, is_lost_head, is_wrapped}
+use Rattle.rl_promises.specs.Patterns.{is_ahead, is_forced, is_lost_item, is_pattern, local_at, lost_rest, said_of_key, target_under}
 use Rattle.rl_promises.specs.Stops.{has_using, stop_of}
 use Rattle.rl_names.specs.declared.names.Meaning.{Meaning}
 use Rattle.rl_names.specs.declared.names.Meaning.TheVariants.{Local, Outer}
-use Rattle.rl_model.specs.Shapes.{are_raw, is_absent, is_logical}
+use Rattle.rl_model.specs.Patterns.{is_turn}
+use Rattle.rl_model.specs.Shapes.{are_raw, is_absent, is_logical, is_plain_rest}
 use Rattle.rl_rules.specs.Chains.{has_optional}
 use Rattle.rl_semantic.specs.Items.{of_item}
 
@@ -111,6 +113,23 @@ abbrev pub said_of_updated : Names → (target : Syntax) → List Diagnostic
 said_of_updated names (Node there word.Id (Then (Said name) End)) = said_of_stored names there.span (names.meaning there.reference.0 name)
 said_of_updated names target = []
 
+-- The diagnostics of the names of a target that are looked at before anything of it is lowered, each a local variable: those in front of
+-- the first item that is none.
+abbrev pub said_of_items : Names → Pieces → List Diagnostic
+said_of_items names End = []
+said_of_items names (Then item items) =
+    of_item [] (λ (symbol : SymbolId).
+    said_of_local (names.name symbol.0) (label_of names symbol (span_of (target_under item))) ++ said_of_items names items)
+    (local_at names (target_under item))
+
+-- A target with a rest has no look at its names.
+abbrev pub said_ahead : Names → (items : Pieces) → (rest : Syntax) → List Diagnostic
+said_ahead names items rest = if is_absent rest then said_of_items names items else []
+
+-- The diagnostics of the rest of an object pattern by itself: F10 where it is no plain name.
+abbrev pub said_of_rest : Syntax → List Diagnostic
+said_of_rest rest = if is_plain_rest rest then [] else lost_rest rest ∷ []
+
 -- The diagnostics of a `!` at `at` around an expression: F44 below a link of a chain, where the expression has an optional link on its own
 -- spine.
 abbrev pub said_of_assertion : Spine → (at : Span) → (expression : Syntax) → List Diagnostic
@@ -137,7 +156,8 @@ abbrev mutual
   -- The diagnostics of a tree without statements in it, on the spine of a chain or off it, in the order in which the lowering meets the
   -- nodes: a node by itself, and then its parts from left to right. Branches are lowered before the test that leads to them, a variable is
   -- declared behind its initializer, the value of `=` comes before its target, and a private name is met behind its object. A logical
-  -- assignment is left out (row F23). Types, the argument of a `yield`, and what a row leaves out are not lowered.
+  -- assignment is left out (row F23), and a compound one to a pattern (row F24). In a binding pattern names come first, and then the other
+  -- items; a default comes before what takes the value. Types, the argument of a `yield`, and what a row leaves out are not lowered.
   pub refusals_by : Names → Spine → Syntax → List Diagnostic
   refusals_by names place (Node at word.Cond (Then condition (Then consequent (Then alternate End)))) =
       refusals_by names Off consequent ++ refusals_by names Off alternate ++ refusals_by names Off condition
@@ -147,6 +167,18 @@ abbrev mutual
       (if bytes_eq kind (codes "var") then refusal row.F39 at.span ∷ [] else []) ++ refusals_by names Off declarators
   refusals_by names place (Node at word.Declarator (Then pattern (Then init End))) =
       refusals_by names Off init ++ refusals_by names Off pattern
+  refusals_by names place (Node at word.Param (Then pattern (Then default End))) =
+      said_of_moved names default ++ refusals_by names Off default ++ refusals_by names Off pattern
+  refusals_by names place (Node at word.Defaultpat (Then pattern (Then default End))) =
+      said_of_moved names default ++ refusals_by names Off default ++ refusals_by names Off pattern
+  refusals_by names place (Node at word.Keyedpat (Then computed (Then key (Then pattern End)))) =
+      if is_lost_item (Node at word.Keyedpat (Then computed (Then key (Then pattern End)))) then [] else refusals_by names Off pattern
+  refusals_by names place (Node at word.Arraypat (Then (Listed items) (Then rest End))) =
+      refusals_in_round names true items ++ (if is_ahead rest then refusals_by names Off rest else [])
+      ++ refusals_in_round names false items ++ (if is_ahead rest then [] else refusals_by names Off rest)
+  refusals_by names place (Node at word.Objectpat (Then (Listed properties) (Then rest End))) =
+      refusals_in_round names true properties ++ (if is_plain_rest rest then refusals_by names Off rest else lost_rest rest ∷ [])
+      ++ refusals_in_round names false properties
   refusals_by names place (Node at word.Type parts) = []
   refusals_by names place (Node at word.Instantiate (Then expression types)) = refusals_by names Off expression
   refusals_by names place (Node at word.Yield parts) = said_of names (Node at word.Yield parts)
@@ -167,8 +199,10 @@ abbrev mutual
       said_of_target names at.span target (refusals_by names Off target)
   refusals_by names place (Node at word.Assign (Then (Said operator) (Then target (Then right End)))) =
       if bytes_eq operator (codes "=")
-      then refusals_by names Off right ++ said_of_assigned names at.span target (refusals_below names target)
+      then refusals_by names Off right
+      ++ (if is_pattern target then refusals_to names target else said_of_assigned names at.span target (refusals_below names target))
       else if is_logical operator then refusal row.F23 at.span ∷ []
+      else if is_pattern target then refusal row.F24 at.span ∷ []
       else refusals_by names Off target ++ refusals_by names Off right ++ said_of_updated names target
   refusals_by names place
       (Node at word.Tagged (Then tag (Then (Node there word.Template (Then (Listed quasis) (Then (Listed expressions) End))) End))) =
@@ -185,6 +219,46 @@ abbrev mutual
   refusals_in names End = []
   refusals_in names (Then piece pieces) = refusals_by names Off piece ++ refusals_in names pieces
 
+  -- As `refusals_in`, for the items of a binding pattern. Where `ahead` is true these are the keys and the names, else the other items.
+  pub refusals_in_round : Names → (ahead : Bool) → Pieces → List Diagnostic
+  refusals_in_round names ahead End = []
+  refusals_in_round names ahead (Then item items) =
+      (if ahead then said_of_key item else []) ++ (if is_turn ahead (is_ahead item) then refusals_by names Off item else [])
+      ++ refusals_in_round names ahead items
+
+  -- As `refusals`, for a target that takes a piece of a value, in a pattern. Of a private property (row F11) and of a target under a
+  -- wrapper (row F45) nothing is lowered.
+  pub refusals_to : Names → Syntax → List Diagnostic
+  refusals_to names (Node at word.Id (Then (Said name) End)) = said_of_stored names at.span (names.meaning at.reference.0 name)
+  refusals_to names (Node at word.Member parts) = refusals_in names parts
+  refusals_to names (Node at word.Index parts) = refusals_in names parts
+  refusals_to names (Node at word.Privatemember parts) = refusal row.F11 at.span ∷ []
+  refusals_to names (Node at word.Default (Then target (Then default End))) =
+      said_of_moved names default ++ refusals_by names Off default ++ refusals_to names target
+  refusals_to names (Node at word.Short (Then target (Then default End))) =
+      said_of_moved names default ++ refusals_by names Off default ++ refusals_to names target
+  refusals_to names (Node at word.Keyed (Then computed (Then key (Then target End)))) =
+      if is_lost_item (Node at word.Keyed (Then computed (Then key (Then target End)))) then [] else refusals_to names target
+  refusals_to names (Node at word.Rest (Then target End)) = refusals_to names target
+  refusals_to names (Node at word.Hole parts) = []
+  refusals_to names (Node at word.Arraytarget (Then (Listed items) (Then rest End))) =
+      said_ahead names items rest ++ refusals_to_round names (is_forced names items rest) true items
+      ++ refusals_to_round names (is_forced names items rest) false items ++ refusals_to names rest
+  refusals_to names (Node at word.Objecttarget (Then (Listed properties) (Then rest End))) =
+      said_ahead names properties rest ++ refusals_to_round names (is_forced names properties rest) true properties
+      ++ said_of_rest rest ++ refusals_to_round names (is_forced names properties rest) false properties
+      ++ (if is_plain_rest rest then refusals_to names rest else [])
+  refusals_to names (Node at w parts) = refusal row.F45 at.span ∷ []
+  refusals_to names _ = []
+
+  -- As `refusals_to`, for the items of a target. Where `ahead` is true these are the keys, and the items too unless they take their pieces
+  -- from temporaries; else the items that do.
+  pub refusals_to_round : Names → (forced ahead : Bool) → Pieces → List Diagnostic
+  refusals_to_round names forced ahead End = []
+  refusals_to_round names forced ahead (Then item items) =
+      (if ahead then said_of_key item else []) ++ (if is_turn ahead (not forced) then refusals_to names item else [])
+      ++ refusals_to_round names forced ahead items
+
   -- As `refusals`, for the parts of a node.
   pub refusals_below : Names → Syntax → List Diagnostic
   refusals_below names (Node at word parts) = refusals_in names parts
@@ -198,7 +272,8 @@ refusals names tree = refusals_by names Off tree
 abbrev pub refusals_at_head : Names → Syntax → List Diagnostic
 refusals_at_head names (Node at word.Id (Then (Said name) End)) = said_of_stored names at.span (names.meaning at.reference.0 name)
 refusals_at_head names (Node at w parts) =
-    if is_lost_head (Node at w parts) then refusal (row_of_head w) at.span ∷ [] else refusals_in names parts
+    if is_lost_head (Node at w parts) then refusal (row_of_head w) at.span ∷ []
+    else if is_pattern (Node at w parts) then refusals_to names (Node at w parts) else refusals_in names parts
 refusals_at_head names _ = []
 
 -- The diagnostics of a `throw` at `at`: F30 in the block of a `try`.

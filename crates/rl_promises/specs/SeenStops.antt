@@ -10,9 +10,11 @@ use Rattle.rl_promises.specs.declared.around.Around.{Around, Nothing, Loop', Lab
 use Rattle.rl_promises.specs.declared.found_stop.FoundStop.{FoundStop}
 use Rattle.rl_promises.specs.declared.found_stop.FoundStop.TheVariants as stop
 
--- S1 at a node of a local variable with a reserved name, S6 at a `break` and S7 at a `continue` that have no target.
+-- S1 at a node of a local variable with a reserved name, S4 at a pattern that a `catch` binds, S6 at a `break` and S7 at a `continue`
+-- that have no target.
 abbrev pub seen_stop : Names → FoundStop → Diagnostic
 seen_stop names (stop.ReservedName symbol span) = diagnostic_at row.S1 (names.name symbol.0) span
+seen_stop names (stop.CaughtPattern span) = diagnostic_at row.S4 [] span
 seen_stop names (stop.BreakNowhere span) = diagnostic_at row.S6 [] span
 seen_stop names (stop.ContinueNowhere span) = diagnostic_at row.S7 [] span
 seen_stop names (stop.ContinueOfNoLoop span) = diagnostic_at row.S7 (codes "label") span

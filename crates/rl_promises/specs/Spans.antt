@@ -13,6 +13,8 @@ use Rattle.rl_hir.specs.declared.instruction.InstructionValue.TheVariants as val
 use Rattle.rl_hir.specs.declared.instruction.Place.{Place}
 use Rattle.rl_hir.specs.declared.terminal.Terminal.{Terminal}
 use Rattle.rl_model.specs.WellFormed.{instruction_places, param_place, terminal_places}
+use Rattle.rl_names.specs.Functions.{parameters_of}
+use Rattle.rl_names.specs.Names.{Names}
 use Rattle.rl_syntax.specs.Syntax.{Syntax, Node, Listed, Said, Count, Flag, Absent, Pieces, End, Then}
 
 abbrev mutual
@@ -30,9 +32,11 @@ abbrev mutual
   IsSpanAmong End span = ⊥
   IsSpanAmong (Then piece pieces) span = IsSpanOf piece span ⊎ IsSpanAmong pieces span
 
--- The spans of the declarations that stand in a function, among the symbols of a unit, are those of its nodes.
-pub record KnowsSpans (symbols : List Bound) (function : Syntax) : Type 0 where
+-- The spans of the declarations that stand in a function, among the symbols of a unit, are those of its nodes. Of its parameters that are
+-- names the declarations stand in it.
+pub record KnowsSpans (names : Names) (symbols : List Bound) (function : Syntax) : Type 0 where
   pub spanned : (symbol : ℕ) (span : Span) → declaration_span (sites_in function) symbols symbol ≡ Some span → IsSpanOf function span
+  pub params : All (λ p. declaration_span (sites_in function) symbols p.symbol.0 ≡ Some p.declaration) (parameters_of names function)
 
 -- The spans of the places are absent, or `P` holds of them.
 abbrev pub AreSpanned : (P : Span → Type 0) → List Place → Type 0

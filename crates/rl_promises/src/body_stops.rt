@@ -1,10 +1,11 @@
-//! The first stop in the statements of a function: as in an expression, or a jump without a target.
+//! The first stop in the statements of a function: as in an expression, a pattern that a `catch` binds, or a jump without a target.
 
 ghost use Rattle.std.specs.Prelude.{◌≡◌, ◌∷◌, None, map, option_map};
 ghost use Rattle.std.specs.Option.{option_or};
 ghost use Rattle.rl_names.specs.Seen.{seen};
 ghost use Rattle.rl_promises.specs.Jumps as jumps;
 ghost use Rattle.rl_promises.specs.PartForms as forms;
+ghost use Rattle.rl_promises.specs.Patterns as patterns;
 ghost use Rattle.rl_promises.specs.SeenStops.{seen_around, seen_stop};
 ghost use Rattle.rl_promises.specs.Stops as spec;
 ghost use Rattle.rl_syntax.specs.Syntax.{Node, pieces_of, syntax};
@@ -16,7 +17,8 @@ use crate::part_forms::{
     body_statements, case_in, catch_in, flag_and_three, four, jump_label, list_alone,
     text_and_tree, three, tree_and_list, two,
 };
-use crate::stops::{first_among, first_stop, stop_in_node};
+use crate::patterns::stop_of_caught;
+use crate::stops::{first_among, first_stop, stop_at_target, stop_in_node};
 use rl_base::text::Text;
 use rl_names::names::FunctionNames;
 use rl_syntax::numbered::{At, Numbered};
@@ -229,7 +231,7 @@ fn stop_at_head(names: &FunctionNames<'_>, head: &Numbered) -> Option<FoundStop>
     if is_lost_head(head) {
         None
     } else {
-        first_stop(names, head)
+        stop_at_target(names, head)
     }
 }
 
@@ -329,13 +331,16 @@ fn stop_in_try(
     param: &Numbered,
     body: &Numbered,
 ) -> Option<FoundStop>
-    ensures { option_map (seen_stop (seen names.now)) result ≡ option_or (spec.first_stop (seen names.now) (syntax param.now)) (option_or (spec.stop_in (seen names.now) (seen_around around.now) None (syntax body.now)) (spec.stop_in (seen names.now) (seen_around around.now) None (syntax block.now))) }
+    ensures { option_map (seen_stop (seen names.now)) result ≡ option_or (patterns.stop_of_caught (syntax param.now)) (option_or (spec.first_stop (seen names.now) (syntax param.now)) (option_or (spec.stop_in (seen names.now) (seen_around around.now) None (syntax body.now)) (spec.stop_in (seen names.now) (seen_around around.now) None (syntax block.now)))) }
 {
-    match first_stop(names, param) {
+    match stop_of_caught(names, param) {
         Some(found) => Some(found),
-        None => match stop_in(names, around, None, body) {
+        None => match first_stop(names, param) {
             Some(found) => Some(found),
-            None => stop_in(names, around, None, block),
+            None => match stop_in(names, around, None, body) {
+                Some(found) => Some(found),
+                None => stop_in(names, around, None, block),
+            },
         },
     }
 }

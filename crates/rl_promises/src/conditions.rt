@@ -4,13 +4,14 @@ ghost use Rattle.std.specs.Prelude.{◌≡◌, map};
 ghost use Rattle.rl_promises.specs.Conditions as spec;
 ghost use Rattle.rl_syntax.specs.Syntax.{pieces_of, syntax};
 
-use crate::part_forms::{as_flag, one, second_list};
+use crate::part_forms::{as_flag, one, second_list, three};
+use crate::patterns::is_pattern;
 use rl_syntax::numbered::Numbered;
 use rl_syntax::parts::{as_items, is_absent, split_first};
 use rl_syntax::word::Word;
 
-/// True of the parts of a parameter without a default.
-pub(crate) fn no_default(parts: &[Numbered]) -> bool
+/// True of the parts of a declarator without an initializer.
+fn no_default(parts: &[Numbered]) -> bool
     ensures { result ≡ spec.no_default (pieces_of (map syntax parts.now)) }
 {
     let Some((_pattern, more)) = split_first(parts) else {
@@ -22,6 +23,16 @@ pub(crate) fn no_default(parts: &[Numbered]) -> bool
     match split_first(rest) {
         Some(_) => false,
         None => is_absent(default),
+    }
+}
+
+/// True of the parts of an update whose target is no pattern.
+pub(crate) fn no_pattern(parts: &[Numbered]) -> bool
+    ensures { result ≡ spec.no_pattern (pieces_of (map syntax parts.now)) }
+{
+    match three(parts) {
+        Some((_operator, _prefix, target)) => !is_pattern(target),
+        None => false,
     }
 }
 

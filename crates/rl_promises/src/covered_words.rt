@@ -4,7 +4,7 @@ ghost use Rattle.std.specs.Prelude.{◌≡◌, map};
 ghost use Rattle.rl_promises.specs.CoveredWords as spec;
 ghost use Rattle.rl_syntax.specs.Syntax.{pieces_of, syntax};
 
-use crate::conditions::{no_default, not_empty, plain_head};
+use crate::conditions::{no_pattern, not_empty, plain_head};
 use rl_syntax::numbered::Numbered;
 use rl_syntax::word::Word;
 
@@ -51,23 +51,23 @@ pub(crate) fn covers(word: Word, parts: &[Numbered]) -> bool
         Word::Method => false,
         Word::Field => false,
         Word::Static => false,
-        Word::Default => false,
+        Word::Default => true,
         Word::Named => false,
         Word::Arrow => false,
         Word::Fundecl => false,
         Word::Funexpr => false,
         Word::Params => true,
-        Word::Param => no_default(parts),
-        Word::Rest => false,
+        Word::Param => true,
+        Word::Rest => true,
         Word::Body => true,
         Word::Bind => true,
         Word::Type => true,
         Word::Id => true,
-        Word::Arraypat => false,
-        Word::Objectpat => false,
-        Word::Defaultpat => false,
+        Word::Arraypat => true,
+        Word::Objectpat => true,
+        Word::Defaultpat => true,
         Word::Hole => true,
-        Word::Keyedpat => false,
+        Word::Keyedpat => true,
         Word::Name => true,
         Word::Private => true,
         Word::Null => true,
@@ -80,7 +80,7 @@ pub(crate) fn covers(word: Word, parts: &[Numbered]) -> bool
         Word::Array => true,
         Word::Object => true,
         Word::Unary => true,
-        Word::Update => true,
+        Word::Update => no_pattern(parts),
         Word::Binary => true,
         Word::Privatein => true,
         Word::Logical => true,
@@ -113,10 +113,10 @@ pub(crate) fn covers(word: Word, parts: &[Numbered]) -> bool
         Word::Prop => true,
         Word::Get => false,
         Word::Set => false,
-        Word::Arraytarget => false,
-        Word::Objecttarget => false,
-        Word::Short => false,
-        Word::Keyed => false,
+        Word::Arraytarget => true,
+        Word::Objecttarget => true,
+        Word::Short => true,
+        Word::Keyed => true,
         Word::Element => false,
         Word::Fragment => false,
         Word::Opening => false,

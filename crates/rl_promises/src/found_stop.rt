@@ -22,6 +22,11 @@ pub enum FoundStop {
         /// The span of the node.
         span: Span,
     },
+    /// A pattern that a `catch` binds: row S4.
+    CaughtPattern {
+        /// The span of its first name, or of the pattern.
+        span: Span,
+    },
     /// A `break` that none of the statements around it takes: row S6.
     BreakNowhere {
         /// The span of the node.
@@ -52,6 +57,7 @@ impl FoundStop {
             FoundStop::ReservedName { symbol, span } => {
                 Diagnostic::at(alloc, Row::S1, names.name(*symbol), *span)
             }
+            FoundStop::CaughtPattern { span } => Diagnostic::at(alloc, Row::S4, "", *span),
             FoundStop::BreakNowhere { span } => Diagnostic::at(alloc, Row::S6, "", *span),
             FoundStop::ContinueNowhere { span } => Diagnostic::at(alloc, Row::S7, "", *span),
             FoundStop::ContinueOfNoLoop { span } => Diagnostic::at(alloc, Row::S7, "label", *span),

@@ -10,5 +10,6 @@ pub mod found_stop;
 pub mod moved;
 pub mod outs;
 mod part_forms;
+pub mod patterns;
 pub mod skips;
 pub mod stops;

@@ -285,6 +285,20 @@ pub(crate) fn tree_and_list(parts: &[Numbered]) -> Option<(&Numbered, &[Numbered
     }
 }
 
+/// The two parts, of which the first is a list. `None` of parts of another form.
+#[tactic(auto, using(crate::proofs::Shaping::in_front))]
+pub(crate) fn list_and_tree(parts: &[Numbered]) -> Option<(&[Numbered], &Numbered)>
+    ensures { option_map (λ p. (pieces_of (map syntax p.0.now), syntax p.1.now)) result ≡ spec.list_and_tree (pieces_of (map syntax parts.now)) }
+{
+    match two(parts) {
+        Some((list, last)) => match as_items(list) {
+            Some(items) => Some((items, last)),
+            None => None,
+        },
+        None => None,
+    }
+}
+
 /// The test and the statements of a case, by its word and parts. `None` of any other node.
 fn case_parts(word: Word, parts: &[Numbered]) -> Option<(&Numbered, &[Numbered])>
     ensures { option_map (λ p. (syntax p.0.now, pieces_of (map syntax p.1.now))) result ≡ spec.case_parts word (pieces_of (map syntax parts.now)) }

@@ -4,13 +4,19 @@ ghost use Rattle.std.specs.Prelude.{◌≡◌, map, option_map};
 ghost use Rattle.std.specs.Option.{option_or};
 ghost use Rattle.rl_names.specs.Seen.{seen};
 ghost use Rattle.rl_promises.specs.SeenStops.{seen_stop};
+ghost use Rattle.rl_promises.specs.StopForms as forms;
 ghost use Rattle.rl_promises.specs.Stops as spec;
 ghost use Rattle.rl_syntax.specs.Syntax.{Node, pieces_of, syntax};
+ghost use Rattle.rl_syntax.specs.declared.word.Word.TheVariants as words;
 
 use crate::found_stop::FoundStop;
 use crate::outs::{are_raw, is_equals, is_known_key, is_logical, is_lost_delete, is_wrapped};
 use crate::part_forms::{
-    flag_and_trees, template_lists, text_ahead, text_alone, text_and_tree, three, two,
+    flag_and_trees, list_and_tree, one, template_lists, text_ahead, text_alone, text_and_tree,
+    three, two,
+};
+use crate::patterns::{
+    has_no_rest, is_ahead, is_pattern, is_plain_rest, is_turn, local_item, loses_item,
 };
 use rl_ast::binding::{BindingIdentifier, IdentifierReference};
 use rl_base::ids::SymbolId;
@@ -55,7 +61,7 @@ pub fn first_stop(names: &FunctionNames<'_>, tree: &Numbered) -> Option<FoundSto
 
 /// As `first_stop`, of a node.
 #[cycle(stopping)]
-#[tactic(auto, using(crate::proofs::Stopping::names, crate::proofs::Stopping::reordered, crate::proofs::Stopping::unaries, crate::proofs::Stopping::assignments, crate::proofs::Stopping::tags, crate::proofs::Stopping::props, crate::proofs::Stopping::smaller))]
+#[tactic(auto, using(crate::proofs::Stopping::names, crate::proofs::Stopping::reordered, crate::proofs::Stopping::unaries, crate::proofs::Stopping::assignments, crate::proofs::Stopping::tags, crate::proofs::Stopping::props, crate::proofs::Stopping::smaller, crate::proofs::TargetStopping::patterns))]
 pub(crate) fn stop_in_node(
     names: &FunctionNames<'_>,
     at: At,
@@ -131,8 +137,10 @@ pub(crate) fn stop_in_node(
             Some((operator, operands)) => match two(operands) {
                 Some((target, right)) => {
                     if is_equals(operator) {
-                        first_of_two(names, right, target)
+                        first_of_assigned(names, right, target)
                     } else if is_logical(operator) {
+                        None
+                    } else if is_pattern(target) {
                         None
                     } else {
                         first_of_two(names, target, right)
@@ -163,6 +171,32 @@ pub(crate) fn stop_in_node(
                     None
                 }
             }
+            None => first_among(names, parts),
+        },
+        Word::Param => match two(parts) {
+            Some((pattern, default)) => first_of_two(names, default, pattern),
+            None => first_among(names, parts),
+        },
+        Word::Defaultpat => match two(parts) {
+            Some((pattern, default)) => first_of_two(names, default, pattern),
+            None => first_among(names, parts),
+        },
+        Word::Keyedpat => match three(parts) {
+            Some((computed, key, pattern)) => {
+                if loses_item(computed, key) {
+                    None
+                } else {
+                    first_stop(names, pattern)
+                }
+            }
+            None => first_among(names, parts),
+        },
+        Word::Arraypat => match list_and_tree(parts) {
+            Some((items, rest)) => first_of_array(names, items, rest),
+            None => first_among(names, parts),
+        },
+        Word::Objectpat => match list_and_tree(parts) {
+            Some((properties, rest)) => first_of_object(names, properties, rest),
             None => first_among(names, parts),
         },
         _ => first_among(names, parts),
@@ -222,6 +256,308 @@ pub(crate) fn first_among(names: &FunctionNames<'_>, trees: &[Numbered]) -> Opti
 {
     'trees: for tree in trees {
         if let Some(found) = first_stop(names, tree) {
+            return Some(found);
+        }
+    }
+    None
+}
+
+/// As `first_stop`, of a tree that is lowered where a test holds.
+#[cycle(stopping)]
+fn stop_where(names: &FunctionNames<'_>, test: bool, tree: &Numbered) -> Option<FoundStop>
+    ensures { option_map (seen_stop (seen names.now)) result ≡ forms.stop_where (seen names.now) test (syntax tree.now) }
+{
+    if test { first_stop(names, tree) } else { None }
+}
+
+/// As `first_among`, for the items of a binding pattern that are met ahead of the others, or for these.
+#[cycle(stopping)]
+#[tactic(auto, using(crate::proofs::TargetStopping::in_round))]
+fn first_in_round(names: &FunctionNames<'_>, ahead: bool, items: &[Numbered]) -> Option<FoundStop>
+    ensures { option_map (seen_stop (seen names.now)) result ≡ spec.first_in_round (seen names.now) ahead (pieces_of (map syntax items.now)) }
+{
+    'items: for item in items {
+        if let Some(found) = stop_where(names, is_turn(ahead, item), item) {
+            return Some(found);
+        }
+    }
+    None
+}
+
+/// As `first_stop`, for the parts of an array pattern.
+#[cycle(stopping)]
+#[tactic(auto, using(crate::proofs::Stopping::in_order))]
+fn first_of_array(
+    names: &FunctionNames<'_>,
+    items: &[Numbered],
+    rest: &Numbered,
+) -> Option<FoundStop>
+    ensures { option_map (seen_stop (seen names.now)) result ≡ forms.in_array (seen names.now) (pieces_of (map syntax items.now)) (syntax rest.now) }
+{
+    match first_in_round(names, true, items) {
+        Some(found) => Some(found),
+        None => match stop_where(names, is_ahead(rest), rest) {
+            Some(found) => Some(found),
+            None => match first_in_round(names, false, items) {
+                Some(found) => Some(found),
+                None => stop_where(names, !is_ahead(rest), rest),
+            },
+        },
+    }
+}
+
+/// As `first_stop`, for the parts of an object pattern.
+#[cycle(stopping)]
+#[tactic(auto, using(crate::proofs::Stopping::in_order))]
+fn first_of_object(
+    names: &FunctionNames<'_>,
+    properties: &[Numbered],
+    rest: &Numbered,
+) -> Option<FoundStop>
+    ensures { option_map (seen_stop (seen names.now)) result ≡ forms.in_object (seen names.now) (pieces_of (map syntax properties.now)) (syntax rest.now) }
+{
+    match first_in_round(names, true, properties) {
+        Some(found) => Some(found),
+        None => match stop_where(names, is_plain_rest(rest), rest) {
+            Some(found) => Some(found),
+            None => first_in_round(names, false, properties),
+        },
+    }
+}
+
+/// As `first_stop`, for the value of `=` and its target.
+#[cycle(stopping)]
+#[tactic(auto, using(crate::proofs::Stopping::in_order))]
+fn first_of_assigned(
+    names: &FunctionNames<'_>,
+    right: &Numbered,
+    target: &Numbered,
+) -> Option<FoundStop>
+    ensures { option_map (seen_stop (seen names.now)) result ≡ option_or (spec.first_stop (seen names.now) (syntax right.now)) (spec.stop_at (seen names.now) (syntax target.now)) }
+{
+    match first_stop(names, right) {
+        Some(found) => Some(found),
+        None => stop_at_target(names, target),
+    }
+}
+
+/// As `first_stop`, for a target, which may be a pattern.
+#[cycle(stopping)]
+pub(crate) fn stop_at_target(names: &FunctionNames<'_>, target: &Numbered) -> Option<FoundStop>
+    ensures { option_map (seen_stop (seen names.now)) result ≡ spec.stop_at (seen names.now) (syntax target.now) }
+{
+    if is_pattern(target) {
+        stop_to(names, target)
+    } else {
+        first_stop(names, target)
+    }
+}
+
+/// The stop at an item of a target that is a local variable, if there is one. `None` at any other item.
+#[tactic(auto, using(crate::proofs::TargetStopping::locals))]
+fn stop_at_item(names: &FunctionNames<'_>, item: &Numbered) -> Option<Option<FoundStop>>
+    ensures { option_map (option_map (seen_stop (seen names.now))) result ≡ forms.stop_at_item (seen names.now) (syntax item.now) }
+{
+    match local_item(names, item) {
+        Some((symbol, span)) => Some(stop_at(names, Some(symbol), span)),
+        None => None,
+    }
+}
+
+/// The first stop at the names of a target that are looked at before anything of it is lowered.
+#[tactic(auto, using(crate::proofs::TargetStopping::aheads))]
+fn stop_ahead(names: &FunctionNames<'_>, items: &[Numbered]) -> Option<FoundStop>
+    ensures { option_map (seen_stop (seen names.now)) result ≡ spec.stop_ahead (seen names.now) (pieces_of (map syntax items.now)) }
+{
+    'items: for item in items {
+        let Some(stop) = stop_at_item(names, item) else {
+            return None;
+        };
+        if let Some(found) = stop {
+            return Some(found);
+        }
+    }
+    None
+}
+
+/// As `stop_ahead`, of a target by its items and its rest.
+fn stop_before(names: &FunctionNames<'_>, items: &[Numbered], rest: &Numbered) -> Option<FoundStop>
+    ensures { option_map (seen_stop (seen names.now)) result ≡ forms.stop_before (seen names.now) (pieces_of (map syntax items.now)) (syntax rest.now) }
+{
+    if has_no_rest(rest) {
+        stop_ahead(names, items)
+    } else {
+        None
+    }
+}
+
+/// As `first_stop`, for a target that takes a piece of a value, in a pattern.
+#[cycle(stopping)]
+#[tactic(auto, using(crate::proofs::TargetStopping::to_nodes, rl_syntax::proofs::Layers::by_layer))]
+fn stop_to(names: &FunctionNames<'_>, target: &Numbered) -> Option<FoundStop>
+    ensures { option_map (seen_stop (seen names.now)) result ≡ spec.stop_to (seen names.now) (syntax target.now) }
+{
+    match target {
+        Numbered::Node(at, word, parts) => stop_to_node(names, *at, *word, parts.as_slice()),
+        Numbered::List(_) => None,
+        Numbered::Text(_) => None,
+        Numbered::Number(_) => None,
+        Numbered::Flag(_) => None,
+        Numbered::Absent => None,
+    }
+}
+
+/// As `stop_to`, of a node.
+#[cycle(stopping)]
+fn stop_to_node(
+    names: &FunctionNames<'_>,
+    at: At,
+    word: Word,
+    parts: &[Numbered],
+) -> Option<FoundStop>
+    ensures { option_map (seen_stop (seen names.now)) result ≡ forms.to_node (seen names.now) at word (pieces_of (map syntax parts.now)) }
+{
+    match word {
+        Word::Id => stop_to_name(names, at, parts),
+        Word::Member => first_among(names, parts),
+        Word::Index => first_among(names, parts),
+        Word::Default => stop_to_defaulted(names, parts),
+        Word::Short => stop_to_defaulted(names, parts),
+        Word::Keyed => stop_to_keyed(names, parts),
+        Word::Rest => stop_to_rest(names, parts),
+        Word::Arraytarget => stop_to_array(names, parts),
+        Word::Objecttarget => stop_to_object(names, parts),
+        _ => None,
+    }
+}
+
+/// As `stop_to`, of a name by its parts.
+#[tactic(auto, using(crate::proofs::TargetStopping::targets))]
+fn stop_to_name(names: &FunctionNames<'_>, at: At, parts: &[Numbered]) -> Option<FoundStop>
+    ensures { option_map (seen_stop (seen names.now)) result ≡ spec.stop_to (seen names.now) (Node at words.Id (pieces_of (map syntax parts.now))) }
+{
+    match text_alone(parts) {
+        Some(name) => stop_at(
+            names,
+            names.local(&IdentifierReference { at, name }),
+            at.span,
+        ),
+        None => None,
+    }
+}
+
+/// As `stop_to`, of a target with a default by its parts.
+#[cycle(stopping)]
+#[tactic(auto, using(crate::proofs::TargetStopping::targets))]
+fn stop_to_defaulted(names: &FunctionNames<'_>, parts: &[Numbered]) -> Option<FoundStop>
+    ensures { option_map (seen_stop (seen names.now)) result ≡ forms.to_defaulted (seen names.now) (pieces_of (map syntax parts.now)) }
+{
+    match two(parts) {
+        Some((target, default)) => stop_to_either(names, default, target),
+        None => None,
+    }
+}
+
+/// As `first_stop`, for a default and the target in front of it.
+#[cycle(stopping)]
+#[tactic(auto, using(crate::proofs::Stopping::in_order))]
+fn stop_to_either(
+    names: &FunctionNames<'_>,
+    default: &Numbered,
+    target: &Numbered,
+) -> Option<FoundStop>
+    ensures { option_map (seen_stop (seen names.now)) result ≡ option_or (spec.first_stop (seen names.now) (syntax default.now)) (spec.stop_to (seen names.now) (syntax target.now)) }
+{
+    match first_stop(names, default) {
+        Some(found) => Some(found),
+        None => stop_to(names, target),
+    }
+}
+
+/// As `stop_to`, of a target that is lowered where a test holds.
+#[cycle(stopping)]
+fn stop_to_where(names: &FunctionNames<'_>, test: bool, target: &Numbered) -> Option<FoundStop>
+    ensures { option_map (seen_stop (seen names.now)) result ≡ forms.stop_to_where (seen names.now) test (syntax target.now) }
+{
+    if test { stop_to(names, target) } else { None }
+}
+
+/// As `stop_to`, of a property by its parts.
+#[cycle(stopping)]
+#[tactic(auto, using(crate::proofs::TargetStopping::targets))]
+fn stop_to_keyed(names: &FunctionNames<'_>, parts: &[Numbered]) -> Option<FoundStop>
+    ensures { option_map (seen_stop (seen names.now)) result ≡ forms.to_keyed (seen names.now) (pieces_of (map syntax parts.now)) }
+{
+    match three(parts) {
+        Some((computed, key, target)) => stop_to_where(names, !loses_item(computed, key), target),
+        None => None,
+    }
+}
+
+/// As `stop_to`, of the rest by its parts.
+#[cycle(stopping)]
+#[tactic(auto, using(crate::proofs::TargetStopping::targets))]
+fn stop_to_rest(names: &FunctionNames<'_>, parts: &[Numbered]) -> Option<FoundStop>
+    ensures { option_map (seen_stop (seen names.now)) result ≡ forms.to_rest (seen names.now) (pieces_of (map syntax parts.now)) }
+{
+    match one(parts) {
+        Some(target) => stop_to(names, target),
+        None => None,
+    }
+}
+
+/// As `stop_to`, of an array by its parts.
+#[cycle(stopping)]
+#[tactic(auto, using(crate::proofs::TargetStopping::lists))]
+fn stop_to_array(names: &FunctionNames<'_>, parts: &[Numbered]) -> Option<FoundStop>
+    ensures { option_map (seen_stop (seen names.now)) result ≡ forms.to_array (seen names.now) (pieces_of (map syntax parts.now)) }
+{
+    match list_and_tree(parts) {
+        Some((items, rest)) => stop_to_items(names, items, rest, true),
+        None => None,
+    }
+}
+
+/// As `stop_to`, of an object by its parts.
+#[cycle(stopping)]
+#[tactic(auto, using(crate::proofs::TargetStopping::lists))]
+fn stop_to_object(names: &FunctionNames<'_>, parts: &[Numbered]) -> Option<FoundStop>
+    ensures { option_map (seen_stop (seen names.now)) result ≡ forms.to_object (seen names.now) (pieces_of (map syntax parts.now)) }
+{
+    match list_and_tree(parts) {
+        Some((properties, rest)) => stop_to_items(names, properties, rest, is_plain_rest(rest)),
+        None => None,
+    }
+}
+
+/// As `stop_to`, for items, and for the rest where `kept` is true.
+#[cycle(stopping)]
+#[tactic(auto, using(crate::proofs::Stopping::in_order))]
+fn stop_to_items(
+    names: &FunctionNames<'_>,
+    items: &[Numbered],
+    rest: &Numbered,
+    kept: bool,
+) -> Option<FoundStop>
+    ensures { option_map (seen_stop (seen names.now)) result ≡ spec.stop_to_items (seen names.now) kept (pieces_of (map syntax items.now)) (syntax rest.now) }
+{
+    match stop_before(names, items, rest) {
+        Some(found) => Some(found),
+        None => match stop_to_all(names, items) {
+            Some(found) => Some(found),
+            None => stop_to_where(names, kept, rest),
+        },
+    }
+}
+
+/// As `stop_to`, for items in a row.
+#[cycle(stopping)]
+#[tactic(auto, using(crate::proofs::TargetStopping::to_all))]
+fn stop_to_all(names: &FunctionNames<'_>, items: &[Numbered]) -> Option<FoundStop>
+    ensures { option_map (seen_stop (seen names.now)) result ≡ spec.stop_to_all (seen names.now) (pieces_of (map syntax items.now)) }
+{
+    'items: for item in items {
+        if let Some(found) = stop_to(names, item) {
             return Some(found);
         }
     }

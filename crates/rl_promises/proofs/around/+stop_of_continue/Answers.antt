@@ -13,11 +13,13 @@ returns-else-ends_at_loop t c names =
 pub returns-else-ends_at_label : goal.returns-else-ends_at_label
 returns-else-ends_at_label t c names =
     past_continue (option_map (λ l. l.now) c.args.jump) c.args.span (InLabeled c.in-Labeled.label.now)
-    (seen_around c.in-Labeled.outer.now) _ (sym c.ends_at_label.ensures.continues ∙ c.if-ends_at_label.false) (c.stop_of_continue-else-ends_at_label.ensures names)
+    (seen_around c.in-Labeled.outer.now) _ (sym c.ends_at_label.ensures.continues ∙ c.if-ends_at_label.false)
+    (c.stop_of_continue-else-ends_at_label.ensures names)
     ∙ ap (stop_of_continue (option_map (λ l. l.now) c.args.jump) c.args.span) (sym (ap seen_around c.in-Labeled.is))
 
 pub returns-else-continues_at_switch : goal.returns-else-continues_at_switch
 returns-else-continues_at_switch t c names =
     past_continue (option_map (λ l. l.now) c.args.jump) c.args.span (InSwitch (option_map (λ l. l.now) c.in-Switch.label))
-    (seen_around c.in-Switch.outer.now) _ (sym c.continues_at_switch.ensures ∙ c.if-continues_at_switch.false) (c.stop_of_continue-else-continues_at_switch.ensures names)
+    (seen_around c.in-Switch.outer.now) _ (sym c.continues_at_switch.ensures ∙ c.if-continues_at_switch.false)
+    (c.stop_of_continue-else-continues_at_switch.ensures names)
     ∙ ap (stop_of_continue (option_map (λ l. l.now) c.args.jump) c.args.span) (sym (ap seen_around c.in-Switch.is))

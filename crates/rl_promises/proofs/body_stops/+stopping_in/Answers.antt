@@ -29,7 +29,8 @@ stop_in_statement-returns-in-Some-jump_label t c =
     let own = option_map (λ l. l.now) c.args.own in
     let ps = pieces_of (map syntax c.args.parts.now) in
     worded_in n around own c.args.at ps _ _ _ c.in-Continue.is
-    (continue_stop n around own (option_map (λ l. l.now) c.in-Some-jump_label.jump) c.args.at ps _ c.in-Some-jump_label.ensures (c.stop_of_continue.ensures n))
+    (continue_stop n around own (option_map (λ l. l.now) c.in-Some-jump_label.jump) c.args.at ps _ c.in-Some-jump_label.ensures
+    (c.stop_of_continue.ensures n))
 
 pub stop_in_statement-returns-in-Some-three : goal.stop_in_statement-returns-in-Some-three
 stop_in_statement-returns-in-Some-three t c =
@@ -101,7 +102,8 @@ stop_in_statement-returns-else-is_await t c =
     let own = option_map (λ l. l.now) c.args.own in
     let ps = pieces_of (map syntax c.args.parts.now) in
     worded_in n around own c.args.at ps _ _ _ c.in-Forof.is
-    (forof_stop n around own c.args.at ps _ _ _ _ _ c.in-Some-flag_and_three.ensures c.if-is_await.false c.stop_in_values-else-is_await.ensures)
+    (forof_stop n around own c.args.at ps _ _ _ _ _ c.in-Some-flag_and_three.ensures c.if-is_await.false
+    c.stop_in_values-else-is_await.ensures)
 
 pub stop_in_statement-returns-in-Some-tree_and_list : goal.stop_in_statement-returns-in-Some-tree_and_list
 stop_in_statement-returns-in-Some-tree_and_list t c =
@@ -110,7 +112,8 @@ stop_in_statement-returns-in-Some-tree_and_list t c =
     let own = option_map (λ l. l.now) c.args.own in
     let ps = pieces_of (map syntax c.args.parts.now) in
     worded_in n around own c.args.at ps _ _ _ c.in-Switch.is
-    (switch_stop n around own c.args.at ps (syntax c.in-Some-tree_and_list.discriminant.now) (pieces_of (map syntax c.in-Some-tree_and_list.cases.now)) _ c.in-Some-tree_and_list.ensures c.stop_in_switch.ensures)
+    (switch_stop n around own c.args.at ps (syntax c.in-Some-tree_and_list.discriminant.now)
+    (pieces_of (map syntax c.in-Some-tree_and_list.cases.now)) _ c.in-Some-tree_and_list.ensures c.stop_in_switch.ensures)
 
 pub stop_in_statement-returns-in-Some-catch_in : goal.stop_in_statement-returns-in-Some-catch_in
 stop_in_statement-returns-in-Some-catch_in t c =
@@ -119,7 +122,8 @@ stop_in_statement-returns-in-Some-catch_in t c =
     let own = option_map (λ l. l.now) c.args.own in
     let ps = pieces_of (map syntax c.args.parts.now) in
     worded_in n around own c.args.at ps _ _ _ c.in-Try.is
-    (try_stop n around own c.args.at ps _ _ _ (syntax c.in-Some-catch_in.param.now) (syntax c.in-Some-catch_in.body.now) _ c.in-Some-three-3.ensures c.in-Some-catch_in.ensures c.stop_in_try.ensures)
+    (try_stop n around own c.args.at ps _ _ _ (syntax c.in-Some-catch_in.param.now) (syntax c.in-Some-catch_in.body.now) _
+    c.in-Some-three-3.ensures c.in-Some-catch_in.ensures c.stop_in_try.ensures)
 
 pub stop_in_statement-returns-in-None-catch_in : goal.stop_in_statement-returns-in-None-catch_in
 stop_in_statement-returns-in-None-catch_in t c =

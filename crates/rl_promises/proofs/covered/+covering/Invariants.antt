@@ -13,6 +13,7 @@ decreases-least_among l = size_of (pieces_of (map syntax l.trees.now))
 
 abbrev pub invariant-least_among-trees : goal.invariant-least_among-trees
 invariant-least_among-trees l = record {
-  same : first (uncovered_among (pieces_of (map syntax (drop l.tree-index l.trees)))) ≡ first (uncovered_among (pieces_of (map syntax l.trees)));
+  same : first (uncovered_among (pieces_of (map syntax (drop l.tree-index l.trees))))
+      ≡ first (uncovered_among (pieces_of (map syntax l.trees)));
   fewer : size_of (pieces_of (map syntax (drop l.tree-index l.trees))) ≤ size_of (pieces_of (map syntax l.trees));
 }

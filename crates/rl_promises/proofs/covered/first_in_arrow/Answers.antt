@@ -6,5 +6,6 @@ use Rattle.rl_promises.proofs.covered.first_in_arrow.Goals as goal
 
 pub returns : goal.returns
 returns c =
-    c.first_of.ensures (uncovered (syntax c.args.arrow.params.tree.now)) (uncovered (syntax c.args.arrow.body.tree.now) ++ []) c.least_in-params.ensures
+    c.first_of.ensures (uncovered (syntax c.args.arrow.params.tree.now)) (uncovered (syntax c.args.arrow.body.tree.now) ++ [])
+    c.least_in-params.ensures
     (c.least_in.ensures ∙ sym (first_last (uncovered (syntax c.args.arrow.body.tree.now))))

@@ -4,6 +4,8 @@ use Rattle.rl_promises.proofs.Stopping.{assign_compound, assign_other, assign_pa
 use Rattle.rl_promises.proofs.Stopping.{declarator_parts, declarator_stop, id_parts, instantiate_none, instantiate_stop, logical_other}
 use Rattle.rl_promises.proofs.Stopping.{logical_parts, logical_stop, prop_parts, prop_stop, tagged_other, tagged_parts, tagged_stop}
 use Rattle.rl_promises.proofs.Stopping.{unary_parts, unary_stop, update_parts, update_stop, worded}
+use Rattle.rl_promises.proofs.TargetStopping.{array_parts, array_stop, array_target, default_parts, default_stop, keyed_parts, keyed_stop, object_parts}
+use Rattle.rl_promises.proofs.TargetStopping.{object_stop, object_target, param_parts, param_stop}
 use Rattle.rl_syntax.specs.Syntax.{pieces_of, syntax}
 use Rattle.rl_promises.proofs.stops.+stopping.Goals as goal
 
@@ -108,15 +110,16 @@ stop_in_node-returns-then-is_equals t c =
     worded (seen c.args.names.now) c.args.at ps _ _ _ c.in-Assign.is
     (assign_plain (seen c.args.names.now) c.args.at ps (pieces_of (map syntax c.in-Some-text_ahead-3.operands.now)) _ _ _ _
     c.in-Some-text_ahead-3.ensures c.in-Some-two-3.ensures (sym c.is_equals.ensures ∙ c.if-is_equals.true)
-    c.first_of_two-then-is_equals.ensures)
+    c.first_of_assigned.ensures)
 
-pub stop_in_node-returns-else-is_logical : goal.stop_in_node-returns-else-is_logical
-stop_in_node-returns-else-is_logical t c =
+pub stop_in_node-returns-else-is_pattern : goal.stop_in_node-returns-else-is_pattern
+stop_in_node-returns-else-is_pattern t c =
     let ps = pieces_of (map syntax c.args.parts.now) in
     worded (seen c.args.names.now) c.args.at ps _ _ _ c.in-Assign.is
     (assign_compound (seen c.args.names.now) c.args.at ps (pieces_of (map syntax c.in-Some-text_ahead-3.operands.now)) _ _ _ _
     c.in-Some-text_ahead-3.ensures c.in-Some-two-3.ensures (sym c.is_equals.ensures ∙ c.if-is_equals.false)
-    (sym c.is_logical.ensures ∙ c.if-is_logical.false) c.first_of_two-else-is_logical.ensures)
+    (sym c.is_logical.ensures ∙ c.if-is_logical.false) (sym c.is_pattern.ensures ∙ c.if-is_pattern.false)
+    c.first_of_two-else-is_pattern.ensures)
 
 pub stop_in_node-returns-in-None-two-3 : goal.stop_in_node-returns-in-None-two-3
 stop_in_node-returns-in-None-two-3 t c =
@@ -164,3 +167,78 @@ stop_in_node-returns-in-None-flag_and_trees t c =
     let ps = pieces_of (map syntax c.args.parts.now) in
     worded (seen c.args.names.now) c.args.at ps _ _ _ c.in-Prop.is
     (prop_parts (seen c.args.names.now) c.args.at ps _ c.in-None-flag_and_trees.ensures c.first_among-in-None-flag_and_trees.ensures)
+
+pub stop_in_node-returns-in-Some-two-5 : goal.stop_in_node-returns-in-Some-two-5
+stop_in_node-returns-in-Some-two-5 t c =
+    let ps = pieces_of (map syntax c.args.parts.now) in
+    worded (seen c.args.names.now) c.args.at ps _ _ _ c.in-Param.is
+    (param_stop (seen c.args.names.now) c.args.at ps _ _ _ c.in-Some-two-5.ensures c.first_of_two-in-Some-two-5.ensures)
+
+pub stop_in_node-returns-in-None-two-5 : goal.stop_in_node-returns-in-None-two-5
+stop_in_node-returns-in-None-two-5 t c =
+    let ps = pieces_of (map syntax c.args.parts.now) in
+    worded (seen c.args.names.now) c.args.at ps _ _ _ c.in-Param.is
+    (param_parts (seen c.args.names.now) c.args.at ps _ c.in-None-two-5.ensures c.first_among-in-None-two-5.ensures)
+
+pub stop_in_node-returns-in-Some-two-6 : goal.stop_in_node-returns-in-Some-two-6
+stop_in_node-returns-in-Some-two-6 t c =
+    let ps = pieces_of (map syntax c.args.parts.now) in
+    worded (seen c.args.names.now) c.args.at ps _ _ _ c.in-Defaultpat.is
+    (default_stop (seen c.args.names.now) c.args.at ps _ _ _ c.in-Some-two-6.ensures c.first_of_two-in-Some-two-6.ensures)
+
+pub stop_in_node-returns-in-None-two-6 : goal.stop_in_node-returns-in-None-two-6
+stop_in_node-returns-in-None-two-6 t c =
+    let ps = pieces_of (map syntax c.args.parts.now) in
+    worded (seen c.args.names.now) c.args.at ps _ _ _ c.in-Defaultpat.is
+    (default_parts (seen c.args.names.now) c.args.at ps _ c.in-None-two-6.ensures c.first_among-in-None-two-6.ensures)
+
+pub stop_in_node-returns-else-loses_item : goal.stop_in_node-returns-else-loses_item
+stop_in_node-returns-else-loses_item t c =
+    let ps = pieces_of (map syntax c.args.parts.now) in
+    worded (seen c.args.names.now) c.args.at ps _ _ _ c.in-Keyedpat.is
+    (keyed_stop (seen c.args.names.now) c.args.at ps _ _ _ _ c.in-Some-three-3.ensures
+    (sym c.loses_item.ensures ∙ c.if-loses_item.false) c.first_stop-else-loses_item.ensures)
+
+pub stop_in_node-returns-in-None-three-3 : goal.stop_in_node-returns-in-None-three-3
+stop_in_node-returns-in-None-three-3 t c =
+    let ps = pieces_of (map syntax c.args.parts.now) in
+    worded (seen c.args.names.now) c.args.at ps _ _ _ c.in-Keyedpat.is
+    (keyed_parts (seen c.args.names.now) c.args.at ps _ c.in-None-three-3.ensures c.first_among-in-None-three-3.ensures)
+
+pub stop_in_node-returns-in-Some-list_and_tree : goal.stop_in_node-returns-in-Some-list_and_tree
+stop_in_node-returns-in-Some-list_and_tree t c =
+    let ps = pieces_of (map syntax c.args.parts.now) in
+    worded (seen c.args.names.now) c.args.at ps _ _ _ c.in-Arraypat.is
+    (array_stop (seen c.args.names.now) c.args.at ps (pieces_of (map syntax c.in-Some-list_and_tree.items.now))
+    (syntax c.in-Some-list_and_tree.rest.now) _ c.in-Some-list_and_tree.ensures c.first_of_array.ensures)
+
+pub stop_in_node-returns-in-None-list_and_tree : goal.stop_in_node-returns-in-None-list_and_tree
+stop_in_node-returns-in-None-list_and_tree t c =
+    let ps = pieces_of (map syntax c.args.parts.now) in
+    worded (seen c.args.names.now) c.args.at ps _ _ _ c.in-Arraypat.is
+    (array_parts (seen c.args.names.now) c.args.at ps _ c.in-None-list_and_tree.ensures
+    c.first_among-in-None-list_and_tree.ensures)
+
+pub stop_in_node-returns-in-Some-list_and_tree-2 : goal.stop_in_node-returns-in-Some-list_and_tree-2
+stop_in_node-returns-in-Some-list_and_tree-2 t c =
+    let ps = pieces_of (map syntax c.args.parts.now) in
+    worded (seen c.args.names.now) c.args.at ps _ _ _ c.in-Objectpat.is
+    (object_stop (seen c.args.names.now) c.args.at ps (pieces_of (map syntax c.in-Some-list_and_tree-2.properties.now))
+    (syntax c.in-Some-list_and_tree-2.rest.now) _ c.in-Some-list_and_tree-2.ensures c.first_of_object.ensures)
+
+pub stop_in_node-returns-in-None-list_and_tree-2 : goal.stop_in_node-returns-in-None-list_and_tree-2
+stop_in_node-returns-in-None-list_and_tree-2 t c =
+    let ps = pieces_of (map syntax c.args.parts.now) in
+    worded (seen c.args.names.now) c.args.at ps _ _ _ c.in-Objectpat.is
+    (object_parts (seen c.args.names.now) c.args.at ps _ c.in-None-list_and_tree-2.ensures
+    c.first_among-in-None-list_and_tree-2.ensures)
+
+pub stop_to_array-returns-in-Some : goal.stop_to_array-returns-in-Some
+stop_to_array-returns-in-Some t c =
+    array_target (seen c.args.names.now) (pieces_of (map syntax c.args.parts.now)) (pieces_of (map syntax c.in-Some.items.now))
+    (syntax c.in-Some.rest.now) _ c.in-Some.ensures c.stop_to_items.ensures
+
+pub stop_to_object-returns-in-Some : goal.stop_to_object-returns-in-Some
+stop_to_object-returns-in-Some t c =
+    object_target (seen c.args.names.now) (pieces_of (map syntax c.args.parts.now)) (pieces_of (map syntax c.in-Some.properties.now))
+    (syntax c.in-Some.rest.now) _ _ c.in-Some.ensures c.is_plain_rest.ensures c.stop_to_items.ensures
